@@ -1,0 +1,84 @@
+-- Lists with the same firsts give the same answers, marks and text.
+use Rattle.std.proofs.Common.{◌≡◌, ℕ, ◌<◌, true, not, List, [], ◌∷◌, ◌++◌, length, refl, sym, ap, ◌∙◌, subst, ⊎_elim, inl, inr}
+use Rattle.std.specs.Prelude.{filter}
+use Rattle.std.proofs.lemmas.List.Elements.{filter_agree}
+use Rattle.http_wire.specs.Head.{closes}
+use Rattle.http_wire.specs.Message.{Place, Ending}
+use Rattle.http_wire.specs.Request.{Request as Message}
+use Rattle.http_wire.specs.Reply.{render}
+use Rattle.filing_model.specs.Request.{Request, has_key, firsts}
+use Rattle.filing_model.specs.Register.{register}
+use Rattle.filing_model.specs.Answer.{answer}
+use Rattle.filing_model.specs.Listing.{listings}
+use Rattle.filing_model.specs.Reply.{reply_of, list_reply}
+use Rattle.filing_model.specs.declared.served.Mark.{Mark}
+use Rattle.filing_model.specs.declared.served.Mark.TheVariants.{Done, Unavailable, NotFiled}
+use Rattle.filing_model.specs.Text.{Route, Told, Listed, Filed, route, RouteFits, MarkFits, MarksFit, completed_at, reply, reply_on, reply_text, text, interim_of}
+use Rattle.filing_model.proofs.Firsts.{has_key-firsts, firsts-append}
+use Rattle.filing_model.proofs.Answers.{answer-firsts, register-firsts}
+
+module _ (old new : List Request) (same : firsts old ≡ firsts new) where
+  pub has_key_alike : (r : Request) → has_key old r ≡ has_key new r
+  has_key_alike r = sym (has_key-firsts old r) ∙ ap (λ rs. has_key rs r) same ∙ has_key-firsts new r
+
+  pub firsts_alike : (more : List Request) → firsts (old ++ more) ≡ firsts (new ++ more)
+  firsts_alike more =
+      firsts-append old more
+      ∙ ap (λ rs. firsts old ++ rs) (filter_agree (λ s. not (has_key old s)) (λ s. not (has_key new s)) (λ s. ap not (has_key_alike s)) (firsts more))
+      ∙ ap (λ rs. rs ++ filter (λ s. not (has_key new s)) (firsts more)) same
+      ∙ sym (firsts-append new more)
+
+  pub answer_alike : (r : Request) → answer old r ≡ answer new r
+  answer_alike r = sym (answer-firsts old r) ∙ ap (λ rs. answer rs r) same ∙ answer-firsts new r
+
+  pub register_alike : register old ≡ register new
+  register_alike = sym (register-firsts old) ∙ ap register same ∙ register-firsts new
+
+  reply_on_alike : (to : Route) → reply_on old to ≡ reply_on new to
+  reply_on_alike (Told reply) = refl
+  reply_on_alike (Listed filer) = ap (λ fs. list_reply (listings filer fs)) register_alike
+  reply_on_alike (Filed r) = ap reply_of (answer_alike r)
+
+  pub reply_alike : (m : Message) → reply old m ≡ reply new m
+  reply_alike m = reply_on_alike (route m)
+
+  reply_text_alike : (place : Place) (mark : Mark) → reply_text old place mark ≡ reply_text new place mark
+  reply_text_alike (Place.Read m) Unavailable = refl
+  reply_text_alike (Place.Read m) Done = ap (λ x. render x (closes m.head)) (reply_alike m)
+  reply_text_alike (Place.Read m) NotFiled = ap (λ x. render x (closes m.head)) (reply_alike m)
+  reply_text_alike (Place.Refused refusal) mark = refl
+
+  route_fits_alike : (limit : ℕ) (to : Route) (mark : Mark) → RouteFits limit old to mark → RouteFits limit new to mark
+  route_fits_alike limit (Filed r) Done fit = ⊎_elim
+      (λ (h : has_key old r ≡ true). inl (sym (has_key_alike r) ∙ h))
+      (λ (h : length (firsts old) < limit). inr (subst (λ (rs : List Request). length rs < limit) same h))
+      fit
+  route_fits_alike limit (Filed r) Unavailable fit = fit
+  route_fits_alike limit (Filed r) NotFiled fit = fit
+  route_fits_alike limit (Listed filer) Done fit = fit
+  route_fits_alike limit (Listed filer) Unavailable fit = fit
+  route_fits_alike limit (Listed filer) NotFiled fit = fit
+  route_fits_alike limit (Told reply) Done fit = fit
+  route_fits_alike limit (Told reply) Unavailable fit = fit
+  route_fits_alike limit (Told reply) NotFiled fit = fit
+
+  mark_fits_alike : (limit : ℕ) (place : Place) (mark : Mark) → MarkFits limit old place mark → MarkFits limit new place mark
+  mark_fits_alike limit (Place.Read m) mark fit = route_fits_alike limit (route m) mark fit
+  mark_fits_alike limit (Place.Refused refusal) Done fit = fit
+  mark_fits_alike limit (Place.Refused refusal) Unavailable fit = fit
+  mark_fits_alike limit (Place.Refused refusal) NotFiled fit = fit
+
+pub text_alike : (old new : List Request) → firsts old ≡ firsts new → (places : List Place) (ending : Ending) (marks : List Mark) → text old places ending marks ≡ text new places ending marks
+unfolding text
+text_alike old new same places ending [] = refl
+text_alike old new same [] ending (mark ∷ marks) = refl
+text_alike old new same (place ∷ places) ending (mark ∷ marks) =
+    ap (λ reply. interim_of place ++ (reply ++ text (old ++ completed_at place mark) places ending marks)) (reply_text_alike old new same place mark)
+    ∙ ap (λ rest. interim_of place ++ (reply_text new place mark ++ rest)) (text_alike (old ++ completed_at place mark) (new ++ completed_at place mark) (firsts_alike old new same (completed_at place mark)) places ending marks)
+
+pub marks_fit_alike : (limit : ℕ) (old new : List Request) → firsts old ≡ firsts new → (places : List Place) (marks : List Mark) → MarksFit limit old places marks → MarksFit limit new places marks
+unfolding MarksFit
+marks_fit_alike limit old new same places [] fit = fit
+marks_fit_alike limit old new same [] (mark ∷ marks) fit = fit
+marks_fit_alike limit old new same (place ∷ places) (mark ∷ marks) fit =
+    (mark_fits_alike old new same limit place mark fit.0, marks_fit_alike limit (old ++ completed_at place mark) (new ++ completed_at place mark) (firsts_alike old new same (completed_at place mark)) places marks fit.1)

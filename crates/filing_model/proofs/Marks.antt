@@ -1,0 +1,65 @@
+-- What marked places do to the completed requests, and to the text.
+use Rattle.std.proofs.Common.{◌≡◌, ℕ, zero, suc, ◌<◌, ◌≤◌, true, List, [], ◌∷◌, ◌++◌, length, take, refl, sym, ap, ◌∙◌, subst, ⊎_elim, arith, append_assoc}
+use Rattle.http_wire.specs.Message.{Place, Ending}
+use Rattle.filing_model.specs.Prefix.{IsPrefixOf}
+use Rattle.filing_model.specs.Request.{Request, has_key, firsts}
+use Rattle.filing_model.specs.Answer.{answer}
+use Rattle.filing_model.specs.Reply.{reply_of}
+use Rattle.filing_model.specs.declared.served.Mark.{Mark}
+use Rattle.filing_model.specs.declared.served.Mark.TheVariants.{Done, Unavailable, NotFiled}
+use Rattle.filing_model.specs.Text.{Route, Told, Listed, Filed, route, RouteFits, MarkFits, MarksFit, requests_of_route, completed, completed_at, interim_of, reply_text, text, RepliesStand}
+use Rattle.filing_model.proofs.Lists.{append_nil, prefix_refl, prefix_after}
+use Rattle.filing_model.proofs.Firsts.{firsts_repeat, firsts_one_more}
+use Rattle.filing_model.proofs.Answers.{answer_stable, reply_of-as_repeat}
+
+-- the text for fewer marks begins the text for more
+pub text_prefix : (limit : ℕ) (requests : List Request) (places : List Place) (ending : Ending) (marks : List Mark) (n : ℕ) → MarksFit limit requests places marks → IsPrefixOf (text requests places ending (take n marks)) (text requests places ending marks)
+unfolding text MarksFit
+text_prefix limit requests places ending [] zero fit = prefix_refl _
+text_prefix limit requests places ending [] (suc n) fit = prefix_refl _
+text_prefix limit requests [] ending (mark ∷ marks) n fit = absurd fit
+text_prefix limit requests (place ∷ places) ending (mark ∷ marks) zero fit = (reply_text requests place mark ++ text (requests ++ completed_at place mark) places ending marks, refl)
+text_prefix limit requests (place ∷ places) ending (mark ∷ marks) (suc n) fit =
+    prefix_after (interim_of place) _ _ (prefix_after (reply_text requests place mark) _ _ (text_prefix limit (requests ++ completed_at place mark) places ending marks n fit.1))
+
+-- ---- the register stays within its limit
+
+within_route : (limit : ℕ) (requests : List Request) (to : Route) (mark : Mark) → RouteFits limit requests to mark → length (firsts requests) ≤ limit → length (firsts (requests ++ requests_of_route to mark)) ≤ limit
+within_route limit requests (Filed r) Done fit h = ⊎_elim
+    (λ (k : has_key requests r ≡ true). omega (arith, ap length (firsts_repeat requests r k)))
+    (λ (k : length (firsts requests) < limit). omega (arith, firsts_one_more requests r))
+    fit
+within_route limit requests (Filed r) Unavailable fit h = rw append_nil h
+within_route limit requests (Filed r) NotFiled fit h = rw append_nil h
+within_route limit requests (Listed filer) mark fit h = rw append_nil h
+within_route limit requests (Told reply) mark fit h = rw append_nil h
+
+within_place : (limit : ℕ) (requests : List Request) (place : Place) (mark : Mark) → MarkFits limit requests place mark → length (firsts requests) ≤ limit → length (firsts (requests ++ completed_at place mark)) ≤ limit
+within_place limit requests (Place.Read m) mark fit h = within_route limit requests (route m) mark fit h
+within_place limit requests (Place.Refused refusal) mark fit h = rw append_nil h
+
+pub completed_within : (limit : ℕ) (requests : List Request) (places : List Place) (marks : List Mark) → MarksFit limit requests places marks → length (firsts requests) ≤ limit → length (firsts (requests ++ completed places marks)) ≤ limit
+unfolding completed MarksFit
+completed_within limit requests [] [] fit h = rw append_nil h
+completed_within limit requests [] (mark ∷ marks) fit h = absurd fit
+completed_within limit requests (place ∷ places) [] fit h = rw append_nil h
+completed_within limit requests (place ∷ places) (mark ∷ marks) fit h =
+    subst (λ (all : List Request). length (firsts all) ≤ limit) (append_assoc requests (completed_at place mark) (completed places marks))
+    (completed_within limit (requests ++ completed_at place mark) places marks fit.1 (within_place limit requests place mark fit.0 h))
+
+-- ---- replies stand
+
+-- A completed request would get the same status and content now.
+pub replies_stand : (done before : List Request) (places : List Place) (marks : List Mark) (later : List Request) → done ≡ before ++ (completed places marks ++ later) → RepliesStand done before places marks
+unfolding completed
+replies_stand done before [] marks later e = tt
+replies_stand done before (place ∷ places) [] later e = tt
+replies_stand done before (place ∷ places) (mark ∷ marks) later e = (here, replies_stand done (before ++ completed_at place mark) places marks later (e ∙ regrouped))
+  where
+    regrouped : before ++ ((completed_at place mark ++ completed places marks) ++ later) ≡ (before ++ completed_at place mark) ++ (completed places marks ++ later)
+    regrouped = simp append_assoc
+
+    here : (r : Request) → completed_at place mark ≡ r ∷ [] → reply_of (answer before r) ≡ reply_of (answer done r)
+    here r only =
+        let split : done ≡ (before ++ r ∷ []) ++ (completed places marks ++ later) = e ∙ regrouped ∙ ap (λ one. (before ++ one) ++ (completed places marks ++ later)) only in
+        sym (ap (λ requests. reply_of (answer requests r)) split ∙ ap reply_of (answer_stable before r (completed places marks ++ later)) ∙ reply_of-as_repeat (answer before r))

@@ -1,0 +1,42 @@
+-- What holds of every list of completed requests.
+use Rattle.std.specs.Prelude.{◌≡◌, ℕ, Bool, List, [], ◌∷◌, ◌++◌, map, length, filter, true, false}
+use Rattle.std.specs.List.{range_with_len}
+use Rattle.xbrl_report.specs.Findings.{findings}
+use Rattle.xbrl_report.specs.Pair.{Pair}
+use Rattle.filing_model.specs.Prefix.{IsPrefixOf}
+use Rattle.filing_model.specs.Request.{Request, firsts}
+use Rattle.filing_model.specs.Register.{Filing, register, numbers_of}
+use Rattle.filing_model.specs.Answer.{answer, as_repeat}
+use Rattle.filing_model.specs.Reply.{reply_of}
+
+-- whether there is no finding
+abbrev pub is_nothing : List Pair → Bool
+is_nothing [] = true
+is_nothing (f ∷ found) = false
+
+-- whether nothing is found in the request's report
+abbrev pub is_valid : Request → Bool
+is_valid r = is_nothing (findings r.filer r.body)
+
+-- the register has the valid ones among the first requests, in their order, under the numbers 1, 2, ..
+pub record IsRegisterOf (requests : List Request) (filings : List Filing) : Type 0 where
+  pub valid : map (λ f. f.request) filings ≡ filter is_valid (firsts requests)
+  pub numbered : map (λ f. f.number) filings ≡ range_with_len 1 (length filings)
+
+-- after a request whose filer and key came before, the first requests and the register are what they were
+pub record RepeatChangesNothing (requests : List Request) (r : Request) : Type 0 where
+  pub same_firsts : firsts (requests ++ r ∷ []) ≡ firsts requests
+  pub same_register : register (requests ++ r ∷ []) ≡ register requests
+
+-- whatever comes, the register stays as it is, and new filings stand behind it
+abbrev pub RegisterGrows : List Request → List Request → Type 0
+RegisterGrows requests more = IsPrefixOf (register requests) (register (requests ++ more))
+
+-- whatever comes between and after, a repeat gets the answer that the request got, marked as a repeat, and the same reply
+pub record RepeatGetsTheFirst (requests : List Request) (r : Request) (more : List Request) : Type 0 where
+  pub told : answer ((requests ++ r ∷ []) ++ more) r ≡ as_repeat (answer requests r)
+  pub replied : reply_of (answer ((requests ++ r ∷ []) ++ more) r) ≡ reply_of (answer requests r)
+
+-- whatever comes later, the request stands in the register under this number alone
+abbrev pub StaysRegistered : List Request → Request → ℕ → Type 0
+StaysRegistered requests r number = (more : List Request) → numbers_of r (register ((requests ++ r ∷ []) ++ more)) ≡ number ∷ []

@@ -1,0 +1,10 @@
+pub mod Prefix
+pub mod Request
+pub mod Register
+pub mod Answer
+pub mod Listing
+pub mod Reply
+pub mod Text
+pub mod Views
+pub mod Serving
+pub mod Laws

@@ -1,0 +1,71 @@
+-- The replies to answers and lists: their statuses, and their contents as compact JSON texts.
+use Rattle.std.specs.Prelude.{ℕ, List, [], ◌∷◌, map, codes, nat_eq, if◌then◌else◌}
+use Rattle.serde_json.specs.Data.{Data, number, string, array, object, unsigned, Members, no_members, member}
+use Rattle.serde_json.specs.Written.{compact_text}
+use Rattle.serde_json.specs.View.{items_of}
+use Rattle.xbrl_report.specs.Pair.{Pair}
+use Rattle.xbrl_report.specs.CodeNumber.{number_of, text_of}
+use Rattle.http_wire.specs.Reply.{ReplyParts}
+use Rattle.filing_model.specs.Answer.{Answer}
+use Rattle.filing_model.specs.Listing.{Listing}
+
+-- the member that says in a word how it went
+abbrev pub status_member : List ℕ → Members
+status_member word = member (codes "status") (string word) no_members
+
+-- a finding: its code's word, and its place as a JSON Pointer (RFC 6901)
+abbrev pub finding_data : Pair → Data
+finding_data f = object (member (codes "code") (string (text_of f.code)) (member (codes "place") (string f.place) no_members))
+
+-- findings, in order
+abbrev pub findings_data : List Pair → Data
+findings_data findings = array (items_of (map finding_data findings))
+
+-- the content of an answer; a repeat has no other
+abbrev pub answer_data : Answer → Data
+answer_data (Answer.Registered n repeat) = object (member (codes "number") (number (unsigned n)) (status_member (codes "registered")))
+answer_data (Answer.Refused findings repeat) = object (member (codes "findings") (findings_data findings) (status_member (codes "refused")))
+answer_data Answer.KeyReused = object (status_member (codes "key-reused"))
+
+-- a body that is no JSON is a bad request; code 1 stands alone
+abbrev pub refused_status : List Pair → ℕ
+refused_status [] = 422
+refused_status (f ∷ fs) = if nat_eq (number_of f.code) 1 then 400 else 422
+
+-- the status of an answer (RFC 9110, section 15)
+abbrev pub answer_status : Answer → ℕ
+answer_status (Answer.Registered n repeat) = 201
+answer_status (Answer.Refused findings repeat) = refused_status findings
+answer_status Answer.KeyReused = 422
+
+-- the reply to an answer
+unfoldable pub reply_of : Answer → ReplyParts
+reply_of a = record { status = answer_status a; content = compact_text (answer_data a) }
+
+-- a filing in a list
+abbrev pub listing_data : Listing → Data
+listing_data l = object (member (codes "facts") (number (unsigned l.facts)) (member (codes "number") (number (unsigned l.number)) no_members))
+
+-- filings, in order
+abbrev pub listings_data : List Listing → Data
+listings_data ls = array (items_of (map listing_data ls))
+
+-- the content of a list
+abbrev pub list_data : List Listing → Data
+list_data ls = object (member (codes "filings") (listings_data ls) no_members)
+
+-- the reply that lists filings
+unfoldable pub list_reply : List Listing → ReplyParts
+list_reply ls = record { status = 200; content = compact_text (list_data ls) }
+
+-- the content of a reply of one word
+abbrev pub word_data : List ℕ → Data
+word_data word = object (status_member word)
+
+-- the reply of one word
+abbrev pub word_reply : ℕ → List ℕ → ReplyParts
+word_reply status word = record { status = status; content = compact_text (word_data word) }
+
+-- where a request could not be decided now (RFC 9110, section 15.6.4)
+abbrev pub unavailable : ReplyParts
+unavailable = word_reply 503 (codes "unavailable")

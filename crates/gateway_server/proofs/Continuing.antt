@@ -1,0 +1,207 @@
+-- A connection that goes on by one place, or ends.
+use Rattle.std.proofs.Common.{◌≡◌, ℕ, Bool, true, false, List, [], ◌∷◌, ◌++◌, take, drop, length, Option, Some, None, Result, Ok, Err, refl, sym, ap, ◌∙◌, subst, append_assoc, inl, inr, ◌⊎◌}
+use Rattle.std.specs.Io.KnownBytes.{Consumes, Appends, IsAtEnd}
+use Rattle.http_wire.specs.declared.inbox.Inbox.{Inbox}
+use Rattle.http_wire.specs.declared.refusal.ConnFault.{ConnFault}
+use Rattle.http_wire.specs.declared.refusal.ConnFault.TheVariants.{Write, ReadLimit, Memory}
+use Rattle.http_wire.specs.declared.refusal.ConnFault.TheVariants as fault
+use Rattle.http_wire.specs.declared.refusal.Next.{Next}
+use Rattle.http_wire.specs.declared.refusal.Refusal.{Refusal}
+use Rattle.http_wire.specs.Calls.{interim_if, WritesAsked, WritesUpTo}
+use Rattle.http_wire.specs.Head.{closes}
+use Rattle.http_wire.specs.Inbox.{held, unread, lent_len, lent_request, lent_awaits, is_over, got, ReadsOn, LendsFirst, IsNew}
+use Rattle.http_wire.specs.Message.{Place, Read, Refused, Ending, Rest, Asks, IsRest, IsRefused, awaits, interim}
+use Rattle.http_wire.specs.Request.{Request as Message}
+use Rattle.std.proofs.Math.Seq.{drop-nil}
+use Rattle.http_wire.proofs.DeviceLemmas.{Appends-join, Appends-nil, Consumes-join, Consumes-nil}
+use Rattle.filing_model.specs.declared.served.Ended.{Ended}
+use Rattle.filing_model.specs.declared.served.Ended.TheVariants.{Closed, InputEnded, Fault}
+use Rattle.filing_model.specs.declared.served.Mark.{Mark}
+use Rattle.filing_model.specs.Request.{Request}
+use Rattle.filing_model.specs.Serving.{kept_by, IsServed, IsCutShort, Serves}
+use Rattle.filing_model.specs.Text.{interim_of, reply_text, next_interim}
+use Rattle.filing_model.proofs.Lists.{append_nil}
+use Rattle.gateway_server.specs.Answered.{IsMarked, IsAnswered, IsPartly, IsUntouched, Answers}
+use Rattle.gateway_server.specs.Progress.{HasServed, GoesOn, HasMessage, HasRefusal, ServesConnection, Continues}
+use Rattle.gateway_server.proofs.Progress.{HasServed-none, HasServed-more, HasServed-end}
+use Rattle.gateway_server.proofs.Places.{served_last, served_push, served_part, served_read, served_asked, served_nothing, served_rest}
+
+-- ---- what was read
+
+module _ (limit : ℕ) (before now : List Request) (left left' left'' written written' : Option (List ℕ)) (old new : Inbox) (marks : List Mark) (h : GoesOn limit before now left left' written written' old marks) (r : ReadsOn left' left'' old new) where
+  abbrev read_since : List ℕ
+  read_since = h.got ++ got old new
+
+  consumed : Consumes left left'' read_since
+  consumed = Consumes-join left left' left'' h.got (got old new) h.read r.given
+
+  served_held : HasServed limit before now read_since (held new) marks h.sent
+  served_held = subst (λ (rest : List ℕ). HasServed limit before now read_since rest marks h.sent) (sym r.held_is) (HasServed-more limit before now h.got (unread old) (got old new) marks h.sent h.served)
+
+  wrote_more : (written'' : Option (List ℕ)) (text : List ℕ) → Appends written' written'' text → Appends written written'' (h.sent ++ text)
+  wrote_more written'' text w = Appends-join written written' written'' h.sent text h.wrote w
+
+  -- a message came
+  pub HasMessage-next : (written'' : Option (List ℕ)) → LendsFirst new → Appends written' written'' (interim_if (lent_awaits new)) → HasMessage limit before now left left'' written written'' new marks
+  HasMessage-next written'' lends w = record { got = read_since; sent = h.sent; read = consumed; wrote = wrote_more written'' (interim_if (lent_awaits new)) w; served = served_held; lends = lends }
+
+  -- what is refused came
+  pub HasRefusal-next : (written'' : Option (List ℕ)) (refusal : Refusal) → IsRefused (held new) refusal → Appends written' written'' [] → HasRefusal limit before now left left'' written written'' new refusal marks
+  HasRefusal-next written'' refusal refused w = record { got = read_since; sent = h.sent; read = consumed; wrote = subst (Appends written written'') (append_nil h.sent) (wrote_more written'' [] w); served = served_held; refused = refused }
+
+  -- the input ended
+  pub Serves-end : (written'' : Option (List ℕ)) → IsAtEnd left'' → IsRest (held new) → WritesAsked written' written'' (held new) → ServesConnection limit before now left left'' written written'' marks InputEnded
+  Serves-end written'' ended rest (text, (asks, asked, e), w) = record {
+    got = read_since;
+    sent = h.sent ++ text;
+    read = consumed;
+    wrote = wrote_more written'' text w;
+    serves = subst (λ (t : List ℕ). IsServed limit before now read_since marks InputEnded (h.sent ++ t)) (by_asks asks ∙ sym e) (HasServed-end limit before now read_since (held new) marks h.sent served_held asks rest asked);
+    at_end = λ _. ended;
+  }
+    where
+      by_asks : (b : Bool) → next_interim [] (Rest b) ≡ interim_if b
+      by_asks true = refl
+      by_asks false = refl
+
+  cut : (written'' : Option (List ℕ)) (text : List ℕ) (f : ConnFault) → Appends written' written'' text → IsCutShort limit before now read_since marks (h.sent ++ text) → ServesConnection limit before now left left'' written written'' marks (Fault f)
+  cut written'' text f w c = record { got = read_since; sent = h.sent ++ text; read = consumed; wrote = wrote_more written'' text w; serves = c; at_end = λ e. absurd (cc) }
+
+  cut_asked : (written'' : Option (List ℕ)) (f : ConnFault) → WritesAsked written' written'' (held new) → ServesConnection limit before now left left'' written written'' marks (Fault f)
+  cut_asked written'' f (text, (asks, asked, e), w) = cut written'' text f w (subst (λ (t : List ℕ). IsCutShort limit before now read_since marks (h.sent ++ t)) (sym e) (served_asked limit before now read_since (held new) marks h.sent served_held asks asked))
+
+  -- a fault came
+  pub Serves-fault : (written'' : Option (List ℕ)) (f : ConnFault) → WritesUpTo written' written'' (held new) f → ServesConnection limit before now left left'' written written'' marks (Fault f)
+  Serves-fault written'' fault.Read w = cut_asked written'' fault.Read w
+  Serves-fault written'' (Write sent) w = cut written'' (take sent interim) (Write sent) w.2 (served_rest limit before now read_since (held new) marks h.sent served_held sent (λ _. w.0))
+  Serves-fault written'' ReadLimit w = cut_asked written'' ReadLimit w
+  Serves-fault written'' Memory (inl w) = cut_asked written'' Memory w
+  Serves-fault written'' Memory (inr w) = cut written'' [] Memory w (served_nothing limit before now read_since (held new) marks h.sent served_held)
+
+-- ---- what was answered
+
+-- a place that was answered, after an interim response
+module _ (limit : ℕ) (before now : List Request) (left left' written written' : Option (List ℕ)) (inbox : Inbox) (marks : List Mark) (h : HasMessage limit before now left left' written written' inbox marks) where
+  abbrev lent : Message
+  lent = h.lends.request
+
+  same_interim : interim_if (lent_awaits inbox) ≡ interim_of (Read lent)
+  same_interim = rw h.lends.lent refl
+
+  wrote_after : (written'' : Option (List ℕ)) (text : List ℕ) → Appends written' written'' text → Appends written written'' (h.sent ++ (interim_of (Read lent) ++ text))
+  wrote_after written'' text w =
+      subst (Appends written written'') (append_assoc h.sent (interim_if (lent_awaits inbox)) text ∙ ap (λ i. h.sent ++ (i ++ text)) same_interim)
+      (Appends-join written written' written'' (h.sent ++ interim_if (lent_awaits inbox)) text h.wrote w)
+
+  -- the message was answered, and the connection closes
+  pub Serves-closed : (after : List Request) (new : List Mark) (written'' : Option (List ℕ)) → closes lent.head ≡ true → IsAnswered limit now after (Read lent) marks new written' written'' → ServesConnection limit before after left left' written written'' new Closed
+  Serves-closed after new written'' closed a = record {
+    got = h.got;
+    sent = h.sent ++ (interim_of (Read lent) ++ reply_text now (Read lent) a.marked.mark);
+    read = h.read;
+    wrote = wrote_after written'' (reply_text now (Read lent) a.marked.mark) a.written;
+    serves = subst (λ (ms : List Mark). IsServed limit before after h.got ms Closed (h.sent ++ (interim_of (Read lent) ++ reply_text now (Read lent) a.marked.mark))) (sym a.marked.marks)
+        (served_last limit before now h.got (held inbox) marks h.sent h.served (Read lent) ((lent_len inbox, h.lends.begins), refl) a.marked.mark after closed a.marked.fit a.marked.kept);
+    at_end = λ e. absurd (cc);
+  }
+
+  -- the message was answered, and more may come
+  pub GoesOn-answered : (after : List Request) (new : List Mark) (written'' : Option (List ℕ)) → closes lent.head ≡ false → IsAnswered limit now after (Read lent) marks new written' written'' → GoesOn limit before after left left' written written'' inbox new
+  GoesOn-answered after new written'' open' a = record {
+    got = h.got;
+    sent = h.sent ++ (interim_of (Read lent) ++ reply_text now (Read lent) a.marked.mark);
+    read = h.read;
+    wrote = wrote_after written'' (reply_text now (Read lent) a.marked.mark) a.written;
+    served = subst (λ (ms : List Mark). HasServed limit before after h.got (unread inbox) ms (h.sent ++ (interim_of (Read lent) ++ reply_text now (Read lent) a.marked.mark))) (sym a.marked.marks)
+        (served_push limit before now h.got (held inbox) marks h.sent h.served lent (lent_len inbox) a.marked.mark after h.lends.begins open' a.marked.fit a.marked.kept);
+    more = h.lends.last ∙ open';
+  }
+
+  -- a fault came
+  pub Serves-unanswered : (after : List Request) (new : List Mark) (written'' : Option (List ℕ)) (f : ConnFault) → IsUntouched now after marks new written' written'' ⊎ IsPartly limit now after (Read lent) marks new written' written'' → ServesConnection limit before after left left' written written'' new (Fault f)
+  Serves-unanswered after new written'' f (inl u) = record {
+    got = h.got;
+    sent = h.sent ++ (interim_of (Read lent) ++ []);
+    read = h.read;
+    wrote = wrote_after written'' [] u.written;
+    serves = subst (λ (ms : List Mark). IsCutShort limit before after h.got ms (h.sent ++ (interim_of (Read lent) ++ []))) (sym u.marks)
+        (subst (λ (rs : List Request). IsCutShort limit before rs h.got marks (h.sent ++ (interim_of (Read lent) ++ []))) (sym u.kept)
+        (subst (λ (t : List ℕ). IsCutShort limit before now h.got marks (h.sent ++ t)) (sym (append_nil (interim_of (Read lent))))
+        (served_read limit before now h.got (held inbox) marks h.sent h.served lent (lent_len inbox) h.lends.begins)));
+    at_end = λ e. absurd (cc);
+  }
+  Serves-unanswered after new written'' f (inr p) = record {
+    got = h.got;
+    sent = h.sent ++ (interim_of (Read lent) ++ take p.sent (reply_text now (Read lent) p.marked.mark));
+    read = h.read;
+    wrote = wrote_after written'' (take p.sent (reply_text now (Read lent) p.marked.mark)) p.written;
+    serves = subst (λ (ms : List Mark). IsCutShort limit before after h.got ms (h.sent ++ (interim_of (Read lent) ++ take p.sent (reply_text now (Read lent) p.marked.mark)))) (sym p.marked.marks)
+        (served_part limit before now h.got (held inbox) marks h.sent h.served (Read lent) ((lent_len inbox, h.lends.begins), refl) p.marked.mark after p.sent p.marked.fit p.marked.kept);
+    at_end = λ e. absurd (cc);
+  }
+
+-- ---- what was refused
+
+module _ (limit : ℕ) (before now : List Request) (left left' written written' : Option (List ℕ)) (inbox : Inbox) (refusal : Refusal) (marks : List Mark) (h : HasRefusal limit before now left left' written written' inbox refusal marks) where
+  wrote_refusal : (written'' : Option (List ℕ)) (text : List ℕ) → Appends written' written'' text → Appends written written'' (h.sent ++ text)
+  wrote_refusal written'' text w = Appends-join written written' written'' h.sent text h.wrote w
+
+  -- it was answered
+  pub Serves-refused : (new : List Mark) (written'' : Option (List ℕ)) → IsAnswered limit now now (Refused refusal) marks new written' written'' → ServesConnection limit before now left left' written written'' new Closed
+  Serves-refused new written'' a = record {
+    got = h.got;
+    sent = h.sent ++ reply_text now (Refused refusal) a.marked.mark;
+    read = h.read;
+    wrote = wrote_refusal written'' (reply_text now (Refused refusal) a.marked.mark) a.written;
+    serves = subst (λ (ms : List Mark). IsServed limit before now h.got ms Closed (h.sent ++ reply_text now (Refused refusal) a.marked.mark)) (sym a.marked.marks)
+        (served_last limit before now h.got (held inbox) marks h.sent h.served (Refused refusal) (h.refused, refl) a.marked.mark now tt a.marked.fit a.marked.kept);
+    at_end = λ e. absurd (cc);
+  }
+
+  -- a fault came
+  pub Serves-unrefused : (new : List Mark) (written'' : Option (List ℕ)) (f : ConnFault) → IsUntouched now now marks new written' written'' ⊎ IsPartly limit now now (Refused refusal) marks new written' written'' → ServesConnection limit before now left left' written written'' new (Fault f)
+  Serves-unrefused new written'' f (inl u) = record {
+    got = h.got;
+    sent = h.sent ++ [];
+    read = h.read;
+    wrote = wrote_refusal written'' [] u.written;
+    serves = subst (λ (ms : List Mark). IsCutShort limit before now h.got ms (h.sent ++ [])) (sym u.marks) (served_nothing limit before now h.got (held inbox) marks h.sent h.served);
+    at_end = λ e. absurd (cc);
+  }
+  Serves-unrefused new written'' f (inr p) = record {
+    got = h.got;
+    sent = h.sent ++ take p.sent (reply_text now (Refused refusal) p.marked.mark);
+    read = h.read;
+    wrote = wrote_refusal written'' (take p.sent (reply_text now (Refused refusal) p.marked.mark)) p.written;
+    serves = subst (λ (ms : List Mark). IsCutShort limit before now h.got ms (h.sent ++ take p.sent (reply_text now (Refused refusal) p.marked.mark))) (sym p.marked.marks)
+        (served_part limit before now h.got (held inbox) marks h.sent h.served (Refused refusal) (h.refused, refl) p.marked.mark now p.sent p.marked.fit p.marked.kept);
+    at_end = λ e. absurd (cc);
+  }
+
+-- ---- the beginning
+
+unread-new : (inbox : Inbox) → IsNew inbox → unread inbox ≡ []
+unread-new inbox is = ap (drop (lent_len inbox)) is.empty ∙ drop-nil (lent_len inbox)
+
+-- a new inbox, and nothing marked
+pub GoesOn-new : (limit : ℕ) (before : List Request) (left written : Option (List ℕ)) (inbox : Inbox) (marks : List Mark) → IsNew inbox → marks ≡ [] → GoesOn limit before before left left written written inbox marks
+GoesOn-new limit before left written inbox marks is none = record {
+  got = [];
+  sent = [];
+  read = Consumes-nil left;
+  wrote = Appends-nil written;
+  served = subst (λ (ms : List Mark). HasServed limit before before [] (unread inbox) ms []) (sym none)
+      (subst (λ (rest : List ℕ). HasServed limit before before [] rest [] []) (sym (unread-new inbox is)) (HasServed-none limit before));
+  more = is.more;
+}
+
+-- no memory for an inbox
+pub Serves-none : (limit : ℕ) (before : List Request) (left written : Option (List ℕ)) (marks : List Mark) → marks ≡ [] → ServesConnection limit before before left left written written marks (Fault Memory)
+Serves-none limit before left written marks none = record {
+  got = [];
+  sent = [];
+  read = Consumes-nil left;
+  wrote = Appends-nil written;
+  serves = subst (λ (ms : List Mark). IsCutShort limit before before [] ms []) (sym none) (served_nothing limit before before [] [] [] [] (HasServed-none limit before));
+  at_end = λ e. absurd (cc);
+}

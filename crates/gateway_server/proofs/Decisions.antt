@@ -1,0 +1,36 @@
+-- What could not be answered changes nothing.
+use Rattle.std.proofs.Common.{◌≡◌, ℕ, Bool, true, false, List, refl, sym, subst, IfOk, Result}
+use Rattle.std.specs.declared.alloc.AllocError.{AllocError}
+use Rattle.http_wire.specs.declared.reply.Reply.{Reply}
+use Rattle.http_wire.specs.Replies.{reply_parts}
+use Rattle.filing_model.specs.declared.served.Mark.{Mark}
+use Rattle.filing_model.specs.declared.served.Mark.TheVariants.{Unavailable, NotFiled}
+use Rattle.filing_model.specs.Reply.{unavailable}
+use Rattle.filing_model.specs.Request.{Request}
+use Rattle.filing_model.specs.Serving.{kept_by}
+use Rattle.filing_model.specs.Text.{Route, Listed, Filed, RouteFits, requests_of_route, bare}
+use Rattle.gateway_server.specs.declared.decide.Decided.{Decided}
+use Rattle.gateway_server.specs.declared.route.Route.TheVariants as asked
+use Rattle.gateway_server.specs.declared.route.Told.{Told}
+use Rattle.gateway_server.specs.Decided.{Decides, IsUnavailable, marked_reply, told_reply}
+use Rattle.gateway_server.specs.Route.{view_route}
+use Rattle.gateway_server.proofs.Statuses.{phrase-parts, phrase-told_reply, phrase-unavailable}
+
+decides : (limit : ℕ) (requests : List Request) (to : Route) (d : Decided) → IsUnavailable d → RouteFits limit requests to Unavailable → requests ≡ kept_by requests (requests_of_route to Unavailable) → Decides limit requests requests to d
+decides limit requests to d is fit kept = record {
+  fit = subst (λ (m : Mark). RouteFits limit requests to m) (sym is.mark) fit;
+  kept = subst (λ (m : Mark). requests ≡ kept_by requests (requests_of_route to m)) (sym is.mark) kept;
+  reply = subst (λ (m : Mark). IfOk d.reply (λ r. reply_parts r ≡ marked_reply requests to m)) (sym is.mark) is.reply;
+  status = phrase-parts AllocError d.reply unavailable phrase-unavailable is.reply;
+}
+
+pub Decides-listed_unavailable : (limit : ℕ) (requests : List Request) (filer : List ℕ) (d : Decided) → IsUnavailable d → Decides limit requests requests (Listed filer) d
+Decides-listed_unavailable limit requests filer d is = decides limit requests (Listed filer) d is tt refl
+
+pub Decides-filed_unavailable : (limit : ℕ) (requests : List Request) (r : Request) (d : Decided) → IsUnavailable d → Decides limit requests requests (Filed r) d
+Decides-filed_unavailable limit requests r d is = decides limit requests (Filed r) d is tt refl
+
+-- an answer that depends on the message alone changes nothing
+pub Decides-told : (limit : ℕ) (requests : List Request) (why : Told) (body : List ℕ) (is_bare : Bool) (reply : Result Reply AllocError) → IfOk reply (λ r. reply_parts r ≡ told_reply why is_bare) → Decides limit requests requests (bare is_bare (view_route (asked.Told why) body)) (record { mark = NotFiled; reply = reply })
+Decides-told limit requests why body true reply is = record { fit = tt; kept = refl; reply = is; status = phrase-parts AllocError reply (told_reply why true) (phrase-told_reply why true) is }
+Decides-told limit requests why body false reply is = record { fit = tt; kept = refl; reply = is; status = phrase-parts AllocError reply (told_reply why false) (phrase-told_reply why false) is }

@@ -1,0 +1,78 @@
+-- Each status that is answered has a phrase.
+use Rattle.std.proofs.Common.{◌≡◌, ℕ, Bool, true, false, List, [], ◌∷◌, refl, sym, ap, subst, ⊎_elim, Result, Ok, Err}
+use Rattle.std.specs.Prelude.{IsSome, IfOk, nat_eq}
+use Rattle.std.proofs.lemmas.Bool.{cases_Bool}
+use Rattle.http_wire.specs.declared.head.HeadFault.{HeadFault}
+use Rattle.http_wire.specs.declared.head.HeadFault.TheVariants.{Malformed, Host, Coding, Length, NoLength, TooLarge, Memory}
+use Rattle.http_wire.specs.declared.refusal.Refusal.{Refusal}
+use Rattle.http_wire.specs.declared.refusal.Refusal.TheVariants.{HeadTooLarge, Head}
+use Rattle.http_wire.specs.declared.reply.Reply.{Reply}
+use Rattle.http_wire.specs.Replies.{reply_parts}
+use Rattle.http_wire.specs.Reply.{ReplyParts, phrase}
+use Rattle.xbrl_report.specs.CodeNumber.{number_of}
+use Rattle.xbrl_report.specs.Pair.{Pair}
+use Rattle.filing_model.specs.Answer.{Answer, Registered, Refused, KeyReused}
+use Rattle.filing_model.specs.Listing.{Listing}
+use Rattle.filing_model.specs.Reply.{reply_of, list_reply, refused_status, unavailable}
+use Rattle.filing_model.specs.Text.{fault_reply, refusal_reply}
+use Rattle.gateway_server.specs.declared.route.Told.{Told}
+use Rattle.gateway_server.specs.declared.route.Told.TheVariants.{NoPath, NoMethod, ContentCoding, KeyMissing, KeyBad}
+use Rattle.gateway_server.specs.Decided.{told_reply}
+use Rattle.gateway_server.specs.Route.{told_status}
+
+abbrev pub HasPhrase : ReplyParts → Type 0
+HasPhrase reply = IsSome (phrase reply.status)
+
+refused_phrase : (findings : List Pair) → IsSome (phrase (refused_status findings))
+unfolding phrase
+refused_phrase [] = refl
+refused_phrase (f ∷ fs) = ⊎_elim
+    (λ (h : nat_eq (number_of f.code) 1 ≡ true). rw h refl)
+    (λ (h : nat_eq (number_of f.code) 1 ≡ false). rw h refl)
+    (cases_Bool (nat_eq (number_of f.code) 1))
+
+pub phrase-reply_of : (a : Answer) → HasPhrase (reply_of a)
+unfolding reply_of phrase
+phrase-reply_of (Registered n repeat) = refl
+phrase-reply_of (Refused findings repeat) = refused_phrase findings
+phrase-reply_of KeyReused = refl
+
+pub phrase-list_reply : (ls : List Listing) → HasPhrase (list_reply ls)
+unfolding list_reply phrase
+phrase-list_reply ls = refl
+
+phrase-told_status : (why : Told) → IsSome (phrase (told_status why))
+unfolding phrase
+phrase-told_status NoPath = refl
+phrase-told_status NoMethod = refl
+phrase-told_status ContentCoding = refl
+phrase-told_status KeyMissing = refl
+phrase-told_status KeyBad = refl
+
+pub phrase-told_reply : (why : Told) (is_bare : Bool) → HasPhrase (told_reply why is_bare)
+phrase-told_reply why true = phrase-told_status why
+phrase-told_reply why false = phrase-told_status why
+
+-- a reply with these parts has a phrase
+pub phrase-parts : (E : Type 0) (r : Result Reply E) (parts : ReplyParts) → HasPhrase parts → IfOk r (λ reply. reply_parts reply ≡ parts) → IfOk r (λ reply. IsSome (phrase reply.status))
+phrase-parts E (Ok reply) parts has same = subst HasPhrase (sym same) has
+phrase-parts E (Err e) parts has same = tt
+
+pub phrase-unavailable : HasPhrase unavailable
+unfolding phrase
+phrase-unavailable = refl
+
+phrase-fault_reply : (fault : HeadFault) → HasPhrase (fault_reply fault)
+unfolding phrase
+phrase-fault_reply Malformed = refl
+phrase-fault_reply Host = refl
+phrase-fault_reply Coding = refl
+phrase-fault_reply Length = refl
+phrase-fault_reply NoLength = refl
+phrase-fault_reply TooLarge = refl
+phrase-fault_reply Memory = refl
+
+pub phrase-refusal_reply : (refusal : Refusal) → HasPhrase (refusal_reply refusal)
+unfolding phrase
+phrase-refusal_reply HeadTooLarge = refl
+phrase-refusal_reply (Head fault) = phrase-fault_reply fault

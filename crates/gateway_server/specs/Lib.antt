@@ -1,0 +1,4 @@
+pub mod Progress
+pub mod Route
+pub mod Decided
+pub mod Answered

@@ -1,0 +1,69 @@
+-- What contracts see of messages and of what they ask for. No public clause cites this file.
+use Rattle.std.specs.Prelude.{◌≡◌, ℕ, ◌⊎◌, List, [], ◌∷◌, codes, Some, None, true}
+use Rattle.key_string.specs.declared.fault.KeyFault.{KeyFault}
+use Rattle.key_string.specs.declared.fault.KeyFault.TheVariants.{NotString, Empty, TooLong, NotPrintable}
+use Rattle.key_string.specs.Filer.{is_filer}
+use Rattle.key_string.specs.Key.{key_of_field}
+use Rattle.http_wire.specs.declared.inbox.Message.{Message as Lent}
+use Rattle.http_wire.specs.Reply.{ReplyParts}
+use Rattle.http_wire.specs.Request.{Request as Message}
+use Rattle.filing_model.specs.Reply.{word_reply}
+use Rattle.filing_model.specs.Text.{Route}
+use Rattle.filing_model.specs.Views.{the_request}
+use Rattle.gateway_server.specs.declared.route.Told.{Told as Why}
+use Rattle.gateway_server.specs.declared.route.Told.TheVariants.{NoPath, NoMethod, ContentCoding, KeyMissing, KeyBad}
+use Rattle.gateway_server.specs.declared.route.Route.{Route as Asked}
+use Rattle.gateway_server.specs.declared.route.Route.TheVariants as asked
+use Rattle.gateway_server.specs.declared.route.NoKey.{NoKey}
+use Rattle.gateway_server.specs.declared.route.NoKey.TheVariants.{Missing, Bad, Memory}
+
+abbrev pub view_message : Lent → Message
+view_message m = record { head = m.head; body = m.body.now }
+
+abbrev pub told_status : Why → ℕ
+told_status NoPath = 404
+told_status NoMethod = 405
+told_status ContentCoding = 415
+told_status KeyMissing = 400
+told_status KeyBad = 400
+
+abbrev pub told_word : Why → List ℕ
+told_word NoPath = codes "no-path"
+told_word NoMethod = codes "no-method"
+told_word ContentCoding = codes "content-coding"
+told_word KeyMissing = codes "key-missing"
+told_word KeyBad = codes "key-bad"
+
+-- what a message with this body asks for
+abbrev pub view_route : Asked → List ℕ → Route
+view_route (asked.Told why) body = Route.Told (word_reply (told_status why) (told_word why))
+view_route (asked.Listed filer) body = Route.Listed filer.now
+view_route (asked.Filed filer key) body = Route.Filed (the_request filer.now key body)
+
+-- the code is a filer's
+abbrev pub HasFiler : Asked → Type 0
+HasFiler (asked.Told why) = Unit {0}
+HasFiler (asked.Listed filer) = Unit {0}
+HasFiler (asked.Filed filer key) = is_filer filer.now ≡ true
+
+abbrev pub key_field : List ℕ
+key_field = codes "idempotency-key"
+
+-- there is one value, and it spells the key
+abbrev pub IsKeyOf : List (List ℕ) → List ℕ → Type 0
+IsKeyOf values key = (value : List ℕ) × (values ≡ value ∷ []) × (key_of_field value ≡ Some key)
+
+-- there is no value; there are several, or the one spells no key; want of memory says nothing of them
+abbrev pub NoKeyOf : List (List ℕ) → NoKey → Type 0
+NoKeyOf values Missing = values ≡ []
+NoKeyOf values Bad =
+    ((value : List ℕ) × (values ≡ value ∷ []) × (key_of_field value ≡ None))
+    ⊎ ((first : List ℕ) × (second : List ℕ) × (more : List (List ℕ)) × (values ≡ first ∷ second ∷ more))
+NoKeyOf values Memory = Unit {0}
+
+abbrev pub no_key : KeyFault → NoKey
+no_key NotString = Bad
+no_key Empty = Bad
+no_key TooLong = Bad
+no_key (NotPrintable at) = Bad
+no_key KeyFault.Memory = Memory

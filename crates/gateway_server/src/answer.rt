@@ -1,0 +1,118 @@
+//! One place answered: its mark is given, and its reply written.
+
+ghost use Rattle.std.specs.Prelude.{◌≡◌, ◌<◌, ◌≤◌, ℕ, List, length, vec_len, vec_capacity, IfOk, IfErr, OnOk, IsSome};
+ghost use Rattle.http_wire.specs.Device.{HasFailed};
+ghost use Rattle.http_wire.specs.Head.{max_body_len};
+ghost use Rattle.http_wire.specs.Message.{Read as ReadPlace, Refused as RefusedPlace};
+ghost use Rattle.http_wire.specs.Replies.{reply_parts};
+ghost use Rattle.http_wire.specs.Reply.{ReplyParts, phrase, render};
+ghost use Rattle.filing_model.specs.Request.{Request};
+ghost use Rattle.filing_model.specs.Text.{route, bare, is_head, refusal_reply, fault_reply};
+ghost use Rattle.gateway_server.specs.Answered.{Answers, WritesText, IsReplyFault};
+ghost use Rattle.gateway_server.specs.Route.{view_message, view_route, HasFiler};
+
+use crate::decide::{Decided, decide};
+use crate::route::{Route, is_head, route_of};
+use filing_model::Mark;
+use http_wire::{ConnFault, HeadFault, Message, Refusal, Reply, Sink, write_reply};
+use intake_core::{Intake, word_reply};
+use std::alloc::{AllocError, Global};
+
+/// Answers a message. Where memory runs out before it is decided, it has no mark.
+pub(crate) fn answer<W: Sink>(
+    alloc: Global,
+    message: &Message,
+    writer: &mut W,
+    intake: &mut Intake,
+    marks: &mut Vec<Mark>,
+) -> Result<(), ConnFault>
+    requires { length message.now.body.now ≤ max_body_len }
+    ensures answers { Answers intake.old.limit intake.old.requests intake.new.requests (ReadPlace (view_message message.now)) marks.old.items marks.new.items (W.written writer.old) (W.written writer.new) result }
+    ensures limit { intake.new.limit ≡ intake.old.limit }
+    ensures fine { OnOk result (W.write_failures writer.new ≡ W.write_failures writer.old) }
+    ensures fault { IfErr result (IsReplyFault (HasFailed (W.write_failures writer.old) (W.write_failures writer.new))) }
+{
+    marks.reserve(1)?;
+    let asked = route_of(alloc, message)?;
+    answer_route(alloc, message, asked, writer, intake, marks)
+}
+
+/// Answers a message that asks for this.
+fn answer_route<W: Sink>(
+    alloc: Global,
+    message: &Message,
+    asked: Route<'_>,
+    writer: &mut W,
+    intake: &mut Intake,
+    marks: &mut Vec<Mark>,
+) -> Result<(), ConnFault>
+    requires room { vec_len marks.old < vec_capacity marks.old }
+    requires body { length message.now.body.now ≤ max_body_len }
+    requires filer { HasFiler asked }
+    requires asked { route (view_message message.now) ≡ bare (is_head (view_message message.now)) (view_route asked message.now.body.now) }
+    ensures answers { Answers intake.old.limit intake.old.requests intake.new.requests (ReadPlace (view_message message.now)) marks.old.items marks.new.items (W.written writer.old) (W.written writer.new) result }
+    ensures limit { intake.new.limit ≡ intake.old.limit }
+    ensures fine { OnOk result (W.write_failures writer.new ≡ W.write_failures writer.old) }
+    ensures fault { IfErr result (IsReplyFault (HasFailed (W.write_failures writer.old) (W.write_failures writer.new))) }
+{
+    let decided = decide(alloc, intake, asked, message.body, is_head(message));
+    marks.push_reserved(decided.mark);
+    write_decided(alloc, &decided, writer, message.head.closes())
+}
+
+/// Writes what was decided, if there was memory for it.
+fn write_decided<W: Sink>(
+    alloc: Global,
+    decided: &Decided,
+    writer: &mut W,
+    close: bool,
+) -> Result<(), ConnFault>
+    requires { IfOk decided.now.reply (λ r. IsSome (phrase r.status)) }
+    ensures written { (parts : ReplyParts) → IfOk decided.now.reply (λ r. reply_parts r ≡ parts) → WritesText (W.written writer.old) (W.written writer.new) (render parts close) result }
+    ensures fine { OnOk result (W.write_failures writer.new ≡ W.write_failures writer.old) }
+    ensures fault { IfErr result (IsReplyFault (HasFailed (W.write_failures writer.old) (W.write_failures writer.new))) }
+{
+    match &decided.reply {
+        Ok(reply) => write_reply(alloc, writer, reply, close),
+        Err(_) => Err(ConnFault::Memory),
+    }
+}
+
+/// Answers what was refused in the place of a message.
+pub(crate) fn refuse<W: Sink>(
+    alloc: Global,
+    refusal: Refusal,
+    writer: &mut W,
+    marks: &mut Vec<Mark>,
+) -> Result<(), ConnFault>
+    ensures answers { (limit : ℕ) (before : List Request) → Answers limit before before (RefusedPlace refusal) marks.old.items marks.new.items (W.written writer.old) (W.written writer.new) result }
+    ensures fine { OnOk result (W.write_failures writer.new ≡ W.write_failures writer.old) }
+    ensures fault { IfErr result (IsReplyFault (HasFailed (W.write_failures writer.old) (W.write_failures writer.new))) }
+{
+    marks.push(Mark::NotFiled)?;
+    let reply = refusal_reply(alloc, refusal)?;
+    write_reply(alloc, writer, &reply, true)
+}
+
+fn refusal_reply(alloc: Global, refusal: Refusal) -> Result<Reply, AllocError>
+    ensures { IfOk result (λ r. reply_parts r ≡ refusal_reply refusal) }
+{
+    match refusal {
+        Refusal::HeadTooLarge => word_reply(alloc, 431, "head-too-large"),
+        Refusal::Head(fault) => fault_reply(alloc, fault),
+    }
+}
+
+fn fault_reply(alloc: Global, fault: HeadFault) -> Result<Reply, AllocError>
+    ensures { IfOk result (λ r. reply_parts r ≡ fault_reply fault) }
+{
+    match fault {
+        HeadFault::Malformed | HeadFault::Host | HeadFault::Length => {
+            word_reply(alloc, 400, "malformed")
+        }
+        HeadFault::Coding => word_reply(alloc, 501, "coding"),
+        HeadFault::NoLength => word_reply(alloc, 411, "length-missing"),
+        HeadFault::TooLarge => word_reply(alloc, 413, "too-large"),
+        HeadFault::Memory => word_reply(alloc, 503, "unavailable"),
+    }
+}

@@ -1,0 +1,97 @@
+//! What a message gets: its mark, and its reply.
+
+ghost use Rattle.std.specs.Prelude.{◌≡◌, ◌≤◌, length, true, IfOk};
+ghost use Rattle.key_string.specs.Filer.{is_filer};
+ghost use Rattle.http_wire.specs.Head.{max_body_len};
+ghost use Rattle.http_wire.specs.Replies.{reply_parts};
+ghost use Rattle.filing_model.specs.Text.{Listed as AsksList, Filed as AsksFiling, bare};
+ghost use Rattle.filing_model.specs.Views.{the_request};
+ghost use Rattle.gateway_server.specs.Route.{told_status, told_word, view_route, HasFiler};
+ghost use Rattle.gateway_server.specs.Decided.{told_reply, Decides, IsUnavailable};
+
+use crate::route::{Route, Told};
+use filing_model::Mark;
+use http_wire::Reply;
+use intake_core::{Intake, list_reply, reply_of, word_reply};
+use key_string::KeyText;
+use std::alloc::{AllocError, Global};
+
+/// A mark, and the reply to its message, unless there was no memory for the reply.
+#[derive(Drop)]
+pub(crate) struct Decided {
+    pub(crate) mark: Mark,
+    pub(crate) reply: Result<Reply, AllocError>,
+}
+
+/// Answers a message with this body that asks for this.
+pub(crate) fn decide(
+    alloc: Global,
+    intake: &mut Intake,
+    route: Route<'_>,
+    body: &[u8],
+    is_bare: bool,
+) -> Decided
+    requires filer { HasFiler route }
+    requires body { length body.now ≤ max_body_len }
+    ensures decided { Decides intake.old.limit intake.old.requests intake.new.requests (bare is_bare (view_route route.entry body.now)) result }
+    ensures limit { intake.new.limit ≡ intake.old.limit }
+{
+    match route {
+        Route::Told(why) => Decided {
+            mark: Mark::NotFiled,
+            reply: told_reply(alloc, why, is_bare),
+        },
+        Route::Listed(filer) => list(alloc, intake, filer),
+        Route::Filed(filer, key) => file(alloc, intake, filer, &key, body),
+    }
+}
+
+fn told_reply(alloc: Global, why: Told, is_bare: bool) -> Result<Reply, AllocError>
+    ensures { IfOk result (λ r. reply_parts r ≡ told_reply why is_bare) }
+{
+    if is_bare {
+        Ok(Reply {
+            status: why.status(),
+            content: Vec::new(alloc),
+        })
+    } else {
+        word_reply(alloc, why.status(), why.word())
+    }
+}
+
+fn list(alloc: Global, intake: &mut Intake, filer: &str) -> Decided
+    ensures decided { Decides intake.old.limit intake.old.requests intake.new.requests (AsksList filer.now) result }
+    ensures limit { intake.new.limit ≡ intake.old.limit }
+{
+    match intake.list(filer) {
+        Ok(rows) => Decided {
+            mark: Mark::NotFiled,
+            reply: list_reply(alloc, &rows),
+        },
+        Err(_) => unavailable(alloc),
+    }
+}
+
+fn file(alloc: Global, intake: &mut Intake, filer: &str, key: &KeyText, body: &[u8]) -> Decided
+    requires filer { is_filer filer.now ≡ true }
+    requires body { length body.now ≤ max_body_len }
+    ensures decided { Decides intake.old.limit intake.old.requests intake.new.requests (AsksFiling (the_request filer.now key.now body.now)) result }
+    ensures limit { intake.new.limit ≡ intake.old.limit }
+{
+    match intake.submit(filer, key, body) {
+        Ok(answer) => Decided {
+            mark: Mark::Done,
+            reply: reply_of(alloc, &answer),
+        },
+        Err(_) => unavailable(alloc),
+    }
+}
+
+fn unavailable(alloc: Global) -> Decided
+    ensures { IsUnavailable result }
+{
+    Decided {
+        mark: Mark::Unavailable,
+        reply: word_reply(alloc, 503, "unavailable"),
+    }
+}

@@ -1,0 +1,13 @@
+//! The connection of an intake: what it writes is a function of what it read. What may live here:
+//! the order of reading, deciding and writing.
+#![tactic(auto)]
+
+mod answer;
+mod decide;
+mod route;
+mod serving;
+#[cfg(test)]
+mod tests;
+
+pub use filing_model::{Ended, Mark};
+pub use serving::{Served, serve};

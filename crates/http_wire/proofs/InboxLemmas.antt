@@ -1,0 +1,44 @@
+-- What becomes of an inbox.
+use Rattle.std.proofs.Common.{◌≡◌, ◌||◌, Bool, not, true, false, Some, None, refl, sym, ◌∙◌, subst}
+use Rattle.std.proofs.lemmas.Bool.{false≢true}
+use denote.Enum.Bare.{sameb}
+use Rattle.http_wire.specs.contracts.inbox.Phase.{the_type}
+use Rattle.http_wire.specs.declared.inbox.Inbox.{Inbox}
+use Rattle.http_wire.specs.declared.inbox.Phase.{Phase}
+use Rattle.http_wire.specs.declared.inbox.Phase.TheVariants.{Open, Closed, Failed}
+use Rattle.http_wire.specs.declared.place.Parsed.{Parsed}
+use Rattle.http_wire.specs.Message.{BeginsRequest}
+use Rattle.http_wire.specs.Parsed.{parsed_end, parsed_request, IsParsed}
+use Rattle.http_wire.specs.Received.{ReceivesNothing}
+use Rattle.http_wire.specs.Calls.{HoldsPlace}
+use Rattle.http_wire.specs.Inbox.{held, unread, reads, is_over, ReadsNothing, LendsFirst}
+
+-- a call that has nothing to read reads nothing
+pub ReadsNothing-after : {R : Type 0} (a b : R) (old mid new : Inbox) → held mid ≡ unread old → reads mid ≡ reads old
+    → (HoldsPlace (held mid) → ReceivesNothing a b mid.received new.received) → HoldsPlace (unread old) → ReadsNothing a b old new
+ReadsNothing-after a b old mid new held_is count lazy holds =
+    let none = lazy (subst HoldsPlace (sym held_is) holds) in
+    record { reader = none.reader; count = none.reads ∙ count; held_is = none.bytes ∙ held_is }
+
+-- a whole request that was found is lent
+pub LendsFirst-found : (i : Inbox) (p : Parsed) → i.phase ≡ Open → i.lent ≡ Some p → IsParsed (held i) p → BeginsRequest (held i) (parsed_request (held i) p) (parsed_end p) → LendsFirst i
+LendsFirst-found i p opened lent parsed begins = record {
+  request = parsed_request (held i) p;
+  lent = rw lent;
+  begins = rw lent begins;
+  last = rw (opened, lent) parsed.head.1.closes;
+}
+
+-- an inbox that is open and lends nothing isn't over
+pub is_over-opened : (i : Inbox) → i.phase ≡ Open → i.lent ≡ None → is_over i ≡ false
+is_over-opened i opened none = rw (opened, none)
+
+-- what a test for another phase than `Open` tells where it fails
+pub is_open-tested : (phase : Phase) → false ≡ not (sameb the_type phase Open) → phase ≡ Open
+is_open-tested Open same = refl
+is_open-tested Closed same = absurd (false≢true same)
+is_open-tested Failed same = absurd (false≢true same)
+
+pub or-none : (x : Bool) → x ≡ (x || false)
+or-none true = refl
+or-none false = refl

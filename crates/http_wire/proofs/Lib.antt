@@ -1,0 +1,11 @@
+pub mod BlockLemmas
+pub mod BufferLemmas
+pub mod DeviceLemmas
+pub mod DigitLemmas
+pub mod FoundLemmas
+pub mod HeadLemmas
+pub mod InboxLemmas
+pub mod MoreBytes
+pub mod PartLemmas
+pub mod ReceivedLemmas
+pub mod Unique

@@ -1,0 +1,36 @@
+-- What a call at the bytes of a connection writes, and why it fails.
+use Rattle.std.specs.Prelude.{◌≡◌, ◌⊎◌, ℕ, ◌≤◌, Bool, true, List, [], length, take, Option, if◌then◌else◌}
+use Rattle.std.specs.Io.KnownBytes.{Appends}
+use Rattle.http_wire.specs.declared.refusal.ConnFault.{ConnFault}
+use Rattle.http_wire.specs.declared.refusal.ConnFault.TheVariants.{Read, Write, ReadLimit, Memory}
+use Rattle.http_wire.specs.declared.refusal.Refusal.{Refusal}
+use Rattle.http_wire.specs.Message.{BeginsRequest, IsRefused, Asks, IsInterimFor, interim}
+use Rattle.http_wire.specs.Received.{max_reads}
+use Rattle.http_wire.specs.Request.{Request}
+
+-- the bytes begin with a request or a refusal
+abbrev pub HoldsPlace : List ℕ → Type 0
+HoldsPlace bytes =
+    ((request : Request) × (n : ℕ) × BeginsRequest bytes request n) ⊎ ((refusal : Refusal) × IsRefused bytes refusal)
+
+-- the interim response, where one is asked for
+abbrev pub interim_if : Bool → List ℕ
+interim_if asks = if asks then interim else []
+
+-- the interim response was written, if the bytes ask for it, and nothing else
+abbrev pub WritesAsked : Option (List ℕ) → Option (List ℕ) → List ℕ → Type 0
+WritesAsked before after bytes = (text : List ℕ) × IsInterimFor bytes text × Appends before after text
+
+-- What a call that failed had written. Memory may be wanted before the head is read, and then nothing was written.
+abbrev pub WritesUpTo : Option (List ℕ) → Option (List ℕ) → List ℕ → ConnFault → Type 0
+WritesUpTo before after bytes Read = WritesAsked before after bytes
+WritesUpTo before after bytes (Write sent) = Asks bytes true × (sent ≤ length interim) × Appends before after (take sent interim)
+WritesUpTo before after bytes ReadLimit = WritesAsked before after bytes
+WritesUpTo before after bytes Memory = WritesAsked before after bytes ⊎ Appends before after []
+
+-- why a call failed: a read failed in it, a write did, all reads were made that may give bytes, or there was no memory
+abbrev pub IsFault : Type 0 → Type 0 → ℕ → ConnFault → Type 0
+IsFault read_failed write_failed reads Read = read_failed
+IsFault read_failed write_failed reads (Write sent) = write_failed
+IsFault read_failed write_failed reads ReadLimit = reads ≡ max_reads
+IsFault read_failed write_failed reads Memory = Unit {0}

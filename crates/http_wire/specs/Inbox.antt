@@ -1,0 +1,108 @@
+-- What contracts see of an inbox, and what its calls do.
+use Rattle.std.specs.Prelude.{◌≡◌, ◌⊎◌, ℕ, ◌+◌, ◌≤◌, Bool, true, false, List, [], ◌++◌, length, drop, Option, Some, None, option_map, not, ◌||◌}
+use Rattle.std.specs.Option.{option_map_or}
+use Rattle.std.specs.Io.KnownBytes.{Consumes, Appends, IsAtEnd}
+use Rattle.http_wire.specs.declared.inbox.Inbox.{Inbox}
+use Rattle.http_wire.specs.declared.inbox.Phase.{Phase}
+use Rattle.http_wire.specs.declared.inbox.Phase.TheVariants.{Open, Closed, Failed}
+use Rattle.http_wire.specs.declared.refusal.Next.{Next}
+use Rattle.http_wire.specs.declared.refusal.Next.TheVariants.{Message, Refuse, End}
+use Rattle.http_wire.specs.Calls.{interim_if, WritesAsked}
+use Rattle.http_wire.specs.Head.{closes}
+use Rattle.http_wire.specs.Message.{BeginsRequest, IsRefused, IsRest, awaits}
+use Rattle.http_wire.specs.Parsed.{parsed_end, parsed_request}
+use Rattle.http_wire.specs.Received.{held_bytes, read_count}
+use Rattle.http_wire.specs.Request.{Request}
+
+-- how many reads gave bytes
+abbrev pub reads : Inbox → ℕ
+reads i = read_count i.received
+
+-- the bytes that were read and not yet dropped
+abbrev pub held : Inbox → List ℕ
+held i = held_bytes i.received
+
+-- how many of them belong to the request that is lent
+abbrev pub lent_len : Inbox → ℕ
+lent_len i = option_map_or parsed_end i.lent 0
+
+-- the bytes after it
+abbrev pub unread : Inbox → List ℕ
+unread i = drop (lent_len i) (held i)
+
+-- the request that is lent
+abbrev pub lent_request : Inbox → Option Request
+lent_request i = option_map (parsed_request (held i)) i.lent
+
+-- requests may come
+abbrev pub is_open : Phase → Bool
+is_open Open = true
+is_open Closed = false
+is_open Failed = false
+
+-- a call failed
+abbrev pub has_failed : Phase → Bool
+has_failed Open = false
+has_failed Closed = false
+has_failed Failed = true
+
+-- no place comes any more
+abbrev pub is_over : Inbox → Bool
+is_over i = not (is_open i.phase) || option_map_or (λ p. p.framing.closes) i.lent false
+
+-- a call failed before
+abbrev pub is_failed : Inbox → Bool
+is_failed i = has_failed i.phase
+
+-- nothing was read
+pub record IsNew (i : Inbox) : Type 0 where
+  pub count : reads i ≡ 0
+  pub empty : held i ≡ []
+  pub more : is_over i ≡ false
+  pub none : lent_request i ≡ None
+
+-- the bytes that were read between the two
+abbrev pub got : Inbox → Inbox → List ℕ
+got old new = drop (length (unread old)) (held new)
+
+-- What is held now is what was unread, and what the reader gave since: at least a byte in each read that is counted.
+pub record ReadsOn (before after : Option (List ℕ)) (old new : Inbox) : Type 0 where
+  pub held_is : held new ≡ unread old ++ got old new
+  pub given : Consumes before after (got old new)
+  pub count : reads old ≤ reads new
+  pub each : reads new ≤ reads old + length (got old new)
+
+-- nothing was read between the two
+pub record ReadsNothing {R : Type 0} (before after : R) (old new : Inbox) : Type 0 where
+  pub reader : after ≡ before
+  pub count : reads new ≡ reads old
+  pub held_is : held new ≡ unread old
+
+-- nothing was read or dropped, and what was lent is lent
+pub record KeepsBytes (old new : Inbox) : Type 0 where
+  pub held_is : held new ≡ held old
+  pub lent : lent_request new ≡ lent_request old
+  pub count : reads new ≡ reads old
+
+-- the request that is lent begins the bytes that are held, and is the last where it closes
+pub record LendsFirst (i : Inbox) : Type 0 where
+  pub request : Request
+  pub lent : lent_request i ≡ Some request
+  pub begins : BeginsRequest (held i) request (lent_len i)
+  pub last : is_over i ≡ closes request.head
+
+-- what `next` answered is what stands first in the bytes that are held
+abbrev pub IsNext : Option (List ℕ) → Inbox → Inbox → Next → Type 0
+IsNext after old new Message = (is_over old ≡ false) × LendsFirst new
+IsNext after old new (Refuse refusal) = (is_over old ≡ false) × (is_over new ≡ true) × IsRefused (held new) refusal
+IsNext after old new End = (is_over new ≡ true) × ((is_over old ≡ true) ⊎ (IsRest (held new) × IsAtEnd after))
+
+-- the head of the request that is lent asks for an interim response
+abbrev pub lent_awaits : Inbox → Bool
+lent_awaits i = option_map_or (λ request. awaits request.head) (lent_request i) false
+
+-- what was written: the interim response that what `next` answered asks for, and nothing else
+abbrev pub WritesInterim : Option (List ℕ) → Option (List ℕ) → Inbox → Inbox → Next → Type 0
+WritesInterim before after old new Message = Appends before after (interim_if (lent_awaits new))
+WritesInterim before after old new (Refuse refusal) = Appends before after []
+WritesInterim before after old new End = ((is_over old ≡ true) × Appends before after []) ⊎ WritesAsked before after (held new)

@@ -1,0 +1,141 @@
+//! The bytes that were read from a reader and not yet consumed, and the room for the next read.
+ghost use Rattle.std.specs.Prelude.{◌≡◌, ◌+◌, ◌<◌, ◌≤◌, [], ◌++◌, length, take, drop, slice_range, vec_len, IfOk, IfErr, OnOk, OnErr, Ok};
+ghost use Rattle.std.specs.Io.KnownBytes.{Consumes, Keeps, IsAtEnd};
+ghost use Rattle.http_wire.specs.Fill.{IsFillFault};
+
+use crate::device::Source;
+use crate::refusal::ConnFault;
+use std::alloc::{AllocError, Global};
+
+/// The most bytes that are asked for at a time, and the room at first.
+const CHUNK: usize = 16_384;
+
+/// The bytes from `start` to `end`, and room after them. The room keeps its length from read to
+/// read, so that each byte of it is zeroed once; bytes are moved only by the read that follows their
+/// consumption.
+#[derive(Drop)]
+pub(crate) struct Buffer {
+    room: Vec<u8>,
+    start: usize,
+    end: usize,
+    ghost ordered: { start ≤ end },
+    ghost within: { end ≤ vec_len room },
+}
+
+impl Buffer {
+    ghost use Rattle.http_wire.specs.Buffer.{buffered};
+
+    /// A buffer of nothing, with memory for a first read.
+    pub(crate) fn new(alloc: Global) -> Result<Buffer, AllocError>
+        ensures { IfOk result (λ b. buffered b ≡ []) }
+    {
+        Ok(Buffer {
+            room: Vec::with_capacity(alloc, CHUNK)?,
+            start: 0,
+            end: 0,
+        })
+    }
+
+    /// The allocator of the room.
+    pub(crate) fn alloc(&self) -> Global {
+        *self.room.allocator()
+    }
+
+    /// The bytes, oldest first.
+    pub(crate) fn as_slice(&self) -> &[u8]
+        ensures { result.now ≡ buffered self.now }
+    {
+        &self.room[self.start..self.end]
+    }
+
+    /// How many bytes there are.
+    pub(crate) fn len(&self) -> usize
+        ensures { result ≡ length (buffered self.now) }
+    {
+        self.end - self.start
+    }
+
+    /// Drops the first bytes.
+    pub(crate) fn consume(&mut self, count: usize)
+        requires { count ≤ length (buffered self.old) }
+        ensures { buffered self.new ≡ drop count (buffered self.old) }
+    {
+        self.start += count;
+    }
+
+    /// Makes one read, and appends what it gave, up to `most` bytes in all. The answer is the count
+    /// of these bytes, which is 0 only at the end of the input. An `Err` leaves the bytes as they
+    /// were.
+    pub(crate) fn fill<R: Source>(
+        &mut self,
+        reader: &mut R,
+        most: usize,
+    ) -> Result<usize, ConnFault>
+        requires { length (buffered self.old) < most }
+        ensures kept { buffered self.new ≡ buffered self.old ++ drop (length (buffered self.old)) (buffered self.new) }
+        ensures count { IfOk result (λ count. length (buffered self.new) ≡ length (buffered self.old) + count) }
+        ensures bound { length (buffered self.new) ≤ most }
+        ensures given { OnOk result (Consumes (R.left reader.old) (R.left reader.new) (drop (length (buffered self.old)) (buffered self.new))) }
+        ensures end { result ≡ Ok 0 → IsAtEnd (R.left reader.new) }
+        ensures err { OnErr result ((buffered self.new ≡ buffered self.old) × Keeps (R.left reader.old) (R.left reader.new)) }
+        ensures fine { OnOk result (R.read_failures reader.new ≡ R.read_failures reader.old) }
+        ensures fault { IfErr result (IsFillFault (R.read_failures reader.old) (R.read_failures reader.new)) }
+    {
+        self.move_to_front();
+        let room_end = self.end + CHUNK.min(most - self.end);
+        self.make_room(room_end).map_err(|_| ConnFault::Memory)?;
+        let count = read_into(reader, &mut self.room, self.end, room_end)?;
+        self.end += count;
+        Ok(count)
+    }
+
+    /// Moves the bytes to the front of the room.
+    fn move_to_front(&mut self)
+        ensures bytes { buffered self.new ≡ buffered self.old }
+        ensures front { self.new.start ≡ 0 }
+    {
+        if self.start > 0 {
+            let (start, end) = (self.start, self.end);
+            self.room.copy_within(start..end, 0);
+            self.start = 0;
+            self.end = end - start;
+        }
+    }
+
+    /// Makes the room so long at least.
+    fn make_room(&mut self, len: usize) -> Result<(), AllocError>
+        ensures bytes { buffered self.new ≡ buffered self.old }
+        ensures start { self.new.start ≡ self.old.start }
+        ensures end { self.new.end ≡ self.old.end }
+        ensures room { OnOk result (len ≤ vec_len self.new.room) }
+    {
+        if self.room.len() < len {
+            self.room.resize(len, 0)?;
+        }
+        Ok(())
+    }
+}
+
+/// Makes one read into the room from `start` to `end`.
+fn read_into<R: Source>(
+    reader: &mut R,
+    room: &mut Vec<u8>,
+    start: usize,
+    end: usize,
+) -> Result<usize, ConnFault>
+    requires some { start < end }
+    requires within { end ≤ vec_len room.old }
+    ensures len { vec_len room.new ≡ vec_len room.old }
+    ensures front { take start room.new.items ≡ take start room.old.items }
+    ensures bound { IfOk result (λ count. start + count ≤ end) }
+    ensures given { IfOk result (λ count. Consumes (R.left reader.old) (R.left reader.new) (slice_range room.new.items start (start + count))) }
+    ensures end { result ≡ Ok 0 → IsAtEnd (R.left reader.new) }
+    ensures err { OnErr result (Keeps (R.left reader.old) (R.left reader.new)) }
+    ensures fine { OnOk result (R.read_failures reader.new ≡ R.read_failures reader.old) }
+    ensures fault { IfErr result (IsFillFault (R.read_failures reader.old) (R.read_failures reader.new)) }
+{
+    match reader.read(&mut room[start..end]) {
+        Ok(count) => Ok(count),
+        Err(_) => Err(ConnFault::Read),
+    }
+}

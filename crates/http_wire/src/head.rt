@@ -1,0 +1,203 @@
+//! The head of a request: its parts, as offsets into its block, and its faults (RFC 9112, sections 3
+//! and 5).
+ghost use Rattle.std.specs.Prelude.{◌≡◌, ◌↔◌, ◌≤◌, length, IsTrue, IfOk, IfErr};
+ghost use Rattle.http_wire.specs.Head.{values_named, closes, expects, body_length, HasPlainLines, ReadsHead, IsHead, IsHeadFault, IsParseFault};
+ghost use Rattle.http_wire.specs.FieldsNamed.{values_left};
+ghost use Rattle.http_wire.specs.Spans.{parts_at, IsHeadWithin, IsHeadAt};
+
+use crate::fields::FieldsNamed;
+use crate::framing::read_framing;
+use crate::target::path_span;
+use httparse::Status;
+use httparse::spans::{EMPTY_HEADER_SPAN, HeaderSpan, Span, parse_request};
+use std::alloc::Global;
+use std::marker::Model;
+use thiserror::Error;
+
+/// The most fields of a head. An own rule.
+const MAX_FIELDS: usize = 64;
+
+/// The most bytes of a request's body. An own rule.
+pub const MAX_BODY_LEN: usize = 1_048_576;
+
+/// Why a block is no head of a request that is read on: the first that holds, in this order, but
+/// that want of memory may come before.
+#[derive(Clone, Copy, Debug, PartialEq, Eq, Error)]
+pub enum HeadFault {
+    /// The block isn't a head, or its target isn't one (RFC 9112, sections 3 and 5).
+    #[error("the head is malformed")]
+    Malformed,
+    /// HTTP/1.1 without Host, or more than one (RFC 9112, section 3.2).
+    #[error("the head has no single host")]
+    Host,
+    /// There is a Transfer-Encoding (RFC 9112, section 6.1). Any is refused, an own rule.
+    #[error("transfer codings are not supported")]
+    Coding,
+    /// The parts of Content-Length aren't one number (RFC 9112, section 6.3).
+    #[error("the content length is not one number")]
+    Length,
+    /// A POST without Content-Length, an own rule (RFC 9110, section 15.5.12).
+    #[error("the content length is missing")]
+    NoLength,
+    /// A body of more than 1,048,576 bytes, an own rule (RFC 9110, section 15.5.14).
+    #[error("the content is too long")]
+    TooLarge,
+    #[error("out of memory")]
+    Memory,
+}
+
+/// Where the parts of a head are in its block. The first `count` of `fields` are those of the head.
+#[derive(Clone, Copy)]
+pub(crate) struct HeadSpans {
+    pub(crate) method: Span,
+    pub(crate) path: Span,
+    pub(crate) minor: u8,
+    pub(crate) fields: [HeaderSpan; MAX_FIELDS],
+    pub(crate) count: usize,
+}
+
+/// What a head says of the rest of its message.
+#[derive(Clone, Copy)]
+pub(crate) struct Framing {
+    pub(crate) body_len: usize,
+    pub(crate) expects: bool,
+    pub(crate) closes: bool,
+}
+
+/// The head of a request without fault, in the block that it was read from. What it lends are slices
+/// of that block.
+#[derive(Drop)]
+pub struct Head<'a> {
+    block: &'a [u8],
+    spans: HeadSpans,
+    framing: Framing,
+}
+
+impl<'a> Model for Head<'a> {
+    ghost use Rattle.http_wire.specs.Head.{RequestParts};
+
+    ghost Value = { RequestParts };
+
+    ghost use Rattle.http_wire.specs.FieldsNamed.{values_left};
+    ghost use Rattle.http_wire.specs.Spans.{parts_at, IsHeadAt};
+
+    ghost view = { λ head. parts_at head.block.now head.spans };
+
+    ghost invariant = { λ head. IsHeadAt head.block.now head.spans head.framing };
+}
+
+impl<'a> Head<'a> {
+    /// The head in a block whose offsets and framing are known.
+    pub(crate) fn at(block: &'a [u8], spans: HeadSpans, framing: Framing) -> Head<'a>
+        requires { IsHeadAt block.now spans framing }
+        ensures { result ≡ parts_at block.now spans }
+    {
+        Head {
+            block,
+            spans,
+            framing,
+        }
+    }
+
+    /// The method, as it was written (RFC 9110, section 9.1).
+    pub fn method(&self) -> &'a [u8]
+        ensures { result.now ≡ self.now.method }
+    {
+        self.spans.method.of(self.block)
+    }
+
+    /// The path of the target, as it was written, without its query. It is empty where the target
+    /// writes none, as `http://h`.
+    pub fn path(&self) -> &'a [u8]
+        ensures { result.now ≡ self.now.path }
+    {
+        self.spans.path.of(self.block)
+    }
+
+    /// The values of the fields of this name, in order. Names are compared without case.
+    pub fn fields_named<'h>(&'h self, name: &'h [u8]) -> FieldsNamed<'h>
+        ensures values { values_left result ≡ values_named name.now self.now.fields }
+        ensures few { length (values_left result) ≤ 64 }
+    {
+        FieldsNamed::new(self.block, &self.spans, name)
+    }
+
+    /// The declared length of the body in bytes, 0 without Content-Length (RFC 9112, section 6.3).
+    pub fn body_length(&self) -> usize
+        ensures value { result ≡ body_length self.now }
+        ensures short { result ≤ MAX_BODY_LEN }
+    {
+        self.framing.body_len
+    }
+
+    /// Whether the client waits for an interim response: the version is 1.1, and `100-continue` is a
+    /// part of Expect (RFC 9110, section 10.1.1). Other expectations are ignored, an own rule.
+    pub fn expects(&self) -> bool
+        ensures { result ≡ expects self.now }
+    {
+        self.framing.expects
+    }
+
+    /// Whether the connection ends after the reply: `close` is a part of Connection (RFC 9112,
+    /// section 9.6), or the version is 1.0, an own rule.
+    pub fn closes(&self) -> bool
+        ensures { result ≡ closes self.now }
+    {
+        self.framing.closes
+    }
+}
+
+/// The head that a block is, from its first byte to the empty line that ends it.
+pub fn read_head(alloc: Global, block: &[u8]) -> Result<Head<'_>, HeadFault>
+    ensures ok { IfOk result (IsHead block.now) }
+    ensures fault { IfErr result (IsHeadFault block.now) }
+{
+    let (spans, framing) = read_parts(alloc, block)?;
+    Ok(Head::at(block, spans, framing))
+}
+
+/// Where the parts of the head are that a block is, and what they say of the rest of the message.
+#[tactic(auto, using(crate::proofs::HeadLemmas::head_fault_of_framing))]
+pub(crate) fn read_parts(alloc: Global, block: &[u8]) -> Result<(HeadSpans, Framing), HeadFault>
+    ensures at { IfOk result (λ r. IsHeadAt block.now r.0 r.1) }
+    ensures ok { IfOk result (λ r. IsHead block.now (parts_at block.now r.0)) }
+    ensures fault { IfErr result (IsHeadFault block.now) }
+{
+    let spans = parse_head(alloc, block)?;
+    let framing = read_framing(block, &spans)?;
+    Ok((spans, framing))
+}
+
+/// Where the parts of the head are that the block is.
+fn parse_head(alloc: Global, block: &[u8]) -> Result<HeadSpans, HeadFault>
+    ensures ok { IfOk result (λ spans. IsHeadWithin block.now spans × ReadsHead block.now (parts_at block.now spans)) }
+    ensures fault { IfErr result (IsParseFault block.now) }
+{
+    if !has_plain_lines(block) {
+        return Err(HeadFault::Malformed);
+    }
+    let mut fields = [EMPTY_HEADER_SPAN; MAX_FIELDS];
+    match parse_request(block, &mut fields) {
+        Ok(Status::Complete(head)) if head.len == block.len() => Ok(HeadSpans {
+            method: head.method,
+            path: path_span(alloc, block, head.path)?,
+            minor: head.version,
+            fields,
+            count: head.headers,
+        }),
+        _ => Err(HeadFault::Malformed),
+    }
+}
+
+/// Whether the block begins with no line end, and each LF directly follows a CR.
+fn has_plain_lines(block: &[u8]) -> bool
+    ensures { IsTrue result ↔ HasPlainLines block.now }
+{
+    for (i, byte) in block.iter().enumerate() {
+        let follows_cr = i > 0 && block[i - 1] == b'\r';
+        if (*byte == b'\n' && !follows_cr) || (*byte == b'\r' && i == 0) {
+            return false;
+        }
+    }
+    true
+}

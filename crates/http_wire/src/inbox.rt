@@ -1,0 +1,179 @@
+//! The requests of a connection, which are read one after another into one buffer.
+ghost use Rattle.std.specs.Prelude.{◌≡◌, ◌||◌, ◌≤◌, length, Some, None, IsSome, true, IfOk, IfErr, OnOk, OnErr, is_err};
+ghost use Rattle.std.specs.Option.{ForSome};
+ghost use Rattle.http_wire.specs.Device.{HasFailed};
+ghost use Rattle.http_wire.specs.Calls.{HoldsPlace, IsFault, WritesUpTo};
+ghost use Rattle.http_wire.specs.Parsed.{IsParsed};
+ghost use Rattle.http_wire.specs.Received.{held_bytes};
+
+use crate::device::{Sink, Source};
+use crate::head::Head;
+use crate::place::{Found, Parsed, find_place};
+use crate::received::Received;
+use crate::refusal::{ConnFault, Next};
+use std::alloc::{AllocError, Global};
+
+/// How far a connection has come.
+#[derive(Clone, Copy, PartialEq, Eq)]
+enum Phase {
+    /// Requests may come.
+    Open,
+    /// No request comes any more.
+    Closed,
+    /// A call failed.
+    Failed,
+}
+
+/// The bytes of a connection that were read and not yet answered, and the request that stands first
+/// in them. Its calls are given the reader and the writer: one and the same over the whole
+/// connection.
+#[derive(Drop)]
+pub struct Inbox {
+    received: Received,
+    lent: Option<Parsed>,
+    phase: Phase,
+    ghost parsed: { ForSome lent (IsParsed (held_bytes received)) },
+}
+
+/// A request in the bytes of an inbox, which can't go on as long as this is held.
+#[derive(Drop)]
+pub struct Message<'a> {
+    pub head: Head<'a>,
+    pub body: &'a [u8],
+}
+
+impl Inbox {
+    ghost use Rattle.http_wire.specs.Inbox.{held, unread, lent_request, is_over, is_failed, reads, IsNew, ReadsOn, ReadsNothing, KeepsBytes, IsNext, WritesInterim};
+
+    /// An inbox for a connection of which nothing was read. It takes 16,384 bytes of memory at once,
+    /// and later as much as the longest request needs.
+    pub fn new(alloc: Global) -> Result<Inbox, AllocError>
+        ensures { IfOk result IsNew }
+    {
+        Ok(Inbox {
+            received: Received::new(alloc)?,
+            lent: None,
+            phase: Phase::Open,
+        })
+    }
+
+    /// Lets the request go that was lent, and reads on to the next request or refusal. The bytes after
+    /// it stay for the next call. The interim response is written where a head asks for it (RFC 9110,
+    /// section 10.1.1). After a request that closes, a refusal, the end of the input or a fault every
+    /// call answers `End`, and neither reads nor writes.
+    pub fn next<R: Source, W: Sink>(
+        &mut self,
+        reader: &mut R,
+        writer: &mut W,
+    ) -> Result<Next, ConnFault>
+        // What was read follows what was held.
+        ensures reads { ReadsOn (R.left reader.old) (R.left reader.new) self.old self.new }
+        ensures lazy { HoldsPlace (unread self.old) → ReadsNothing reader.old reader.new self.old self.new }
+
+        ensures bound { length (held self.new) ≤ 1064962 }
+
+        // What stands next in it.
+        ensures place { IfOk result (IsNext (R.left reader.new) self.old self.new) }
+        ensures over { is_over self.old ≡ true → (result ≡ Ok Next.End) × (writer.new ≡ writer.old) × ReadsNothing reader.old reader.new self.old self.new }
+
+        // What was written.
+        ensures interim { IfOk result (WritesInterim (W.written writer.old) (W.written writer.new) self.old self.new) }
+        ensures part { IfErr result (WritesUpTo (W.written writer.old) (W.written writer.new) (held self.new)) }
+
+        // Why it failed, and what then.
+        ensures fine { OnOk result ((R.read_failures reader.new ≡ R.read_failures reader.old) × (W.write_failures writer.new ≡ W.write_failures writer.old)) }
+        ensures fault { IfErr result (IsFault (HasFailed (R.read_failures reader.old) (R.read_failures reader.new)) (HasFailed (W.write_failures writer.old) (W.write_failures writer.new)) (reads self.new)) }
+        ensures failed { is_failed self.new ≡ (is_failed self.old || is_err result) }
+        ensures closed { OnErr result (is_over self.new ≡ true) }
+    {
+        self.drop_message();
+        if self.phase != Phase::Open {
+            return Ok(Next::End);
+        }
+        match find_place(&mut self.received, reader, writer) {
+            Ok(Found::Request(parsed)) => {
+                self.lent = Some(parsed);
+                Ok(Next::Message)
+            }
+            Ok(Found::Refused(refusal)) => {
+                self.phase = Phase::Closed;
+                Ok(Next::Refuse(refusal))
+            }
+            Ok(Found::Rest) => {
+                self.phase = Phase::Closed;
+                Ok(Next::End)
+            }
+            Err(fault) => {
+                self.phase = Phase::Failed;
+                Err(fault)
+            }
+        }
+    }
+
+    /// The request that `next` answered last, where that was `Message`.
+    pub fn message(&self) -> Message<'_>
+        requires { IsSome (lent_request self.now) }
+        ensures { lent_request self.now ≡ Some (record { head = result.head; body = result.body.now }) }
+    {
+        let Some(parsed) = &self.lent else {
+            unreachable!()
+        };
+        let bytes = self.received.bytes();
+        let body_end = parsed.end + parsed.framing.body_len;
+        Message {
+            head: Head::at(
+                &bytes[parsed.start..parsed.end],
+                parsed.spans,
+                parsed.framing,
+            ),
+            body: &bytes[parsed.end..body_end],
+        }
+    }
+
+    /// Whether a call failed.
+    pub(crate) fn has_failed(&self) -> bool
+        ensures { result ≡ is_failed self.now }
+    {
+        self.phase == Phase::Failed
+    }
+
+    /// The allocator of the bytes.
+    pub(crate) fn alloc(&self) -> Global {
+        self.received.alloc()
+    }
+
+    /// Takes note of a reply: no request follows one that closes, or that failed.
+    pub(crate) fn close_after(&mut self, closes: bool, fails: bool)
+        ensures bytes { KeepsBytes self.old self.new }
+        ensures over { is_over self.new ≡ ((closes || fails) || is_over self.old) }
+        ensures failed { is_failed self.new ≡ (is_failed self.old || fails) }
+    {
+        self.phase = match self.phase {
+            _ if fails => Phase::Failed,
+            Phase::Open if closes => Phase::Closed,
+            phase => phase,
+        };
+    }
+
+    /// Drops the request that was lent.
+    fn drop_message(&mut self)
+        ensures held { held self.new ≡ unread self.old }
+        ensures count { reads self.new ≡ reads self.old }
+        ensures none { self.new.lent ≡ None }
+        ensures over { is_over self.new ≡ is_over self.old }
+        ensures failed { is_failed self.new ≡ is_failed self.old }
+    {
+        let Some(parsed) = self.lent else {
+            return;
+        };
+        self.lent = None;
+        self.received
+            .drop_front(parsed.end + parsed.framing.body_len);
+        if parsed.framing.closes && self.phase == Phase::Open {
+            self.phase = Phase::Closed;
+        }
+    }
+}
+
+#[cfg(test)]
+mod tests;

@@ -1,0 +1,37 @@
+//! HTTP/1.1 messages between a filer and the intake: heads, bodies and replies, over any reader
+//! and writer.
+#![tactic(auto)]
+
+mod block;
+mod buffer;
+mod coding;
+mod conn;
+mod device;
+mod fields;
+mod framing;
+mod head;
+mod inbox;
+mod lists;
+mod parts;
+mod place;
+mod received;
+mod refusal;
+mod reply;
+mod send;
+mod split;
+mod target;
+mod write;
+
+pub use block::{Block, find_block};
+pub use coding::has_content_coding;
+pub use conn::Conn;
+pub use device::{Device, DeviceFailed, Sink, Source};
+pub use fields::FieldsNamed;
+pub use head::{Head, HeadFault, MAX_BODY_LEN, read_head};
+pub use inbox::{Inbox, Message};
+pub use refusal::{ConnFault, Next, Refusal};
+pub use reply::{Reply, append_reply, phrase};
+pub use write::write_reply;
+
+#[cfg(test)]
+mod tests;

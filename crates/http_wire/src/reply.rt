@@ -1,0 +1,124 @@
+//! The bytes of a reply (RFC 9112, section 4).
+ghost use Rattle.std.specs.Prelude.{◌≡◌, ◌++◌, IsSome, IfOk, OnOk, OnErr, nat_lt, option_copied};
+ghost use Rattle.std.specs.Fmt.{decimal};
+ghost use Rattle.http_wire.specs.Reply.{phrase, render, render_head, status_line, length_line, only_if};
+ghost use Rattle.http_wire.specs.Replies.{reply_parts};
+
+use std::alloc::{AllocError, Global};
+
+/// What the intake answers to a request: a status code of three digits, and JSON text or nothing.
+#[derive(Debug, Drop)]
+pub struct Reply {
+    pub status: u16,
+    pub content: Vec<u8>,
+}
+
+/// The phrase of a status that the intake answers with (RFC 9110, section 15; RFC 6585).
+#[tactic(auto, unfolding(crate::specs::Reply::phrase))]
+pub fn phrase(status: u16) -> Option<&'static str>
+    ensures { option_copied result ≡ phrase status }
+{
+    match status {
+        100 => Some("Continue"),
+        200 => Some("OK"),
+        201 => Some("Created"),
+        400 => Some("Bad Request"),
+        404 => Some("Not Found"),
+        405 => Some("Method Not Allowed"),
+        411 => Some("Length Required"),
+        413 => Some("Content Too Large"),
+        415 => Some("Unsupported Media Type"),
+        422 => Some("Unprocessable Content"),
+        431 => Some("Request Header Fields Too Large"),
+        501 => Some("Not Implemented"),
+        503 => Some("Service Unavailable"),
+        _ => None,
+    }
+}
+
+/// Appends the bytes of a reply: with `close` the last one on its connection. An `Err` changes
+/// nothing.
+#[tactic(auto, unfolding(crate::specs::Reply::render))]
+pub fn append_reply(
+    alloc: Global,
+    reply: &Reply,
+    close: bool,
+    out: &mut Vec<u8>,
+) -> Result<(), AllocError>
+    requires { IsSome (phrase reply.now.status) }
+    ensures ok { OnOk result (out.new.items ≡ out.old.items ++ render (reply_parts reply.now) close) }
+    ensures err { OnErr result (out.new.items ≡ out.old.items) }
+{
+    let head = reply_head(alloc, reply, close)?;
+    let start = out.len();
+    out.extend_from_slice(&head)?;
+    let written = out.extend_from_slice(&reply.content);
+    if written.is_err() {
+        out.truncate(start);
+    }
+    written
+}
+
+/// The head of a reply, with the empty line that ends it.
+#[tactic(auto, unfolding(crate::specs::Reply::render_head))]
+fn reply_head(alloc: Global, reply: &Reply, close: bool) -> Result<Vec<u8>, AllocError>
+    requires { IsSome (phrase reply.now.status) }
+    ensures { IfOk result (λ head. head.items ≡ render_head (reply_parts reply.now) close) }
+{
+    let mut head = Vec::new(alloc);
+    push_status(reply.status, &mut head)?;
+    head.extend_from_slice(b"Content-Type: application/json\r\n")?;
+    push_content_length(reply.content.len(), &mut head)?;
+    push_if(reply.status == 405, b"Allow: GET, POST\r\n", &mut head)?;
+    push_if(close, b"Connection: close\r\n", &mut head)?;
+    head.extend_from_slice(b"\r\n")?;
+    Ok(head)
+}
+
+#[tactic(auto, unfolding(crate::specs::Reply::status_line))]
+fn push_status(status: u16, out: &mut Vec<u8>) -> Result<(), AllocError>
+    requires { IsSome (phrase status) }
+    ensures { OnOk result (out.new.items ≡ out.old.items ++ status_line status) }
+{
+    out.extend_from_slice(b"HTTP/1.1 ")?;
+    push_number(usize::from(status), out)?;
+    out.extend_from_slice(b" ")?;
+    out.extend_from_slice(phrase(status).unwrap().as_bytes())?;
+    out.extend_from_slice(b"\r\n")
+}
+
+fn push_content_length(len: usize, out: &mut Vec<u8>) -> Result<(), AllocError>
+    ensures { OnOk result (out.new.items ≡ out.old.items ++ only_if (nat_lt 0 len) (length_line len)) }
+{
+    if len > 0 {
+        push_length(len, out)
+    } else {
+        Ok(())
+    }
+}
+
+#[tactic(auto, unfolding(crate::specs::Reply::length_line))]
+fn push_length(len: usize, out: &mut Vec<u8>) -> Result<(), AllocError>
+    ensures { OnOk result (out.new.items ≡ out.old.items ++ length_line len) }
+{
+    out.extend_from_slice(b"Content-Length: ")?;
+    push_number(len, out)?;
+    out.extend_from_slice(b"\r\n")
+}
+
+fn push_if(test: bool, line: &[u8], out: &mut Vec<u8>) -> Result<(), AllocError>
+    ensures { OnOk result (out.new.items ≡ out.old.items ++ only_if test line.now) }
+{
+    if test {
+        out.extend_from_slice(line)
+    } else {
+        Ok(())
+    }
+}
+
+fn push_number(number: usize, out: &mut Vec<u8>) -> Result<(), AllocError>
+    ensures { OnOk result (out.new.items ≡ out.old.items ++ decimal number) }
+{
+    let text = format!(in *out.allocator(); "{number}")?;
+    out.extend_from_slice(text.as_bytes())
+}

@@ -1,0 +1,30 @@
+//! Replies, written whole.
+ghost use Rattle.std.specs.Prelude.{◌≡◌, IsSome, IfErr, OnOk};
+ghost use Rattle.std.specs.Io.KnownBytes.{Appends};
+ghost use Rattle.http_wire.specs.Device.{HasFailed};
+ghost use Rattle.http_wire.specs.Replies.{reply_parts};
+ghost use Rattle.http_wire.specs.Reply.{phrase, render};
+ghost use Rattle.http_wire.specs.Write.{IsWriteFault};
+
+use crate::device::Sink;
+use crate::refusal::ConnFault;
+use crate::reply::{Reply, append_reply};
+use crate::send::send;
+use std::alloc::Global;
+
+/// Writes the bytes of a reply. Where there is no memory for them, nothing is written.
+pub fn write_reply<W: Sink>(
+    alloc: Global,
+    writer: &mut W,
+    reply: &Reply,
+    close: bool,
+) -> Result<(), ConnFault>
+    requires { IsSome (phrase reply.now.status) }
+    ensures ok { OnOk result (Appends (W.written writer.old) (W.written writer.new) (render (reply_parts reply.now) close)) }
+    ensures fine { OnOk result (W.write_failures writer.new ≡ W.write_failures writer.old) }
+    ensures fault { IfErr result (IsWriteFault (W.written writer.old) (W.written writer.new) (HasFailed (W.write_failures writer.old) (W.write_failures writer.new)) (render (reply_parts reply.now) close)) }
+{
+    let mut text = Vec::new(alloc);
+    append_reply(alloc, reply, close, &mut text)?;
+    send(writer, &text).map_err(|sent| ConnFault::Write { sent })
+}

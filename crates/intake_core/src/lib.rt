@@ -1,0 +1,13 @@
+//! One request decided: look it up, judge it, add it, answer it. What may live here: the decision
+//! and the reply to it. How a request came, and what lies under the register, are not known here.
+#![tactic(auto)]
+
+mod intake;
+mod reply;
+
+pub use filing_model::plain::{Answer, FilingRow};
+pub use intake::{Intake, Unavailable};
+pub use reply::{list_reply, reply_of, word_reply};
+
+#[cfg(test)]
+mod tests;

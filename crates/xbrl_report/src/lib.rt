@@ -1,0 +1,40 @@
+//! The findings and the facts of an xBRL-JSON report.
+//!
+//! `judge` reads a body and answers that it is a valid report, with its facts, or lists everything that is
+//! wrong with it: each place, as a JSON Pointer, with a code. `specs/Finding.antt` says what each code means.
+//! What may live here is what can be told of one report alone, with no taxonomy and no other report.
+#![tactic(auto)]
+
+mod code;
+mod context;
+mod dimension_rules;
+mod dimensions;
+mod document;
+mod fact;
+mod facts;
+mod finding;
+mod findings;
+mod found;
+mod judging;
+mod kind;
+mod language;
+mod name;
+mod number;
+mod period;
+mod pointer;
+mod report;
+mod unit;
+mod walk;
+
+pub use code::Code;
+pub use fact::Fact;
+pub use finding::Finding;
+pub use findings::Findings;
+pub use judging::{Judged, judge};
+pub use name::{split_entity, split_qname};
+pub use period::{Period, read_period};
+pub use report::Report;
+pub use unit::{Unit, read_unit};
+
+#[cfg(test)]
+mod tests;
