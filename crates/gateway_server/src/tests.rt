@@ -3,6 +3,13 @@ use http_wire::{ConnFault, Device};
 use intake_core::Intake;
 use std::io::{self, Read, Write};
 use std::test::Fail;
+use streams::front;
+
+mod failing;
+mod limits;
+mod memory;
+mod streams;
+mod waiting;
 
 const LIMIT: u64 = 1_000_000;
 
@@ -24,9 +31,6 @@ const NOT_JSON: &str =
 const UNAVAILABLE: &str =
     "HTTP/1.1 503 Service Unavailable\r\nContent-Type: application/json\r\nContent-Length: 24\r\n\r\n{\"status\":\"unavailable\"}";
 
-const EXAMPLE: &str =
-    "POST /filings/ACME HTTP/1.1\r\nHost: localhost\r\nIdempotency-Key: \"k-1\"\r\nContent-Length: 393\r\n\r\n{\"documentInfo\":{\"documentType\":\"https://xbrl.org/2021/xbrl-json\",\"namespaces\":{\"eg\":\"http://example.com/eg\",\"iso4217\":\"http://www.xbrl.org/2003/iso4217\",\"lei\":\"http://standards.iso.org/iso/17442\"},\"taxonomy\":[\"http://example.com/eg.xsd\"]},\"facts\":{\"f1\":{\"value\":\"100\",\"decimals\":0,\"dimensions\":{\"concept\":\"eg:Assets\",\"entity\":\"lei:ACME\",\"period\":\"2024-12-31T00:00:00\",\"unit\":\"iso4217:EUR\"}}}}";
-
 /// A POST of a body under a key.
 fn filing(rt: &HostRuntime, filer: &str, key: &str, body: &str) -> Result<String, Fail> {
     let length = body.len();
@@ -37,10 +41,18 @@ fn filing(rt: &HostRuntime, filer: &str, key: &str, body: &str) -> Result<String
 
 /// What is written for the bytes of one connection.
 fn written(rt: &HostRuntime, intake: &mut Intake, input: &str) -> Result<(String, Served), Fail> {
+    written_for(rt, intake, input.as_bytes())
+}
+
+fn written_for(
+    rt: &HostRuntime,
+    intake: &mut Intake,
+    input: &[u8],
+) -> Result<(String, Served), Fail> {
     let mut output: Vec<u8> = Vec::new(rt.alloc());
     let served = serve(
         rt.alloc(),
-        &mut Device::new(input.as_bytes()),
+        &mut Device::new(input),
         &mut Device::new(&mut output),
         intake,
     );
@@ -159,7 +171,7 @@ fn a_full_register(rt: HostRuntime) -> Result<(), Fail> {
 fn an_unfinished_request(rt: HostRuntime) -> Result<(), Fail> {
     let mut intake = Intake::new(rt.alloc(), LIMIT);
     let first = filing(&rt, "ACME", "k-1", REPORT)?;
-    let (output, served) = written(&rt, &mut intake, first.get(..485).unwrap_or(""))?;
+    let (output, served) = written_for(&rt, &mut intake, front(first.as_bytes(), 485))?;
     assert_eq!(rt; output.as_str(), "");
     assert!(rt; served.marks.is_empty());
     assert_eq!(rt; served.ended, Ended::InputEnded);
@@ -306,7 +318,7 @@ fn a_read_that_fails(rt: HostRuntime) -> Result<(), Fail> {
     let mut intake = Intake::new(rt.alloc(), LIMIT);
     let mut output: Vec<u8> = Vec::new(rt.alloc());
     let cut = Breaking {
-        rest: input.as_bytes().get(..900).unwrap_or(&[]),
+        rest: front(input.as_bytes(), 900),
     };
     let served = serve(
         rt.alloc(),
@@ -337,41 +349,7 @@ fn a_write_that_fails(rt: HostRuntime) -> Result<(), Fail> {
         served.marks.as_slice(),
         [Mark::Done, Mark::Done].as_slice()
     );
-    assert!(rt; room.starts_with(REGISTERED.as_bytes()));
+    assert_eq!(rt; front(&room, 110), REGISTERED.as_bytes());
     assert_eq!(rt; written(&rt, &mut intake, &first)?.0.as_str(), REGISTERED);
     Ok(())
-}
-
-/// Meant to be run with each allocation refused in turn; it takes no memory of its own.
-#[test]
-fn memory_that_is_refused(rt: HostRuntime) {
-    let mut intake = Intake::new(rt.alloc(), LIMIT);
-    let mut room = [0u8; 200];
-    let served = serve(
-        rt.alloc(),
-        &mut Device::new(EXAMPLE.as_bytes()),
-        &mut Device::new(room.as_mut_slice()),
-        &mut intake,
-    );
-    match served.ended {
-        Ended::Fault(fault) => {
-            assert_eq!(rt; fault, ConnFault::Memory);
-            assert_eq!(rt; room[0], 0);
-        }
-        Ended::InputEnded => {
-            assert!(rt;
-                room.starts_with(REGISTERED.as_bytes()) || room.starts_with(UNAVAILABLE.as_bytes())
-            );
-        }
-        Ended::Closed => assert!(rt; false),
-    }
-    let mut again = [0u8; 200];
-    let served = serve(
-        rt.alloc(),
-        &mut Device::new(EXAMPLE.as_bytes()),
-        &mut Device::new(again.as_mut_slice()),
-        &mut intake,
-    );
-    assert_eq!(rt; served.ended, Ended::InputEnded);
-    assert!(rt; again.starts_with(REGISTERED.as_bytes()));
 }

@@ -291,10 +291,10 @@ fn whole_texts(rt: HostRuntime) -> Result<(), Fail> {
     let mut writer = Device::new(Weak(1));
     assert_eq!(rt; send::send(&mut writer, b"ab"), Err(1));
     let mut reader = Device::new(b"abc".as_slice());
-    let mut buffer = Vec::new(rt.alloc());
-    assert_eq!(rt; fill::fill(&mut reader, &mut buffer, 2), Ok(2));
-    assert_eq!(rt; fill::fill(&mut reader, &mut buffer, 9), Ok(1));
-    assert_eq!(rt; fill::fill(&mut reader, &mut buffer, 9), Ok(0));
-    assert_eq!(rt; buffer.as_slice(), b"abc".as_slice());
+    let mut bytes = buffer::Buffer::new(rt.alloc())?;
+    assert_eq!(rt; bytes.fill(&mut reader, 2), Ok(2));
+    assert_eq!(rt; bytes.fill(&mut reader, 9), Ok(1));
+    assert_eq!(rt; bytes.fill(&mut reader, 20), Ok(0));
+    assert_eq!(rt; bytes.as_slice(), b"abc".as_slice());
     Ok(())
 }

@@ -13,7 +13,7 @@ use Rattle.gateway_server.proofs.decide.list.Goals as goal
 pub returns-in-Ok-clause-decided : goal.returns-in-Ok-clause-decided
 returns-in-Ok-clause-decided c =
     let rows : List Listing = listings c.args.filer.now (register c.args.intake.now.requests) in
-    let same : map view_row c.deref.result.now ≡ rows = ap (map view_row) c.deref.ensures.value ∙ c.in-Ok.ensures in
+    let same : map view_row c.deref.result.now ≡ rows = ap (map view_row) c.deref.ensures.value ∙ c.in-Ok.ensures.rows in
     let reply = subst (λ (ls : List Listing). IfOk c.list_reply.result (λ r. reply_parts r ≡ list_reply ls)) same c.list_reply.ensures in
     record {
       fit = tt;
