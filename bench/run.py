@@ -1,6 +1,7 @@
 #!/usr/bin/env python3
 """Measures the intake: runs crates/bench/out/bench, which `rt run` in crates/bench builds, on inputs
-that it makes, and prints how much it does in a second of processor time.
+that it makes, prints how much it does in a second of processor time, and holds the growth of the time
+to its bounds: status 1 where a bound is passed.
 
 The time of a run is that of the process and its children (user and system), less that of a run on an
 empty input, which is the start of the program. Each figure is the best of three runs.
@@ -25,21 +26,29 @@ INFO = (
 )
 
 FACT = (
-    b'"f%d":{"value":"100","decimals":0,"dimensions":{"concept":"eg:Assets","entity":"lei:ACME",'
+    b'"f%06d":{"value":"100","decimals":0,"dimensions":{"concept":"eg:Assets","entity":"lei:ACME",'
     b'"period":"2024-12-31T00:00:00","unit":"iso4217:EUR"}}'
 )
 
 
+# A fact without a value, which is one finding.
+WRONG = FACT.replace(b'"value":"100",', b"")
+
+
+def facts(form, count):
+    """A report with so many facts of the form."""
+    return INFO + b",".join(form % (number + 1) for number in range(count)) + b"}}"
+
+
 def report(most):
     """A valid report of at most so many bytes, with as many facts as fit."""
-    facts = []
-    size = len(INFO) + 2
-    while True:
-        fact = FACT % (len(facts) + 1)
-        size += len(fact) + 1
-        if size > most:
-            return INFO + b",".join(facts) + b"}}"
-        facts.append(fact)
+    return facts(FACT, (most - len(INFO) - 2) // (len(FACT % 1) + 1))
+
+
+def wide():
+    """A report with one fact, whose identifier is long and whose dimensions are many and wrong."""
+    dimensions = b",".join(b'"%05d":1' % number for number in range(50_000))
+    return INFO + b'"%s":{"value":"1","dimensions":{%s}}}}' % (b"a" * 500_000, dimensions)
 
 
 def request(key, body):
@@ -49,6 +58,11 @@ def request(key, body):
         b"Content-Length: %d\r\n\r\n" % (key, len(body))
     )
     return head + body
+
+
+def pipelined(count, body):
+    """So many requests of one connection, each under a key of its own."""
+    return b"".join(request(b"k-%06d" % (number + 1), body) for number in range(count))
 
 
 def run(words, given, wanted):
@@ -61,26 +75,43 @@ def run(words, given, wanted):
     return after.ru_utime + after.ru_stime - before.ru_utime - before.ru_stime
 
 
-def seconds(words, given, wanted):
+def seconds(words, given, wanted=None):
     """The least time of some runs, less that of the least run on nothing."""
     full = min(run(words, given, wanted) for _ in range(RUNS))
     empty = min(run(words, b"", None) for _ in range(RUNS))
     return max(full - empty, 1e-3)
 
 
+def growth(what, smaller, larger, most):
+    """Whether the larger run takes at most so many times the time of the smaller."""
+    times = larger / smaller
+    print(f"{what}: {times:.1f} times the time, at most {most}")
+    return times <= most
+
+
 def main():
     if not os.path.exists(BENCH):
         sys.exit("build the program first: rt run in crates/bench")
+    held = []
     padded = request(b"k-1", SMALLEST.ljust(BODY_BYTES))
     for most in (1, 16, 4096):
         spent = seconds(["serve", str(most)], padded, b"110 bytes, 1 marks\n")
         print(f"one body of 1 MiB, {most} bytes a read: {len(padded) / spent / 1e6:.1f} MB/s")
 
     small = report(400)
-    pipelined = b"".join(request(b"k-%d" % (n + 1), small) for n in range(REQUESTS))
-    for most in (1, 4096, len(pipelined)):
-        spent = seconds(["serve", str(most)], pipelined, None)
+    connection = pipelined(REQUESTS, small)
+    for most in (1, 4096, len(connection)):
+        spent = seconds(["serve", str(most)], connection)
         print(f"{REQUESTS} requests, {most} bytes a read: {REQUESTS / spent:.0f} requests/s")
+    longer = pipelined(10 * REQUESTS, small)
+    spent = seconds(["heads", str(len(small))], longer, b"%d heads\n" % (10 * REQUESTS))
+    print(f"their heads alone, by httparse: {10 * REQUESTS / spent:.0f} requests/s")
+    one = request(b"k-1", small)
+    times = [seconds(["serve", "4096"], one * count) for count in (REQUESTS, 10 * REQUESTS)]
+    held.append(growth("10 times the requests under one key", *times, 11))
+    times = [seconds(["serve", "4096"], given) for given in (connection, longer)]
+    # No bound is held here: the register is a list, and each request goes through its keys.
+    print(f"10 times the requests, each under its own key: {times[1] / times[0]:.1f} times the time")
 
     for size in (100_000, 1_000_000):
         body = report(size)
@@ -90,6 +121,14 @@ def main():
             f"a report of {len(body)} bytes: judge {len(body) / judged / 1e6:.1f} MB/s, "
             f"parse {len(body) / parsed / 1e6:.1f} MB/s"
         )
+    for what, form in (("facts", FACT), ("wrong facts", WRONG)):
+        fewer = seconds(["judge"], facts(form, 700))
+        larger = seconds(["judge"], facts(form, 7_000))
+        held.append(growth(f"10 times the {what}", fewer, larger, 12))
+    spent = seconds(["judge"], wide(), b"1 findings\n")
+    print(f"one fact with 50,000 wrong dimensions: {spent:.3f} s")
+    if not all(held):
+        sys.exit("a bound is passed")
 
 
 if __name__ == "__main__":

@@ -8,13 +8,13 @@ mod work;
 use std::env;
 use std::io::{self, Read};
 use std::process::ExitCode;
-use work::{Work, judge, parse, serve_pieces};
+use work::{Work, count_heads, judge, parse, serve_pieces};
 
 fn main(rt: HostRuntime) -> anyhow::Result<ExitCode> {
     let alloc = rt.alloc();
     let words: Vec<String> = env::args(&rt)?.skip(1).collect(alloc)?;
     let Some(work) = Work::of_words(&words) else {
-        println!(rt; "bench: serve N | judge | parse")?;
+        println!(rt; "bench: serve N | judge | parse | heads N")?;
         return Ok(ExitCode::from(2));
     };
     let mut input = Vec::new(alloc);
@@ -28,6 +28,7 @@ fn main(rt: HostRuntime) -> anyhow::Result<ExitCode> {
             0 => println!(rt; "valid")?,
             findings => println!(rt; "{findings} findings")?,
         },
+        Work::Heads { body } => println!(rt; "{} heads", count_heads(&input, body))?,
         Work::Parse => println!(rt;
             "{}",
             if parse(alloc, &input)? {

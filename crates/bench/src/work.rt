@@ -4,6 +4,8 @@ use crate::pieces::Pieces;
 use anyhow::bail;
 use gateway_server::{Ended, serve};
 use http_wire::Device;
+use httparse::Status;
+use httparse::spans::{EMPTY_HEADER_SPAN, parse_request};
 use intake_core::Intake;
 use serde_json::Value;
 use std::alloc::{AllocError, Global};
@@ -24,6 +26,8 @@ pub enum Work {
     Judge,
     /// Parse the input as JSON.
     Parse,
+    /// Parse the heads of the input's requests alone, whose bodies have so many bytes each.
+    Heads { body: usize },
 }
 
 impl Work {
@@ -34,6 +38,10 @@ impl Work {
             [word] if word.as_str() == "parse" => Some(Work::Parse),
             [word, most] if word.as_str() == "serve" => match most.parse() {
                 Ok(most) => Some(Work::Serve { most }),
+                Err(_) => None,
+            },
+            [word, body] if word.as_str() == "heads" => match body.parse() {
+                Ok(body) => Some(Work::Heads { body }),
                 Err(_) => None,
             },
             _ => None,
@@ -85,4 +93,21 @@ pub fn parse(alloc: Global, input: &[u8]) -> Result<bool, AllocError> {
         Err(error) if error.is_memory() => Err(AllocError),
         Err(_) => Ok(false),
     }
+}
+
+/// How many heads stand one after another, with a body of so many bytes behind each.
+pub fn count_heads(input: &[u8], body: usize) -> usize {
+    let mut fields = [EMPTY_HEADER_SPAN; 64];
+    let mut rest = input;
+    for count in 0..usize::MAX {
+        let after = match parse_request(rest, &mut fields) {
+            Ok(Status::Complete(head)) => rest.get(head.len..).and_then(|after| after.get(body..)),
+            _ => None,
+        };
+        match after {
+            Some(after) => rest = after,
+            None => return count,
+        }
+    }
+    usize::MAX
 }

@@ -5,6 +5,7 @@ use std::io::{self, Read, Write};
 use std::test::Fail;
 use streams::front;
 
+mod cut;
 mod failing;
 mod limits;
 mod memory;
@@ -15,6 +16,9 @@ const LIMIT: u64 = 1_000_000;
 
 const REPORT: &str =
     "{\"documentInfo\":{\"documentType\":\"https://xbrl.org/2021/xbrl-json\",\"namespaces\":{\"eg\":\"http://example.com/eg\",\"iso4217\":\"http://www.xbrl.org/2003/iso4217\",\"lei\":\"http://standards.iso.org/iso/17442\"},\"taxonomy\":[\"http://example.com/eg.xsd\"]},\"facts\":{\"f1\":{\"value\":\"100\",\"decimals\":0,\"dimensions\":{\"concept\":\"eg:Assets\",\"entity\":\"lei:ACME\",\"period\":\"2024-12-31T00:00:00\",\"unit\":\"iso4217:EUR\"}}}}";
+
+const SMALLEST: &str =
+    "{\"documentInfo\":{\"documentType\":\"https://xbrl.org/2021/xbrl-json\",\"taxonomy\":[\"t\"]}}";
 
 const REGISTERED: &str =
     "HTTP/1.1 201 Created\r\nContent-Type: application/json\r\nContent-Length: 34\r\n\r\n{\"number\":1,\"status\":\"registered\"}";
@@ -27,6 +31,12 @@ const KEY_REUSED: &str =
 
 const NOT_JSON: &str =
     "HTTP/1.1 400 Bad Request\r\nContent-Type: application/json\r\nContent-Length: 64\r\n\r\n{\"findings\":[{\"code\":\"not-json\",\"place\":\"\"}],\"status\":\"refused\"}";
+
+const MALFORMED: &str =
+    "HTTP/1.1 400 Bad Request\r\nContent-Type: application/json\r\nContent-Length: 22\r\nConnection: close\r\n\r\n{\"status\":\"malformed\"}";
+
+const HEAD_TOO_LARGE: &str =
+    "HTTP/1.1 431 Request Header Fields Too Large\r\nContent-Type: application/json\r\nContent-Length: 27\r\nConnection: close\r\n\r\n{\"status\":\"head-too-large\"}";
 
 const UNAVAILABLE: &str =
     "HTTP/1.1 503 Service Unavailable\r\nContent-Type: application/json\r\nContent-Length: 24\r\n\r\n{\"status\":\"unavailable\"}";
@@ -117,12 +127,7 @@ fn another_body_under_a_used_key(rt: HostRuntime) -> Result<(), Fail> {
 fn the_same_key_of_two_filers(rt: HostRuntime) -> Result<(), Fail> {
     let mut intake = Intake::new(rt.alloc(), LIMIT);
     let first = filing(&rt, "ACME", "k-1", REPORT)?;
-    let second = filing(
-        &rt,
-        "BETA",
-        "k-1",
-        "{\"documentInfo\":{\"documentType\":\"https://xbrl.org/2021/xbrl-json\",\"taxonomy\":[\"t\"]}}",
-    )?;
+    let second = filing(&rt, "BETA", "k-1", SMALLEST)?;
     assert_eq!(rt; written(&rt, &mut intake, &first)?.0.as_str(), REGISTERED);
     assert_eq!(rt;
         written(&rt, &mut intake, &second)?.0.as_str(),
@@ -240,56 +245,72 @@ fn requests_that_file_nothing(rt: HostRuntime) -> Result<(), Fail> {
 fn a_head_without_end(rt: HostRuntime) -> Result<(), Fail> {
     let mut intake = Intake::new(rt.alloc(), LIMIT);
     let letters = String::from_utf8(vec![in rt.alloc(); b'a'; 16_384]?)?;
-    let (output, served) = written(&rt, &mut intake, &letters)?;
-    assert_eq!(rt;
-        output.as_str(),
-        "HTTP/1.1 431 Request Header Fields Too Large\r\nContent-Type: application/json\r\nContent-Length: 27\r\nConnection: close\r\n\r\n{\"status\":\"head-too-large\"}"
-    );
-    assert_eq!(rt; served.ended, Ended::Closed);
-    assert_eq!(rt; written(&rt, &mut intake, &letters[1..])?.0.as_str(), "");
+    let spaces = String::from_utf8(vec![in rt.alloc(); b' '; 16_383]?)?;
+    for most in PIECES {
+        let (output, served) = written_in_pieces(&rt, &mut intake, &letters, most)?;
+        assert_eq!(rt; output.as_str(), HEAD_TOO_LARGE);
+        assert_eq!(rt; served.ended, Ended::Closed);
+        for unfinished in [&letters[1..], spaces.as_str()] {
+            let (output, _) = written_in_pieces(&rt, &mut intake, unfinished, most)?;
+            assert_eq!(rt; output.as_str(), "");
+        }
+    }
     Ok(())
 }
 
 #[test]
 fn an_interim_response_comes_first(rt: HostRuntime) -> Result<(), Fail> {
-    let mut intake = Intake::new(rt.alloc(), LIMIT);
     let input =
         "POST /filings/ACME HTTP/1.1\r\nHost: h\r\nIdempotency-Key: \"k-1\"\r\nExpect: 100-continue\r\nContent-Length: 5\r\n\r\nhello";
-    let (output, _) = written(&rt, &mut intake, input)?;
-    assert_eq!(rt;
-        output,
-        format!(in rt.alloc(); "HTTP/1.1 100 Continue\r\n\r\n{NOT_JSON}")?
-    );
+    for most in PIECES {
+        let mut intake = Intake::new(rt.alloc(), LIMIT);
+        let (output, _) = written_in_pieces(&rt, &mut intake, input, most)?;
+        assert_eq!(rt;
+            output,
+            format!(in rt.alloc(); "HTTP/1.1 100 Continue\r\n\r\n{NOT_JSON}")?
+        );
+    }
     Ok(())
+}
+
+/// How many bytes a read gives, in the tests of pieces.
+const PIECES: [usize; 5] = [1, 2, 3, 5, 4096];
+
+/// What is written for the bytes of one connection that come in pieces.
+fn written_in_pieces(
+    rt: &HostRuntime,
+    intake: &mut Intake,
+    input: &str,
+    most: usize,
+) -> Result<(String, Served), Fail> {
+    let mut output: Vec<u8> = Vec::new(rt.alloc());
+    let pieces = Pieces {
+        rest: input.as_bytes(),
+        most,
+    };
+    let served = serve(
+        rt.alloc(),
+        &mut Device::new(pieces),
+        &mut Device::new(&mut output),
+        intake,
+    );
+    Ok((String::from_utf8(output)?, served))
 }
 
 #[test]
 fn however_the_bytes_come(rt: HostRuntime) -> Result<(), Fail> {
     let first = filing(&rt, "ACME", "k-1", REPORT)?;
-    let input = format!(in rt.alloc(); "{first}{first}\r\n\r\n")?;
-    for most in [1, 2, 3, 5, 4096] {
+    let input = format!(in rt.alloc(); "{first}{first}{first}\r\n\r\n")?;
+    for most in PIECES {
         let mut intake = Intake::new(rt.alloc(), LIMIT);
-        let mut output: Vec<u8> = Vec::new(rt.alloc());
-        let pieces = Pieces {
-            rest: input.as_bytes(),
-            most,
-        };
-        let served = serve(
-            rt.alloc(),
-            &mut Device::new(pieces),
-            &mut Device::new(&mut output),
-            &mut intake,
-        );
-        let text = String::from_utf8(output)?;
+        let (text, served) = written_in_pieces(&rt, &mut intake, &input, most)?;
         assert_eq!(rt;
             text,
-            format!(in rt.alloc();
-                "{REGISTERED}{REGISTERED}HTTP/1.1 400 Bad Request\r\nContent-Type: application/json\r\nContent-Length: 22\r\nConnection: close\r\n\r\n{{\"status\":\"malformed\"}}"
-            )?
+            format!(in rt.alloc(); "{REGISTERED}{REGISTERED}{REGISTERED}{MALFORMED}")?
         );
         assert_eq!(rt;
             served.marks.as_slice(),
-            [Mark::Done, Mark::Done, Mark::NotFiled].as_slice()
+            [Mark::Done, Mark::Done, Mark::Done, Mark::NotFiled].as_slice()
         );
         assert_eq!(rt; served.ended, Ended::Closed);
     }

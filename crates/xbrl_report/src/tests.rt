@@ -1,3 +1,5 @@
+mod examples;
+mod extremes;
 mod table;
 
 use super::*;

@@ -2,12 +2,6 @@
 
 use super::*;
 
-const SMALLEST: &str =
-    "{\"documentInfo\":{\"documentType\":\"https://xbrl.org/2021/xbrl-json\",\"taxonomy\":[\"t\"]}}";
-
-const MALFORMED: &str =
-    "HTTP/1.1 400 Bad Request\r\nContent-Type: application/json\r\nContent-Length: 22\r\nConnection: close\r\n\r\n{\"status\":\"malformed\"}";
-
 #[test]
 fn sixty_four_fields(rt: HostRuntime) -> Result<(), Fail> {
     for (fields, reply) in [
@@ -29,20 +23,36 @@ fn sixty_four_fields(rt: HostRuntime) -> Result<(), Fail> {
 }
 
 #[test]
-fn lengths_that_agree(rt: HostRuntime) -> Result<(), Fail> {
-    for (lengths, reply) in [
-        ("Content-Length: 84\r\n", REGISTERED),
-        ("Content-Length: 84\r\nContent-Length: 84\r\n", REGISTERED),
-        ("Content-Length: 84\r\nContent-Length: 85\r\n", MALFORMED),
-        ("Content-Length: 84, 084\r\n", REGISTERED),
-        ("Content-Length: +84\r\n", MALFORMED),
-        ("Content-Length: 84,\r\n", MALFORMED),
+fn the_longest_block(rt: HostRuntime) -> Result<(), Fail> {
+    let empty =
+        "HTTP/1.1 200 OK\r\nContent-Type: application/json\r\nContent-Length: 14\r\n\r\n{\"filings\":[]}";
+    for (start, letters, reply) in [
+        ("", 16_332, empty),
+        ("\r\n", 16_332, empty),
+        ("", 16_333, HEAD_TOO_LARGE),
     ] {
+        let letters = String::from_utf8(vec![in rt.alloc(); b'a'; letters]?)?;
         let input = format!(in rt.alloc();
-            "POST /filings/ACME HTTP/1.1\r\nHost: h\r\nIdempotency-Key: \"k-1\"\r\n{lengths}\r\n{SMALLEST}"
+            "{start}GET /filings/ACME HTTP/1.1\r\nHost: localhost\r\nX: {letters}\r\n\r\n"
         )?;
         let mut intake = Intake::new(rt.alloc(), LIMIT);
-        assert_eq!(rt; written(&rt, &mut intake, &input)?.0.as_str(), reply);
+        for most in PIECES {
+            let (output, _) = written_in_pieces(&rt, &mut intake, &input, most)?;
+            assert_eq!(rt; output.as_str(), reply);
+        }
+    }
+    Ok(())
+}
+
+#[test]
+fn the_longest_body(rt: HostRuntime) -> Result<(), Fail> {
+    let spaces = String::from_utf8(vec![in rt.alloc(); b' '; 1_048_492]?)?;
+    let body = format!(in rt.alloc(); "{SMALLEST}{spaces}")?;
+    let input = filing(&rt, "ACME", "k-1", &body)?;
+    for most in PIECES {
+        let mut intake = Intake::new(rt.alloc(), LIMIT);
+        let (output, _) = written_in_pieces(&rt, &mut intake, &input, most)?;
+        assert_eq!(rt; output.as_str(), REGISTERED);
     }
     Ok(())
 }
