@@ -15,10 +15,12 @@ pub mod Message
 pub mod Parsed
 pub mod Parts
 pub mod PartsLeft
+pub mod Posting
 pub mod Received
 pub mod Replies
 pub mod Reply
 pub mod Request
+pub mod Response
 pub mod Spans
 pub mod Target
 pub mod Write
