@@ -1,0 +1,15 @@
+-- The causes of the refusals of `sqlite`.
+use Rattle.sqlite.specs.declared.error.Error.{Error}
+use Rattle.sqlite.specs.declared.error.Error.TheVariants.{SqliteFailure}
+use Rattle.sqlite.specs.declared.error.ErrorCode.TheVariants.{OutOfMemory, SystemIoFailure, DatabaseCorrupt, DiskFull, Closed}
+use Rattle.table_rows.specs.declared.cause.Cause.{Cause}
+use Rattle.table_rows.specs.declared.cause.Cause.TheVariants.{Memory, Disk, Other}
+
+-- want of memory is told as that alone, and a fault of the disk as a fault of the disk
+abbrev pub cause_of : Error → Cause
+cause_of (SqliteFailure OutOfMemory) = Memory
+cause_of (SqliteFailure SystemIoFailure) = Disk
+cause_of (SqliteFailure DatabaseCorrupt) = Disk
+cause_of (SqliteFailure DiskFull) = Disk
+cause_of (SqliteFailure Closed) = Disk
+cause_of _ = Other

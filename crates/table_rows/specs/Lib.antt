@@ -1,0 +1,4 @@
+pub mod Causes
+pub mod Tables
+pub mod Rows
+pub mod Standing

@@ -1,0 +1,27 @@
+//! The first row of a query.
+
+ghost use Rattle.std.specs.Prelude.{◌≡◌, false};
+ghost use Rattle.sqlite.specs.Held.{state};
+ghost use Rattle.sqlite.specs.State.{CommitsShowing, HasCleanDisk, QueriesRow, Survives};
+ghost use Rattle.sqlite.specs.Values.{bound};
+ghost use Rattle.table_rows.specs.Rows.{row_or_none};
+
+use sqlite::types::ValueRef;
+use sqlite::{Alter, Connection, Error, Row};
+
+/// The first row that the query selects, or `None` where it selects none.
+pub fn first_row<S: Alter>(
+    conn: &mut Connection<S>,
+    sql: &str,
+    params: &[ValueRef<'_>],
+) -> Result<Option<Row>, Error>
+    ensures row { HasCleanDisk (state S.Store conn.new) → QueriesRow sql.now (bound params.now) (state S.Store conn.old) (state S.Store conn.new) (row_or_none result) }
+    ensures mode { conn.old.in_transaction ≡ false → conn.new.in_transaction ≡ false }
+    ensures survives { Survives (state S.Store conn.old) (state S.Store conn.new) (CommitsShowing sql.now (bound params.now) (state S.Store conn.old)) }
+{
+    match conn.query_row(sql, params) {
+        Ok(row) => Ok(Some(row)),
+        Err(Error::QueryReturnedNoRows) => Ok(None),
+        Err(error) => Err(error),
+    }
+}
