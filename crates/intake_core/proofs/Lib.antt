@@ -1,1 +1,3 @@
+pub mod CacheLemmas
+pub mod Deciding
 pub mod Floats

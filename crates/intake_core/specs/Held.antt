@@ -1,15 +1,40 @@
 -- What an intake holds.
-use Rattle.std.specs.Prelude.{ℕ, ◌≤◌, ◌^◌, List}
-use Rattle.filing_model.specs.declared.plain.Kept.{Kept as Stored}
-use Rattle.filing_model.specs.Request.{Request}
-use Rattle.filing_model.specs.Views.{AreKept}
+use Rattle.std.specs.Prelude.{◌≡◌, ℕ, Bool, List, Option}
+use Rattle.sqlite.specs.Store.{Ghosts}
+use Rattle.sqlite.specs.State.{State, HasCleanDisk}
+use Rattle.filing_model.specs.Request.{Request, firsts}
+use Rattle.register_store.specs.Store.{StoreParts, HasRequests}
+use Rattle.register_store.specs.Store as register
+use Rattle.intake_core.specs.declared.cache.Cache.{Cache}
+use Rattle.intake_core.specs.declared.intake.Intake.{Intake}
+use Rattle.intake_core.specs.Cache.{RemembersIfAny}
 
--- how many keys may be kept, and the requests that are, each the first of its filer and key
-pub record Held : Type 0 where
-  pub limit : ℕ
-  pub requests : List Request
+-- its register
+abbrev pub store_of : {S : Type 0} {g : Ghosts S} → Intake S g → StoreParts S
+store_of i = i.store
 
--- the kept requests stand as `AreKept` says, and the limit is one that numbers of 64 bits reach
-pub record IsHeld (limit : ℕ) (kept : List Stored) : Type 0 where
-  pub kept' : AreKept kept
-  pub few : limit ≤ 2 ^ 62
+-- what the connection of its register shows
+abbrev pub shows : {S : Type 0} {g : Ghosts S} → Intake S g → State
+shows {S} {g} i = register.shows g i.store
+
+-- how many keys may be kept
+abbrev pub limit_of : {S : Type 0} {g : Ghosts S} → Intake S g → ℕ
+limit_of i = i.limit
+
+-- the database refused a call for another cause than memory, and nothing is asked of it any more
+abbrev pub has_stopped : {S : Type 0} {g : Ghosts S} → Intake S g → Bool
+has_stopped i = i.is_down
+
+-- its cache of answers
+abbrev pub cache_of : {S : Type 0} {g : Ghosts S} → Intake S g → Option Cache
+cache_of i = i.cache
+
+-- Its register has these requests, each the first of its filer and key, and what it remembers is kept among them.
+pub record Holds {S : Type 0} {g : Ghosts S} (intake : Intake S g) (requests : List Request) : Type 0 where
+  pub firsts' : firsts requests ≡ requests
+  pub rows : HasRequests g intake.store requests
+  pub known : RemembersIfAny requests intake.cache
+
+-- So far the disk gave back what was written. What is said of rows holds where it is so at the end.
+abbrev pub IsClean : {S : Type 0} {g : Ghosts S} → Intake S g → Type 0
+IsClean intake = HasCleanDisk (shows intake)

@@ -1,32 +1,43 @@
-//! The intake: what is kept of the requests so far, and the answer to the next one.
+//! The intake: its register, and the answer to the next request.
 
-ghost use Rattle.std.specs.Prelude.{◌≡◌, ℕ, ◌<◌, ◌≤◌, ◌^◌, ◌++◌, ◌∷◌, [], length, map, true, false, Err, IfOk, IfErr, OnOk, OnErr};
+ghost use Rattle.std.specs.Prelude.{◌≡◌, ◌<◌, ◌≤◌, ◌^◌, ◌+◌, ◌++◌, ◌∷◌, ◌↔◌, ◌⊎◌, [], ℕ, List, length, map, true, false, Err, Some, IfOk, IfErr, IfSome, OnOk, OnErr, ◌≢◌};
 ghost use Rattle.key_string.specs.Filer.{is_filer};
 ghost use Rattle.http_wire.specs.Head.{max_body_len};
-ghost use Rattle.filing_model.specs.Request.{firsts, has_key};
-ghost use Rattle.filing_model.specs.Register.{register};
+ghost use Rattle.filing_model.specs.Request.{Request, firsts, has_key};
+ghost use Rattle.filing_model.specs.Register.{kept, judged, register};
 ghost use Rattle.filing_model.specs.Listing.{listings};
-ghost use Rattle.filing_model.specs.Answer.{answer};
+ghost use Rattle.filing_model.specs.Answer.{answer, answer_from, kept_for};
 ghost use Rattle.filing_model.specs.Views.{view_answer, view_row, the_request};
-ghost use Rattle.intake_core.specs.declared.intake.Unavailable.TheVariants.{Full, Memory};
+ghost use Rattle.sqlite.specs.State.{HasCleanDisk};
+ghost use Rattle.register_store.specs.Outcomes.{view_outcome, kept_as};
+ghost use Rattle.register_store.specs.Store.{HasRequests};
+ghost use Rattle.register_store.specs.Store as register_store;
+ghost use Rattle.intake_core.specs.declared.intake.Unavailable.TheVariants.{Down, Full, Memory, Store as StoreFailed};
 
-use filing_model::plain::{
-    self, Answer, FilingRow, Kept, answer_again, answer_with, outcome_after,
-};
+use crate::cache::{Cache, answer_by};
+use filing_model::plain::{Answer, FilingRow};
 use key_string::KeyText;
-use std::alloc::{AllocError, AllocFailed, Global};
-use std::marker::Model;
+use register_store::{KeptRow, NewRow, Outcome, Store, StoreFault};
+use sqlite::Alter;
+use std::alloc::{AllocError, Global};
 use thiserror::Error;
+use xbrl_report::judge;
 
-/// Why a request gets no answer. Nothing has changed then, and it may be sent again.
+/// Why a request gets no answer. The register is as it was, and the request may be sent again.
 #[derive(Clone, Copy, Debug, PartialEq, Eq, Error)]
 pub enum Unavailable {
+    /// The database failed earlier, and is to be opened again.
+    #[error("the database failed earlier")]
+    Down,
     /// So many filers' keys are kept, which is the limit or more, and this one is not among them.
     #[error("{kept} keys are kept, and no more may be")]
     Full { kept: u64 },
     /// No memory was left.
     #[error("out of memory")]
     Memory,
+    /// The database refused for another cause.
+    #[error("the database failed")]
+    Store,
 }
 
 impl From<AllocError> for Unavailable {
@@ -37,45 +48,73 @@ impl From<AllocError> for Unavailable {
     }
 }
 
-impl<T: Drop> From<AllocFailed<T>> for Unavailable {
-    ghost from_gives = { λ _ u. u ≡ Memory };
+impl From<StoreFault> for Unavailable {
+    ghost use Rattle.register_store.specs.declared.fault.StoreFault.TheVariants as fault;
 
-    fn from(_error: AllocFailed<T>) -> Unavailable {
-        Unavailable::Memory
+    ghost from_gives = { λ f u. ((f ≡ fault.Memory) × (u ≡ Memory)) ⊎ ((f ≡ fault.Store) × (u ≡ StoreFailed)) };
+
+    fn from(fault: StoreFault) -> Unavailable {
+        match fault {
+            StoreFault::Memory => Unavailable::Memory,
+            StoreFault::Store => Unavailable::Store,
+        }
     }
 }
 
-/// The requests that are kept, in memory, and how many may be.
-#[derive(Drop)]
-pub struct Intake {
+/// A register, how many keys it may keep, and a cache of its answers, which no answer shows.
+pub struct Intake<S: Alter> {
     alloc: Global,
+    store: Store<S>,
     limit: u64,
-    kept: Vec<Kept>,
+    is_down: bool,
+    cache: Option<Cache>,
+    ghost few: { limit ≤ 2 ^ 62 },
 }
 
-impl Model for Intake {
-    ghost use Rattle.filing_model.specs.Views.{requests_of};
-    ghost use Rattle.intake_core.specs.Held.{Held, IsHeld};
-
-    ghost Value = { Held };
-
-    ghost view = { λ i. record { limit = i.limit; requests = requests_of i.kept.items } };
-
-    ghost invariant = { λ i. IsHeld i.limit i.kept.items };
+impl<S: Alter + Drop> Drop for Intake<S> {
+    fn drop(self) {
+        let Intake {
+            alloc: _,
+            store: _,
+            limit: _,
+            is_down: _,
+            cache: _,
+        } = self;
+    }
 }
 
-impl Intake {
-    /// An intake that keeps nothing yet, and at most `limit` keys.
-    pub fn new(alloc: Global, limit: u64) -> Intake
+impl<S: Alter> Intake<S> {
+    ghost use Rattle.intake_core.specs.Held.{store_of, limit_of, has_stopped, Holds, IsClean};
+
+    /// An intake over this register, which keeps at most `limit` keys.
+    pub fn new(alloc: Global, store: Store<S>, limit: u64) -> Intake<S>
         requires { limit ≤ 2 ^ 62 }
-        ensures limit { result.limit ≡ limit }
-        ensures empty { result.requests ≡ [] }
+        ensures limit { limit_of result ≡ limit }
+        ensures store { store_of result ≡ store }
+        ensures holds { (requests : List Request) → firsts requests ≡ requests → HasRequests S.Store store requests → Holds result requests }
+        ensures up { has_stopped result ≡ false }
     {
         Intake {
             alloc,
+            store,
             limit,
-            kept: Vec::new(alloc),
+            is_down: false,
+            cache: None,
         }
+    }
+
+    /// The register.
+    pub fn into_store(self) -> Store<S>
+        ensures { result ≡ store_of self }
+    {
+        let Intake {
+            alloc: _,
+            store,
+            limit: _,
+            is_down: _,
+            cache: _,
+        } = self;
+        store
     }
 
     /// Decides a request (own rule): the first of a filer and key is judged and kept, whether it is
@@ -84,52 +123,122 @@ impl Intake {
     pub fn submit(&mut self, filer: &str, key: &KeyText, body: &[u8]) -> Result<Answer, Unavailable>
         requires filer { is_filer filer.now ≡ true }
         requires body { length body.now ≤ max_body_len }
-        ensures answer { IfOk result (λ a. view_answer a ≡ answer self.old.requests (the_request filer.now key.now body.now)) }
-        ensures kept { OnOk result (self.new.requests ≡ firsts (self.old.requests ++ the_request filer.now key.now body.now ∷ [])) }
+        ensures answer { IsClean self.new → (requests : List Request) → Holds self.old requests
+            → IfOk result (λ a. (view_answer a ≡ answer requests (the_request filer.now key.now body.now)) × Holds self.new (firsts (requests ++ the_request filer.now key.now body.now ∷ []))) }
 
         // Nothing changes where there is no answer, and the limit never does.
-        ensures err { OnErr result (self.new ≡ self.old) }
-        ensures limit { self.new.limit ≡ self.old.limit }
+        ensures err { IsClean self.new → (requests : List Request) → Holds self.old requests → OnErr result (Holds self.new requests) }
+        ensures clean { IsClean self.new → IsClean self.old }
+        ensures limit { limit_of self.new ≡ limit_of self.old }
 
         // Full comes for a new key alone, and always where the limit is reached.
-        ensures full { (k : ℕ) → result ≡ Err (Full k) → has_key self.old.requests (the_request filer.now key.now body.now) ≡ false }
-        ensures full_at_limit { (k : ℕ) → result ≡ Err (Full k) → self.old.limit ≤ k }
-        ensures full_count { (k : ℕ) → result ≡ Err (Full k) → k ≡ length self.old.requests }
-        ensures room { OnOk result (has_key self.old.requests (the_request filer.now key.now body.now) ≡ false → length self.old.requests < self.old.limit) }
+        ensures full { IsClean self.new → (requests : List Request) → Holds self.old requests → (k : ℕ) → result ≡ Err (Full k)
+            → (has_key requests (the_request filer.now key.now body.now) ≡ false) × (limit_of self.old ≤ k) × (k ≡ length requests) }
+        ensures room { IsClean self.new → (requests : List Request) → Holds self.old requests
+            → OnOk result (has_key requests (the_request filer.now key.now body.now) ≡ false → length requests < limit_of self.old) }
+
+        // After a refusal of the database there is no other answer than that.
+        ensures down { has_stopped self.old ≡ true → (result ≡ Err Down) × (self.new ≡ self.old) }
+        ensures stops { (has_stopped self.new ≡ true) ↔ ((has_stopped self.old ≡ true) ⊎ (result ≡ Err StoreFailed)) }
+        ensures up { result ≡ Err Down → has_stopped self.old ≡ true }
     {
-        match plain::find(&self.kept, filer, key.as_str()) {
-            Some(first) => Ok(answer_again(self.alloc, first, body)?),
+        if self.is_down {
+            return Err(Unavailable::Down);
+        }
+        if let Some(answer) = self.recall(filer, key, body) {
+            return Ok(answer);
+        }
+        let result = self.decide(filer, key, body);
+        self.is_down = matches!(result, Err(Unavailable::Store));
+        result
+    }
+}
+
+impl<S: Alter> Intake<S> {
+    ghost use Rattle.intake_core.specs.Cache.{IsKeptIn};
+    ghost use Rattle.intake_core.specs.Held.{store_of, limit_of, has_stopped, Holds, IsClean};
+
+    /// The answer to a request that the cache remembers. The cache is made here, where there is memory for it.
+    fn recall(&mut self, filer: &str, key: &KeyText, body: &[u8]) -> Option<Answer>
+        ensures answer { (requests : List Request) → Holds self.old requests
+            → IfSome result (λ a. (view_answer a ≡ answer requests (the_request filer.now key.now body.now)) × (has_key requests (the_request filer.now key.now body.now) ≡ true)) }
+        ensures same { (requests : List Request) → Holds self.old requests → Holds self.new requests }
+        ensures rest { (store_of self.new ≡ store_of self.old) × (limit_of self.new ≡ limit_of self.old) × (has_stopped self.new ≡ has_stopped self.old) }
+    {
+        match &mut self.cache {
+            Some(cache) => cache.recall(self.alloc, filer, key, body),
+            None => {
+                self.cache = Cache::new(self.alloc).ok();
+                None
+            }
+        }
+    }
+
+    /// Remembers a kept request.
+    fn remember(&mut self, filer: &str, key: &KeyText, body: &[u8], outcome: &Outcome)
+        ensures same { (requests : List Request) → Holds self.old requests → IsKeptIn requests (record { request = the_request filer.now key.now body.now; outcome = view_outcome outcome.now }) → Holds self.new requests }
+        ensures rest { (store_of self.new ≡ store_of self.old) × (limit_of self.new ≡ limit_of self.old) × (has_stopped self.new ≡ has_stopped self.old) }
+    {
+        if let Some(cache) = &mut self.cache {
+            cache.remember(self.alloc, filer, key, body, outcome);
+        }
+    }
+
+    /// Decides a request by the register.
+    fn decide(&mut self, filer: &str, key: &KeyText, body: &[u8]) -> Result<Answer, Unavailable>
+        requires filer { is_filer filer.now ≡ true }
+        requires body { length body.now ≤ max_body_len }
+        ensures answer { IsClean self.new → (requests : List Request) → Holds self.old requests
+            → IfOk result (λ a. (view_answer a ≡ answer requests (the_request filer.now key.now body.now)) × Holds self.new (firsts (requests ++ the_request filer.now key.now body.now ∷ []))) }
+        ensures err { IsClean self.new → (requests : List Request) → Holds self.old requests → OnErr result (Holds self.new requests) }
+        ensures clean { IsClean self.new → IsClean self.old }
+        ensures limit { (limit_of self.new ≡ limit_of self.old) × (has_stopped self.new ≡ has_stopped self.old) }
+        ensures full { IsClean self.new → (requests : List Request) → Holds self.old requests → (k : ℕ) → result ≡ Err (Full k)
+            → (has_key requests (the_request filer.now key.now body.now) ≡ false) × (limit_of self.old ≤ k) × (k ≡ length requests) }
+        ensures room { IsClean self.new → (requests : List Request) → Holds self.old requests
+            → OnOk result (has_key requests (the_request filer.now key.now body.now) ≡ false → length requests < limit_of self.old) }
+        ensures running { result ≢ Err Down }
+    {
+        match self.store.find(filer, key)? {
+            Some(row) => Ok(self.repeat(filer, key, body, row)),
             None => self.keep(filer, key, body),
+        }
+    }
+
+    /// Answers a request whose filer and key are kept with this row.
+    fn repeat(&mut self, filer: &str, key: &KeyText, body: &[u8], row: KeptRow) -> Answer
+        ensures answer { view_answer result ≡ answer_from (Some (kept_as filer.now key.now row)) (the_request filer.now key.now body.now) true }
+        ensures same { (requests : List Request) → Holds self.old requests → IsKeptIn requests (kept_as filer.now key.now row) → Holds self.new requests }
+        ensures rest { (store_of self.new ≡ store_of self.old) × (limit_of self.new ≡ limit_of self.old) × (has_stopped self.new ≡ has_stopped self.old) }
+    {
+        self.remember(filer, key, &row.body, &row.outcome);
+        if row.body.as_slice() == body {
+            answer_by(row.outcome, true)
+        } else {
+            Answer::KeyReused
         }
     }
 
     /// Judges and keeps a request of a new key.
     fn keep(&mut self, filer: &str, key: &KeyText, body: &[u8]) -> Result<Answer, Unavailable>
-        requires { has_key self.old.requests (the_request filer.now key.now body.now) ≡ false }
-        ensures answer { IfOk result (λ a. view_answer a ≡ answer self.old.requests (the_request filer.now key.now body.now)) }
-        ensures kept { OnOk result (self.new.requests ≡ self.old.requests ++ the_request filer.now key.now body.now ∷ []) }
-        ensures err { OnErr result (self.new ≡ self.old) }
-        ensures limit { self.new.limit ≡ self.old.limit }
-        ensures full_at_limit { (k : ℕ) → result ≡ Err (Full k) → self.old.limit ≤ k }
-        ensures full_count { (k : ℕ) → result ≡ Err (Full k) → k ≡ length self.old.requests }
-        ensures room { OnOk result (length self.old.requests < self.old.limit) }
+        requires filer { is_filer filer.now ≡ true }
+        requires body { length body.now ≤ max_body_len }
+        ensures answer { IsClean self.new → (requests : List Request) → Holds self.old requests → has_key requests (the_request filer.now key.now body.now) ≡ false
+            → IfOk result (λ a. (view_answer a ≡ answer requests (the_request filer.now key.now body.now)) × Holds self.new (requests ++ the_request filer.now key.now body.now ∷ [])) }
+        ensures err { IsClean self.new → (requests : List Request) → Holds self.old requests → OnErr result (Holds self.new requests) }
+        ensures clean { IsClean self.new → IsClean self.old }
+        ensures limit { (limit_of self.new ≡ limit_of self.old) × (has_stopped self.new ≡ has_stopped self.old) }
+        ensures full { (requests : List Request) → Holds self.old requests → (k : ℕ) → result ≡ Err (Full k) → (limit_of self.old ≤ k) × (k ≡ length requests) }
+        ensures room { (requests : List Request) → Holds self.old requests → OnOk result (length requests < limit_of self.old) }
+        ensures running { result ≢ Err Down }
     {
-        let kept = self.kept.len() as u64;
+        let kept = self.store.kept_count()?;
         if kept >= self.limit {
             return Err(Unavailable::Full { kept });
         }
-        let outcome = outcome_after(self.alloc, &self.kept, filer, body)?;
-        let answer = answer_with(self.alloc, &outcome, false)?;
-        let request = Kept::new(self.alloc, filer, key.as_str(), body, outcome)?;
-        self.kept.push(request)?;
-        Ok(answer)
-    }
-
-    /// The filings of a filer, ascending by number. Full never comes here.
-    pub fn list(&self, filer: &str) -> Result<Vec<FilingRow>, Unavailable>
-        ensures rows { IfOk result (λ rows. map view_row rows.items ≡ listings filer.now (register self.now.requests)) }
-        ensures err { IfErr result (λ fault. fault ≡ Memory) }
-    {
-        Ok(plain::list(self.alloc, &self.kept, filer)?)
+        let judged = judge(self.alloc, filer, body)?;
+        let outcome = self.store.add(&NewRow { filer, key, body, judged: &judged })?;
+        self.remember(filer, key, body, &outcome);
+        Ok(answer_by(outcome, false))
     }
 }

@@ -2,12 +2,10 @@
 //! and the reply to it. How a request came, and what lies under the register, are not known here.
 #![tactic(auto)]
 
+mod cache;
 mod intake;
 mod reply;
 
 pub use filing_model::plain::{Answer, FilingRow};
 pub use intake::{Intake, Unavailable};
 pub use reply::{list_reply, reply_of, word_reply};
-
-#[cfg(test)]
-mod tests;

@@ -1,0 +1,48 @@
+use Rattle.std.proofs.Common.{◌≡◌, ◌++◌, ◌∷◌, [], List, Some, None, true, false, true≢false, IfOk, refl, sym, ap, ◌∙◌, subst}
+use Rattle.std.proofs.lemmas.Result.{IfOk-weaker}
+use Rattle.sqlite.specs.State.{HasCleanDisk}
+use Rattle.filing_model.specs.Request.{Request}
+use Rattle.filing_model.specs.Register.{kept}
+use Rattle.filing_model.specs.Answer.{kept_for}
+use Rattle.filing_model.specs.Views.{the_request}
+use Rattle.filing_model.proofs.Answers.{answer_kept}
+use Rattle.filing_model.proofs.Keeping.{kept_has_key}
+use Rattle.register_store.specs.Outcomes.{kept_as}
+use Rattle.register_store.specs.Store.{shows}
+use Rattle.intake_core.proofs.Deciding.{has_key-none, Holds-asked, Holds-repeat, Holds-new}
+use Rattle.intake_core.proofs.intake.Intake.decide.Goals as goal
+
+pub returns-in-Some-clause-answer : goal.returns-in-Some-clause-answer
+returns-in-Some-clause-answer g c = λ clean requests h.
+    let r : Request = the_request c.args.filer.now c.args.key.now c.args.body.now in
+    let cleaned : HasCleanDisk (shows g.S.Store c.find.new.self) = subst (λ s. HasCleanDisk (shows g.S.Store s)) c.repeat.ensures.rest.0 clean in
+    let k = kept_as c.args.filer.now c.args.key.now c.in-Some.row in
+    let found : kept_for (kept requests) r ≡ Some k = sym (rw c.in-Some.is at (c.in_ok-row.ensures.found cleaned requests h.rows c.args.body.now)) in
+    (c.repeat.ensures.answer ∙ sym (answer_kept requests r k found),
+    Holds-repeat requests r c.repeat.new.self (kept_has_key requests r k found)
+    (c.repeat.ensures.same requests (Holds-asked requests c.args.self.now _ h refl (c.in_ok-row.ensures.same cleaned requests h.rows)) found))
+
+pub returns-in-Some-clause-room : goal.returns-in-Some-clause-room
+returns-in-Some-clause-room g c = λ clean requests h new.
+    let r : Request = the_request c.args.filer.now c.args.key.now c.args.body.now in
+    let cleaned : HasCleanDisk (shows g.S.Store c.find.new.self) = subst (λ s. HasCleanDisk (shows g.S.Store s)) c.repeat.ensures.rest.0 clean in
+    let k = kept_as c.args.filer.now c.args.key.now c.in-Some.row in
+    let found : kept_for (kept requests) r ≡ Some k = sym (rw c.in-Some.is at (c.in_ok-row.ensures.found cleaned requests h.rows c.args.body.now)) in
+    absurd (true≢false (sym (kept_has_key requests r k found) ∙ new))
+
+pub returns-in-None-clause-answer : goal.returns-in-None-clause-answer
+returns-in-None-clause-answer g c = λ clean requests h.
+    let r : Request = the_request c.args.filer.now c.args.key.now c.args.body.now in
+    let cleaned = c.keep.ensures.clean clean in
+    let fresh = has_key-none requests r (sym (rw c.in-None.is at (c.in_ok-row.ensures.found cleaned requests h.rows c.args.body.now))) in
+    let asked = Holds-asked requests c.args.self.now _ h refl (c.in_ok-row.ensures.same cleaned requests h.rows) in
+    IfOk-weaker c.keep.result _ _ (λ a told. (told.0, Holds-new requests r c.keep.new.self h.firsts' fresh told.1)) (c.keep.ensures.answer clean requests asked fresh)
+
+pub returns-in-None-clause-full : goal.returns-in-None-clause-full
+returns-in-None-clause-full g c = λ clean requests h k e.
+    let r : Request = the_request c.args.filer.now c.args.key.now c.args.body.now in
+    let cleaned = c.keep.ensures.clean clean in
+    let fresh = has_key-none requests r (sym (rw c.in-None.is at (c.in_ok-row.ensures.found cleaned requests h.rows c.args.body.now))) in
+    let asked = Holds-asked requests c.args.self.now _ h refl (c.in_ok-row.ensures.same cleaned requests h.rows) in
+    let full = c.keep.ensures.full requests asked k e in
+    (fresh, full.0, full.1)

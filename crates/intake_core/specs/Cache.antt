@@ -1,0 +1,29 @@
+-- What a cache of answers remembers.
+use Rattle.std.specs.Prelude.{◌≡◌, List, Option, Some, None, Contains, string_bytes}
+use Rattle.filing_model.specs.Request.{Request}
+use Rattle.filing_model.specs.Register.{Kept, kept}
+use Rattle.filing_model.specs.Answer.{kept_for}
+use Rattle.register_store.specs.Outcomes.{kept_as}
+use Rattle.intake_core.specs.declared.cache.Cache.{Cache}
+use Rattle.intake_core.specs.declared.cache.Remembered.{Remembered}
+
+-- a request with its outcome
+abbrev pub kept_of : Remembered → Kept
+kept_of r = kept_as (string_bytes r.filer) (string_bytes r.key) r.row
+
+-- after these requests it is what is kept for its filer and key
+abbrev pub IsKeptIn : List Request → Kept → Type 0
+IsKeptIn requests k = kept_for (kept requests) k.request ≡ Some k
+
+-- each of the entries is, whatever it is found under
+abbrev pub AreKeptIn : {K : Type 0} → List Request → List (K × Remembered) → Type 0
+AreKeptIn {K} requests es = (e : K × Remembered) → Contains es e → IsKeptIn requests (kept_of e.1)
+
+-- what a cache remembers is kept
+abbrev pub Remembers : List Request → Cache → Type 0
+Remembers requests c = AreKeptIn requests c.answers.entries
+
+-- what a cache remembers that may be there
+abbrev pub RemembersIfAny : List Request → Option Cache → Type 0
+RemembersIfAny requests None = Unit {0}
+RemembersIfAny requests (Some c) = Remembers requests c
