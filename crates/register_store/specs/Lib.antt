@@ -1,0 +1,6 @@
+pub mod Changes
+pub mod Faults
+pub mod Outcomes
+pub mod Register
+pub mod Schema
+pub mod Store
