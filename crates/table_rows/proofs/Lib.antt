@@ -1,6 +1,7 @@
 pub mod PartLemmas
 pub mod SelectLemmas
 pub mod QueryLemmas
+pub mod ReadingLemmas
 pub mod InsertLemmas
 pub mod GainLemmas
 pub mod StepLemmas
