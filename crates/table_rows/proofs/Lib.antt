@@ -2,6 +2,7 @@ pub mod PartLemmas
 pub mod SelectLemmas
 pub mod QueryLemmas
 pub mod ReadingLemmas
+pub mod OrderLemmas
 pub mod InsertLemmas
 pub mod GainLemmas
 pub mod StepLemmas
