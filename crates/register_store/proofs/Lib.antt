@@ -1,1 +1,5 @@
 
+pub mod ReadTexts
+pub mod ReadLemmas
+pub mod StepsOfLists
+pub mod ListLemmas

@@ -3,10 +3,14 @@
 //! known here.
 #![tactic(auto)]
 
+mod completed;
 mod fault;
+mod lists;
 mod outcome;
+mod reads;
 mod store;
 
+pub use completed::{Completed, Registered};
 pub use fault::{CreateFault, StoreFault};
 pub use outcome::{KeptRow, NewRow, Outcome};
 pub use store::Store;
