@@ -3,3 +3,4 @@ pub mod ReadTexts
 pub mod ReadLemmas
 pub mod StepsOfLists
 pub mod ListLemmas
+pub mod FactLemmas

@@ -4,6 +4,7 @@
 #![tactic(auto)]
 
 mod completed;
+mod facts;
 mod fault;
 mod lists;
 mod outcome;
