@@ -1,1 +1,5 @@
-
+pub mod Counting
+pub mod CreateTexts
+pub mod Growing
+pub mod OurGains
+pub mod Texts

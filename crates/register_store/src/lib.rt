@@ -5,6 +5,7 @@
 
 mod fault;
 mod outcome;
+mod rows;
 mod store;
 
 pub use fault::{CreateFault, StoreFault};
