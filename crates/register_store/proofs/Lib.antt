@@ -1,3 +1,4 @@
+pub mod Adding
 pub mod Counting
 pub mod CreateTexts
 pub mod Growing

@@ -7,6 +7,7 @@ mod fault;
 mod outcome;
 mod rows;
 mod store;
+mod write;
 
 pub use fault::{CreateFault, StoreFault};
 pub use outcome::{KeptRow, NewRow, Outcome};
