@@ -3,7 +3,9 @@
 //! known here.
 #![tactic(auto)]
 
+mod create;
 mod fault;
+mod names;
 mod outcome;
 mod rows;
 mod store;
