@@ -3,5 +3,7 @@ pub mod Counting
 pub mod CreateTexts
 pub mod Growing
 pub mod Making
+pub mod MoreRequests
 pub mod OurGains
+pub mod StoreLemmas
 pub mod Texts

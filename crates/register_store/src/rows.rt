@@ -7,6 +7,7 @@ ghost use Rattle.sqlite.specs.Held.{state};
 ghost use Rattle.sqlite.specs.State.{HasCleanDisk, KeepsCommit, Survives};
 ghost use Rattle.table_rows.specs.Rows.{counted_from};
 ghost use Rattle.register_store.specs.Schema.{kept_table, finding_table, filing_table, fact_table};
+ghost use Rattle.key_string.specs.Key.{IsKey};
 ghost use Rattle.register_store.specs.Changes.{GainsRows};
 ghost use Rattle.register_store.specs.Register.{finding_row, fact_row};
 
@@ -35,6 +36,7 @@ pub fn insert_kept<S: Alter>(
     requires seq { seq < 2 ^ 63 }
     requires number { IfSome number (λ n. n < 2 ^ 63) }
     ensures same_reference { tx.new.conn.ghost_name ≡ tx.old.conn.ghost_name }
+    ensures key { IsKey row.now.key.now }
     ensures was_inside { OnOk result (IsTrue (state S.Store tx.old.conn.now).in_transaction) }
     ensures gains { HasCleanDisk (state S.Store tx.new.conn.now) → OnOk result (GainsRows kept_table
         ((Int (pos seq) ∷ Text row.now.filer.now ∷ Text row.now.key.now ∷ Blob row.now.body.now ∷ or_null (λ n. Int (pos n)) number ∷ []) ∷ [])

@@ -4,6 +4,7 @@ ghost use Rattle.std.specs.Prelude.{◌≡◌, ◌<◌, ◌^◌, ◌-◌, false,
 ghost use Rattle.sqlite.specs.Held.{state};
 ghost use Rattle.sqlite.specs.Tree.{Trees};
 ghost use Rattle.sqlite.specs.State.{HasCleanDisk, KeepsCommit, Survives};
+ghost use Rattle.key_string.specs.Key.{IsKey};
 ghost use Rattle.xbrl_report.specs.Judgement.{HasFacts};
 ghost use Rattle.xbrl_report.specs.ReportParts.{facts as facts_of};
 ghost use Rattle.filing_model.specs.Register.{Outcome};
@@ -24,6 +25,7 @@ fn write_refused<S: Alter>(
     findings: &[Finding],
 ) -> Result<(), Error>
     requires { seq < 2 ^ 63 }
+    ensures key { IsKey row.now.key.now }
     ensures same_reference { tx.new.conn.ghost_name ≡ tx.old.conn.ghost_name }
     ensures adds { HasCleanDisk (state S.Store tx.new.conn.now) → OnOk result (AddsInside seq
         (record { request = the_request row.now.filer.now row.now.key.now row.now.body.now; outcome = Outcome.Refused findings.now })
@@ -46,6 +48,7 @@ fn write_accepted<S: Alter>(
     requires seq { seq < 2 ^ 63 }
     requires number { number < 2 ^ 63 }
     requires facts { facts.now ≡ facts_of row.now.body.now }
+    ensures key { IsKey row.now.key.now }
     ensures same_reference { tx.new.conn.ghost_name ≡ tx.old.conn.ghost_name }
     ensures adds { HasCleanDisk (state S.Store tx.new.conn.now) → OnOk result (AddsInside seq
         (record { request = the_request row.now.filer.now row.now.key.now row.now.body.now; outcome = Outcome.Registered number })
@@ -68,6 +71,7 @@ fn write<S: Alter>(
     requires seq { seq < 2 ^ 63 }
     requires number { number < 2 ^ 63 }
     requires facts { HasFacts row.now.body.now row.now.judged.now }
+    ensures key { IsKey row.now.key.now }
     ensures same_reference { tx.new.conn.ghost_name ≡ tx.old.conn.ghost_name }
     ensures adds { HasCleanDisk (state S.Store tx.new.conn.now) → OnOk result (AddsInside seq
         (record { request = the_request row.now.filer.now row.now.key.now row.now.body.now; outcome = outcome_of number row.now.judged.now })
@@ -92,6 +96,7 @@ pub fn keep<S: Alter>(
     requires seq { seq < 2 ^ 63 }
     requires number { number < 2 ^ 63 }
     requires facts { HasFacts row.now.body.now row.now.judged.now }
+    ensures key { IsKey row.now.key.now }
     ensures autocommit { conn.new.in_transaction ≡ false }
     ensures adds { HasCleanDisk (state S.Store conn.new) → OnOk result (Adds seq
         (record { request = the_request row.now.filer.now row.now.key.now row.now.body.now; outcome = outcome_of number row.now.judged.now })
