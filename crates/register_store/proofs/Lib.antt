@@ -1,3 +1,4 @@
+<<<<<<< HEAD
 pub mod Adding
 pub mod Counting
 pub mod CreateTexts
@@ -7,3 +8,10 @@ pub mod MoreRequests
 pub mod OurGains
 pub mod StoreLemmas
 pub mod Texts
+=======
+
+pub mod ReadTexts
+pub mod ReadLemmas
+pub mod StepsOfLists
+pub mod ListLemmas
+>>>>>>> rows

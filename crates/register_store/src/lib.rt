@@ -3,14 +3,18 @@
 //! known here.
 #![tactic(auto)]
 
+mod completed;
 mod create;
 mod fault;
+mod lists;
 mod names;
 mod outcome;
+mod reads;
 mod rows;
 mod store;
 mod write;
 
+pub use completed::{Completed, Registered};
 pub use fault::{CreateFault, StoreFault};
 pub use outcome::{KeptRow, NewRow, Outcome};
 pub use store::Store;
