@@ -20,3 +20,8 @@ kept_as filer key row = record { request = the_request filer key row.body.items;
 abbrev pub outcome_of : ℕ → Judged → Outcome
 outcome_of number (Valid report) = Outcome.Registered number
 outcome_of number (Refused findings) = Outcome.Refused findings
+
+-- how many filings an outcome is
+abbrev pub filings_by : Outcome → ℕ
+filings_by (Outcome.Registered number) = 1
+filings_by (Outcome.Refused findings) = 0

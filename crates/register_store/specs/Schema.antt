@@ -42,7 +42,7 @@ IsDeclared = BeginsWith register_tables
 -- whether a table, an index or a view has the name; SQLite compares names without case
 abbrev pub has_name : Schema → List ℕ → Bool
 has_name schema name =
-    list_any (λ t. same_name t.name name) schema.tables || (list_any (λ i. same_name i.name name) schema.indexes || list_any (λ v. same_name v.name name) schema.views)
+    (list_any (λ t. same_name t.name name) schema.tables || list_any (λ i. same_name i.name name) schema.indexes) || list_any (λ v. same_name v.name name) schema.views
 
 -- whether one of the names of our tables is in use
 abbrev pub is_taken : Schema → Bool

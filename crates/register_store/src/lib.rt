@@ -4,12 +4,20 @@
 #![tactic(auto)]
 
 mod completed;
+<<<<<<< HEAD
+mod counts;
 mod facts;
+=======
+mod create;
+>>>>>>> store
 mod fault;
 mod lists;
+mod names;
 mod outcome;
 mod reads;
+mod rows;
 mod store;
+mod write;
 
 pub use completed::{Completed, Registered};
 pub use fault::{CreateFault, StoreFault};

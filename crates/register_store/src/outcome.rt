@@ -1,10 +1,7 @@
 //! What becomes of the first request of a filer and key, and what is kept of it.
 
-ghost use Rattle.std.specs.Prelude.{◌≡◌, ℕ, IfOk};
-ghost use Rattle.xbrl_report.specs.Judgement.{IsJudgement};
-ghost use Rattle.filing_model.specs.Answer.{answer_by};
-ghost use Rattle.filing_model.specs.Reply.{reply_of};
-ghost use Rattle.register_store.specs.Outcomes.{view_outcome, outcome_of};
+ghost use Rattle.std.specs.Prelude.{◌≡◌, IfOk};
+ghost use Rattle.register_store.specs.Outcomes.{view_outcome, outcome_of, filings_by};
 
 use key_string::KeyText;
 use std::alloc::{AllocError, Global};
@@ -34,4 +31,26 @@ pub struct NewRow<'a> {
     pub key: &'a KeyText,
     pub body: &'a [u8],
     pub judged: &'a Judged,
+}
+
+impl Outcome {
+    /// What becomes of a report that was judged so, where the next filing has this number.
+    pub(crate) fn of(alloc: Global, judged: &Judged, number: u64) -> Result<Outcome, AllocError>
+        ensures { IfOk result (λ o. view_outcome o ≡ outcome_of number judged.now) }
+    {
+        match judged {
+            Judged::Valid(_) => Ok(Outcome::Registered(number)),
+            Judged::Refused(findings) => Ok(Outcome::Refused(findings.copied(alloc)?)),
+        }
+    }
+
+    /// How many filings it is: one, or none.
+    pub(crate) fn filings(&self) -> u64
+        ensures { result ≡ filings_by (view_outcome self.now) }
+    {
+        match self {
+            Outcome::Registered(_) => 1,
+            Outcome::Refused(_) => 0,
+        }
+    }
 }

@@ -14,8 +14,11 @@ ghost use Rattle.sqlite.specs.State.{HasCleanDisk, Survives};
 ghost use Rattle.table_rows.specs.Tables.{no_schema};
 ghost use Rattle.register_store.specs.Schema.{is_taken};
 
+use crate::create::make;
 use crate::fault::{CreateFault, StoreFault};
+use crate::names;
 use crate::outcome::{KeptRow, NewRow, Outcome};
+use crate::write::keep;
 use key_string::KeyText;
 use sqlite::{Alter, Connection};
 use std::alloc::Global;
@@ -59,7 +62,7 @@ impl<S: Alter + Drop> Store<S> {
 
     /// Makes the tables of a register that has no request, in one transaction. A refusal gives the connection up, and
     /// leaves the database as it was. The tables are those of a register where the database had none before.
-    pub fn create(alloc: Global, conn: Connection<S>) -> Result<Store<S>, CreateFault>
+    pub fn create(alloc: Global, mut conn: Connection<S>) -> Result<Store<S>, CreateFault>
         requires autocommit { conn.in_transaction ≡ false }
         requires unlimited { conn.step_limit ≡ None }
         ensures made { IfOk result (λ store. HasCleanDisk (shows S.Store store) → (state S.Store conn).now.schema ≡ no_schema → HasRequests S.Store store []) }
@@ -72,7 +75,18 @@ impl<S: Alter + Drop> Store<S> {
         ensures durable { IfOk result (λ store. HasCleanDisk (shows S.Store store) → (state S.Store conn).now.schema ≡ no_schema
             → IsTrue (shows S.Store store).is_open × ((trees : Trees) → (shows S.Store store).may_leave trees → Leaves [] trees)) }
     {
-        Err(CreateFault::Disk)
+        if names::is_taken(conn.schema()) {
+            return Err(CreateFault::Taken);
+        }
+        match make(&mut conn) {
+            Ok(()) => Ok(Store {
+                alloc,
+                conn,
+                kept: 0,
+                filings: 0,
+            }),
+            Err(error) => Err(CreateFault::from(error)),
+        }
     }
 }
 
@@ -120,7 +134,16 @@ impl<S: Alter> Store<S> {
             → OnOk result (IsTrue (shows S.Store self.new).is_open × ((trees : Trees) → (shows S.Store self.new).may_leave trees
             → Leaves (F ++ the_request row.now.filer.now row.now.key.now row.now.body.now ∷ []) trees)) }
     {
-        Err(StoreFault::Store)
+        let number = self.filings + 1;
+        let outcome = Outcome::of(self.alloc, row.judged, number)?;
+        match keep(&mut self.conn, self.kept + 1, number, row) {
+            Ok(()) => {
+                self.kept += 1;
+                self.filings += outcome.filings();
+                Ok(outcome)
+            }
+            Err(error) => Err(StoreFault::from(error)),
+        }
     }
 
     /// How many requests are kept.
