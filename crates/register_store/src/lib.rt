@@ -4,12 +4,9 @@
 #![tactic(auto)]
 
 mod completed;
-<<<<<<< HEAD
 mod counts;
-mod facts;
-=======
 mod create;
->>>>>>> store
+mod facts;
 mod fault;
 mod lists;
 mod names;
