@@ -1,4 +1,5 @@
 pub mod Causes
 pub mod Tables
 pub mod Rows
+pub mod Reading
 pub mod Standing

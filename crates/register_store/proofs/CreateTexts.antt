@@ -1,0 +1,67 @@
+-- The texts that make the tables of a register, and what they make.
+use Rattle.std.proofs.Common.{◌≡◌, List, [], ◌∷◌, codes, ℕ, refl}
+use Rattle.sqlite.specs.Table.{Table}
+use Rattle.sqlite_schema.specs.declared.schema.Index.{Index}
+use Rattle.sqlite.specs.Schema.{Schema}
+use Rattle.sqlite.specs.Change.{created}
+use Rattle.sqlite_tied.specs.Compute.{everything}
+use Rattle.sqlite.specs.Listing.{understood}
+use Rattle.sqlite_catalog.specs.Listing.{automatic}
+use Rattle.table_rows.specs.Tables.{no_schema, schema_with}
+use Rattle.table_rows.proofs.CreateLemmas.{IsCreation}
+use Rattle.register_store.specs.Schema.{register_tables, meta_table, kept_table, finding_table, filing_table, fact_table}
+
+abbrev pub create_meta : List ℕ
+create_meta = codes "CREATE TABLE intake_meta (id INTEGER PRIMARY KEY, kind TEXT NOT NULL, form INTEGER NOT NULL) STRICT"
+
+abbrev pub create_kept : List ℕ
+create_kept = codes "CREATE TABLE kept (seq INTEGER PRIMARY KEY, filer TEXT NOT NULL, idem TEXT NOT NULL, body BLOB NOT NULL, number INTEGER, UNIQUE (filer, idem)) STRICT"
+
+abbrev pub create_finding : List ℕ
+create_finding = codes "CREATE TABLE finding (seq INTEGER NOT NULL, pos INTEGER NOT NULL, code INTEGER NOT NULL, place BLOB NOT NULL, PRIMARY KEY (seq, pos)) STRICT"
+
+abbrev pub create_filing : List ℕ
+create_filing = codes "CREATE TABLE filing (number INTEGER PRIMARY KEY, seq INTEGER NOT NULL UNIQUE) STRICT"
+
+abbrev pub create_fact : List ℕ
+create_fact = codes "CREATE TABLE fact (number INTEGER NOT NULL, pos INTEGER NOT NULL, id BLOB NOT NULL, concept BLOB NOT NULL, dimensions BLOB NOT NULL, value BLOB, decimals INTEGER, PRIMARY KEY (number, pos)) STRICT"
+
+abbrev pub first_schema : Schema
+first_schema = created no_schema meta_table
+
+abbrev pub second_schema : Schema
+second_schema = created first_schema kept_table
+
+abbrev pub third_schema : Schema
+third_schema = created second_schema finding_table
+
+abbrev pub fourth_schema : Schema
+fourth_schema = created third_schema filing_table
+
+pub creates_meta : IsCreation no_schema create_meta meta_table
+unfolding understood everything
+creates_meta = record { command = refl; statement = refl; defined = refl; plain = (refl, refl) }
+
+pub creates_kept : IsCreation first_schema create_kept (record kept_table { tree = 0 })
+unfolding understood everything
+creates_kept = record { command = refl; statement = refl; defined = refl; plain = (refl, refl) }
+
+pub creates_finding : IsCreation second_schema create_finding (record finding_table { tree = 0 })
+unfolding understood everything
+creates_finding = record { command = refl; statement = refl; defined = refl; plain = (refl, refl) }
+
+pub creates_filing : IsCreation third_schema create_filing (record filing_table { tree = 0 })
+unfolding understood everything
+creates_filing = record { command = refl; statement = refl; defined = refl; plain = (refl, refl) }
+
+pub creates_fact : IsCreation fourth_schema create_fact (record fact_table { tree = 0 })
+unfolding understood everything
+creates_fact = record { command = refl; statement = refl; defined = refl; plain = (refl, refl) }
+
+-- the indexes that SQLite makes for the keys
+abbrev pub own_indexes : List Index
+own_indexes = automatic kept_table 0 (2 ∷ 3 ∷ []) 2 ∷ automatic finding_table 0 (1 ∷ 2 ∷ []) 4 ∷ automatic filing_table 0 (2 ∷ []) 6 ∷ automatic fact_table 0 (1 ∷ 2 ∷ []) 8 ∷ []
+
+-- the five in turn make the tables as they are declared
+pub all_created : created fourth_schema (record fact_table { tree = 0 }) ≡ schema_with register_tables [] own_indexes []
+all_created = refl

@@ -1,0 +1,14 @@
+pub mod Adding
+pub mod Counting
+pub mod CreateTexts
+pub mod FactLemmas
+pub mod Growing
+pub mod ListLemmas
+pub mod Making
+pub mod MoreRequests
+pub mod OurGains
+pub mod ReadLemmas
+pub mod ReadTexts
+pub mod StepsOfLists
+pub mod StoreLemmas
+pub mod Texts

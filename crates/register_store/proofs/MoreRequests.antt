@@ -1,0 +1,85 @@
+-- The rows of a list of requests with one more.
+use Rattle.std.proofs.Common.{◌≡◌, ◌<◌, ℕ, ◌+◌, suc, true, false, List, [], ◌∷◌, ◌++◌, append-nil, append_assoc, map, length, length-append, refl, sym, ap, subst, ◌∙◌, arith}
+use Rattle.std.specs.List.{AllByRecursion}
+use Rattle.sqlite.specs.Order.{Row}
+use Rattle.sqlite.specs.Effect.{Database}
+use Rattle.xbrl_report.specs.Findings.{findings}
+use Rattle.xbrl_report.specs.Pair.{Pair}
+use Rattle.xbrl_report.specs.Judgement.{IsJudgement}
+use Rattle.xbrl_report.specs.declared.judging.Judged.{Judged}
+use Rattle.xbrl_report.specs.declared.judging.Judged.TheVariants.{Valid, Refused}
+use Rattle.filing_model.specs.Request.{Request, firsts, has_key}
+use Rattle.filing_model.specs.Register.{Outcome, Kept, filings, verdict, outcome_by, judged, kept, register}
+use Rattle.filing_model.proofs.Firsts.{firsts_new}
+use Rattle.filing_model.proofs.Keeping.{kept_new, requests_of_kept, filings-append}
+use Rattle.table_rows.specs.Rows.{counted_from}
+use Rattle.register_store.specs.Outcomes.{outcome_of, filings_by}
+use Rattle.register_store.specs.Register.{IsCompleted, StandsFor, kept_row, finding_rows, filing_rows, fact_rows, joined_from}
+use Rattle.register_store.specs.Changes.{AddsRows}
+use Rattle.register_store.specs.Store.{IsRegisterOf}
+use Rattle.register_store.proofs.Counting.{counted_push}
+
+joined_push : (rows : ℕ → Kept → List Row) (at : ℕ) (ks : List Kept) (k : Kept) → joined_from rows at (ks ++ k ∷ []) ≡ joined_from rows at ks ++ rows (at + length ks) k
+joined_push rows at [] k = append-nil (rows at k) ∙ ap (λ n. rows n k) (omega arith)
+joined_push rows at (x ∷ ks) k =
+    ap (λ l. rows at x ++ l) (joined_push rows (at + 1) ks k)
+    ∙ sym (append_assoc (rows at x) (joined_from rows (at + 1) ks) (rows (at + 1 + length ks) k))
+    ∙ ap (λ n. (rows at x ++ joined_from rows (at + 1) ks) ++ rows n k) (omega arith)
+
+length_map : {X Y : Type 0} (f : X → Y) (xs : List X) → length (map f xs) ≡ length xs
+length_map f [] = refl
+length_map f (x ∷ xs) = ap suc (length_map f xs)
+
+all_push : (P : Request → Type 0) (F : List Request) (r : Request) → AllByRecursion P F → P r → AllByRecursion P (F ++ r ∷ [])
+all_push P [] r all one = (one, tt)
+all_push P (q ∷ F) r all one = (all.0, all_push P F r all.1 one)
+
+-- as many are kept as there are firsts
+pub kept_length : (F : List Request) → firsts F ≡ F → length (kept F) ≡ length F
+kept_length F once = sym (length_map (λ k. k.request) (kept F)) ∙ ap length (requests_of_kept F ∙ once)
+
+-- what becomes of a request that was judged
+pub judged_as : (before : List Kept) (r : Request) (j : Judged) → IsJudgement r.filer r.body j → (judged before r).outcome ≡ outcome_of (suc (length (filings before))) j
+unfolding verdict
+judged_as before r (Valid report) is = ap (λ found. outcome_by found (suc (length (filings before)))) is.0
+judged_as before r (Refused list) is = sym (ap (λ found. outcome_by found (suc (length (filings before)))) is.0) ∙ refused list is.1
+  where
+    refused : (found : List Pair) → 0 < length found → outcome_by found (suc (length (filings before))) ≡ Outcome.Refused found
+    refused [] some = absurd (omega arith)
+    refused (f ∷ found) some = refl
+
+-- how many filings there are then
+pub registered_more : (F : List Request) (r : Request) → has_key F r ≡ false → length (register (F ++ r ∷ [])) ≡ length (register F) + filings_by (judged (kept F) r).outcome
+unfolding filings
+registered_more F r new =
+    ap (λ ks. length (filings ks)) (kept_new F r new)
+    ∙ ap length (filings-append (kept F) (judged (kept F) r ∷ []))
+    ∙ length-append (filings (kept F)) (filings (judged (kept F) r ∷ []))
+    ∙ ap (λ n. length (filings (kept F)) + n) (one r (judged (kept F) r).outcome)
+  where
+    one : (r : Request) (o : Outcome) → length (filings (record { request = r; outcome = o } ∷ [])) ≡ filings_by o
+    one r (Outcome.Registered number) = refl
+    one r (Outcome.Refused found) = refl
+
+module _ (F : List Request) (r : Request) (new : has_key F r ≡ false) (completed : IsCompleted r) where
+  pub stands_for_more : (old after : Database) → StandsFor old F → AddsRows (suc (length F)) (judged (kept F) r) old after → StandsFor after (F ++ r ∷ [])
+  stands_for_more old after stands adds =
+      let ks = kept F in
+      let k = judged (kept F) r in
+      let at : 1 + length ks ≡ suc (length F) = omega (arith, kept_length F stands.distinct) in
+      let has = adds.rows _ _ _ _ stands.rows in
+      let kept_is = ap (counted_from kept_row 1) (kept_new F r new) ∙ counted_push kept_row 1 ks k ∙ ap (λ n. counted_from kept_row 1 ks ++ kept_row n k ∷ []) at in
+      let finding_is = ap (joined_from finding_rows 1) (kept_new F r new) ∙ joined_push finding_rows 1 ks k ∙ ap (λ n. joined_from finding_rows 1 ks ++ finding_rows n k) at in
+      let filing_is = ap (joined_from filing_rows 1) (kept_new F r new) ∙ joined_push filing_rows 1 ks k ∙ ap (λ n. joined_from filing_rows 1 ks ++ filing_rows n k) at in
+      let fact_is = ap (joined_from fact_rows 1) (kept_new F r new) ∙ joined_push fact_rows 1 ks k ∙ ap (λ n. joined_from fact_rows 1 ks ++ fact_rows n k) at in
+      record {
+        distinct = firsts_new F r new ∙ ap (λ front. front ++ r ∷ []) stands.distinct;
+        completed = all_push IsCompleted F r stands.completed completed;
+        rows = rw (kept_is, finding_is, filing_is, fact_is) has;
+      }
+
+  pub register_of_more : (old after : Database) → IsRegisterOf F old → AddsRows (suc (length F)) (judged (kept F) r) old after → IsRegisterOf (F ++ r ∷ []) after
+  register_of_more old after register adds = record {
+    sound = adds.sound register.rows.rows.declared register.sound;
+    rows = stands_for_more old after register.rows adds;
+  }

@@ -1,0 +1,47 @@
+-- What each SELECT reads.
+use Rattle.std.proofs.Common.{◌≡◌, ℕ, pos, ◌⊎◌, inl, inr, Bool, List, [], ◌∷◌, Result, Ok, Err, IsTrue, IfOk, IfErr, refl, sym, subst}
+use Rattle.sqlite.specs.declared.types.Value.TheVariants.{Int, Text}
+use Rattle.sqlite.specs.Order.{Row}
+use Rattle.sqlite.specs.Table.{Table}
+use Rattle.sqlite.specs.Term.{Term, col}
+use Rattle.sqlite.specs.Schema.{Schema}
+use Rattle.sqlite.specs.Listing.{understood}
+use Rattle.sqlite.specs.declared.error.Error.{Error}
+use Rattle.sqlite.specs.State.{State, Shown, FailsToQuery, CommitsShowing, Survives, IsUnchanged}
+use Rattle.sqlite.proofs.Callers.{IsPlain, never_commits}
+use Rattle.sqlite.proofs.StateLemmas.{survives_weaker}
+use Rattle.table_rows.specs.Reading.{ReadsRows}
+use Rattle.table_rows.specs.Standing.{Keeps}
+use Rattle.table_rows.proofs.StandLemmas.{failure_keeps, shown_keeps}
+use Rattle.table_rows.proofs.ReadingLemmas.{reads_rows, by_each}
+use Rattle.register_store.specs.Schema.{IsDeclared, register_tables, kept_table, fact_table}
+use Rattle.register_store.specs.Reads.{Knows, every, whole, by_first, by_second, has_filer, has_number, number_alone, place_alone, said}
+use Rattle.register_store.proofs.ReadTexts.{columns, equals, all_kept, filer_numbers, fact_places, facts_said, asks_kept, asks_numbers, asks_places, asks_said}
+
+-- a query that writes nothing where our tables are declared
+module _ (sql : List ℕ) (plain : (s : Schema) → IsDeclared s → IsPlain (understood s sql)) (params : Row) (old new : State) where
+  pub keeps : {V : Type 0} (items : V → List Row) (r : Result V Error) → IfOk r (λ rows. Shown sql params old new (items rows)) → IfErr r (FailsToQuery sql params old new) → Knows old → Keeps old new
+  keeps items (Ok rows) h fails knows = inl (shown_keeps sql params old new (λ alive. plain old.now.schema (knows alive)) (items rows) h)
+  keeps items (Err e) h fails knows = failure_keeps sql params old new (λ alive. plain old.now.schema (knows alive)) e fails
+
+  pub commits_none : Survives old new (CommitsShowing sql params old) → Survives old new (λ _. IsDeclared old.now.schema → ⊥)
+  commits_none h = survives_weaker old new _ _ (λ _ db commits d. never_commits sql params old db (plain old.now.schema d) commits) h
+
+module _ (old new : State) (knows : Knows old) (rows : List Row) where
+  pub reads_kept : Shown all_kept [] old new rows → ReadsRows kept_table every by_first whole rows old new
+  reads_kept h = reads_rows register_tables kept_table all_kept [] (columns (0 ∷ 2 ∷ 3 ∷ 4 ∷ 5 ∷ [])) (col 1 0 ∷ []) asks_kept [] old new knows every (λ _. refl) by_first (λ _. refl) whole (λ _. refl) (λ _. refl) rows h
+
+  pub reads_numbers : (filer : List ℕ) → Shown filer_numbers (Text filer ∷ []) old new rows → ReadsRows kept_table (has_filer filer) by_first number_alone rows old new
+  reads_numbers filer h =
+      reads_rows register_tables kept_table filer_numbers (equals 2) (columns (5 ∷ [])) (col 1 0 ∷ []) asks_numbers (Text filer ∷ []) old new knows (has_filer filer) (λ _. refl) by_first (λ _. refl) number_alone
+      (λ _. refl) (λ _. refl) rows h
+
+  pub reads_places : (number : ℕ) → Shown fact_places (Int (pos number) ∷ []) old new rows → ReadsRows fact_table (has_number number) by_second place_alone rows old new
+  reads_places number h =
+      reads_rows register_tables fact_table fact_places (equals 1) (columns (2 ∷ [])) (col 1 2 ∷ []) asks_places (Int (pos number) ∷ []) old new knows (has_number number) (λ _. refl) by_second (λ _. refl) place_alone
+      (λ _. refl) (λ _. refl) rows h
+
+  pub reads_said : (number : ℕ) → Shown facts_said (Int (pos number) ∷ []) old new rows → ReadsRows fact_table (has_number number) by_second said rows old new
+  reads_said number h =
+      reads_rows register_tables fact_table facts_said (equals 1) (columns (3 ∷ 4 ∷ 5 ∷ 6 ∷ 7 ∷ [])) (col 1 2 ∷ []) asks_said (Int (pos number) ∷ []) old new knows (has_number number) (λ _. refl) by_second (λ _. refl)
+      said (λ _. refl) (λ _. refl) rows h

@@ -1,0 +1,120 @@
+-- What the texts of the SELECTs mean under the declared tables.
+use Rattle.std.proofs.Common.{◌≡◌, ℕ, List, [], ◌∷◌, codes, refl, sym, subst}
+use Rattle.sqlite_schema.specs.declared.schema.Index.{Index}
+use Rattle.sqlite_schema.specs.declared.schema.View.{View}
+use Rattle.sqlite.specs.Table.{Table}
+use Rattle.sqlite.specs.Schema.{Schema}
+use Rattle.sqlite.specs.Collation.TheVariants.{Binary}
+use Rattle.sqlite.specs.Term.{Term, col, op2}
+use Rattle.sqlite_sql.specs.declared.ops.BinaryOp.TheVariants.{Compare}
+use Rattle.sqlite_sql.specs.declared.ops.CompareOp.TheVariants.{Eq}
+use Rattle.sqlite_tied.specs.Compute.{everything}
+use Rattle.sqlite.specs.Listing.{understood}
+use Rattle.sqlite.specs.Query.{Query}
+use Rattle.table_rows.specs.Tables.{schema_with}
+use Rattle.table_rows.proofs.SelectLemmas.{one_table}
+use Rattle.table_rows.proofs.ReadingLemmas.{by_each}
+use Rattle.table_rows.proofs.QueryLemmas.{Asks}
+use Rattle.register_store.specs.Schema.{register_tables, IsDeclared}
+
+abbrev pub all_meta : List ℕ
+all_meta = codes "SELECT id, kind, form FROM intake_meta ORDER BY id"
+
+abbrev pub all_kept : List ℕ
+all_kept = codes "SELECT seq, filer, idem, body, number FROM kept ORDER BY seq"
+
+abbrev pub all_findings : List ℕ
+all_findings = codes "SELECT seq, pos, code, place FROM finding ORDER BY seq, pos"
+
+abbrev pub all_filings : List ℕ
+all_filings = codes "SELECT number, seq FROM filing ORDER BY number"
+
+abbrev pub all_facts : List ℕ
+all_facts = codes "SELECT number, pos, id, concept, dimensions, value, decimals FROM fact ORDER BY number, pos"
+
+abbrev pub filer_numbers : List ℕ
+filer_numbers = codes "SELECT number FROM kept WHERE filer = ?1 ORDER BY seq"
+
+abbrev pub fact_places : List ℕ
+fact_places = codes "SELECT pos FROM fact WHERE number = ?1 ORDER BY pos"
+
+abbrev pub facts_said : List ℕ
+facts_said = codes "SELECT id, concept, dimensions, value, decimals FROM fact WHERE number = ?1 ORDER BY pos"
+
+-- the columns of the row from this place on
+abbrev pub columns : List ℕ → List Term
+columns [] = []
+columns (at ∷ ats) = col 1 at ∷ columns ats
+
+-- the column at this place equals the parameter
+abbrev pub equals : ℕ → List Term
+equals at = op2 (Compare Eq Binary) (col 1 at) (col 0 0) ∷ []
+
+module _ (tables : List Table) (indexes : List Index) (views : List View) where
+  abbrev schema : Schema
+  schema = schema_with register_tables tables indexes views
+
+  meta_text : Asks schema all_meta (one_table 0 [] (columns (0 ∷ 2 ∷ 3 ∷ [])) (by_each (col 1 0 ∷ [])))
+  unfolding understood everything
+  meta_text = record { names = codes "id" ∷ codes "kind" ∷ codes "form" ∷ []; is = refl; plain = (refl, refl); listing = refl }
+
+  kept_text : Asks schema all_kept (one_table 1 [] (columns (0 ∷ 2 ∷ 3 ∷ 4 ∷ 5 ∷ [])) (by_each (col 1 0 ∷ [])))
+  unfolding understood everything
+  kept_text = record { names = codes "seq" ∷ codes "filer" ∷ codes "idem" ∷ codes "body" ∷ codes "number" ∷ []; is = refl; plain = (refl, refl); listing = refl }
+
+  findings_text : Asks schema all_findings (one_table 3 [] (columns (1 ∷ 2 ∷ 3 ∷ 4 ∷ [])) (by_each (col 1 1 ∷ col 1 2 ∷ [])))
+  unfolding understood everything
+  findings_text = record { names = codes "seq" ∷ codes "pos" ∷ codes "code" ∷ codes "place" ∷ []; is = refl; plain = (refl, refl); listing = refl }
+
+  filings_text : Asks schema all_filings (one_table 5 [] (columns (0 ∷ 2 ∷ [])) (by_each (col 1 0 ∷ [])))
+  unfolding understood everything
+  filings_text = record { names = codes "number" ∷ codes "seq" ∷ []; is = refl; plain = (refl, refl); listing = refl }
+
+  facts_text : Asks schema all_facts (one_table 7 [] (columns (1 ∷ 2 ∷ 3 ∷ 4 ∷ 5 ∷ 6 ∷ 7 ∷ [])) (by_each (col 1 1 ∷ col 1 2 ∷ [])))
+  unfolding understood everything
+  facts_text = record {
+    names = codes "number" ∷ codes "pos" ∷ codes "id" ∷ codes "concept" ∷ codes "dimensions" ∷ codes "value" ∷ codes "decimals" ∷ [];
+    is = refl;
+    plain = (refl, refl);
+    listing = refl;
+  }
+
+  numbers_text : Asks schema filer_numbers (one_table 1 (equals 2) (columns (5 ∷ [])) (by_each (col 1 0 ∷ [])))
+  unfolding understood everything
+  numbers_text = record { names = codes "number" ∷ []; is = refl; plain = (refl, refl); listing = refl }
+
+  places_text : Asks schema fact_places (one_table 7 (equals 1) (columns (2 ∷ [])) (by_each (col 1 2 ∷ [])))
+  unfolding understood everything
+  places_text = record { names = codes "pos" ∷ []; is = refl; plain = (refl, refl); listing = refl }
+
+  said_text : Asks schema facts_said (one_table 7 (equals 1) (columns (3 ∷ 4 ∷ 5 ∷ 6 ∷ 7 ∷ [])) (by_each (col 1 2 ∷ [])))
+  unfolding understood everything
+  said_text = record { names = codes "id" ∷ codes "concept" ∷ codes "dimensions" ∷ codes "value" ∷ codes "decimals" ∷ []; is = refl; plain = (refl, refl); listing = refl }
+
+-- the same of any schema that begins with our tables
+on_ours : (text : List ℕ) (q : Query) → ((tables : List Table) (indexes : List Index) (views : List View) → Asks (schema_with register_tables tables indexes views) text q) → (s : Schema) → IsDeclared s → Asks s text q
+on_ours text q asks s d = subst (λ t. Asks t text q) (sym d.is) (asks d.tables d.indexes d.views)
+
+pub asks_meta : (s : Schema) → IsDeclared s → Asks s all_meta (one_table 0 [] (columns (0 ∷ 2 ∷ 3 ∷ [])) (by_each (col 1 0 ∷ [])))
+asks_meta = on_ours _ _ meta_text
+
+pub asks_kept : (s : Schema) → IsDeclared s → Asks s all_kept (one_table 1 [] (columns (0 ∷ 2 ∷ 3 ∷ 4 ∷ 5 ∷ [])) (by_each (col 1 0 ∷ [])))
+asks_kept = on_ours _ _ kept_text
+
+pub asks_findings : (s : Schema) → IsDeclared s → Asks s all_findings (one_table 3 [] (columns (1 ∷ 2 ∷ 3 ∷ 4 ∷ [])) (by_each (col 1 1 ∷ col 1 2 ∷ [])))
+asks_findings = on_ours _ _ findings_text
+
+pub asks_filings : (s : Schema) → IsDeclared s → Asks s all_filings (one_table 5 [] (columns (0 ∷ 2 ∷ [])) (by_each (col 1 0 ∷ [])))
+asks_filings = on_ours _ _ filings_text
+
+pub asks_facts : (s : Schema) → IsDeclared s → Asks s all_facts (one_table 7 [] (columns (1 ∷ 2 ∷ 3 ∷ 4 ∷ 5 ∷ 6 ∷ 7 ∷ [])) (by_each (col 1 1 ∷ col 1 2 ∷ [])))
+asks_facts = on_ours _ _ facts_text
+
+pub asks_numbers : (s : Schema) → IsDeclared s → Asks s filer_numbers (one_table 1 (equals 2) (columns (5 ∷ [])) (by_each (col 1 0 ∷ [])))
+asks_numbers = on_ours _ _ numbers_text
+
+pub asks_places : (s : Schema) → IsDeclared s → Asks s fact_places (one_table 7 (equals 1) (columns (2 ∷ [])) (by_each (col 1 2 ∷ [])))
+asks_places = on_ours _ _ places_text
+
+pub asks_said : (s : Schema) → IsDeclared s → Asks s facts_said (one_table 7 (equals 1) (columns (3 ∷ 4 ∷ 5 ∷ 6 ∷ 7 ∷ [])) (by_each (col 1 2 ∷ [])))
+asks_said = on_ours _ _ said_text

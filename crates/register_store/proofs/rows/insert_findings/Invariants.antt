@@ -1,0 +1,20 @@
+use Rattle.std.proofs.Common.{◌≡◌, take, IsTrue}
+use Rattle.sqlite.specs.Held.{state}
+use Rattle.sqlite.specs.State.{HasCleanDisk, KeepsCommit, Survives}
+use Rattle.table_rows.specs.Rows.{counted_from}
+use Rattle.register_store.specs.Schema.{finding_table}
+use Rattle.register_store.specs.Changes.{GainsRows}
+use Rattle.register_store.specs.Register.{finding_row}
+use Rattle.register_store.proofs.rows.insert_findings.Given as goal
+
+-- the rows of the first ones are gained
+abbrev pub invariant-findings : goal.invariant-findings
+invariant-findings g l =
+    let old = state g.S.Store l.fn.tx.conn.now in
+    let now = state g.S.Store l.tx.conn.now in record {
+      count : l.at ≡ l.finding-index;
+      same : l.tx.conn.ghost_name ≡ l.fn.tx.conn.ghost_name;
+      gains : HasCleanDisk now → IsTrue old.in_transaction → GainsRows finding_table (counted_from (finding_row l.seq) 1 (take l.finding-index l.findings)) old now;
+      keeps : HasCleanDisk now → KeepsCommit old now;
+      survives : Survives old now (λ _. ⊥);
+    }

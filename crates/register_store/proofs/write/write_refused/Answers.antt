@@ -1,0 +1,18 @@
+use Rattle.std.proofs.Common.{arith}
+use Rattle.std.proofs.lemmas.Result.{IfOk-weaker}
+use Rattle.sqlite.specs.Held.{state}
+use Rattle.sqlite.specs.State.{HasCleanDisk}
+use Rattle.filing_model.specs.Views.{the_request}
+use Rattle.register_store.proofs.Adding.{adds_refused}
+use Rattle.register_store.proofs.write.write_refused.Goals as goal
+
+pub returns-clause-adds : goal.returns-clause-adds
+returns-clause-adds g c clean =
+    let first = state g.S.Store c.args.tx.now.conn.now in
+    let mid = state g.S.Store c.insert_kept.new.tx.conn.now in
+    let last = state g.S.Store c.insert_findings.new.tx.conn.now in
+    let row = c.args.row.now in
+    let early : HasCleanDisk mid = omega (arith, c.insert_findings.ensures.survives.clean) in
+    let one = c.in_ok-insert_kept.ensures.gains early in
+    IfOk-weaker c.insert_findings.result _ _ (λ _ two. adds_refused c.args.seq (the_request row.filer.now row.key.now row.body.now) c.args.findings.now first mid last one two)
+    (c.insert_findings.ensures.gains clean one.inside)

@@ -1,0 +1,52 @@
+-- What is written for a request that is to be kept.
+use Rattle.std.specs.Prelude.{◌≡◌, ℕ, List, [], ◌∷◌, ◌++◌, IsTrue}
+use Rattle.sqlite.specs.Order.{Row}
+use Rattle.sqlite.specs.Table.{Table}
+use Rattle.sqlite.specs.Tree.{Trees}
+use Rattle.sqlite.specs.Effect.{Database, IsDatabase}
+use Rattle.sqlite.specs.State.{State}
+use Rattle.filing_model.specs.Register.{Kept}
+use Rattle.table_rows.specs.Rows.{GainsInside}
+use Rattle.register_store.specs.Schema.{IsDeclared, register_tables}
+use Rattle.register_store.specs.Register.{HasRows, kept_row, finding_rows, filing_rows, fact_rows}
+
+-- inside a transaction, which goes on, there are the tables of a register with no request
+pub record MakesTables (old new : State) : Type 0 where
+  pub rows : HasRows new.now [] [] [] []
+  pub sound : IsDatabase new.now
+  pub committed : new.committed ≡ old.committed
+
+-- a table of ours gains these rows inside a transaction, and the others stay
+abbrev pub GainsRows : Table → List Row → State → State → Type 0
+GainsRows = GainsInside register_tables
+
+-- the tables gain the rows of the kept request at this place, whatever their rows were
+pub record AddsRows (seq : ℕ) (k : Kept) (old new : Database) : Type 0 where
+  pub rows : (ks fs gs hs : List Row) → HasRows old ks fs gs hs
+      → HasRows new (ks ++ kept_row seq k ∷ []) (fs ++ finding_rows seq k) (gs ++ filing_rows seq k) (hs ++ fact_rows seq k)
+  pub sound : IsDeclared old.schema → IsDatabase old → IsDatabase new
+
+-- so they do inside a transaction, which goes on
+pub record AddsInside (seq : ℕ) (k : Kept) (old new : State) : Type 0 where
+  pub adds : AddsRows seq k old.now new.now
+  pub inside : IsTrue new.in_transaction
+  pub committed : new.committed ≡ old.committed
+
+-- so they did, and it is committed
+pub record Adds (seq : ℕ) (k : Kept) (old new : State) : Type 0 where
+  pub was_open : IsTrue old.is_open
+  pub is_open : IsTrue new.is_open
+  pub adds : AddsRows seq k old.now new.now
+  pub committed : new.committed ≡ new.now
+
+-- the trees are those of a database to which the request was added
+pub record AddsTo (seq : ℕ) (k : Kept) (old : Database) (trees : Trees) : Type 0 where
+  pub db : Database
+  pub adds : AddsRows seq k old db
+  pub is : trees ≡ db.trees
+
+-- nothing was written: while the store is open, it is as the last commit left it
+pub record AddsNothing (old new : State) : Type 0 where
+  pub was_open : IsTrue new.is_open → IsTrue old.is_open
+  pub now : IsTrue new.is_open → new.now ≡ old.committed
+  pub committed : IsTrue new.is_open → new.committed ≡ old.committed

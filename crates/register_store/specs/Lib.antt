@@ -1,0 +1,9 @@
+pub mod Changes
+pub mod Columns
+pub mod Faults
+pub mod Numbered
+pub mod Outcomes
+pub mod Reads
+pub mod Register
+pub mod Schema
+pub mod Store

@@ -1,0 +1,27 @@
+-- Outcomes and kept rows without where they lie in memory.
+use Rattle.std.specs.Prelude.{ℕ, List}
+use Rattle.xbrl_report.specs.declared.judging.Judged.{Judged}
+use Rattle.xbrl_report.specs.declared.judging.Judged.TheVariants.{Valid, Refused}
+use Rattle.filing_model.specs.Register.{Outcome, Kept}
+use Rattle.filing_model.specs.Views.{the_request}
+use Rattle.register_store.specs.declared.outcome.Outcome.{Outcome as Stored}
+use Rattle.register_store.specs.declared.outcome.KeptRow.{KeptRow}
+
+-- an outcome
+abbrev pub view_outcome : Stored → Outcome
+view_outcome (Stored.Registered number) = Outcome.Registered number
+view_outcome (Stored.Refused findings) = Outcome.Refused findings
+
+-- what is kept of this filer and key
+abbrev pub kept_as : List ℕ → List ℕ → KeptRow → Kept
+kept_as filer key row = record { request = the_request filer key row.body.items; outcome = view_outcome row.outcome }
+
+-- what becomes of a report that was judged so, where the next filing has this number
+abbrev pub outcome_of : ℕ → Judged → Outcome
+outcome_of number (Valid report) = Outcome.Registered number
+outcome_of number (Refused findings) = Outcome.Refused findings
+
+-- how many filings an outcome is
+abbrev pub filings_by : Outcome → ℕ
+filings_by (Outcome.Registered number) = 1
+filings_by (Outcome.Refused findings) = 0

@@ -1,0 +1,49 @@
+-- What the SELECTs of a register read.
+use Rattle.std.specs.Prelude.{Bool, true, pos, ℕ, ◌&&◌, List, [], ◌∷◌, IsTrue}
+use Rattle.sqlite.specs.declared.types.Value.TheVariants.{Int, Text}
+use Rattle.sqlite.specs.Collation.TheVariants.{Binary}
+use Rattle.sqlite.specs.Order.{Row, column}
+use Rattle.sqlite.specs.Ops.{binary, is_true}
+use Rattle.sqlite_sql.specs.declared.ops.BinaryOp.TheVariants.{Compare}
+use Rattle.sqlite_sql.specs.declared.ops.CompareOp.TheVariants.{Eq}
+use Rattle.sqlite.specs.State.{State}
+use Rattle.register_store.specs.Schema.{IsDeclared}
+
+-- while the connection is open, its tables are declared as ours
+abbrev pub Knows : State → Type 0
+Knows s = IsTrue s.is_open → IsDeclared s.now.schema
+
+abbrev pub every : Row → Bool
+every _ = true
+
+abbrev pub whole : Row → Row
+whole row = row
+
+abbrev pub by_first : Row → Row
+by_first row = column row 0 ∷ []
+
+abbrev pub by_second : Row → Row
+by_second row = column row 1 ∷ []
+
+abbrev pub by_both : Row → Row
+by_both row = column row 0 ∷ column row 1 ∷ []
+
+-- the column `filer` of `kept` equals this text, as SQL compares
+abbrev pub has_filer : List ℕ → Row → Bool
+has_filer filer row = is_true (binary (Compare Eq Binary) (column row 1) (Text filer)) && true
+
+-- the column `number` of `fact` equals this number, as SQL compares
+abbrev pub has_number : ℕ → Row → Bool
+has_number number row = is_true (binary (Compare Eq Binary) (column row 0) (Int (pos number))) && true
+
+-- the column `number` of a kept row
+abbrev pub number_alone : Row → Row
+number_alone row = column row 4 ∷ []
+
+-- of a fact row, its place
+abbrev pub place_alone : Row → Row
+place_alone row = column row 1 ∷ []
+
+-- of a fact row, what the fact says
+abbrev pub said : Row → Row
+said row = column row 2 ∷ column row 3 ∷ column row 4 ∷ column row 5 ∷ column row 6 ∷ []

@@ -1,0 +1,92 @@
+-- The rows that stand for a list of completed requests.
+use Rattle.std.specs.Prelude.{◌≡◌, ◌≤◌, ℕ, ◌+◌, pos, true, List, [], ◌∷◌, ◌++◌, length, codes, Option, Some, None}
+use Rattle.std.specs.List.{AllByRecursion}
+use Rattle.sqlite.specs.declared.types.Value.TheVariants.{Int, Text, Blob}
+use Rattle.sqlite.specs.Order.{Row}
+use Rattle.sqlite.specs.Values.{or_null}
+use Rattle.sqlite.specs.Effect.{Database}
+use Rattle.key_string.specs.Filer.{is_filer}
+use Rattle.key_string.specs.Key.{IsKey}
+use Rattle.http_wire.specs.Head.{max_body_len}
+use Rattle.xbrl_report.specs.CodeNumber.{number_of as code_number}
+use Rattle.xbrl_report.specs.FactRecord.{FactRecord}
+use Rattle.xbrl_report.specs.Pair.{Pair}
+use Rattle.xbrl_report.specs.ReportParts.{facts}
+use Rattle.filing_model.specs.Request.{Request, firsts}
+use Rattle.filing_model.specs.Register.{Outcome, Kept, kept}
+use Rattle.filing_model.specs.Register.Outcome.{Registered, Refused}
+use Rattle.table_rows.specs.Rows.{Holds, counted_from}
+use Rattle.register_store.specs.Schema.{IsDeclared, meta_table, kept_table, finding_table, filing_table, fact_table}
+
+-- ---- what a kept request puts into each table, as SELECT * shows it; `seq` is its place among the kept ones, from 1
+
+-- the one row of `intake_meta`: a register, in the form of these tables
+abbrev pub meta_row : Row
+meta_row = Int (pos 1) ∷ Text (codes "register") ∷ Int (pos 2) ∷ []
+
+-- the number of a registered request
+abbrev pub number_of : Outcome → Option ℕ
+number_of (Registered number) = Some number
+number_of (Refused findings) = None
+
+abbrev pub kept_row : ℕ → Kept → Row
+kept_row seq k = Int (pos seq) ∷ Text k.request.filer ∷ Text k.request.key ∷ Blob k.request.body ∷ or_null (λ n. Int (pos n)) (number_of k.outcome) ∷ []
+
+abbrev pub finding_row : ℕ → ℕ → Pair → Row
+finding_row seq at f = Int (pos seq) ∷ Int (pos at) ∷ Int (pos (code_number f.code)) ∷ Blob f.place ∷ []
+
+abbrev pub findings_of : Outcome → List Pair
+findings_of (Registered number) = []
+findings_of (Refused findings) = findings
+
+-- the findings of a refused request, in order
+abbrev pub finding_rows : ℕ → Kept → List Row
+finding_rows seq k = counted_from (finding_row seq) 1 (findings_of k.outcome)
+
+abbrev pub filing_rows_by : ℕ → Outcome → List Row
+filing_rows_by seq (Registered number) = (Int (pos number) ∷ Int (pos seq) ∷ []) ∷ []
+filing_rows_by seq (Refused findings) = []
+
+-- the filing that a registered request is
+abbrev pub filing_rows : ℕ → Kept → List Row
+filing_rows seq k = filing_rows_by seq k.outcome
+
+abbrev pub fact_row : ℕ → ℕ → FactRecord → Row
+fact_row number at f =
+    Int (pos number) ∷ Int (pos at) ∷ Blob f.id ∷ Blob f.concept ∷ Blob f.dimensions ∷ or_null Blob f.value ∷ or_null Int f.decimals ∷ []
+
+abbrev pub fact_rows_by : List FactRecord → Outcome → List Row
+fact_rows_by all (Registered number) = counted_from (fact_row number) 1 all
+fact_rows_by all (Refused findings) = []
+
+-- the facts of a registered request, in order
+abbrev pub fact_rows : ℕ → Kept → List Row
+fact_rows seq k = fact_rows_by (facts k.request.body) k.outcome
+
+-- the rows of several, one after another
+abbrev pub joined_from : (ℕ → Kept → List Row) → ℕ → List Kept → List Row
+joined_from rows seq [] = []
+joined_from rows seq (k ∷ ks) = rows seq k ++ joined_from rows (seq + 1) ks
+
+-- ---- the tables
+
+-- the tables of a register have these rows, each once and in any order, and no others
+pub record HasRows (db : Database) (kept_are finding_are filing_are fact_are : List Row) : Type 0 where
+  pub declared : IsDeclared db.schema
+  pub meta_is : Holds db meta_table (meta_row ∷ [])
+  pub kept_is : Holds db kept_table kept_are
+  pub finding_is : Holds db finding_table finding_are
+  pub filing_is : Holds db filing_table filing_are
+  pub fact_is : Holds db fact_table fact_are
+
+-- a request as filers may complete one
+pub record IsCompleted (r : Request) : Type 0 where
+  pub filer : is_filer r.filer ≡ true
+  pub key : IsKey r.key
+  pub body : length r.body ≤ max_body_len
+
+-- the rows stand for these requests, each the first of its filer and key, in order and with its outcome
+pub record StandsFor (db : Database) (F : List Request) : Type 0 where
+  pub distinct : firsts F ≡ F
+  pub completed : AllByRecursion IsCompleted F
+  pub rows : HasRows db (counted_from kept_row 1 (kept F)) (joined_from finding_rows 1 (kept F)) (joined_from filing_rows 1 (kept F)) (joined_from fact_rows 1 (kept F))

@@ -1,0 +1,49 @@
+-- How the tables of a register are declared.
+use Rattle.std.specs.Prelude.{◌≡◌, Bool, ◌||◌, List, [], ◌∷◌, ℕ, codes}
+use Rattle.std.specs.List.{list_any}
+use Rattle.sqlite_value.specs.Keys.{plain}
+use Rattle.sqlite.specs.Table.{Table}
+use Rattle.sqlite.specs.Schema.{Schema}
+use Rattle.sqlite.specs.Kind.TheVariants.{Integer, Text, Blob}
+use Rattle.sqlite_schema.specs.Names.{same_name}
+use Rattle.table_rows.specs.Tables.{needed, optional, keyed, paired, BeginsWith}
+
+-- what the database is, and in which form
+abbrev pub meta_table : Table
+meta_table = keyed (codes "intake_meta") 0 (optional (codes "id") Integer ∷ needed (codes "kind") Text ∷ needed (codes "form") Integer ∷ []) [] []
+
+-- the first request of each filer and key, with its number where it was registered
+abbrev pub kept_table : Table
+kept_table = keyed (codes "kept") 1
+    (optional (codes "seq") Integer ∷ needed (codes "filer") Text ∷ needed (codes "idem") Text ∷ needed (codes "body") Blob ∷ optional (codes "number") Integer ∷ [])
+    ((2 ∷ 3 ∷ []) ∷ []) (plain ∷ [])
+
+-- the findings of those that were refused
+abbrev pub finding_table : Table
+finding_table = paired (codes "finding") 3 (needed (codes "seq") Integer ∷ needed (codes "pos") Integer ∷ needed (codes "code") Integer ∷ needed (codes "place") Blob ∷ [])
+
+-- the registered ones
+abbrev pub filing_table : Table
+filing_table = keyed (codes "filing") 5 (optional (codes "number") Integer ∷ needed (codes "seq") Integer ∷ []) ((2 ∷ []) ∷ []) (plain ∷ [])
+
+-- their facts
+abbrev pub fact_table : Table
+fact_table = paired (codes "fact") 7
+    (needed (codes "number") Integer ∷ needed (codes "pos") Integer ∷ needed (codes "id") Blob ∷ needed (codes "concept") Blob ∷ needed (codes "dimensions") Blob ∷ optional (codes "value") Blob ∷ optional (codes "decimals") Integer ∷ [])
+
+-- the tables of a register; the trees between them are those of the indexes that SQLite makes for their keys
+abbrev pub register_tables : List Table
+register_tables = meta_table ∷ kept_table ∷ finding_table ∷ filing_table ∷ fact_table ∷ []
+
+-- they come first, and others may follow
+abbrev pub IsDeclared : Schema → Type 0
+IsDeclared = BeginsWith register_tables
+
+-- whether a table, an index or a view has the name; SQLite compares names without case
+abbrev pub has_name : Schema → List ℕ → Bool
+has_name schema name =
+    (list_any (λ t. same_name t.name name) schema.tables || list_any (λ i. same_name i.name name) schema.indexes) || list_any (λ v. same_name v.name name) schema.views
+
+-- whether one of the names of our tables is in use
+abbrev pub is_taken : Schema → Bool
+is_taken schema = list_any (λ t. has_name schema t.name) register_tables

@@ -1,0 +1,51 @@
+-- What the store of a register holds and shows.
+use Rattle.std.specs.Prelude.{◌≡◌, ◌≤◌, ◌^◌, ℕ, false, List, length, None, refl}
+use Rattle.std.specs.Coded.{Coded, code_by, coded×, coded_ℕ}
+use Rattle.sqlite.specs.Store.{Ghosts}
+use Rattle.sqlite.specs.Held.{Held, held_code, state}
+use Rattle.sqlite.specs.Effect.{Database, IsDatabase}
+use Rattle.sqlite.specs.State.{State}
+use Rattle.sqlite.specs.Tree.{Trees}
+use Rattle.filing_model.specs.Request.{Request}
+use Rattle.filing_model.specs.Register.{register}
+use Rattle.table_rows.specs.Standing.{Stands}
+use Rattle.register_store.specs.Register.{StandsFor}
+
+-- a connection, and how many requests are kept and how many of them are filings
+pub record StoreParts (S : Type 0) : Type 0 where
+  pub conn : Held S
+  pub kept : ℕ
+  pub filings : ℕ
+
+abbrev pub parts_code : {S : Type 0} → Coded S → Coded (StoreParts S)
+parts_code {S} store =
+    code_by (Held S × (ℕ × ℕ)) (coded× (held_code store) (coded× coded_ℕ coded_ℕ)) (λ s. (s.conn, (s.kept, s.filings))) (λ p. record { conn = p.0; kept = p.1.0; filings = p.1.1 }) (λ _. refl)
+
+-- between calls no transaction is under way, no statement is cut short, and the next number is within what a row holds
+pub record IsIdle {S : Type 0} (conn : Held S) (kept filings : ℕ) : Type 0 where
+  pub autocommit : conn.in_transaction ≡ false
+  pub unlimited : conn.step_limit ≡ None
+  pub few : kept ≤ 2 ^ 62
+  pub fewer : filings ≤ kept
+
+-- what its connection shows
+abbrev pub shows : {S : Type 0} → Ghosts S → StoreParts S → State
+shows g store = state g store.conn
+
+-- a database, as SQLite's files have one, whose rows stand for these requests
+pub record IsRegisterOf (F : List Request) (db : Database) : Type 0 where
+  pub sound : IsDatabase db
+  pub rows : StandsFor db F
+
+-- While it is open, the store's rows stand for these requests, and are committed. One that a fault of the disk shut says
+-- nothing of its rows.
+pub record HasRequests {S : Type 0} (g : Ghosts S) (store : StoreParts S) (F : List Request) : Type 0 where
+  pub stands : Stands (IsRegisterOf F) (shows g store)
+  pub kept_is : store.kept ≡ length F
+  pub filings_is : store.filings ≡ length (register F)
+
+-- an open after a crash that left these trees finds the rows of these requests
+pub record Leaves (F : List Request) (trees : Trees) : Type 0 where
+  pub db : Database
+  pub is : trees ≡ db.trees
+  pub register : IsRegisterOf F db

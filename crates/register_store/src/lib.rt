@@ -1,0 +1,22 @@
+//! The rows of a register's tables stand for a list of completed requests. What may live here: how the tables are
+//! declared, read and written. Requests, outcomes and numbers are those of `filing_model`; who is answered what is not
+//! known here.
+#![tactic(auto)]
+
+mod completed;
+mod counts;
+mod create;
+mod facts;
+mod fault;
+mod lists;
+mod names;
+mod outcome;
+mod reads;
+mod rows;
+mod store;
+mod write;
+
+pub use completed::{Completed, Registered};
+pub use fault::{CreateFault, StoreFault};
+pub use outcome::{KeptRow, NewRow, Outcome};
+pub use store::Store;

@@ -1,0 +1,56 @@
+//! What becomes of the first request of a filer and key, and what is kept of it.
+
+ghost use Rattle.std.specs.Prelude.{◌≡◌, IfOk};
+ghost use Rattle.register_store.specs.Outcomes.{view_outcome, outcome_of, filings_by};
+
+use key_string::KeyText;
+use std::alloc::{AllocError, Global};
+use xbrl_report::{Findings, Judged};
+
+/// What became of the first request of a filer and key.
+#[derive(Drop)]
+pub enum Outcome {
+    /// Registered under this number, which counts from 1 over all filers.
+    Registered(u64),
+    /// Refused for these findings, of which there is one at least.
+    Refused(Findings),
+}
+
+/// What is kept of a filer and key: the body's bytes, and what became of them.
+#[derive(Drop)]
+pub struct KeptRow {
+    pub body: Vec<u8>,
+    pub outcome: Outcome,
+}
+
+/// A request that is to be kept: a filer code, a key that the filer has not used, and a body of at most 1,048,576
+/// bytes, with what `judge` answers of them.
+#[derive(Clone, Copy)]
+pub struct NewRow<'a> {
+    pub filer: &'a str,
+    pub key: &'a KeyText,
+    pub body: &'a [u8],
+    pub judged: &'a Judged,
+}
+
+impl Outcome {
+    /// What becomes of a report that was judged so, where the next filing has this number.
+    pub(crate) fn of(alloc: Global, judged: &Judged, number: u64) -> Result<Outcome, AllocError>
+        ensures { IfOk result (λ o. view_outcome o ≡ outcome_of number judged.now) }
+    {
+        match judged {
+            Judged::Valid(_) => Ok(Outcome::Registered(number)),
+            Judged::Refused(findings) => Ok(Outcome::Refused(findings.copied(alloc)?)),
+        }
+    }
+
+    /// How many filings it is: one, or none.
+    pub(crate) fn filings(&self) -> u64
+        ensures { result ≡ filings_by (view_outcome self.now) }
+    {
+        match self {
+            Outcome::Registered(_) => 1,
+            Outcome::Refused(_) => 0,
+        }
+    }
+}

@@ -1,0 +1,76 @@
+//! The SELECTs on a register's tables. Each reads one table, in the order of its key.
+
+ghost use Rattle.std.specs.Prelude.{◌≡◌, ◌<◌, ◌^◌, false, IfOk};
+ghost use Rattle.sqlite.specs.Held.{state};
+ghost use Rattle.sqlite.specs.State.{HasCleanDisk, Survives};
+ghost use Rattle.table_rows.specs.Reading.{ReadsRows};
+ghost use Rattle.table_rows.specs.Standing.{Keeps};
+ghost use Rattle.register_store.specs.Schema.{IsDeclared, kept_table, fact_table};
+ghost use Rattle.register_store.specs.Reads.{Knows, every, whole, by_first, by_second, has_filer, has_number, number_alone, place_alone, said};
+
+use sqlite::{Alter, Connection, Error, Row, params};
+
+/// All kept rows, by `seq`.
+pub(crate) fn kept_rows<S: Alter>(
+    conn: &mut Connection<S>,
+) -> Result<Vec<Row>, Error>
+    ensures read { HasCleanDisk (state S.Store conn.new) → Knows (state S.Store conn.old) → IfOk result (λ rows. ReadsRows kept_table every by_first whole rows.items (state S.Store conn.old) (state S.Store conn.new)) }
+    ensures keeps { HasCleanDisk (state S.Store conn.new) → Knows (state S.Store conn.old) → Keeps (state S.Store conn.old) (state S.Store conn.new) }
+    ensures mode { conn.old.in_transaction ≡ false → conn.new.in_transaction ≡ false }
+    ensures survives { Survives (state S.Store conn.old) (state S.Store conn.new) (λ _. IsDeclared (state S.Store conn.old).now.schema → ⊥) }
+{
+    conn.query_all(
+        "SELECT seq, filer, idem, body, number FROM kept ORDER BY seq",
+        &[],
+    )
+}
+
+/// The column `number` of the filer's kept rows, by `seq`.
+pub(crate) fn numbers_of_filer<S: Alter>(
+    conn: &mut Connection<S>,
+    filer: &str,
+) -> Result<Vec<Row>, Error>
+    ensures read { HasCleanDisk (state S.Store conn.new) → Knows (state S.Store conn.old) → IfOk result (λ rows. ReadsRows kept_table (has_filer filer.now) by_first number_alone rows.items (state S.Store conn.old) (state S.Store conn.new)) }
+    ensures keeps { HasCleanDisk (state S.Store conn.new) → Knows (state S.Store conn.old) → Keeps (state S.Store conn.old) (state S.Store conn.new) }
+    ensures mode { conn.old.in_transaction ≡ false → conn.new.in_transaction ≡ false }
+    ensures survives { Survives (state S.Store conn.old) (state S.Store conn.new) (λ _. IsDeclared (state S.Store conn.old).now.schema → ⊥) }
+{
+    conn.query_all(
+        "SELECT number FROM kept WHERE filer = ?1 ORDER BY seq",
+        params![filer],
+    )
+}
+
+/// The column `pos` of the filing's facts, by `pos`.
+pub(crate) fn fact_places<S: Alter>(
+    conn: &mut Connection<S>,
+    number: u64,
+) -> Result<Vec<Row>, Error>
+    requires { number < 2 ^ 63 }
+    ensures read { HasCleanDisk (state S.Store conn.new) → Knows (state S.Store conn.old) → IfOk result (λ rows. ReadsRows fact_table (has_number number) by_second place_alone rows.items (state S.Store conn.old) (state S.Store conn.new)) }
+    ensures keeps { HasCleanDisk (state S.Store conn.new) → Knows (state S.Store conn.old) → Keeps (state S.Store conn.old) (state S.Store conn.new) }
+    ensures mode { conn.old.in_transaction ≡ false → conn.new.in_transaction ≡ false }
+    ensures survives { Survives (state S.Store conn.old) (state S.Store conn.new) (λ _. IsDeclared (state S.Store conn.old).now.schema → ⊥) }
+{
+    conn.query_all(
+        "SELECT pos FROM fact WHERE number = ?1 ORDER BY pos",
+        params![number as i64],
+    )
+}
+
+/// What the filing's facts say, by `pos`.
+pub(crate) fn facts_of_filing<S: Alter>(
+    conn: &mut Connection<S>,
+    number: u64,
+) -> Result<Vec<Row>, Error>
+    requires { number < 2 ^ 63 }
+    ensures read { HasCleanDisk (state S.Store conn.new) → Knows (state S.Store conn.old) → IfOk result (λ rows. ReadsRows fact_table (has_number number) by_second said rows.items (state S.Store conn.old) (state S.Store conn.new)) }
+    ensures keeps { HasCleanDisk (state S.Store conn.new) → Knows (state S.Store conn.old) → Keeps (state S.Store conn.old) (state S.Store conn.new) }
+    ensures mode { conn.old.in_transaction ≡ false → conn.new.in_transaction ≡ false }
+    ensures survives { Survives (state S.Store conn.old) (state S.Store conn.new) (λ _. IsDeclared (state S.Store conn.old).now.schema → ⊥) }
+{
+    conn.query_all(
+        "SELECT id, concept, dimensions, value, decimals FROM fact WHERE number = ?1 ORDER BY pos",
+        params![number as i64],
+    )
+}

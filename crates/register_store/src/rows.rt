@@ -1,0 +1,184 @@
+//! The statements on the tables, one in each function. What may live here: texts of SQL, and their parameters.
+
+ghost use Rattle.std.specs.Prelude.{◌≡◌, ◌<◌, ◌^◌, pos, false, List, [], ◌∷◌, length, option_map, string_bytes, IsTrue, IfSome, OnOk};
+ghost use Rattle.sqlite.specs.declared.types.Value.TheVariants.{Int, Text, Blob};
+ghost use Rattle.sqlite.specs.Values.{or_null};
+ghost use Rattle.sqlite.specs.Held.{state};
+ghost use Rattle.sqlite.specs.State.{HasCleanDisk, KeepsCommit, Survives};
+ghost use Rattle.table_rows.specs.Rows.{counted_from};
+ghost use Rattle.register_store.specs.Schema.{kept_table, finding_table, filing_table, fact_table};
+ghost use Rattle.key_string.specs.Key.{IsKey};
+ghost use Rattle.register_store.specs.Changes.{GainsRows};
+ghost use Rattle.register_store.specs.Register.{finding_row, fact_row};
+
+use crate::outcome::NewRow;
+use sqlite::{Alter, Error, Transaction, params};
+use xbrl_report::{Fact, Finding};
+
+/// A number as a row holds it.
+fn signed(number: Option<u64>) -> Option<i64>
+    requires { IfSome number (λ n. n < 2 ^ 63) }
+    ensures { result ≡ option_map pos number }
+{
+    match number {
+        None => None,
+        Some(number) => Some(number as i64),
+    }
+}
+
+/// Adds the row of a kept request, with its place and its number, if it has one.
+pub fn insert_kept<S: Alter>(
+    tx: &mut Transaction<'_, S>,
+    seq: u64,
+    row: &NewRow<'_>,
+    number: Option<u64>,
+) -> Result<(), Error>
+    requires seq { seq < 2 ^ 63 }
+    requires number { IfSome number (λ n. n < 2 ^ 63) }
+    ensures same_reference { tx.new.conn.ghost_name ≡ tx.old.conn.ghost_name }
+    ensures key { IsKey row.now.key.now }
+    ensures was_inside { OnOk result (IsTrue (state S.Store tx.old.conn.now).in_transaction) }
+    ensures gains { HasCleanDisk (state S.Store tx.new.conn.now) → OnOk result (GainsRows kept_table
+        ((Int (pos seq) ∷ Text row.now.filer.now ∷ Text row.now.key.now ∷ Blob row.now.body.now ∷ or_null (λ n. Int (pos n)) number ∷ []) ∷ [])
+        (state S.Store tx.old.conn.now) (state S.Store tx.new.conn.now)) }
+    ensures keeps { HasCleanDisk (state S.Store tx.new.conn.now) → KeepsCommit (state S.Store tx.old.conn.now) (state S.Store tx.new.conn.now) }
+    ensures survives { Survives (state S.Store tx.old.conn.now) (state S.Store tx.new.conn.now) (λ _. ⊥) }
+{
+    let number = signed(number);
+    tx.execute(
+        "INSERT INTO kept VALUES (?1, ?2, ?3, ?4, ?5)",
+        params![seq as i64, row.filer, row.key.as_str(), row.body, number],
+    )?;
+    Ok(())
+}
+
+/// Adds the row of a filing, with its number and the place of its request.
+pub fn insert_filing<S: Alter>(
+    tx: &mut Transaction<'_, S>,
+    number: u64,
+    seq: u64,
+) -> Result<(), Error>
+    requires number { number < 2 ^ 63 }
+    requires seq { seq < 2 ^ 63 }
+    ensures same_reference { tx.new.conn.ghost_name ≡ tx.old.conn.ghost_name }
+    ensures was_inside { OnOk result (IsTrue (state S.Store tx.old.conn.now).in_transaction) }
+    ensures gains { HasCleanDisk (state S.Store tx.new.conn.now) → OnOk result (GainsRows filing_table ((Int (pos number) ∷ Int (pos seq) ∷ []) ∷ []) (state S.Store tx.old.conn.now) (state S.Store tx.new.conn.now)) }
+    ensures keeps { HasCleanDisk (state S.Store tx.new.conn.now) → KeepsCommit (state S.Store tx.old.conn.now) (state S.Store tx.new.conn.now) }
+    ensures survives { Survives (state S.Store tx.old.conn.now) (state S.Store tx.new.conn.now) (λ _. ⊥) }
+{
+    tx.execute(
+        "INSERT INTO filing VALUES (?1, ?2)",
+        params![number as i64, seq as i64],
+    )?;
+    Ok(())
+}
+
+/// Adds the row of a finding, the `at`-th of the request at this place.
+fn insert_finding<S: Alter>(
+    tx: &mut Transaction<'_, S>,
+    seq: u64,
+    at: u64,
+    finding: &Finding,
+) -> Result<(), Error>
+    requires seq { seq < 2 ^ 63 }
+    requires at { at < 2 ^ 63 }
+    ensures same_reference { tx.new.conn.ghost_name ≡ tx.old.conn.ghost_name }
+    ensures was_inside { OnOk result (IsTrue (state S.Store tx.old.conn.now).in_transaction) }
+    ensures gains { HasCleanDisk (state S.Store tx.new.conn.now) → OnOk result (GainsRows finding_table (finding_row seq at finding.now ∷ []) (state S.Store tx.old.conn.now) (state S.Store tx.new.conn.now)) }
+    ensures keeps { HasCleanDisk (state S.Store tx.new.conn.now) → KeepsCommit (state S.Store tx.old.conn.now) (state S.Store tx.new.conn.now) }
+    ensures survives { Survives (state S.Store tx.old.conn.now) (state S.Store tx.new.conn.now) (λ _. ⊥) }
+{
+    let code = u32::from(finding.code.number());
+    let place = finding.place.as_bytes();
+    tx.execute(
+        "INSERT INTO finding VALUES (?1, ?2, ?3, ?4)",
+        params![seq as i64, at as i64, code, place],
+    )?;
+    Ok(())
+}
+
+/// Adds the rows of the findings of the request at this place.
+pub fn insert_findings<S: Alter>(
+    tx: &mut Transaction<'_, S>,
+    seq: u64,
+    findings: &[Finding],
+) -> Result<(), Error>
+    requires { seq < 2 ^ 63 }
+    ensures same_reference { tx.new.conn.ghost_name ≡ tx.old.conn.ghost_name }
+    ensures gains { HasCleanDisk (state S.Store tx.new.conn.now) → IsTrue (state S.Store tx.old.conn.now).in_transaction
+        → OnOk result (GainsRows finding_table (counted_from (finding_row seq) 1 findings.now) (state S.Store tx.old.conn.now) (state S.Store tx.new.conn.now)) }
+    ensures keeps { HasCleanDisk (state S.Store tx.new.conn.now) → KeepsCommit (state S.Store tx.old.conn.now) (state S.Store tx.new.conn.now) }
+    ensures survives { Survives (state S.Store tx.old.conn.now) (state S.Store tx.new.conn.now) (λ _. ⊥) }
+{
+    let mut at = 0u64;
+    'findings: for finding in findings {
+        at += 1;
+        insert_finding(tx, seq, at, finding)?;
+    }
+    Ok(())
+}
+
+/// The bytes of a text, if there is one.
+fn bytes_of(text: &Option<String>) -> Option<&[u8]>
+    ensures { option_map (λ bytes. bytes.now) result ≡ option_map (λ text. string_bytes text) text.now }
+{
+    match text {
+        None => None,
+        Some(text) => Some(text.as_bytes()),
+    }
+}
+
+/// Adds the row of a fact, the `at`-th of the filing of this number.
+fn insert_fact<S: Alter>(
+    tx: &mut Transaction<'_, S>,
+    number: u64,
+    at: u64,
+    fact: &Fact,
+) -> Result<(), Error>
+    requires number { number < 2 ^ 63 }
+    requires at { at < 2 ^ 63 }
+    ensures same_reference { tx.new.conn.ghost_name ≡ tx.old.conn.ghost_name }
+    ensures was_inside { OnOk result (IsTrue (state S.Store tx.old.conn.now).in_transaction) }
+    ensures gains { HasCleanDisk (state S.Store tx.new.conn.now) → OnOk result (GainsRows fact_table (fact_row number at fact.now ∷ []) (state S.Store tx.old.conn.now) (state S.Store tx.new.conn.now)) }
+    ensures keeps { HasCleanDisk (state S.Store tx.new.conn.now) → KeepsCommit (state S.Store tx.old.conn.now) (state S.Store tx.new.conn.now) }
+    ensures survives { Survives (state S.Store tx.old.conn.now) (state S.Store tx.new.conn.now) (λ _. ⊥) }
+{
+    let id = fact.id.as_bytes();
+    let concept = fact.concept.as_bytes();
+    let dimensions = fact.dimensions.as_bytes();
+    let value = bytes_of(&fact.value);
+    tx.execute(
+        "INSERT INTO fact VALUES (?1, ?2, ?3, ?4, ?5, ?6, ?7)",
+        params![
+            number as i64,
+            at as i64,
+            id,
+            concept,
+            dimensions,
+            value,
+            fact.decimals
+        ],
+    )?;
+    Ok(())
+}
+
+/// Adds the rows of the facts of the filing of this number.
+pub fn insert_facts<S: Alter>(
+    tx: &mut Transaction<'_, S>,
+    number: u64,
+    facts: &[Fact],
+) -> Result<(), Error>
+    requires { number < 2 ^ 63 }
+    ensures same_reference { tx.new.conn.ghost_name ≡ tx.old.conn.ghost_name }
+    ensures gains { HasCleanDisk (state S.Store tx.new.conn.now) → IsTrue (state S.Store tx.old.conn.now).in_transaction
+        → OnOk result (GainsRows fact_table (counted_from (fact_row number) 1 facts.now) (state S.Store tx.old.conn.now) (state S.Store tx.new.conn.now)) }
+    ensures keeps { HasCleanDisk (state S.Store tx.new.conn.now) → KeepsCommit (state S.Store tx.old.conn.now) (state S.Store tx.new.conn.now) }
+    ensures survives { Survives (state S.Store tx.old.conn.now) (state S.Store tx.new.conn.now) (λ _. ⊥) }
+{
+    let mut at = 0u64;
+    'facts: for fact in facts {
+        at += 1;
+        insert_fact(tx, number, at, fact)?;
+    }
+    Ok(())
+}

@@ -1,0 +1,162 @@
+//! The store of a register: its connection, and how much it holds.
+
+ghost use Rattle.std.specs.Prelude.{◌≡◌, ◌≤◌, ◌<◌, ◌^◌, ◌↔◌, ℕ, true, false, List, [], ◌∷◌, ◌++◌, length, option_map, None, Ok, Err, IsTrue, IfOk, OnOk, OnErr};
+ghost use Rattle.key_string.specs.Filer.{is_filer};
+ghost use Rattle.http_wire.specs.Head.{max_body_len};
+ghost use Rattle.xbrl_report.specs.Judgement.{IsJudgement, HasFacts};
+ghost use Rattle.filing_model.specs.Request.{Request, has_key};
+ghost use Rattle.filing_model.specs.Register.{kept, judged};
+ghost use Rattle.filing_model.specs.Answer.{kept_for};
+ghost use Rattle.filing_model.specs.Views.{the_request};
+ghost use Rattle.sqlite.specs.Held.{state};
+ghost use Rattle.sqlite.specs.Tree.{Trees};
+ghost use Rattle.sqlite.specs.State.{HasCleanDisk, Survives};
+ghost use Rattle.table_rows.specs.Tables.{no_schema};
+ghost use Rattle.register_store.specs.Schema.{is_taken};
+
+use crate::create::make;
+use crate::fault::{CreateFault, StoreFault};
+use crate::names;
+use crate::outcome::{KeptRow, NewRow, Outcome};
+use crate::write::keep;
+use key_string::KeyText;
+use sqlite::{Alter, Connection};
+use std::alloc::Global;
+use std::marker::Model;
+
+/// The register of a connection: the first request of each filer and key with its outcome, for good.
+///
+/// What a clause says of rows holds where the disk is clean as the call ends: where it gave back what was written.
+pub struct Store<S: Alter> {
+    pub(crate) alloc: Global,
+    pub(crate) conn: Connection<S>,
+    pub(crate) kept: u64,
+    pub(crate) filings: u64,
+}
+
+impl<S: Alter> Model for Store<S> {
+    ghost use Rattle.register_store.specs.Store.{StoreParts, IsIdle, parts_code};
+
+    ghost Value = { StoreParts S };
+
+    ghost coded = { parts_code S.code };
+
+    ghost view = { λ s. record { conn = s.conn; kept = s.kept; filings = s.filings } };
+
+    ghost invariant = { λ s. IsIdle s.conn s.kept s.filings };
+}
+
+impl<S: Alter + Drop> Drop for Store<S> {
+    fn drop(self) {
+        let Store {
+            alloc: _,
+            conn: _,
+            kept: _,
+            filings: _,
+        } = self;
+    }
+}
+
+impl<S: Alter + Drop> Store<S> {
+    ghost use Rattle.register_store.specs.Store.{shows, HasRequests, Leaves};
+
+    /// Makes the tables of a register that has no request, in one transaction. A refusal gives the connection up, and
+    /// leaves the database as it was. The tables are those of a register where the database had none before.
+    pub fn create(alloc: Global, mut conn: Connection<S>) -> Result<Store<S>, CreateFault>
+        requires autocommit { conn.in_transaction ≡ false }
+        requires unlimited { conn.step_limit ≡ None }
+        ensures made { IfOk result (λ store. HasCleanDisk (shows S.Store store) → (state S.Store conn).now.schema ≡ no_schema → HasRequests S.Store store []) }
+
+        // Taken comes where one of the names is in use, and always there.
+        ensures taken { (result ≡ Err CreateFault.Taken) ↔ IsTrue (is_taken (state S.Store conn).now.schema) }
+
+        // A crash leaves what one before the call could leave, or the empty register, and after the call that alone.
+        ensures crash { IfOk result (λ store. Survives (state S.Store conn) (shows S.Store store) (λ trees. (state S.Store conn).now.schema ≡ no_schema → Leaves [] trees)) }
+        ensures durable { IfOk result (λ store. HasCleanDisk (shows S.Store store) → (state S.Store conn).now.schema ≡ no_schema
+            → IsTrue (shows S.Store store).is_open × ((trees : Trees) → (shows S.Store store).may_leave trees → Leaves [] trees)) }
+    {
+        if names::is_taken(conn.schema()) {
+            return Err(CreateFault::Taken);
+        }
+        match make(&mut conn) {
+            Ok(()) => Ok(Store {
+                alloc,
+                conn,
+                kept: 0,
+                filings: 0,
+            }),
+            Err(error) => Err(CreateFault::from(error)),
+        }
+    }
+}
+
+impl<S: Alter> Store<S> {
+    ghost use Rattle.register_store.specs.Outcomes.{view_outcome, kept_as};
+    ghost use Rattle.register_store.specs.Store.{shows, HasRequests, Leaves};
+
+    /// What is kept of this filer and key: the first request with its outcome, or `None` where they are new.
+    pub fn find(&mut self, filer: &str, key: &KeyText) -> Result<Option<KeptRow>, StoreFault>
+        ensures found { HasCleanDisk (shows S.Store self.new) → (F : List Request) → HasRequests S.Store self.old F
+            → (body : List ℕ) → IfOk result (λ row. option_map (kept_as filer.now key.now) row ≡ kept_for (kept F) (the_request filer.now key.now body)) }
+
+        // The rows are those of before, whatever the answer is, and a crash leaves what it could leave before.
+        ensures same { HasCleanDisk (shows S.Store self.new) → (F : List Request) → HasRequests S.Store self.old F → HasRequests S.Store self.new F }
+        ensures counts { (self.new.kept ≡ self.old.kept) × (self.new.filings ≡ self.old.filings) }
+        ensures crash { Survives (shows S.Store self.old) (shows S.Store self.new) (λ _. (F : List Request) → HasRequests S.Store self.old F → IsTrue (shows S.Store self.old).is_open → ⊥) }
+        ensures durable { HasCleanDisk (shows S.Store self.new) → (F : List Request) → HasRequests S.Store self.old F
+            → OnOk result (IsTrue (shows S.Store self.new).is_open × ((trees : Trees) → (shows S.Store self.new).may_leave trees → Leaves F trees)) }
+    {
+        Err(StoreFault::Store)
+    }
+
+    /// Keeps a request, in one transaction, and answers its outcome: a valid report takes the next number, and another
+    /// is refused with all its findings. The filer and key are not kept yet.
+    pub fn add(&mut self, row: &NewRow<'_>) -> Result<Outcome, StoreFault>
+        requires filer { is_filer row.now.filer.now ≡ true }
+        requires body { length row.now.body.now ≤ max_body_len }
+        requires judged { IsJudgement row.now.filer.now row.now.body.now row.now.judged.now }
+        requires facts { HasFacts row.now.body.now row.now.judged.now }
+        requires few { self.old.kept < 2 ^ 62 }
+        ensures added { HasCleanDisk (shows S.Store self.new) → (F : List Request) → HasRequests S.Store self.old F
+            → has_key F (the_request row.now.filer.now row.now.key.now row.now.body.now) ≡ false
+            → IfOk result (λ outcome. (view_outcome outcome ≡ (judged (kept F) (the_request row.now.filer.now row.now.key.now row.now.body.now)).outcome)
+            × HasRequests S.Store self.new (F ++ the_request row.now.filer.now row.now.key.now row.now.body.now ∷ [])) }
+
+        // A refusal changes nothing.
+        ensures same { HasCleanDisk (shows S.Store self.new) → (F : List Request) → HasRequests S.Store self.old F → OnErr result (HasRequests S.Store self.new F) }
+
+        // A crash leaves what one before the call could leave, or the rows with this request, and after Ok these alone.
+        ensures crash { Survives (shows S.Store self.old) (shows S.Store self.new) (λ trees. (F : List Request) → HasRequests S.Store self.old F → IsTrue (shows S.Store self.old).is_open
+            → has_key F (the_request row.now.filer.now row.now.key.now row.now.body.now) ≡ false
+            → Leaves (F ++ the_request row.now.filer.now row.now.key.now row.now.body.now ∷ []) trees) }
+        ensures durable { HasCleanDisk (shows S.Store self.new) → (F : List Request) → HasRequests S.Store self.old F
+            → has_key F (the_request row.now.filer.now row.now.key.now row.now.body.now) ≡ false
+            → OnOk result (IsTrue (shows S.Store self.new).is_open × ((trees : Trees) → (shows S.Store self.new).may_leave trees
+            → Leaves (F ++ the_request row.now.filer.now row.now.key.now row.now.body.now ∷ []) trees)) }
+    {
+        let number = self.filings + 1;
+        let outcome = Outcome::of(self.alloc, row.judged, number)?;
+        match keep(&mut self.conn, self.kept + 1, number, row) {
+            Ok(()) => {
+                self.kept += 1;
+                self.filings += outcome.filings();
+                Ok(outcome)
+            }
+            Err(error) => Err(StoreFault::from(error)),
+        }
+    }
+
+    /// How many requests are kept.
+    pub fn kept_count(&self) -> Result<u64, StoreFault>
+        ensures { result ≡ Ok self.now.kept }
+    {
+        Ok(self.kept)
+    }
+
+    /// How many of the kept requests are registered.
+    pub fn filing_count(&self) -> Result<u64, StoreFault>
+        ensures { result ≡ Ok self.now.filings }
+    {
+        Ok(self.filings)
+    }
+}
