@@ -21,7 +21,6 @@ decides limit requests to d is fit kept = record {
   fit = subst (λ (m : Mark). RouteFits limit requests to m) (sym is.mark) fit;
   kept = subst (λ (m : Mark). requests ≡ kept_by requests (requests_of_route to m)) (sym is.mark) kept;
   reply = subst (λ (m : Mark). IfOk d.reply (λ r. reply_parts r ≡ marked_reply requests to m)) (sym is.mark) is.reply;
-  status = phrase-parts AllocError d.reply unavailable phrase-unavailable is.reply;
 }
 
 pub Decides-listed_unavailable : (limit : ℕ) (requests : List Request) (filer : List ℕ) (d : Decided) → IsUnavailable d → Decides limit requests requests (Listed filer) d
@@ -32,5 +31,5 @@ Decides-filed_unavailable limit requests r d is = decides limit requests (Filed 
 
 -- an answer that depends on the message alone changes nothing
 pub Decides-told : (limit : ℕ) (requests : List Request) (why : Told) (body : List ℕ) (is_bare : Bool) (reply : Result Reply AllocError) → IfOk reply (λ r. reply_parts r ≡ told_reply why is_bare) → Decides limit requests requests (bare is_bare (view_route (asked.Told why) body)) (record { mark = NotFiled; reply = reply })
-Decides-told limit requests why body true reply is = record { fit = tt; kept = refl; reply = is; status = phrase-parts AllocError reply (told_reply why true) (phrase-told_reply why true) is }
-Decides-told limit requests why body false reply is = record { fit = tt; kept = refl; reply = is; status = phrase-parts AllocError reply (told_reply why false) (phrase-told_reply why false) is }
+Decides-told limit requests why body true reply is = record { fit = tt; kept = refl; reply = is }
+Decides-told limit requests why body false reply is = record { fit = tt; kept = refl; reply = is }

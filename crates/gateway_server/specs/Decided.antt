@@ -28,9 +28,12 @@ pub record Decides (limit : ℕ) (before after : List Request) (to : Route) (d :
   pub fit : RouteFits limit before to d.mark
   pub kept : after ≡ kept_by before (requests_of_route to d.mark)
   pub reply : IfOk d.reply (λ r. reply_parts r ≡ marked_reply before to d.mark)
-  pub status : IfOk d.reply (λ r. IsSome (phrase r.status))
 
 -- the mark and the reply of what could not be answered
 pub record IsUnavailable (d : Decided) : Type 0 where
   pub mark : d.mark ≡ Unavailable
   pub reply : IfOk d.reply (λ r. reply_parts r ≡ unavailable)
+
+-- the status of the reply has a phrase
+abbrev pub IsPhrased : Decided → Type 0
+IsPhrased d = IfOk d.reply (λ r. IsSome (phrase r.status))

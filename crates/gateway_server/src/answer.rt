@@ -1,13 +1,15 @@
 //! One place answered: its mark is given, and its reply written.
 
-ghost use Rattle.std.specs.Prelude.{◌≡◌, ◌<◌, ◌≤◌, ℕ, List, length, vec_len, vec_capacity, IfOk, IfErr, OnOk, IsSome};
+ghost use Rattle.std.specs.Prelude.{◌≡◌, ◌<◌, ◌≤◌, ◌+◌, ℕ, List, length, vec_len, vec_capacity, IfOk, IfErr, OnOk};
 ghost use Rattle.http_wire.specs.Device.{HasFailed};
 ghost use Rattle.http_wire.specs.Head.{max_body_len};
 ghost use Rattle.http_wire.specs.Message.{Read as ReadPlace, Refused as RefusedPlace};
 ghost use Rattle.http_wire.specs.Replies.{reply_parts};
-ghost use Rattle.http_wire.specs.Reply.{ReplyParts, phrase, render};
+ghost use Rattle.http_wire.specs.Reply.{ReplyParts, render};
 ghost use Rattle.filing_model.specs.Request.{Request};
 ghost use Rattle.filing_model.specs.Text.{route, bare, is_head, refusal_reply, fault_reply};
+ghost use Rattle.intake_core.specs.Held.{limit_of, IsClean, Turns};
+ghost use Rattle.gateway_server.specs.Decided.{IsPhrased};
 ghost use Rattle.gateway_server.specs.Answered.{Answers, WritesText, IsReplyFault};
 ghost use Rattle.gateway_server.specs.Route.{view_message, view_route, HasFiler};
 
@@ -16,19 +18,22 @@ use crate::route::{Route, is_head, route_of};
 use filing_model::Mark;
 use http_wire::{ConnFault, HeadFault, Message, Refusal, Reply, Sink, write_reply};
 use intake_core::{Intake, word_reply};
+use sqlite::Alter;
 use std::alloc::{AllocError, Global};
 
 /// Answers a message. Where memory runs out before it is decided, it has no mark.
-pub(crate) fn answer<W: Sink>(
+pub(crate) fn answer<W: Sink, S: Alter>(
     alloc: Global,
     message: &Message,
     writer: &mut W,
-    intake: &mut Intake,
+    intake: &mut Intake<S>,
     marks: &mut Vec<Mark>,
 ) -> Result<(), ConnFault>
     requires { length message.now.body.now ≤ max_body_len }
-    ensures answers { Answers intake.old.limit intake.old.requests intake.new.requests (ReadPlace (view_message message.now)) marks.old.items marks.new.items (W.written writer.old) (W.written writer.new) result }
-    ensures limit { intake.new.limit ≡ intake.old.limit }
+    ensures answers { Turns intake.old intake.new (λ before after. Answers (limit_of intake.old) before after (ReadPlace (view_message message.now)) marks.old.items marks.new.items (W.written writer.old) (W.written writer.new) result) }
+    ensures counted { OnOk result (vec_len marks.new ≡ vec_len marks.old + 1) }
+    ensures clean { IsClean intake.new → IsClean intake.old }
+    ensures limit { limit_of intake.new ≡ limit_of intake.old }
     ensures fine { OnOk result (W.write_failures writer.new ≡ W.write_failures writer.old) }
     ensures fault { IfErr result (IsReplyFault (HasFailed (W.write_failures writer.old) (W.write_failures writer.new))) }
 {
@@ -38,20 +43,22 @@ pub(crate) fn answer<W: Sink>(
 }
 
 /// Answers a message that asks for this.
-fn answer_route<W: Sink>(
+fn answer_route<W: Sink, S: Alter>(
     alloc: Global,
     message: &Message,
     asked: Route<'_>,
     writer: &mut W,
-    intake: &mut Intake,
+    intake: &mut Intake<S>,
     marks: &mut Vec<Mark>,
 ) -> Result<(), ConnFault>
     requires room { vec_len marks.old < vec_capacity marks.old }
     requires body { length message.now.body.now ≤ max_body_len }
     requires filer { HasFiler asked }
     requires asked { route (view_message message.now) ≡ bare (is_head (view_message message.now)) (view_route asked message.now.body.now) }
-    ensures answers { Answers intake.old.limit intake.old.requests intake.new.requests (ReadPlace (view_message message.now)) marks.old.items marks.new.items (W.written writer.old) (W.written writer.new) result }
-    ensures limit { intake.new.limit ≡ intake.old.limit }
+    ensures answers { Turns intake.old intake.new (λ before after. Answers (limit_of intake.old) before after (ReadPlace (view_message message.now)) marks.old.items marks.new.items (W.written writer.old) (W.written writer.new) result) }
+    ensures counted { OnOk result (vec_len marks.new ≡ vec_len marks.old + 1) }
+    ensures clean { IsClean intake.new → IsClean intake.old }
+    ensures limit { limit_of intake.new ≡ limit_of intake.old }
     ensures fine { OnOk result (W.write_failures writer.new ≡ W.write_failures writer.old) }
     ensures fault { IfErr result (IsReplyFault (HasFailed (W.write_failures writer.old) (W.write_failures writer.new))) }
 {
@@ -67,7 +74,7 @@ fn write_decided<W: Sink>(
     writer: &mut W,
     close: bool,
 ) -> Result<(), ConnFault>
-    requires { IfOk decided.now.reply (λ r. IsSome (phrase r.status)) }
+    requires { IsPhrased decided.now }
     ensures written { (parts : ReplyParts) → IfOk decided.now.reply (λ r. reply_parts r ≡ parts) → WritesText (W.written writer.old) (W.written writer.new) (render parts close) result }
     ensures fine { OnOk result (W.write_failures writer.new ≡ W.write_failures writer.old) }
     ensures fault { IfErr result (IsReplyFault (HasFailed (W.write_failures writer.old) (W.write_failures writer.new))) }

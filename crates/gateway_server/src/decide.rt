@@ -7,13 +7,15 @@ ghost use Rattle.http_wire.specs.Replies.{reply_parts};
 ghost use Rattle.filing_model.specs.Text.{Listed as AsksList, Filed as AsksFiling, bare};
 ghost use Rattle.filing_model.specs.Views.{the_request};
 ghost use Rattle.gateway_server.specs.Route.{told_status, told_word, view_route, HasFiler};
-ghost use Rattle.gateway_server.specs.Decided.{told_reply, Decides, IsUnavailable};
+ghost use Rattle.intake_core.specs.Held.{limit_of, IsClean, Turns};
+ghost use Rattle.gateway_server.specs.Decided.{told_reply, Decides, IsUnavailable, IsPhrased};
 
 use crate::route::{Route, Told};
 use filing_model::Mark;
 use http_wire::Reply;
 use intake_core::{Intake, list_reply, reply_of, word_reply};
 use key_string::KeyText;
+use sqlite::Alter;
 use std::alloc::{AllocError, Global};
 
 /// A mark, and the reply to its message, unless there was no memory for the reply.
@@ -24,17 +26,19 @@ pub(crate) struct Decided {
 }
 
 /// Answers a message with this body that asks for this.
-pub(crate) fn decide(
+pub(crate) fn decide<S: Alter>(
     alloc: Global,
-    intake: &mut Intake,
+    intake: &mut Intake<S>,
     route: Route<'_>,
     body: &[u8],
     is_bare: bool,
 ) -> Decided
     requires filer { HasFiler route }
     requires body { length body.now ≤ max_body_len }
-    ensures decided { Decides intake.old.limit intake.old.requests intake.new.requests (bare is_bare (view_route route.entry body.now)) result }
-    ensures limit { intake.new.limit ≡ intake.old.limit }
+    ensures decided { Turns intake.old intake.new (λ before after. Decides (limit_of intake.old) before after (bare is_bare (view_route route.entry body.now)) result) }
+    ensures phrase { IsPhrased result }
+    ensures clean { IsClean intake.new → IsClean intake.old }
+    ensures limit { limit_of intake.new ≡ limit_of intake.old }
 {
     match route {
         Route::Told(why) => Decided {
@@ -59,9 +63,11 @@ fn told_reply(alloc: Global, why: Told, is_bare: bool) -> Result<Reply, AllocErr
     }
 }
 
-fn list(alloc: Global, intake: &mut Intake, filer: &str) -> Decided
-    ensures decided { Decides intake.old.limit intake.old.requests intake.new.requests (AsksList filer.now) result }
-    ensures limit { intake.new.limit ≡ intake.old.limit }
+fn list<S: Alter>(alloc: Global, intake: &mut Intake<S>, filer: &str) -> Decided
+    ensures decided { Turns intake.old intake.new (λ before after. Decides (limit_of intake.old) before after (AsksList filer.now) result) }
+    ensures phrase { IsPhrased result }
+    ensures clean { IsClean intake.new → IsClean intake.old }
+    ensures limit { limit_of intake.new ≡ limit_of intake.old }
 {
     match intake.list(filer) {
         Ok(rows) => Decided {
@@ -72,11 +78,19 @@ fn list(alloc: Global, intake: &mut Intake, filer: &str) -> Decided
     }
 }
 
-fn file(alloc: Global, intake: &mut Intake, filer: &str, key: &KeyText, body: &[u8]) -> Decided
+fn file<S: Alter>(
+    alloc: Global,
+    intake: &mut Intake<S>,
+    filer: &str,
+    key: &KeyText,
+    body: &[u8],
+) -> Decided
     requires filer { is_filer filer.now ≡ true }
     requires body { length body.now ≤ max_body_len }
-    ensures decided { Decides intake.old.limit intake.old.requests intake.new.requests (AsksFiling (the_request filer.now key.now body.now)) result }
-    ensures limit { intake.new.limit ≡ intake.old.limit }
+    ensures decided { Turns intake.old intake.new (λ before after. Decides (limit_of intake.old) before after (AsksFiling (the_request filer.now key.now body.now)) result) }
+    ensures phrase { IsPhrased result }
+    ensures clean { IsClean intake.new → IsClean intake.old }
+    ensures limit { limit_of intake.new ≡ limit_of intake.old }
 {
     match intake.submit(filer, key, body) {
         Ok(answer) => Decided {

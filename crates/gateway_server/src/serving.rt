@@ -5,12 +5,14 @@ ghost use Rattle.http_wire.specs.Device.{HasFailed};
 ghost use Rattle.http_wire.specs.Inbox.{LendsFirst, is_over};
 ghost use Rattle.http_wire.specs.declared.inbox.Inbox.{Inbox};
 ghost use Rattle.filing_model.specs.Request.{Request};
+ghost use Rattle.intake_core.specs.Held.{limit_of, IsClean, Turns};
 ghost use Rattle.gateway_server.specs.Progress.{GoesOn, HasMessage, HasRefusal, ServesConnection, Continues, IsEndedBy};
 
 use crate::answer::{answer, refuse};
 use filing_model::{Ended, Mark};
 use http_wire::{ConnFault, Inbox, Next, Refusal, Sink, Source};
 use intake_core::Intake;
+use sqlite::Alter;
 use std::alloc::Global;
 
 /// What serving a connection came to.
@@ -23,14 +25,15 @@ pub struct Served {
 
 /// Serves a connection up to its end: reads its requests one after another, decides each on the
 /// intake, and writes the replies.
-pub fn serve<R: Source, W: Sink>(
+pub fn serve<R: Source, W: Sink, S: Alter>(
     alloc: Global,
     reader: &mut R,
     writer: &mut W,
-    intake: &mut Intake,
+    intake: &mut Intake<S>,
 ) -> Served
-    ensures serves { ServesConnection intake.old.limit intake.old.requests intake.new.requests (R.left reader.old) (R.left reader.new) (W.written writer.old) (W.written writer.new) result.marks.items result.ended }
-    ensures limit { intake.new.limit ≡ intake.old.limit }
+    ensures serves { Turns intake.old intake.new (λ before after. ServesConnection (limit_of intake.old) before after (R.left reader.old) (R.left reader.new) (W.written writer.old) (W.written writer.new) result.marks.items result.ended) }
+    ensures clean { IsClean intake.new → IsClean intake.old }
+    ensures limit { limit_of intake.new ≡ limit_of intake.old }
     ensures fault { IsEndedBy (HasFailed (R.read_failures reader.old) (R.read_failures reader.new)) (HasFailed (W.write_failures writer.old) (W.write_failures writer.new)) result.ended }
 {
     let mut marks = Vec::new(alloc);
@@ -47,17 +50,18 @@ pub fn serve<R: Source, W: Sink>(
 }
 
 /// Serves one place after another.
-fn serve_places<R: Source, W: Sink>(
+fn serve_places<R: Source, W: Sink, S: Alter>(
     alloc: Global,
     inbox: &mut Inbox,
     reader: &mut R,
     writer: &mut W,
-    intake: &mut Intake,
+    intake: &mut Intake<S>,
     marks: &mut Vec<Mark>,
 ) -> Ended
     requires { is_over inbox.old ≡ false }
-    ensures serves { (before : List Request) (left written : Option (List ℕ)) → GoesOn intake.old.limit before intake.old.requests left (R.left reader.old) written (W.written writer.old) inbox.old marks.old.items → ServesConnection intake.old.limit before intake.new.requests left (R.left reader.new) written (W.written writer.new) marks.new.items result }
-    ensures limit { intake.new.limit ≡ intake.old.limit }
+    ensures serves { Turns intake.old intake.new (λ now after. (before : List Request) (left written : Option (List ℕ)) → GoesOn (limit_of intake.old) before now left (R.left reader.old) written (W.written writer.old) inbox.old marks.old.items → ServesConnection (limit_of intake.old) before after left (R.left reader.new) written (W.written writer.new) marks.new.items result) }
+    ensures clean { IsClean intake.new → IsClean intake.old }
+    ensures limit { limit_of intake.new ≡ limit_of intake.old }
     ensures fault { IsEndedBy (HasFailed (R.read_failures reader.old) (R.read_failures reader.new)) (HasFailed (W.write_failures writer.old) (W.write_failures writer.new)) result }
 {
     loop {
@@ -68,19 +72,20 @@ fn serve_places<R: Source, W: Sink>(
 }
 
 /// Serves the next place. Where the connection goes on, there is one mark more.
-fn serve_place<R: Source, W: Sink>(
+fn serve_place<R: Source, W: Sink, S: Alter>(
     alloc: Global,
     inbox: &mut Inbox,
     reader: &mut R,
     writer: &mut W,
-    intake: &mut Intake,
+    intake: &mut Intake<S>,
     marks: &mut Vec<Mark>,
 ) -> Option<Ended>
     requires { is_over inbox.old ≡ false }
-    ensures serves { (before : List Request) (left written : Option (List ℕ)) → GoesOn intake.old.limit before intake.old.requests left (R.left reader.old) written (W.written writer.old) inbox.old marks.old.items → Continues intake.old.limit before intake.new.requests left (R.left reader.new) written (W.written writer.new) inbox.new marks.new.items result }
+    ensures serves { Turns intake.old intake.new (λ now after. (before : List Request) (left written : Option (List ℕ)) → GoesOn (limit_of intake.old) before now left (R.left reader.old) written (W.written writer.old) inbox.old marks.old.items → Continues (limit_of intake.old) before after left (R.left reader.new) written (W.written writer.new) inbox.new marks.new.items result) }
     ensures more { result ≡ None → is_over inbox.new ≡ false }
     ensures counted { result ≡ None → vec_len marks.new ≡ vec_len marks.old + 1 }
-    ensures limit { intake.new.limit ≡ intake.old.limit }
+    ensures clean { IsClean intake.new → IsClean intake.old }
+    ensures limit { limit_of intake.new ≡ limit_of intake.old }
     ensures fine_reads { result ≡ None → R.read_failures reader.new ≡ R.read_failures reader.old }
     ensures fine_writes { result ≡ None → W.write_failures writer.new ≡ W.write_failures writer.old }
     ensures fault { IfSome result (IsEndedBy (HasFailed (R.read_failures reader.old) (R.read_failures reader.new)) (HasFailed (W.write_failures writer.old) (W.write_failures writer.new))) }
@@ -94,18 +99,19 @@ fn serve_place<R: Source, W: Sink>(
 }
 
 /// Answers the message that is lent.
-fn serve_message<W: Sink>(
+fn serve_message<W: Sink, S: Alter>(
     alloc: Global,
     inbox: &Inbox,
     writer: &mut W,
-    intake: &mut Intake,
+    intake: &mut Intake<S>,
     marks: &mut Vec<Mark>,
 ) -> Option<Ended>
     requires { LendsFirst inbox.now }
-    ensures serves { (before : List Request) (left left' written : Option (List ℕ)) → HasMessage intake.old.limit before intake.old.requests left left' written (W.written writer.old) inbox.now marks.old.items → Continues intake.old.limit before intake.new.requests left left' written (W.written writer.new) inbox.now marks.new.items result }
+    ensures serves { Turns intake.old intake.new (λ now after. (before : List Request) (left left' written : Option (List ℕ)) → HasMessage (limit_of intake.old) before now left left' written (W.written writer.old) inbox.now marks.old.items → Continues (limit_of intake.old) before after left left' written (W.written writer.new) inbox.now marks.new.items result) }
     ensures more { result ≡ None → is_over inbox.now ≡ false }
     ensures counted { result ≡ None → vec_len marks.new ≡ vec_len marks.old + 1 }
-    ensures limit { intake.new.limit ≡ intake.old.limit }
+    ensures clean { IsClean intake.new → IsClean intake.old }
+    ensures limit { limit_of intake.new ≡ limit_of intake.old }
     ensures fine { result ≡ None → W.write_failures writer.new ≡ W.write_failures writer.old }
     ensures fault { IfSome result (IsEndedBy ⊥ (HasFailed (W.write_failures writer.old) (W.write_failures writer.new))) }
 {

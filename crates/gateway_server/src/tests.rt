@@ -1,6 +1,7 @@
 use crate::{Ended, Mark, Served, serve};
 use http_wire::{ConnFault, Device};
 use intake_core::Intake;
+use sqlite::MemStore;
 use std::io::{self, Read, Write};
 use std::test::Fail;
 use streams::front;
@@ -50,13 +51,13 @@ fn filing(rt: &HostRuntime, filer: &str, key: &str, body: &str) -> Result<String
 }
 
 /// What is written for the bytes of one connection.
-fn written(rt: &HostRuntime, intake: &mut Intake, input: &str) -> Result<(String, Served), Fail> {
+fn written(rt: &HostRuntime, intake: &mut Intake<MemStore>, input: &str) -> Result<(String, Served), Fail> {
     written_for(rt, intake, input.as_bytes())
 }
 
 fn written_for(
     rt: &HostRuntime,
-    intake: &mut Intake,
+    intake: &mut Intake<MemStore>,
     input: &[u8],
 ) -> Result<(String, Served), Fail> {
     let mut output: Vec<u8> = Vec::new(rt.alloc());
@@ -85,7 +86,7 @@ impl Read for Pieces<'_> {
 
 #[test]
 fn a_repeat_gets_the_first_reply(rt: HostRuntime) -> Result<(), Fail> {
-    let mut intake = Intake::new(rt.alloc(), LIMIT);
+    let mut intake = Intake::in_memory(rt.alloc(), LIMIT)?;
     let first = filing(&rt, "ACME", "k-1", REPORT)?;
     let input = format!(in rt.alloc(); "{first}{first}{first}")?;
     let (output, served) = written(&rt, &mut intake, &input)?;
@@ -109,7 +110,7 @@ fn a_repeat_gets_the_first_reply(rt: HostRuntime) -> Result<(), Fail> {
 
 #[test]
 fn another_body_under_a_used_key(rt: HostRuntime) -> Result<(), Fail> {
-    let mut intake = Intake::new(rt.alloc(), LIMIT);
+    let mut intake = Intake::in_memory(rt.alloc(), LIMIT)?;
     let first = filing(&rt, "ACME", "k-1", REPORT)?;
     let longer = filing(
         &rt,
@@ -125,7 +126,7 @@ fn another_body_under_a_used_key(rt: HostRuntime) -> Result<(), Fail> {
 
 #[test]
 fn the_same_key_of_two_filers(rt: HostRuntime) -> Result<(), Fail> {
-    let mut intake = Intake::new(rt.alloc(), LIMIT);
+    let mut intake = Intake::in_memory(rt.alloc(), LIMIT)?;
     let first = filing(&rt, "ACME", "k-1", REPORT)?;
     let second = filing(&rt, "BETA", "k-1", SMALLEST)?;
     assert_eq!(rt; written(&rt, &mut intake, &first)?.0.as_str(), REGISTERED);
@@ -138,7 +139,7 @@ fn the_same_key_of_two_filers(rt: HostRuntime) -> Result<(), Fail> {
 
 #[test]
 fn a_refused_report_is_kept(rt: HostRuntime) -> Result<(), Fail> {
-    let mut intake = Intake::new(rt.alloc(), LIMIT);
+    let mut intake = Intake::in_memory(rt.alloc(), LIMIT)?;
     let empty = filing(&rt, "ACME", "k-1", "")?;
     let report = filing(&rt, "ACME", "k-1", REPORT)?;
     let under_another_key = filing(&rt, "ACME", "k-2", REPORT)?;
@@ -154,7 +155,7 @@ fn a_refused_report_is_kept(rt: HostRuntime) -> Result<(), Fail> {
 
 #[test]
 fn a_full_register(rt: HostRuntime) -> Result<(), Fail> {
-    let mut intake = Intake::new(rt.alloc(), 1);
+    let mut intake = Intake::in_memory(rt.alloc(), 1)?;
     let first = filing(&rt, "ACME", "k-1", REPORT)?;
     let second = filing(&rt, "ACME", "k-2", REPORT)?;
     let input = format!(in rt.alloc(); "{first}{second}{first}")?;
@@ -167,14 +168,14 @@ fn a_full_register(rt: HostRuntime) -> Result<(), Fail> {
         served.marks.as_slice(),
         [Mark::Done, Mark::Unavailable, Mark::Done].as_slice()
     );
-    let mut none = Intake::new(rt.alloc(), 0);
+    let mut none = Intake::in_memory(rt.alloc(), 0)?;
     assert_eq!(rt; written(&rt, &mut none, &first)?.0.as_str(), UNAVAILABLE);
     Ok(())
 }
 
 #[test]
 fn an_unfinished_request(rt: HostRuntime) -> Result<(), Fail> {
-    let mut intake = Intake::new(rt.alloc(), LIMIT);
+    let mut intake = Intake::in_memory(rt.alloc(), LIMIT)?;
     let first = filing(&rt, "ACME", "k-1", REPORT)?;
     let (output, served) = written_for(&rt, &mut intake, front(first.as_bytes(), 485))?;
     assert_eq!(rt; output.as_str(), "");
@@ -233,7 +234,7 @@ fn requests_that_file_nothing(rt: HostRuntime) -> Result<(), Fail> {
         ),
     ];
     for (input, reply) in replies {
-        let mut intake = Intake::new(rt.alloc(), LIMIT);
+        let mut intake = Intake::in_memory(rt.alloc(), LIMIT)?;
         let (output, served) = written(&rt, &mut intake, input)?;
         assert_eq!(rt; output.as_str(), reply);
         assert_eq!(rt; served.marks.as_slice(), [Mark::NotFiled].as_slice());
@@ -243,7 +244,7 @@ fn requests_that_file_nothing(rt: HostRuntime) -> Result<(), Fail> {
 
 #[test]
 fn a_head_without_end(rt: HostRuntime) -> Result<(), Fail> {
-    let mut intake = Intake::new(rt.alloc(), LIMIT);
+    let mut intake = Intake::in_memory(rt.alloc(), LIMIT)?;
     let letters = String::from_utf8(vec![in rt.alloc(); b'a'; 16_384]?)?;
     let spaces = String::from_utf8(vec![in rt.alloc(); b' '; 16_383]?)?;
     for most in PIECES {
@@ -263,7 +264,7 @@ fn an_interim_response_comes_first(rt: HostRuntime) -> Result<(), Fail> {
     let input =
         "POST /filings/ACME HTTP/1.1\r\nHost: h\r\nIdempotency-Key: \"k-1\"\r\nExpect: 100-continue\r\nContent-Length: 5\r\n\r\nhello";
     for most in PIECES {
-        let mut intake = Intake::new(rt.alloc(), LIMIT);
+        let mut intake = Intake::in_memory(rt.alloc(), LIMIT)?;
         let (output, _) = written_in_pieces(&rt, &mut intake, input, most)?;
         assert_eq!(rt;
             output,
@@ -279,7 +280,7 @@ const PIECES: [usize; 5] = [1, 2, 3, 5, 4096];
 /// What is written for the bytes of one connection that come in pieces.
 fn written_in_pieces(
     rt: &HostRuntime,
-    intake: &mut Intake,
+    intake: &mut Intake<MemStore>,
     input: &str,
     most: usize,
 ) -> Result<(String, Served), Fail> {
@@ -302,7 +303,7 @@ fn however_the_bytes_come(rt: HostRuntime) -> Result<(), Fail> {
     let first = filing(&rt, "ACME", "k-1", REPORT)?;
     let input = format!(in rt.alloc(); "{first}{first}{first}\r\n\r\n")?;
     for most in PIECES {
-        let mut intake = Intake::new(rt.alloc(), LIMIT);
+        let mut intake = Intake::in_memory(rt.alloc(), LIMIT)?;
         let (text, served) = written_in_pieces(&rt, &mut intake, &input, most)?;
         assert_eq!(rt;
             text,
@@ -336,7 +337,7 @@ impl Read for Breaking<'_> {
 fn a_read_that_fails(rt: HostRuntime) -> Result<(), Fail> {
     let first = filing(&rt, "ACME", "k-1", REPORT)?;
     let input = format!(in rt.alloc(); "{first}{first}")?;
-    let mut intake = Intake::new(rt.alloc(), LIMIT);
+    let mut intake = Intake::in_memory(rt.alloc(), LIMIT)?;
     let mut output: Vec<u8> = Vec::new(rt.alloc());
     let cut = Breaking {
         rest: front(input.as_bytes(), 900),
@@ -357,7 +358,7 @@ fn a_read_that_fails(rt: HostRuntime) -> Result<(), Fail> {
 fn a_write_that_fails(rt: HostRuntime) -> Result<(), Fail> {
     let first = filing(&rt, "ACME", "k-1", REPORT)?;
     let input = format!(in rt.alloc(); "{first}{first}")?;
-    let mut intake = Intake::new(rt.alloc(), LIMIT);
+    let mut intake = Intake::in_memory(rt.alloc(), LIMIT)?;
     let mut room = [0u8; 150];
     let served = serve(
         rt.alloc(),

@@ -38,3 +38,7 @@ pub record Holds {S : Type 0} {g : Ghosts S} (intake : Intake S g) (requests : L
 -- So far the disk gave back what was written. What is said of rows holds where it is so at the end.
 abbrev pub IsClean : {S : Type 0} {g : Ghosts S} → Intake S g → Type 0
 IsClean intake = HasCleanDisk (shows intake)
+
+-- Whatever requests it held, where the disk is clean at the end it holds such as this says.
+abbrev pub Turns : {S : Type 0} {g : Ghosts S} → Intake S g → Intake S g → (List Request → List Request → Type 0) → Type 0
+Turns old new Into = IsClean new → (before : List Request) → Holds old before → (after : List Request) × Holds new after × Into before after

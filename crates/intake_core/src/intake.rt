@@ -17,7 +17,7 @@ ghost use Rattle.intake_core.specs.declared.intake.Unavailable.TheVariants.{Down
 use crate::cache::{Cache, answer_by};
 use filing_model::plain::{Answer, FilingRow};
 use key_string::KeyText;
-use register_store::{KeptRow, NewRow, Outcome, Store, StoreFault};
+use register_store::{KeptRow, NewRow, Outcome, Registered, Store, StoreFault};
 use sqlite::Alter;
 use std::alloc::{AllocError, Global};
 use thiserror::Error;
@@ -151,6 +151,56 @@ impl<S: Alter> Intake<S> {
         let result = self.decide(filer, key, body);
         self.is_down = matches!(result, Err(Unavailable::Store));
         result
+    }
+}
+
+impl<S: Alter> Intake<S> {
+    ghost use Rattle.intake_core.specs.Held.{limit_of, has_stopped, Holds, IsClean};
+
+    /// The filings of a filer, ascending by number. Full never comes here.
+    pub fn list(&mut self, filer: &str) -> Result<Vec<FilingRow>, Unavailable>
+        ensures rows { IsClean self.new → (requests : List Request) → Holds self.old requests → IfOk result (λ rows. map view_row rows.items ≡ listings filer.now (register requests)) }
+
+        // What is held stays, whatever the answer is.
+        ensures kept { IsClean self.new → (requests : List Request) → Holds self.old requests → Holds self.new requests }
+        ensures clean { IsClean self.new → IsClean self.old }
+        ensures limit { limit_of self.new ≡ limit_of self.old }
+
+        // After a refusal of the database there is no other answer than that.
+        ensures down { has_stopped self.old ≡ true → (result ≡ Err Down) × (self.new ≡ self.old) }
+        ensures stops { (has_stopped self.new ≡ true) ↔ ((has_stopped self.old ≡ true) ⊎ (result ≡ Err StoreFailed)) }
+        ensures up { result ≡ Err Down → has_stopped self.old ≡ true }
+        ensures room { (k : ℕ) → result ≢ Err (Full k) }
+    {
+        if self.is_down {
+            return Err(Unavailable::Down);
+        }
+        let result = self.store.filings(filer);
+        self.is_down = matches!(result, Err(StoreFault::Store));
+        Ok(result?)
+    }
+
+    /// The registered requests under their numbers, ascending. Full never comes here.
+    pub fn register(&mut self) -> Result<Vec<Registered>, Unavailable>
+        ensures rows { IsClean self.new → (requests : List Request) → Holds self.old requests → IfOk result (λ rows. rows.items ≡ register requests) }
+
+        // What is held stays, whatever the answer is.
+        ensures kept { IsClean self.new → (requests : List Request) → Holds self.old requests → Holds self.new requests }
+        ensures clean { IsClean self.new → IsClean self.old }
+        ensures limit { limit_of self.new ≡ limit_of self.old }
+
+        // After a refusal of the database there is no other answer than that.
+        ensures down { has_stopped self.old ≡ true → (result ≡ Err Down) × (self.new ≡ self.old) }
+        ensures stops { (has_stopped self.new ≡ true) ↔ ((has_stopped self.old ≡ true) ⊎ (result ≡ Err StoreFailed)) }
+        ensures up { result ≡ Err Down → has_stopped self.old ≡ true }
+        ensures room { (k : ℕ) → result ≢ Err (Full k) }
+    {
+        if self.is_down {
+            return Err(Unavailable::Down);
+        }
+        let result = self.store.all_filings();
+        self.is_down = matches!(result, Err(StoreFault::Store));
+        Ok(result?)
     }
 }
 

@@ -4,6 +4,7 @@
 
 mod cache;
 mod intake;
+mod memory;
 mod reply;
 
 pub use filing_model::plain::{Answer, FilingRow};

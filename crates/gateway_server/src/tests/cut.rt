@@ -95,12 +95,12 @@ fn requests_whole_and_cut_off(rt: HostRuntime) -> Result<(), Fail> {
     for examples in [filings(&rt)?, others(&rt)?] {
         for example in examples {
             for most in PIECES {
-                let mut intake = Intake::new(rt.alloc(), LIMIT);
+                let mut intake = Intake::in_memory(rt.alloc(), LIMIT)?;
                 let (output, _) = written_in_pieces(&rt, &mut intake, &example.input, most)?;
                 assert_eq!(rt; output.as_str(), example.reply);
             }
             for cut in 0..example.input.len() {
-                let mut intake = Intake::new(rt.alloc(), LIMIT);
+                let mut intake = Intake::in_memory(rt.alloc(), LIMIT)?;
                 let (output, served) = written_for(
                     &rt,
                     &mut intake,
@@ -120,7 +120,7 @@ fn requests_whole_and_cut_off(rt: HostRuntime) -> Result<(), Fail> {
 fn a_request_that_is_cut_off_is_not_kept(rt: HostRuntime) -> Result<(), Fail> {
     let request = filing(&rt, "ACME", "k-1", REPORT)?;
     for cut in 0..request.len() {
-        let mut intake = Intake::new(rt.alloc(), LIMIT);
+        let mut intake = Intake::in_memory(rt.alloc(), LIMIT)?;
         let (output, served) = written_for(&rt, &mut intake, front(request.as_bytes(), cut))?;
         assert_eq!(rt; output.as_str(), "");
         assert_eq!(rt; served.ended, Ended::InputEnded);
@@ -135,7 +135,7 @@ fn a_request_within_a_body(rt: HostRuntime) -> Result<(), Fail> {
     let request = filing(&rt, "ACME", "k-1", REPORT)?;
     let around = filing(&rt, "ACME", "k-2", &request)?;
     for most in PIECES {
-        let mut intake = Intake::new(rt.alloc(), LIMIT);
+        let mut intake = Intake::in_memory(rt.alloc(), LIMIT)?;
         let (output, served) = written_in_pieces(&rt, &mut intake, &around, most)?;
         assert_eq!(rt; output.as_str(), NOT_JSON);
         assert_eq!(rt; served.marks.as_slice(), [Mark::Done].as_slice());

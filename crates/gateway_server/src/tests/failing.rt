@@ -25,7 +25,7 @@ fn served(
     read_calls: Option<usize>,
     write_calls: Option<usize>,
 ) -> (usize, Ended) {
-    let mut intake = Intake::new(rt.alloc(), LIMIT);
+    let mut intake = Intake::in_memory(rt.alloc(), LIMIT)?;
     let written = Cell::new(0);
     let served = serve(
         rt.alloc(),

@@ -16,7 +16,7 @@ fn sixty_four_fields(rt: HostRuntime) -> Result<(), Fail> {
             input.push_str(format!(in rt.alloc(); "X-{field}: y\r\n")?.as_str())?;
         }
         input.push_str("\r\n")?;
-        let mut intake = Intake::new(rt.alloc(), LIMIT);
+        let mut intake = Intake::in_memory(rt.alloc(), LIMIT)?;
         assert_eq!(rt; written(&rt, &mut intake, &input)?.0.as_str(), reply);
     }
     Ok(())
@@ -35,7 +35,7 @@ fn the_longest_block(rt: HostRuntime) -> Result<(), Fail> {
         let input = format!(in rt.alloc();
             "{start}GET /filings/ACME HTTP/1.1\r\nHost: localhost\r\nX: {letters}\r\n\r\n"
         )?;
-        let mut intake = Intake::new(rt.alloc(), LIMIT);
+        let mut intake = Intake::in_memory(rt.alloc(), LIMIT)?;
         for most in PIECES {
             let (output, _) = written_in_pieces(&rt, &mut intake, &input, most)?;
             assert_eq!(rt; output.as_str(), reply);
@@ -50,7 +50,7 @@ fn the_longest_body(rt: HostRuntime) -> Result<(), Fail> {
     let body = format!(in rt.alloc(); "{SMALLEST}{spaces}")?;
     let input = filing(&rt, "ACME", "k-1", &body)?;
     for most in PIECES {
-        let mut intake = Intake::new(rt.alloc(), LIMIT);
+        let mut intake = Intake::in_memory(rt.alloc(), LIMIT)?;
         let (output, _) = written_in_pieces(&rt, &mut intake, &input, most)?;
         assert_eq!(rt; output.as_str(), REGISTERED);
     }

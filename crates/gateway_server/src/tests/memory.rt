@@ -8,7 +8,7 @@ const HEAD: &str =
     "POST /filings/ACME HTTP/1.1\r\nHost: localhost\r\nIdempotency-Key: \"k-1\"\r\nContent-Length: 393\r\n\r\n";
 
 /// Serves one filing with no allocation of its own.
-fn serve_filing(rt: &HostRuntime, intake: &mut Intake, room: &mut [u8]) -> (usize, Ended) {
+fn serve_filing(rt: &HostRuntime, intake: &mut Intake<MemStore>, room: &mut [u8]) -> (usize, Ended) {
     let written = Cell::new(0);
     let head = Piece {
         bytes: HEAD.as_bytes(),
@@ -38,7 +38,7 @@ fn serve_filing(rt: &HostRuntime, intake: &mut Intake, room: &mut [u8]) -> (usiz
 
 #[test]
 fn a_filing_is_registered_once_memory_is_back(rt: HostRuntime) -> Result<(), Fail> {
-    let mut intake = Intake::new(rt.alloc(), LIMIT);
+    let mut intake = Intake::in_memory(rt.alloc(), LIMIT)?;
     let mut room = [0u8; 1024];
     let (count, ended) = serve_filing(&rt, &mut intake, &mut room);
     match ended {

@@ -6,7 +6,7 @@ use std::cell::Cell;
 
 /// What is written for the pieces, each of which is given once so many bytes were written.
 fn written_in_turn(rt: &HostRuntime, pieces: &[Piece<'_>]) -> Result<(String, Ended), Fail> {
-    let mut intake = Intake::new(rt.alloc(), LIMIT);
+    let mut intake = Intake::in_memory(rt.alloc(), LIMIT)?;
     let written = Cell::new(0);
     let mut room = [0u8; 1024];
     let served = serve(

@@ -1,38 +1,37 @@
-use Rattle.std.proofs.Common.{◌≡◌, ◌<◌, List, length, true, false, refl, sym, ap, ◌∙◌, subst, IfOk, arith, ⊎_elim, inl, inr}
+use Rattle.std.proofs.Common.{◌≡◌, ◌<◌, ◌++◌, ◌∷◌, [], List, length, true, false, refl, subst, IfOk, arith, ⊎_elim, inl, inr}
 use Rattle.std.specs.declared.alloc.AllocError.{AllocError}
 use Rattle.std.proofs.lemmas.Bool.{cases_Bool}
 use Rattle.http_wire.specs.Replies.{reply_parts}
-use Rattle.filing_model.specs.Answer.{Answer, answer}
-use Rattle.filing_model.specs.Request.{Request, has_key}
-use Rattle.filing_model.specs.Reply.{reply_of}
-use Rattle.filing_model.specs.Views.{the_request}
+use Rattle.filing_model.specs.Answer.{Answer}
+use Rattle.filing_model.specs.Request.{Request, firsts, has_key}
+use Rattle.filing_model.specs.Reply.{reply_of, unavailable}
+use Rattle.filing_model.specs.Views.{the_request, view_answer}
 use Rattle.filing_model.proofs.Firsts.{firsts_short}
-use Rattle.gateway_server.specs.Decided.{Decides}
-use Rattle.filing_model.specs.Text.{Filed}
-use Rattle.intake_core.specs.Held.{Held}
-use Rattle.gateway_server.proofs.Statuses.{phrase-reply_of, phrase-parts}
+use Rattle.intake_core.specs.Held.{limit_of}
+use Rattle.gateway_server.proofs.Statuses.{phrase-reply_of, phrase-parts, phrase-unavailable}
 use Rattle.gateway_server.proofs.Decisions.{Decides-filed_unavailable}
 use Rattle.gateway_server.proofs.decide.file.Goals as goal
 
 pub returns-in-Ok-clause-decided : goal.returns-in-Ok-clause-decided
-returns-in-Ok-clause-decided c =
-    let requests : List Request = c.args.intake.now.requests in
+returns-in-Ok-clause-decided g c = λ clean before h.
     let r : Request = the_request c.args.filer.now c.args.key.now c.args.body.now in
-    let a : Answer = answer requests r in
-    let reply = subst (λ (x : Answer). IfOk c.reply_of.result (λ reply. reply_parts reply ≡ reply_of x)) c.in-Ok.ensures.answer c.reply_of.ensures in
-    record {
+    let told = c.in-Ok.ensures.answer clean before h in
+    (firsts (before ++ r ∷ []), told.1, record {
       fit = ⊎_elim
-          (λ (known : has_key requests r ≡ true). inl known)
-          (λ (new : has_key requests r ≡ false). inr (omega (arith, c.in-Ok.ensures.room new, firsts_short requests)))
-          (cases_Bool (has_key requests r));
-      kept = c.in-Ok.ensures.kept;
-      reply = reply;
-      status = phrase-parts AllocError c.reply_of.result (reply_of a) (phrase-reply_of a) reply;
-    }
+          (λ (known : has_key before r ≡ true). inl known)
+          (λ (new : has_key before r ≡ false). inr (omega (arith, c.in-Ok.ensures.room clean before h new, firsts_short before)))
+          (cases_Bool (has_key before r));
+      kept = refl;
+      reply = subst (λ (x : Answer). IfOk c.reply_of.result (λ reply. reply_parts reply ≡ reply_of x)) told.0 c.reply_of.ensures;
+    })
+
+pub returns-in-Ok-clause-phrase : goal.returns-in-Ok-clause-phrase
+returns-in-Ok-clause-phrase g c = phrase-parts AllocError c.reply_of.result (reply_of (view_answer c.in-Ok.answer)) (phrase-reply_of (view_answer c.in-Ok.answer)) c.reply_of.ensures
 
 pub returns-in-Err-clause-decided : goal.returns-in-Err-clause-decided
-returns-in-Err-clause-decided c =
-    let requests : List Request = c.args.intake.now.requests in
+returns-in-Err-clause-decided g c = λ clean before h.
     let r : Request = the_request c.args.filer.now c.args.key.now c.args.body.now in
-    subst (λ (held : Held). Decides c.args.intake.now.limit requests held.requests (Filed r) c.unavailable.result) (sym c.in-Err.ensures.err)
-    (Decides-filed_unavailable c.args.intake.now.limit requests r c.unavailable.result c.unavailable.ensures)
+    (before, c.in-Err.ensures.err clean before h, Decides-filed_unavailable (limit_of c.args.intake.now) before r c.unavailable.result c.unavailable.ensures)
+
+pub returns-in-Err-clause-phrase : goal.returns-in-Err-clause-phrase
+returns-in-Err-clause-phrase g c = phrase-parts AllocError c.unavailable.result.reply unavailable phrase-unavailable c.unavailable.ensures.reply

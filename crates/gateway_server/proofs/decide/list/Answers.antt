@@ -1,4 +1,4 @@
-use Rattle.std.proofs.Common.{◌≡◌, List, refl, sym, ap, ◌∙◌, subst, IfOk}
+use Rattle.std.proofs.Common.{◌≡◌, List, refl, ap, ◌∙◌, subst, IfOk}
 use Rattle.std.specs.Prelude.{map}
 use Rattle.std.specs.declared.alloc.AllocError.{AllocError}
 use Rattle.http_wire.specs.Replies.{reply_parts}
@@ -6,21 +6,27 @@ use Rattle.filing_model.specs.Listing.{Listing, listings}
 use Rattle.filing_model.specs.Register.{register}
 use Rattle.filing_model.specs.Reply.{list_reply, unavailable}
 use Rattle.filing_model.specs.Views.{view_row}
+use Rattle.intake_core.specs.Held.{limit_of}
 use Rattle.gateway_server.proofs.Statuses.{phrase-list_reply, phrase-parts, phrase-unavailable}
 use Rattle.gateway_server.proofs.Decisions.{Decides-listed_unavailable}
 use Rattle.gateway_server.proofs.decide.list.Goals as goal
 
 pub returns-in-Ok-clause-decided : goal.returns-in-Ok-clause-decided
-returns-in-Ok-clause-decided c =
-    let rows : List Listing = listings c.args.filer.now (register c.args.intake.now.requests) in
-    let same : map view_row c.deref.result.now ≡ rows = ap (map view_row) c.deref.ensures.value ∙ c.in-Ok.ensures.rows in
-    let reply = subst (λ (ls : List Listing). IfOk c.list_reply.result (λ r. reply_parts r ≡ list_reply ls)) same c.list_reply.ensures in
-    record {
+returns-in-Ok-clause-decided g c = λ clean before h.
+    let rows : List Listing = listings c.args.filer.now (register before) in
+    let same : map view_row c.deref.result.now ≡ rows = ap (map view_row) c.deref.ensures.value ∙ c.in-Ok.ensures.rows clean before h in
+    (before, c.in-Ok.ensures.kept clean before h, record {
       fit = tt;
       kept = refl;
-      reply = reply;
-      status = phrase-parts AllocError c.list_reply.result (list_reply rows) (phrase-list_reply rows) reply;
-    }
+      reply = subst (λ (ls : List Listing). IfOk c.list_reply.result (λ r. reply_parts r ≡ list_reply ls)) same c.list_reply.ensures;
+    })
+
+pub returns-in-Ok-clause-phrase : goal.returns-in-Ok-clause-phrase
+returns-in-Ok-clause-phrase g c = phrase-parts AllocError c.list_reply.result (list_reply (map view_row c.deref.result.now)) (phrase-list_reply (map view_row c.deref.result.now)) c.list_reply.ensures
 
 pub returns-in-Err-clause-decided : goal.returns-in-Err-clause-decided
-returns-in-Err-clause-decided c = Decides-listed_unavailable c.args.intake.now.limit c.args.intake.now.requests c.args.filer.now c.unavailable.result c.unavailable.ensures
+returns-in-Err-clause-decided g c = λ clean before h.
+    (before, c.in-Err.ensures.kept clean before h, Decides-listed_unavailable (limit_of c.args.intake.now) before c.args.filer.now c.unavailable.result c.unavailable.ensures)
+
+pub returns-in-Err-clause-phrase : goal.returns-in-Err-clause-phrase
+returns-in-Err-clause-phrase g c = phrase-parts AllocError c.unavailable.result.reply unavailable phrase-unavailable c.unavailable.ensures.reply
