@@ -1,17 +1,16 @@
-<<<<<<< HEAD
 pub mod Adding
 pub mod Counting
 pub mod CreateTexts
+pub mod FindLemmas
+pub mod FindReads
+pub mod FindTexts
 pub mod Growing
+pub mod ListLemmas
 pub mod Making
 pub mod MoreRequests
 pub mod OurGains
+pub mod ReadLemmas
+pub mod ReadTexts
+pub mod StepsOfLists
 pub mod StoreLemmas
 pub mod Texts
-=======
-
-pub mod ReadTexts
-pub mod ReadLemmas
-pub mod StepsOfLists
-pub mod ListLemmas
->>>>>>> rows

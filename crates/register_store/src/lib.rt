@@ -6,6 +6,7 @@
 mod completed;
 mod create;
 mod fault;
+mod found;
 mod lists;
 mod names;
 mod outcome;
