@@ -141,3 +141,56 @@ fn findings_at<S: Alter>(
         Err(error) => Err(StoreFault::from(error)),
     }
 }
+
+/// A kept row whole: with its number, or with its findings where it has none.
+fn complete<S: Alter>(
+    conn: &mut Connection<S>,
+    alloc: Global,
+    found: Found,
+) -> Result<KeptRow, StoreFault>
+    ensures found { HasCleanDisk (state S.Store conn.new) → (filer key : List ℕ) (F : List Request) → Stands (IsRegisterOf F) (state S.Store conn.old)
+        → (is : IsFound filer key F found) → IfOk result (λ row. kept_as filer key row ≡ is.k) }
+    ensures same { HasCleanDisk (state S.Store conn.new) → (F : List Request) → Stands (IsRegisterOf F) (state S.Store conn.old) → Stands (IsRegisterOf F) (state S.Store conn.new) }
+    ensures open { HasCleanDisk (state S.Store conn.new) → (F : List Request) → Stands (IsRegisterOf F) (state S.Store conn.old) → IsTrue (state S.Store conn.old).is_open → OnOk result (IsTrue (state S.Store conn.new).is_open) }
+    ensures mode { conn.old.in_transaction ≡ false → conn.new.in_transaction ≡ false }
+    ensures survives { Survives (state S.Store conn.old) (state S.Store conn.new) (λ _. IsDeclared (state S.Store conn.old).now.schema → ⊥) }
+{
+    let Found { seq, body, number } = found;
+    match number {
+        Some(number) => Ok(KeptRow {
+            body,
+            outcome: Outcome::Registered(number),
+        }),
+        None => match findings_at(conn, alloc, seq) {
+            Ok(findings) => Ok(KeptRow {
+                body,
+                outcome: Outcome::Refused(findings),
+            }),
+            Err(fault) => Err(fault),
+        },
+    }
+}
+
+/// What is kept of a filer and key, or `None` where they are new.
+pub fn find_kept<S: Alter>(
+    conn: &mut Connection<S>,
+    alloc: Global,
+    filer: &str,
+    key: &str,
+) -> Result<Option<KeptRow>, StoreFault>
+    ensures found { HasCleanDisk (state S.Store conn.new) → (F : List Request) → Stands (IsRegisterOf F) (state S.Store conn.old)
+        → (body : List ℕ) → IfOk result (λ row. option_map (kept_as filer.now key.now) row ≡ kept_for (kept F) (the_request filer.now key.now body)) }
+    ensures same { HasCleanDisk (state S.Store conn.new) → (F : List Request) → Stands (IsRegisterOf F) (state S.Store conn.old) → Stands (IsRegisterOf F) (state S.Store conn.new) }
+    ensures open { HasCleanDisk (state S.Store conn.new) → (F : List Request) → Stands (IsRegisterOf F) (state S.Store conn.old) → OnOk result (IsTrue (state S.Store conn.new).is_open) }
+    ensures mode { conn.old.in_transaction ≡ false → conn.new.in_transaction ≡ false }
+    ensures crash { Survives (state S.Store conn.old) (state S.Store conn.new) (λ _. (F : List Request) → Stands (IsRegisterOf F) (state S.Store conn.old) → IsTrue (state S.Store conn.old).is_open → ⊥) }
+{
+    match look_up(conn, filer, key) {
+        Ok(Some(found)) => match complete(conn, alloc, found) {
+            Ok(row) => Ok(Some(row)),
+            Err(fault) => Err(fault),
+        },
+        Ok(None) => Ok(None),
+        Err(fault) => Err(fault),
+    }
+}
