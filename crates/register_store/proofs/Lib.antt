@@ -6,6 +6,7 @@ pub mod Growing
 pub mod ListLemmas
 pub mod Making
 pub mod MoreRequests
+pub mod NumberLemmas
 pub mod OurGains
 pub mod ReadLemmas
 pub mod ReadTexts
