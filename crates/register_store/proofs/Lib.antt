@@ -1,6 +1,7 @@
 pub mod Adding
 pub mod Counting
 pub mod CreateTexts
+pub mod FactLemmas
 pub mod FindLemmas
 pub mod FindReads
 pub mod FindTexts
@@ -8,6 +9,7 @@ pub mod Growing
 pub mod ListLemmas
 pub mod Making
 pub mod MoreRequests
+pub mod NumberLemmas
 pub mod OurGains
 pub mod ReadLemmas
 pub mod ReadTexts

@@ -4,8 +4,11 @@
 #![tactic(auto)]
 
 mod completed;
+mod counts;
 mod create;
+mod facts;
 mod fault;
+mod files;
 mod found;
 mod lists;
 mod names;

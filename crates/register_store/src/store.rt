@@ -160,4 +160,17 @@ impl<S: Alter> Store<S> {
     {
         Ok(self.filings)
     }
+
+    /// The connection.
+    pub(crate) fn into_conn(self) -> Connection<S>
+        ensures { result ≡ self.conn }
+    {
+        let Store {
+            alloc: _,
+            conn,
+            kept: _,
+            filings: _,
+        } = self;
+        conn
+    }
 }

@@ -1,11 +1,19 @@
 -- Rows that rise by whole numbers.
-use Rattle.std.proofs.Common.{◌≡◌, ℕ, ◌+◌, ◌<◌, suc, pos, List, [], ◌∷◌, map, Less, refl, ap, subst, ◌∙◌, arith}
+use Rattle.std.proofs.Common.{◌≡◌, ℕ, ◌+◌, ◌<◌, pos, Bool, true, false, List, [], ◌∷◌, map, Some, Less, refl, ap, ◌∙◌, arith, int_cmp, nat_eq}
+use Rattle.std.specs.Prelude.{◌&&◌, bytes_eq}
+use Rattle.std.specs.Ordering.{is_eq}
+use Rattle.std.proofs.lemmas.Map.Text.{is_eq-slice_cmp}
+use Rattle.std.proofs.lemmas.Bool.Decides.{nat_tests}
+use Rattle.sqlite.specs.Collation.TheVariants.{Binary}
+use Rattle.sqlite.specs.Ops.{binary, is_true, from_truth}
+use Rattle.sqlite_sql.specs.declared.ops.BinaryOp.TheVariants.{Compare}
+use Rattle.sqlite_sql.specs.declared.ops.CompareOp.TheVariants.{Eq}
 use Rattle.std.specs.List.{AllByRecursion}
 use Rattle.std.proofs.lemmas.Int.{ints}
-use Rattle.sqlite.specs.declared.types.Value.TheVariants.{Int}
+use Rattle.sqlite.specs.declared.types.Value.TheVariants.{Int, Text}
 use Rattle.sqlite.specs.Order.{Row}
 use Rattle.sqlite_sql.specs.Query.{key_cmp}
-use Rattle.sqlite_value.proofs.OrderLemmas.{value_cmp-Int}
+use Rattle.sqlite_value.proofs.OrderLemmas.{value_cmp-Int, value_cmp-Text}
 use Rattle.sqlite_keyed.proofs.KeyedLemmas.{Less-from_lt}
 use Rattle.sqlite_typed.proofs.TestLemmas.{last_key}
 use Rattle.sqlite_trees.specs.Tree.{IsAscending}
@@ -27,3 +35,26 @@ module _ {X : Type 0} (row : ℕ → X → Row) (sort : Row → Row) (sorts : (a
   pub counted_rise : (at : ℕ) (xs : List X) → RisesBy sort (counted_from row at xs)
   counted_rise at [] = tt
   counted_rise at (x ∷ xs) = (counted_after at x (at + 1) xs (omega arith), counted_rise (at + 1) xs)
+
+-- ---- two values that SQL finds equal
+
+truth_of : (b : Bool) → is_true (from_truth (Some b)) ≡ b
+truth_of true = refl
+truth_of false = refl
+
+-- two texts where their bytes are
+pub same_text : (a b : List ℕ) → is_true (binary (Compare Eq Binary) (Text a) (Text b)) ≡ bytes_eq a b
+unfolding binary
+same_text a b = truth_of _ ∙ ap is_eq (value_cmp-Text a b) ∙ is_eq-slice_cmp a b
+
+-- two whole numbers where they are the same
+pub same_number : (m n : ℕ) → is_true (binary (Compare Eq Binary) (Int (pos m)) (Int (pos n))) ≡ nat_eq m n
+unfolding binary
+same_number m n = truth_of _ ∙ ap is_eq (value_cmp-Int (pos m) (pos n)) ∙ by_numbers
+  where
+    by_numbers : is_eq (int_cmp (pos m) (pos n)) ≡ nat_eq m n
+    by_numbers = grind (arith, ints, nat_tests)
+
+pub and_true : (b : Bool) → (b && true) ≡ b
+and_true true = refl
+and_true false = refl

@@ -1,0 +1,30 @@
+use Rattle.std.proofs.Common.{◌≡◌, ◌+◌, ◌≤◌, ◌<◌, [], length, None, map, sym, ◌∙◌, ap, arith}
+use Rattle.sqlite.specs.Held.{state}
+use Rattle.xbrl_report.specs.ReportParts.{facts}
+use Rattle.filing_model.specs.Register.{Filing, register}
+use Rattle.filing_model.proofs.Keeping.{register_numbered}
+use Rattle.register_store.specs.Columns.{fact_in}
+use Rattle.register_store.specs.Numbered.{filing_numbered}
+use Rattle.std.specs.Prelude.{option_map}
+use Rattle.register_store.proofs.ListLemmas.{knows}
+use Rattle.register_store.proofs.FactLemmas.{facts_read, is_there, is_absent, some_list}
+use Rattle.register_store.proofs.store.Store.facts.Goals.{then-number-eq0-via-then-number-eq0, then-number-eq0-via-else-number-eq0+then-self-number}
+use Rattle.register_store.proofs.store.Store.facts.Goals as goal
+
+pub returns-then-number-eq0-clause-facts : goal.returns-then-number-eq0-clause-facts
+returns-then-number-eq0-clause-facts g c clean F has =
+    let had = rw (← c.self.view_is) at has in
+    let n = c.args.number in
+    let apart : 1 ≤ n → n < 1 + length (register F) → ⊥ = λ low high. elim c.then-number-eq0.branch [
+      | then-number-eq0-via-then-number-eq0 w ↦ omega (arith, low, w.if-number-eq0.true)
+      | then-number-eq0-via-else-number-eq0+then-self-number w ↦ omega (arith, high, had.filings_is, w.if-self-number.true)
+    ] in
+    sym (ap (option_map (λ (f : Filing). facts f.request.body)) (is_absent n 1 (register F) (register_numbered F) apart))
+
+pub returns-in-Ok-read_facts-clause-facts : goal.returns-in-Ok-read_facts-clause-facts
+returns-in-Ok-read_facts-clause-facts g c clean F has =
+    let had = rw (← c.self.view_is) at has in
+    let n = c.args.number in
+    let there = is_there n 1 (register F) (register_numbered F) (omega (arith, c.if-number-eq0.false)) (omega (arith, had.filings_is, c.if-self-number.false)) in
+    let read = facts_read F (state g.S.Store c.self.inside.conn) (state g.S.Store c.facts_of_filing.new.conn) c.in-Ok.rows.items had.stands n (c.in-Ok.ensures.read clean (knows F _ had.stands)) in
+    some_list (λ (f : Filing). facts f.request.body) (filing_numbered n (register F)) _ [] there (c.in-Ok-read_facts.ensures ∙ ap (map fact_in) c.deref.ensures.value ∙ read)

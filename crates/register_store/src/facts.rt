@@ -1,0 +1,87 @@
+//! The facts of a filing, as the rows have them.
+
+ghost use Rattle.std.specs.Prelude.{◌≡◌, map, filter_map, option_map, string_bytes, IfOk};
+ghost use Rattle.sqlite.specs.Order.{column};
+ghost use Rattle.register_store.specs.Columns.{bytes_in, maybe_bytes_in, number_in, fact_in};
+
+use crate::fault::StoreFault;
+use sqlite::Row;
+use std::alloc::Global;
+use xbrl_report::Fact;
+
+/// The text that bytes are.
+fn text_of(bytes: Vec<u8>) -> Result<String, StoreFault>
+    ensures { IfOk result (λ text. string_bytes text ≡ bytes.items) }
+{
+    match String::from_utf8(bytes) {
+        Ok(text) => Ok(text),
+        Err(_) => Err(StoreFault::Store),
+    }
+}
+
+/// The text of a column of bytes.
+fn read_text(row: &Row, at: usize) -> Result<String, StoreFault>
+    ensures { IfOk result (λ text. string_bytes text ≡ bytes_in (column row.now at)) }
+{
+    text_of(row.get(at)?)
+}
+
+/// The text of a column of bytes that may be absent.
+fn read_optional_text(row: &Row, at: usize) -> Result<Option<String>, StoreFault>
+    ensures { IfOk result (λ text. option_map (λ s. string_bytes s) text ≡ maybe_bytes_in (column row.now at)) }
+{
+    let bytes: Option<Vec<u8>> = row.get(at)?;
+    match bytes {
+        Some(bytes) => Ok(Some(text_of(bytes)?)),
+        None => Ok(None),
+    }
+}
+
+/// The fact of a row with the columns `id`, `concept`, `dimensions`, `value` and `decimals`.
+fn read_fact(row: &Row) -> Result<Fact, StoreFault>
+    ensures { IfOk result (λ fact. fact ≡ fact_in row.now) }
+{
+    let id = read_text(row, 0)?;
+    let concept = read_text(row, 1)?;
+    let dimensions = read_text(row, 2)?;
+    let value = read_optional_text(row, 3)?;
+    let decimals = row.get(4)?;
+    Ok(Fact {
+        id,
+        concept,
+        dimensions,
+        value,
+        decimals,
+    })
+}
+
+/// The facts of such rows.
+pub(crate) fn read_facts(alloc: Global, rows: &[Row]) -> Result<Vec<Fact>, StoreFault>
+    ensures { IfOk result (λ list. list.items ≡ map fact_in rows.now) }
+{
+    let mut list = Vec::new(alloc);
+    for row in rows {
+        list.push(read_fact(row)?)?;
+    }
+    Ok(list)
+}
+
+/// The number in the first column of the row, if it has one.
+fn read_number(row: &Row) -> Result<Option<u64>, StoreFault>
+    ensures { IfOk result (λ number. number ≡ number_in (column row.now 0)) }
+{
+    Ok(row.get(0)?)
+}
+
+/// The numbers in the first columns of the rows, where they have one.
+pub(crate) fn read_numbers(alloc: Global, rows: &[Row]) -> Result<Vec<u64>, StoreFault>
+    ensures { IfOk result (λ list. list.items ≡ filter_map (λ row. number_in (column row 0)) rows.now) }
+{
+    let mut list = Vec::new(alloc);
+    for row in rows {
+        if let Some(number) = read_number(row)? {
+            list.push(number)?;
+        }
+    }
+    Ok(list)
+}
