@@ -2,10 +2,14 @@ pub mod Adding
 pub mod Counting
 pub mod CreateTexts
 pub mod FactLemmas
+pub mod FindLemmas
+pub mod FindReads
+pub mod FindTexts
 pub mod Growing
 pub mod ListLemmas
 pub mod Making
 pub mod MoreRequests
+pub mod NumberLemmas
 pub mod OurGains
 pub mod ReadLemmas
 pub mod ReadTexts

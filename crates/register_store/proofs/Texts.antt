@@ -1,22 +1,17 @@
 -- What the texts on the rows mean under the declared tables.
-use Rattle.std.proofs.Common.{◌≡◌, List, [], ◌∷◌, codes, ℕ, None, refl, false, pos, negsuc}
+use Rattle.std.proofs.Common.{◌≡◌, List, [], ◌∷◌, codes, ℕ, refl, pos}
 use Rattle.sqlite.specs.Table.{Table}
 use Rattle.sqlite_schema.specs.declared.schema.Index.{Index}
 use Rattle.sqlite_schema.specs.declared.schema.View.{View}
 use Rattle.sqlite.specs.Schema.{Schema}
 use Rattle.sqlite.specs.declared.types.Value.TheVariants.{Null, Int, Text}
-use Rattle.sqlite.specs.Term.{lit, col, op2}
-use Rattle.sqlite.specs.Query.{inner, end}
+use Rattle.sqlite.specs.Term.{lit, col}
 use Rattle.sqlite.specs.Source.TheVariants.{Values}
-use Rattle.sqlite.specs.Command.TheVariants.{Insert, Select}
+use Rattle.sqlite.specs.Command.TheVariants.{Insert}
 use Rattle.sqlite_tied.specs.Compute.{everything}
-use Rattle.sqlite.specs.Listing.{understood, reads_listing}
+use Rattle.sqlite.specs.Listing.{understood}
 use Rattle.sqlite.proofs.Callers.{IsPlain, command_of}
-use Rattle.sqlite_sql.specs.declared.ops.BinaryOp.TheVariants.{Compare}
-use Rattle.sqlite_sql.specs.declared.ops.CompareOp.TheVariants.{Eq}
-use Rattle.sqlite.specs.Collation.TheVariants.{Binary}
 use Rattle.table_rows.specs.Tables.{schema_with}
-use Rattle.table_rows.proofs.SelectLemmas.{one_table}
 use Rattle.register_store.specs.Schema.{register_tables}
 
 abbrev pub insert_meta : List ℕ
@@ -33,12 +28,6 @@ insert_filing = codes "INSERT INTO filing VALUES (?1, ?2)"
 
 abbrev pub insert_fact : List ℕ
 insert_fact = codes "INSERT INTO fact VALUES (?1, ?2, ?3, ?4, ?5, ?6, ?7)"
-
-abbrev pub find_text : List ℕ
-find_text = codes "SELECT seq, body, number FROM kept WHERE filer = ?1 AND idem = ?2"
-
-abbrev pub found_text : List ℕ
-found_text = codes "SELECT code, place FROM finding WHERE seq = ?1 ORDER BY pos"
 
 module _ (tables : List Table) (indexes : List Index) (views : List View) where
   abbrev schema : Schema
@@ -63,28 +52,6 @@ module _ (tables : List Table) (indexes : List Index) (views : List View) where
   pub plain_inserts : IsPlain (understood schema insert_kept) × IsPlain (understood schema insert_finding) × IsPlain (understood schema insert_filing) × IsPlain (understood schema insert_fact)
   unfolding understood everything
   plain_inserts = ((refl, refl), (refl, refl), (refl, refl), (refl, refl))
-
-  pub finds_kept : command_of (understood schema find_text) ≡ Select (record {
-    lets = [];
-    body = one_table 1 (op2 (Compare Eq Binary) (col 1 2) (col 0 0) ∷ op2 (Compare Eq Binary) (col 1 3) (col 0 1) ∷ []) (col 1 0 ∷ col 1 4 ∷ col 1 5 ∷ []) [];
-  }) (codes "seq" ∷ codes "body" ∷ codes "number" ∷ [])
-  unfolding understood everything
-  finds_kept = refl
-
-  pub plain_find : IsPlain (understood schema find_text) × (reads_listing schema find_text ≡ false)
-  unfolding understood everything
-  plain_find = ((refl, refl), refl)
-
-  pub finds_findings : command_of (understood schema found_text) ≡ Select (record {
-    lets = [];
-    body = one_table 3 (op2 (Compare Eq Binary) (col 1 1) (col 0 0) ∷ []) (col 1 3 ∷ col 1 4 ∷ []) ((col 1 2, record { collation = Binary; descending = false }) ∷ []);
-  }) (codes "code" ∷ codes "place" ∷ [])
-  unfolding understood everything
-  finds_findings = refl
-
-  pub plain_found : IsPlain (understood schema found_text) × (reads_listing schema found_text ≡ false)
-  unfolding understood everything
-  plain_found = ((refl, refl), refl)
 
   pub inserts_meta : (command_of (understood schema insert_meta) ≡ Insert 0 (Values (lit (Int (pos 1)) ∷ lit Null ∷ lit (Text (codes "register")) ∷ lit (Int (pos 2)) ∷ []) 4)) × IsPlain (understood schema insert_meta)
   unfolding understood everything

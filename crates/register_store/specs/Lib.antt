@@ -1,6 +1,7 @@
 pub mod Changes
 pub mod Columns
 pub mod Faults
+pub mod Found
 pub mod Numbered
 pub mod Outcomes
 pub mod Reads

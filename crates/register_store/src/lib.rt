@@ -8,6 +8,8 @@ mod counts;
 mod create;
 mod facts;
 mod fault;
+mod files;
+mod found;
 mod lists;
 mod names;
 mod outcome;

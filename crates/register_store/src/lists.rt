@@ -1,6 +1,8 @@
 //! What a store lists: the kept requests, the filings and their facts.
 
-ghost use Rattle.std.specs.Prelude.{◌≡◌, List, IsTrue, IfOk, OnOk, option_map};
+ghost use Rattle.std.specs.Prelude.{◌≡◌, List, IsTrue, IfOk, OnOk, map, option_map};
+ghost use Rattle.filing_model.specs.Listing.{listings};
+ghost use Rattle.filing_model.specs.Views.{view_row};
 ghost use Rattle.filing_model.specs.Request.{Request};
 ghost use Rattle.filing_model.specs.Register.{register};
 ghost use Rattle.sqlite.specs.State.{HasCleanDisk, Survives};
@@ -9,10 +11,12 @@ ghost use Rattle.register_store.specs.Numbered.{facts_numbered};
 ghost use Rattle.register_store.specs.Store.{shows, HasRequests, Leaves};
 
 use crate::completed::{Completed, Registered, read_filings, read_requests};
+use crate::counts::filings_of;
 use crate::facts::read_facts;
 use crate::fault::StoreFault;
 use crate::reads;
 use crate::store::Store;
+use filing_model::plain::FilingRow;
 use sqlite::Alter;
 use xbrl_report::Fact;
 
@@ -46,6 +50,18 @@ impl<S: Alter> Store<S> {
             Ok(rows) => read_filings(self.alloc, &rows),
             Err(error) => Err(StoreFault::from(error)),
         }
+    }
+
+    /// The filings of a filer, each with how many facts it has, ascending by number. A filer that never came has none.
+    pub fn filings(&mut self, filer: &str) -> Result<Vec<FilingRow>, StoreFault>
+        ensures rows { HasCleanDisk (shows S.Store self.new) → (F : List Request) → HasRequests S.Store self.old F → IfOk result (λ rows. map view_row rows.items ≡ listings filer.now (register F)) }
+        ensures same { HasCleanDisk (shows S.Store self.new) → (F : List Request) → HasRequests S.Store self.old F → HasRequests S.Store self.new F }
+        ensures counts { (self.new.kept ≡ self.old.kept) × (self.new.filings ≡ self.old.filings) }
+        ensures crash { Survives (shows S.Store self.old) (shows S.Store self.new) (λ _. (F : List Request) → HasRequests S.Store self.old F → IsTrue (shows S.Store self.old).is_open → ⊥) }
+        ensures durable { HasCleanDisk (shows S.Store self.new) → (F : List Request) → HasRequests S.Store self.old F
+            → OnOk result (IsTrue (shows S.Store self.new).is_open × ((trees : Trees) → (shows S.Store self.new).may_leave trees → Leaves F trees)) }
+    {
+        filings_of(&mut self.conn, self.alloc, filer)
     }
 
     /// The facts of the filing of this number, in the byte order of their identifiers, or `None` where there is no such

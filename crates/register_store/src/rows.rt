@@ -1,18 +1,22 @@
 //! The statements on the tables, one in each function. What may live here: texts of SQL, and their parameters.
 
-ghost use Rattle.std.specs.Prelude.{◌≡◌, ◌<◌, ◌^◌, pos, false, List, [], ◌∷◌, length, option_map, string_bytes, IsTrue, IfSome, OnOk};
+ghost use Rattle.std.specs.Prelude.{◌≡◌, ◌<◌, ◌^◌, pos, false, List, [], ◌∷◌, length, option_map, string_bytes, IsTrue, IfOk, IfSome, OnOk};
 ghost use Rattle.sqlite.specs.declared.types.Value.TheVariants.{Int, Text, Blob};
 ghost use Rattle.sqlite.specs.Values.{or_null};
 ghost use Rattle.sqlite.specs.Held.{state};
 ghost use Rattle.sqlite.specs.State.{HasCleanDisk, KeepsCommit, Survives};
 ghost use Rattle.table_rows.specs.Rows.{counted_from};
-ghost use Rattle.register_store.specs.Schema.{kept_table, finding_table, filing_table, fact_table};
+ghost use Rattle.table_rows.specs.Reading.{ReadsRows};
+ghost use Rattle.table_rows.specs.Standing.{Keeps};
+ghost use Rattle.register_store.specs.Reads.{Knows, by_second};
+ghost use Rattle.register_store.specs.Found.{has_texts, has_seq, unsorted, found_in, pair_in};
+ghost use Rattle.register_store.specs.Schema.{IsDeclared, kept_table, finding_table, filing_table, fact_table};
 ghost use Rattle.key_string.specs.Key.{IsKey};
 ghost use Rattle.register_store.specs.Changes.{GainsRows};
 ghost use Rattle.register_store.specs.Register.{finding_row, fact_row};
 
 use crate::outcome::NewRow;
-use sqlite::{Alter, Error, Transaction, params};
+use sqlite::{Alter, Connection, Error, Row, Transaction, params};
 use xbrl_report::{Fact, Finding};
 
 /// A number as a row holds it.
@@ -181,4 +185,34 @@ pub fn insert_facts<S: Alter>(
         insert_fact(tx, number, at, fact)?;
     }
     Ok(())
+}
+
+/// The columns `seq`, `body` and `number` of the rows kept for a filer and key.
+pub fn rows_with_key<S: Alter>(
+    conn: &mut Connection<S>,
+    filer: &str,
+    key: &str,
+) -> Result<Vec<Row>, Error>
+    ensures read { HasCleanDisk (state S.Store conn.new) → Knows (state S.Store conn.old) → IfOk result (λ rows. ReadsRows kept_table (has_texts filer.now key.now) unsorted found_in rows.items (state S.Store conn.old) (state S.Store conn.new)) }
+    ensures keeps { HasCleanDisk (state S.Store conn.new) → Knows (state S.Store conn.old) → Keeps (state S.Store conn.old) (state S.Store conn.new) }
+    ensures mode { conn.old.in_transaction ≡ false → conn.new.in_transaction ≡ false }
+    ensures survives { Survives (state S.Store conn.old) (state S.Store conn.new) (λ _. IsDeclared (state S.Store conn.old).now.schema → ⊥) }
+{
+    conn.query_all(
+        "SELECT seq, body, number FROM kept WHERE filer = ?1 AND idem = ?2",
+        params![filer, key],
+    )
+}
+
+/// The columns `code` and `place` of the findings of the request at this place, in order.
+pub fn rows_of_findings<S: Alter>(conn: &mut Connection<S>, seq: i64) -> Result<Vec<Row>, Error>
+    ensures read { HasCleanDisk (state S.Store conn.new) → Knows (state S.Store conn.old) → IfOk result (λ rows. ReadsRows finding_table (has_seq seq) by_second pair_in rows.items (state S.Store conn.old) (state S.Store conn.new)) }
+    ensures keeps { HasCleanDisk (state S.Store conn.new) → Knows (state S.Store conn.old) → Keeps (state S.Store conn.old) (state S.Store conn.new) }
+    ensures mode { conn.old.in_transaction ≡ false → conn.new.in_transaction ≡ false }
+    ensures survives { Survives (state S.Store conn.old) (state S.Store conn.new) (λ _. IsDeclared (state S.Store conn.old).now.schema → ⊥) }
+{
+    conn.query_all(
+        "SELECT code, place FROM finding WHERE seq = ?1 ORDER BY pos",
+        params![seq],
+    )
 }

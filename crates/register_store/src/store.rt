@@ -16,6 +16,7 @@ ghost use Rattle.register_store.specs.Schema.{is_taken};
 
 use crate::create::make;
 use crate::fault::{CreateFault, StoreFault};
+use crate::found::find_kept;
 use crate::names;
 use crate::outcome::{KeptRow, NewRow, Outcome};
 use crate::write::keep;
@@ -106,7 +107,7 @@ impl<S: Alter> Store<S> {
         ensures durable { HasCleanDisk (shows S.Store self.new) → (F : List Request) → HasRequests S.Store self.old F
             → OnOk result (IsTrue (shows S.Store self.new).is_open × ((trees : Trees) → (shows S.Store self.new).may_leave trees → Leaves F trees)) }
     {
-        Err(StoreFault::Store)
+        find_kept(&mut self.conn, self.alloc, filer, key.as_str())
     }
 
     /// Keeps a request, in one transaction, and answers its outcome: a valid report takes the next number, and another
@@ -158,5 +159,18 @@ impl<S: Alter> Store<S> {
         ensures { result ≡ Ok self.now.filings }
     {
         Ok(self.filings)
+    }
+
+    /// The connection.
+    pub(crate) fn into_conn(self) -> Connection<S>
+        ensures { result ≡ self.conn }
+    {
+        let Store {
+            alloc: _,
+            conn,
+            kept: _,
+            filings: _,
+        } = self;
+        conn
     }
 }

@@ -1,5 +1,5 @@
 -- What the calls of a connection keep of its database.
-use Rattle.std.proofs.Common.{◌≡◌, inl, inr, ℕ, Option, Some, None, Ok, Err, Result, IsTrue, List, [], refl, sym, ap, subst, ◌∙◌}
+use Rattle.std.proofs.Common.{◌≡◌, inl, inr, ℕ, Option, Some, None, Ok, Err, Result, IsTrue, List, [], refl, sym, ap, subst, ◌∙◌, arith}
 use Rattle.sqlite.specs.Order.{Row}
 use Rattle.sqlite.specs.Tree.{Trees}
 use Rattle.sqlite.specs.Effect.{Database, RefusesToRead}
@@ -13,9 +13,9 @@ use Rattle.sqlite.specs.Clock.{timed}
 use Rattle.sqlite.specs.Command.{Command}
 use Rattle.sqlite.specs.Command.TheVariants.{Select, Rows}
 use Rattle.sqlite.specs.Listing.{understood}
-use Rattle.sqlite.specs.State.{State, IsStatement, IsNoStatement, IsUnchanged, RunsCommand, ShowsRows, FailsToShow, FailsToQuery, IsNotRun, Shown, QueriesRow, CommitsShowing, Survives, store_error}
+use Rattle.sqlite.specs.State.{State, IsStatement, IsNoStatement, IsUnchanged, RunsCommand, ShowsRows, FailsToShow, FailsToQuery, IsNotRun, Shown, QueriesRow, CommitsShowing, Survives, HasCleanDisk, store_error}
 use Rattle.sqlite.proofs.Callers.{IsPlain, never_commits}
-use Rattle.sqlite.proofs.StateLemmas.{survives_weaker}
+use Rattle.sqlite.proofs.StateLemmas.{survives_weaker, survives_then}
 use Rattle.table_rows.specs.Standing.{Stands, Keeps, Commits}
 
 pub stands_on : (Is : Database → Type 0) (old new : State) → Keeps old new → Stands Is old → Stands Is new
@@ -104,6 +104,13 @@ pub nothing_written : {X : Type 0} (Is : X → Database → Type 0) (sql : List 
     → Survives old new (CommitsShowing sql params old) → Survives old new (Commits Is old (λ _ _. ⊥))
 nothing_written Is sql plain params old new =
     survives_weaker old new _ _ (λ _ db h x was alive. never_commits sql params old db (plain x old.now (was.now alive)) h)
+
+-- one call after another that commits nothing
+pub nothing_then : {X : Type 0} (Is : X → Database → Type 0) (first mid last : State)
+    → (HasCleanDisk mid → (x : X) → Stands (Is x) first → IsTrue first.is_open → Stands (Is x) mid × IsTrue mid.is_open)
+    → Survives first mid (Commits Is first (λ _ _. ⊥)) → Survives mid last (Commits Is mid (λ _ _. ⊥)) → Survives first last (Commits Is first (λ _ _. ⊥))
+nothing_then Is first mid last on p q =
+    survives_then first mid last _ _ _ (λ _ trees none. none) (λ clean trees none x was alive. let there = on (omega (arith, q.clean)) x was alive in none x there.0 there.1) p q
 
 -- what a crash leaves of an open store are the rows that it shows
 pub lasting : (Is : Database → Type 0) (s : State) → Stands Is s → IsTrue s.is_open → (trees : Trees) → trees ≡ s.committed.trees → trees ≡ s.now.trees

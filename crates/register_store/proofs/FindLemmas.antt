@@ -1,0 +1,259 @@
+-- What the look-ups find of the requests that the rows stand for.
+use Rattle.std.proofs.Common.{◌≡◌, ◌⊎◌, inl, inr, ◌<◌, ◌≤◌, ℕ, ◌+◌, suc, pos, Bool, true, false, List, [], ◌∷◌, ◌++◌, map, filter, length, Option, Some, None, refl, sym, ap, ap₂, subst, ◌∙◌, IsPermutation, nat_eq, int_cmp, arith, append-nil, ⊎_elim}
+use Rattle.std.specs.Prelude.{◌&&◌, bytes_eq, find}
+use Rattle.std.specs.Ordering.{is_eq}
+use Rattle.std.proofs.lemmas.Bool.{cases_Bool, and_parts}
+use Rattle.std.proofs.lemmas.Bool.Decides.{nat_tests}
+use Rattle.std.proofs.lemmas.Int.{ints}
+use Rattle.std.proofs.lemmas.Map.Text.{is_eq-slice_cmp}
+use Rattle.std.proofs.lemmas.Slice.Eq.{bytes_eq-Decides}
+use Rattle.std.proofs.lemmas.List.Sorted.{length_permutation}
+use Rattle.std.proofs.lemmas.List.Elements.{filter-append}
+use Rattle.sqlite.specs.declared.types.Value.TheVariants.{Int, Text, Blob}
+use Rattle.sqlite.specs.Order.{Row}
+use Rattle.sqlite.specs.Ops.{binary, is_true, from_truth}
+use Rattle.sqlite_sql.specs.declared.ops.BinaryOp.TheVariants.{Compare}
+use Rattle.sqlite_sql.specs.declared.ops.CompareOp.TheVariants.{Eq}
+use Rattle.sqlite.specs.Collation.TheVariants.{Binary}
+use Rattle.sqlite.specs.State.{State}
+use Rattle.sqlite.proofs.Callers.{one_permutation}
+use Rattle.sqlite_value.proofs.OrderLemmas.{value_cmp-Text, value_cmp-Int}
+use Rattle.xbrl_report.specs.Pair.{Pair}
+use Rattle.xbrl_report.specs.CodeNumber.{number_of}
+use Rattle.xbrl_report.specs.declared.code.Code.{Code}
+use Rattle.xbrl_report.specs.declared.code.Code.TheVariants.{NotJson, NotObject, DocumentInfo, DocumentType, Namespaces, NamespaceUri, Taxonomy, Facts, Fact, Value, Decimals, Dimensions, ConceptMissing, EntityMissing, DimensionValue, Name, UnboundPrefix, NotTheFiler, Period, PeriodOrder, UnitForm, Number, Language, UnknownDimension, TooMany}
+use Rattle.filing_model.specs.Request.{Request, same_key, firsts}
+use Rattle.filing_model.specs.Register.{Outcome, Kept, kept}
+use Rattle.filing_model.specs.Answer.{kept_for}
+use Rattle.filing_model.specs.Views.{the_request}
+use Rattle.filing_model.proofs.Firsts.{firsts_once}
+use Rattle.filing_model.proofs.Keeping.{requests_of_kept}
+use Rattle.filing_model.proofs.Lists.{filter-map, length-map}
+use Rattle.table_rows.specs.Rows.{counted_from}
+use Rattle.table_rows.specs.Reading.{RisesBy, ReadsRows}
+use Rattle.table_rows.specs.Standing.{Stands}
+use Rattle.table_rows.proofs.OrderLemmas.{counted_rise}
+use Rattle.register_store.specs.Schema.{kept_table, finding_table}
+use Rattle.register_store.specs.Register.{kept_row, finding_row, finding_rows, findings_of, joined_from}
+use Rattle.register_store.specs.Reads.{by_second}
+use Rattle.register_store.specs.Found.{has_texts, has_seq, unsorted, found_in, pair_in, found_row, finding_in, code_in, IsPlaced, IsReading, IsLookUp}
+use Rattle.register_store.specs.declared.found.Found.{Found}
+use Rattle.register_store.specs.Store.{IsRegisterOf}
+
+truth_of : (b : Bool) → is_true (from_truth (Some b)) ≡ b
+truth_of true = refl
+truth_of false = refl
+
+-- two texts are equal in SQL where their bytes are
+same_text : (a b : List ℕ) → is_true (binary (Compare Eq Binary) (Text a) (Text b)) ≡ bytes_eq a b
+unfolding binary
+same_text a b = truth_of _ ∙ ap is_eq (value_cmp-Text a b) ∙ is_eq-slice_cmp a b
+
+and_true : (b : Bool) → (b && true) ≡ b
+and_true true = refl
+and_true false = refl
+
+-- ---- the row of a filer and key
+
+module _ (filer key body : List ℕ) where
+  abbrev r : Request
+  r = the_request filer key body
+
+  has_its : (at : ℕ) (k : Kept) → has_texts filer key (kept_row at k) ≡ same_key k.request r
+  has_its at k = rw (same_text k.request.filer filer, same_text k.request.key key, and_true (bytes_eq k.request.key key)) refl
+
+  -- at most one of these is so
+  abbrev Few : List Kept → Type 0
+  Few ks = length (filter (λ k. same_key k.request r) ks) ≤ 1
+
+  none_of_them : (at : ℕ) (ks : List Kept) → length (filter (λ k. same_key k.request r) ks) ≡ 0 → filter (has_texts filer key) (counted_from kept_row at ks) ≡ []
+  none_of_them at [] none = refl
+  none_of_them at (k ∷ ks) none = ⊎_elim
+      (λ (is : same_key k.request r ≡ true). absurd (let some : suc (length (filter (λ k. same_key k.request r) ks)) ≡ 0 = rw is at none in omega (arith, some)))
+      (λ (is : same_key k.request r ≡ false). rw (has_its at k ∙ is) (none_of_them (at + 1) ks (rw is at none)))
+      (cases_Bool (same_key k.request r))
+
+  -- the row of the one that has the key, or none
+  pub record IsOnly (at : ℕ) (ks : List Kept) (rows : List Row) : Type 0 where
+    pub seq : ℕ
+    pub k : Kept
+    pub placed : IsPlaced at seq ks k
+    pub is : find (λ k. same_key k.request r) ks ≡ Some k
+    pub so : same_key k.request r ≡ true
+    pub rows_are : rows ≡ kept_row seq k ∷ []
+
+  record IsNone (ks : List Kept) (rows : List Row) : Type 0 where
+    pub is : find (λ k. same_key k.request r) ks ≡ None
+    pub rows_are : rows ≡ []
+
+  only : (at : ℕ) (ks : List Kept) → Few ks → IsNone ks (filter (has_texts filer key) (counted_from kept_row at ks)) ⊎ IsOnly at ks (filter (has_texts filer key) (counted_from kept_row at ks))
+  only at [] few = inl (record { is = refl; rows_are = refl })
+  only at (k ∷ ks) few = ⊎_elim here (λ (is : same_key k.request r ≡ false). further is (only (at + 1) ks (rw is at few))) (cases_Bool (same_key k.request r))
+    where
+      rest : List Row
+      rest = filter (has_texts filer key) (counted_from kept_row (at + 1) ks)
+
+      all : List Row
+      all = filter (has_texts filer key) (counted_from kept_row at (k ∷ ks))
+
+      here : same_key k.request r ≡ true → IsNone (k ∷ ks) all ⊎ IsOnly at (k ∷ ks) all
+      here is =
+          let some : suc (length (filter (λ k. same_key k.request r) ks)) ≤ 1 = rw is at few in
+          let none = none_of_them (at + 1) ks (omega (arith, some)) in
+          inr (record { seq = at; k = k; placed = inl (refl, refl); is = rw is refl; so = is; rows_are = rw (has_its at k ∙ is) (ap (λ l. kept_row at k ∷ l) none) })
+
+      further : same_key k.request r ≡ false → IsNone ks rest ⊎ IsOnly (at + 1) ks rest → IsNone (k ∷ ks) all ⊎ IsOnly at (k ∷ ks) all
+      further is (inl none) = inl (record { is = rw is none.is; rows_are = rw (has_its at k ∙ is) none.rows_are })
+      further is (inr one) = inr (record { seq = one.seq; k = one.k; placed = inr one.placed; is = rw is one.is; so = one.so; rows_are = rw (has_its at k ∙ is) one.rows_are })
+
+few_kept : (F : List Request) (r : Request) → length (filter (λ k. same_key k.request r) (kept F)) ≤ 1
+few_kept F r =
+    let as_firsts : map (λ k. k.request) (filter (λ k. same_key k.request r) (kept F)) ≡ filter (λ s. same_key s r) (firsts F)
+    = sym (filter-map (λ (k : Kept). k.request) (λ s. same_key s r) (kept F)) ∙ ap (filter (λ s. same_key s r)) (requests_of_kept F) in
+    omega (arith, length-map (λ (k : Kept). k.request) (filter (λ k. same_key k.request r) (kept F)), ap length as_firsts, firsts_once F r)
+
+nothing : (rows : List Row) → IsPermutation [] rows → rows ≡ []
+nothing [] same = refl
+nothing (r ∷ rows) same = absurd (omega (arith, length_permutation _ _ same))
+
+-- one row, which is that of the kept request
+pub record IsThere (filer key : List ℕ) (F : List Request) (rows : List Row) : Type 0 where
+  pub k : Kept
+  pub seq : ℕ
+  pub placed : IsPlaced 1 seq (kept F) k
+  pub is : (body : List ℕ) → kept_for (kept F) (the_request filer key body) ≡ Some k
+  pub filer_is : k.request.filer ≡ filer
+  pub key_is : k.request.key ≡ key
+  pub rows_are : rows ≡ found_row seq k ∷ []
+
+-- what the rows of a filer and key say
+abbrev pub IsRead : List ℕ → List ℕ → List Request → List Row → Type 0
+IsRead filer key F rows = (((body : List ℕ) → kept_for (kept F) (the_request filer key body) ≡ None) × (rows ≡ [])) ⊎ IsThere filer key F rows
+
+module _ (filer key : List ℕ) (F : List Request) (old new : State) (rows : List Row) (was : Stands (IsRegisterOf F) old) where
+  its_row : IsNone filer key [] (kept F) (filter (has_texts filer key) (counted_from kept_row 1 (kept F))) ⊎ IsOnly filer key [] 1 (kept F) (filter (has_texts filer key) (counted_from kept_row 1 (kept F)))
+      → IsPermutation (map found_in (filter (has_texts filer key) (counted_from kept_row 1 (kept F)))) rows → IsRead filer key F rows
+  its_row (inl none) same = inl ((λ body. none.is), nothing rows (rw none.rows_are at same))
+  its_row (inr one) same =
+      let both = and_parts _ _ one.so in
+      inr (record {
+        k = one.k;
+        seq = one.seq;
+        placed = one.placed;
+        is = λ body. one.is;
+        filer_is = (bytes_eq-Decides one.k.request.filer filer).0 both.0;
+        key_is = (bytes_eq-Decides one.k.request.key key).0 both.1;
+        rows_are = one_permutation (found_row one.seq one.k) rows (rw one.rows_are at same);
+      })
+
+  pub key_read : ReadsRows kept_table (has_texts filer key) unsorted found_in rows old new → IsRead filer key F rows
+  key_read h = its_row (only filer key [] 1 (kept F) (few_kept F (the_request filer key []))) (h.any (counted_from kept_row 1 (kept F)) (was.now h.same.0.was_open).rows.rows.kept_is)
+
+looked_up : (filer key : List ℕ) (F : List Request) (rows : List Row) → IsRead filer key F rows → (found : Option Found) → IsReading rows found → IsLookUp filer key F found
+looked_up filer key F rows (inl none) None h = none.0
+looked_up filer key F rows (inl none) (Some found) h = absurd (h.0 none.1)
+looked_up filer key F rows (inr one) None h = absurd (let rows_are = one.rows_are in cc)
+looked_up filer key F rows (inr one) (Some found) h =
+    let says = h.1 one.seq one.k one.rows_are in
+    record {
+      k = one.k;
+      seq = one.seq;
+      placed = one.placed;
+      is = one.is;
+      request = λ i. record { filer = one.filer_is i; key = one.key_is i; body = sym says.1 i };
+      seq_is = says.0;
+      number_is = says.2;
+    }
+
+-- the answer of a look-up
+pub key_found : (filer key : List ℕ) (F : List Request) (old new : State) (rows : List Row) → Stands (IsRegisterOf F) old → ReadsRows kept_table (has_texts filer key) unsorted found_in rows old new
+    → (found : Option Found) → IsReading rows found → IsLookUp filer key F found
+key_found filer key F old new rows was h found reading = looked_up filer key F rows (key_read filer key F old new rows was h) found reading
+
+-- ---- the findings at a place
+
+same_number : (m n : ℕ) → is_true (binary (Compare Eq Binary) (Int (pos m)) (Int (pos n))) ≡ nat_eq m n
+unfolding binary
+same_number m n = truth_of _ ∙ ap is_eq (value_cmp-Int (pos m) (pos n)) ∙ by_numbers
+  where
+    by_numbers : is_eq (int_cmp (pos m) (pos n)) ≡ nat_eq m n
+    by_numbers = grind (arith, ints, nat_tests)
+
+module _ (seq : ℕ) where
+  its_seq : (at pos' : ℕ) (f : Pair) → has_seq (pos seq) (finding_row at pos' f) ≡ nat_eq at seq
+  its_seq at pos' f = and_true _ ∙ same_number at seq
+
+  all_its : (at : ℕ) (fs : List Pair) → filter (has_seq (pos seq)) (counted_from (finding_row seq) at fs) ≡ counted_from (finding_row seq) at fs
+  all_its at [] = refl
+  all_its at (f ∷ fs) = let here : nat_eq seq seq ≡ true = grind (arith, nat_tests) in rw (its_seq seq at f ∙ here) (ap (λ l. finding_row seq at f ∷ l) (all_its (at + 1) fs))
+
+  none_its : (m at : ℕ) (fs : List Pair) → nat_eq m seq ≡ false → filter (has_seq (pos seq)) (counted_from (finding_row m) at fs) ≡ []
+  none_its m at [] apart = refl
+  none_its m at (f ∷ fs) apart = rw (its_seq m at f ∙ apart) (none_its m (at + 1) fs apart)
+
+  none_later : (at : ℕ) (ks : List Kept) → seq < at → filter (has_seq (pos seq)) (joined_from finding_rows at ks) ≡ []
+  none_later at [] low = refl
+  none_later at (k ∷ ks) low =
+      let apart : nat_eq at seq ≡ false = grind (arith, nat_tests) in
+      filter-append (has_seq (pos seq)) (finding_rows at k) (joined_from finding_rows (at + 1) ks) ∙ ap₂ ◌++◌ (none_its at 1 (findings_of k.outcome) apart) (none_later (at + 1) ks (omega arith))
+
+  placed_from : (at : ℕ) (ks : List Kept) (k : Kept) → IsPlaced at seq ks k → at ≤ seq
+  placed_from at [] k h = absurd h
+  placed_from at (x ∷ ks) k (inl here) = omega (arith, here.0)
+  placed_from at (x ∷ ks) k (inr later) = omega (arith, placed_from (at + 1) ks k later)
+
+  -- the rows of a place are those of the request that stands there
+  pub its_rows : (at : ℕ) (ks : List Kept) (k : Kept) → IsPlaced at seq ks k → filter (has_seq (pos seq)) (joined_from finding_rows at ks) ≡ finding_rows seq k
+  its_rows at [] k h = absurd h
+  its_rows at (x ∷ ks) k (inl here) =
+      let low : seq < at + 1 = omega (arith, here.0) in
+      filter-append (has_seq (pos seq)) (finding_rows at x) (joined_from finding_rows (at + 1) ks)
+      ∙ ap₂ ◌++◌ (ap (λ n. filter (has_seq (pos seq)) (counted_from (finding_row n) 1 (findings_of x.outcome))) (sym here.0) ∙ all_its 1 (findings_of x.outcome)) (none_later (at + 1) ks low)
+      ∙ append-nil _ ∙ ap (finding_rows seq) (sym here.1)
+  its_rows at (x ∷ ks) k (inr later) =
+      let above = placed_from (at + 1) ks k later in
+      let apart : nat_eq at seq ≡ false = grind (arith, nat_tests) in
+      filter-append (has_seq (pos seq)) (finding_rows at x) (joined_from finding_rows (at + 1) ks) ∙ ap₂ ◌++◌ (none_its at 1 (findings_of x.outcome) apart) (its_rows (at + 1) ks k later)
+
+-- what a row says of its finding
+pub code_back : (c : Code) → code_in (Int (pos (number_of c))) ≡ c
+code_back NotJson = refl
+code_back NotObject = refl
+code_back DocumentInfo = refl
+code_back DocumentType = refl
+code_back Namespaces = refl
+code_back NamespaceUri = refl
+code_back Taxonomy = refl
+code_back Facts = refl
+code_back Fact = refl
+code_back Value = refl
+code_back Decimals = refl
+code_back Dimensions = refl
+code_back ConceptMissing = refl
+code_back EntityMissing = refl
+code_back DimensionValue = refl
+code_back Name = refl
+code_back UnboundPrefix = refl
+code_back NotTheFiler = refl
+code_back Period = refl
+code_back PeriodOrder = refl
+code_back UnitForm = refl
+code_back Number = refl
+code_back Language = refl
+code_back UnknownDimension = refl
+code_back TooMany = refl
+
+pairs_back : (seq at : ℕ) (fs : List Pair) → map finding_in (map pair_in (counted_from (finding_row seq) at fs)) ≡ fs
+pairs_back seq at [] = refl
+pairs_back seq at (f ∷ fs) = ap₂ (λ c l. record { place = f.place; code = c } ∷ l) (code_back f.code) (pairs_back seq (at + 1) fs)
+
+module _ (F : List Request) (old new : State) (rows : List Row) (was : Stands (IsRegisterOf F) old) (seq : ℕ) (k : Kept) (placed : IsPlaced 1 seq (kept F) k) where
+  its_table : filter (has_seq (pos seq)) (joined_from finding_rows 1 (kept F)) ≡ finding_rows seq k
+  its_table = its_rows seq 1 (kept F) k placed
+
+  -- the rows say the findings
+  pub findings_read : ReadsRows finding_table (has_seq (pos seq)) by_second pair_in rows old new → map finding_in rows ≡ findings_of k.outcome
+  findings_read h =
+      ap (map finding_in) (h.ordered (joined_from finding_rows 1 (kept F)) (was.now h.same.0.was_open).rows.rows.finding_is
+      (subst (RisesBy by_second) (sym its_table) (counted_rise (finding_row seq) by_second (λ _ _. refl) 1 (findings_of k.outcome))) ∙ ap (map pair_in) its_table)
+      ∙ pairs_back seq 1 (findings_of k.outcome)

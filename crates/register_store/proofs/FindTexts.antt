@@ -1,0 +1,47 @@
+-- What the texts of the look-ups mean under the declared tables.
+use Rattle.std.proofs.Common.{◌≡◌, ℕ, List, [], ◌∷◌, codes, refl, sym, subst}
+use Rattle.sqlite_schema.specs.declared.schema.Index.{Index}
+use Rattle.sqlite_schema.specs.declared.schema.View.{View}
+use Rattle.sqlite.specs.Table.{Table}
+use Rattle.sqlite.specs.Schema.{Schema}
+use Rattle.sqlite.specs.Collation.TheVariants.{Binary}
+use Rattle.sqlite.specs.Term.{Term, col, op2}
+use Rattle.sqlite_sql.specs.declared.ops.BinaryOp.TheVariants.{Compare}
+use Rattle.sqlite_sql.specs.declared.ops.CompareOp.TheVariants.{Eq}
+use Rattle.sqlite_tied.specs.Compute.{everything}
+use Rattle.sqlite.specs.Listing.{understood}
+use Rattle.table_rows.specs.Tables.{schema_with}
+use Rattle.table_rows.proofs.SelectLemmas.{one_table}
+use Rattle.table_rows.proofs.ReadingLemmas.{by_each}
+use Rattle.table_rows.proofs.QueryLemmas.{Asks}
+use Rattle.register_store.specs.Schema.{register_tables, IsDeclared}
+use Rattle.register_store.proofs.ReadTexts.{columns, equals}
+
+abbrev pub find_text : List ℕ
+find_text = codes "SELECT seq, body, number FROM kept WHERE filer = ?1 AND idem = ?2"
+
+abbrev pub found_text : List ℕ
+found_text = codes "SELECT code, place FROM finding WHERE seq = ?1 ORDER BY pos"
+
+-- the filer and the key equal the parameters
+abbrev pub same_filer_and_key : List Term
+same_filer_and_key = op2 (Compare Eq Binary) (col 1 2) (col 0 0) ∷ op2 (Compare Eq Binary) (col 1 3) (col 0 1) ∷ []
+
+module _ (tables : List Table) (indexes : List Index) (views : List View) where
+  abbrev schema : Schema
+  schema = schema_with register_tables tables indexes views
+
+  key_text : Asks schema find_text (one_table 1 same_filer_and_key (columns (0 ∷ 4 ∷ 5 ∷ [])) (by_each []))
+  unfolding understood everything
+  key_text = record { names = codes "seq" ∷ codes "body" ∷ codes "number" ∷ []; is = refl; plain = (refl, refl); listing = refl }
+
+  seq_text : Asks schema found_text (one_table 3 (equals 1) (columns (3 ∷ 4 ∷ [])) (by_each (col 1 2 ∷ [])))
+  unfolding understood everything
+  seq_text = record { names = codes "code" ∷ codes "place" ∷ []; is = refl; plain = (refl, refl); listing = refl }
+
+-- the same of any schema that begins with our tables
+pub asks_key : (s : Schema) → IsDeclared s → Asks s find_text (one_table 1 same_filer_and_key (columns (0 ∷ 4 ∷ 5 ∷ [])) (by_each []))
+asks_key s d = subst (λ t. Asks t find_text (one_table 1 same_filer_and_key (columns (0 ∷ 4 ∷ 5 ∷ [])) (by_each []))) (sym d.is) (key_text d.tables d.indexes d.views)
+
+pub asks_seq : (s : Schema) → IsDeclared s → Asks s found_text (one_table 3 (equals 1) (columns (3 ∷ 4 ∷ [])) (by_each (col 1 2 ∷ [])))
+asks_seq s d = subst (λ t. Asks t found_text (one_table 3 (equals 1) (columns (3 ∷ 4 ∷ [])) (by_each (col 1 2 ∷ [])))) (sym d.is) (seq_text d.tables d.indexes d.views)

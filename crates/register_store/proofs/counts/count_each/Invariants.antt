@@ -1,0 +1,21 @@
+use Rattle.std.proofs.Common.{◌≡◌, List, map, take, false, IsTrue}
+use Rattle.sqlite.specs.Held.{state}
+use Rattle.sqlite.specs.State.{HasCleanDisk, Survives}
+use Rattle.filing_model.specs.Request.{Request}
+use Rattle.filing_model.specs.Register.{register}
+use Rattle.filing_model.specs.Views.{view_row}
+use Rattle.table_rows.specs.Standing.{Stands, Commits}
+use Rattle.register_store.specs.Numbered.{counted_under}
+use Rattle.register_store.specs.Store.{IsRegisterOf}
+use Rattle.register_store.proofs.counts.count_each.Given as goal
+
+abbrev pub invariant-loop-number : goal.invariant-loop-number
+invariant-loop-number g l =
+    let old = state g.S.Store l.fn.conn in
+    let now = state g.S.Store l.conn in record {
+      rows : HasCleanDisk now → (F : List Request) → Stands (IsRegisterOf F) old → map view_row l.rows.items ≡ map (counted_under (register F)) (take l.number-index l.numbers);
+      same : HasCleanDisk now → (F : List Request) → Stands (IsRegisterOf F) old → Stands (IsRegisterOf F) now;
+      alive : HasCleanDisk now → (F : List Request) → Stands (IsRegisterOf F) old → IsTrue old.is_open → IsTrue now.is_open;
+      mode : l.fn.conn.in_transaction ≡ false → l.conn.in_transaction ≡ false;
+      survives : Survives old now (Commits IsRegisterOf old (λ _ _. ⊥));
+    }

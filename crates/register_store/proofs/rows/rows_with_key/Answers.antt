@@ -1,0 +1,16 @@
+use Rattle.std.proofs.lemmas.Result.{IfOk-weaker}
+use Rattle.sqlite.specs.Held.{state}
+use Rattle.register_store.proofs.FindTexts.{find_text, asks_key}
+use Rattle.register_store.proofs.FindReads.{reads_key}
+use Rattle.register_store.proofs.ReadLemmas.{keeps, commits_none}
+use Rattle.register_store.proofs.rows.rows_with_key.Goals as goal
+
+pub returns-clause-read : goal.returns-clause-read
+returns-clause-read g c clean knows =
+    IfOk-weaker c.query_all.result _ _ (λ rows h. reads_key (state g.S.Store c.args.conn.now) (state g.S.Store c.query_all.new.self) knows rows.items c.args.filer.now c.args.key.now (rw (c.params-to_sql.ensures, c.params-to_sql-2.ensures) at h)) (c.query_all.ensures.ok clean)
+
+pub returns-clause-keeps : goal.returns-clause-keeps
+returns-clause-keeps g c clean knows = keeps find_text (λ s d. (asks_key s d).plain) _ (state g.S.Store c.args.conn.now) (state g.S.Store c.query_all.new.self) (λ rows. rows.items) c.query_all.result (c.query_all.ensures.ok clean) (c.query_all.ensures.err clean) knows
+
+pub returns-clause-survives : goal.returns-clause-survives
+returns-clause-survives g c = commits_none find_text (λ s d. (asks_key s d).plain) _ (state g.S.Store c.args.conn.now) (state g.S.Store c.query_all.new.self) c.query_all.ensures.survives

@@ -1,0 +1,88 @@
+-- What the look-ups of a request's rows find.
+use Rattle.std.specs.Prelude.{◌≡◌, ◌⊎◌, ◌&&◌, ◌+◌, ℕ, ℤ, pos, Bool, true, false, nat_eq, find, unwrap_or, ◌≢◌, List, [], ◌∷◌, Option, None, Some}
+use Rattle.sqlite.specs.declared.types.Value.{Value}
+use Rattle.sqlite.specs.declared.types.Value.TheVariants.{Int, Text, Blob}
+use Rattle.sqlite.specs.Order.{Row, column}
+use Rattle.sqlite.specs.Ops.{binary, is_true}
+use Rattle.sqlite.specs.Values.{or_null}
+use Rattle.sqlite_sql.specs.declared.ops.BinaryOp.TheVariants.{Compare}
+use Rattle.sqlite_sql.specs.declared.ops.CompareOp.TheVariants.{Eq}
+use Rattle.sqlite.specs.Collation.TheVariants.{Binary}
+use Rattle.xbrl_report.specs.Pair.{Pair}
+use Rattle.xbrl_report.specs.declared.code.Code.{Code}
+use Rattle.xbrl_report.specs.declared.code.Code.TheVariants.{NotJson, NotObject, DocumentInfo, DocumentType, Namespaces, NamespaceUri, Taxonomy, Facts, Fact, Value as ValueCode, Decimals, Dimensions, ConceptMissing, EntityMissing, DimensionValue, Name, UnboundPrefix, NotTheFiler, Period, PeriodOrder, UnitForm, Number, Language, UnknownDimension, TooMany}
+use Rattle.xbrl_report.specs.CodeNumber.{number_of as code_number}
+use Rattle.filing_model.specs.Request.{Request}
+use Rattle.filing_model.specs.Register.{Kept, kept}
+use Rattle.filing_model.specs.Answer.{kept_for}
+use Rattle.filing_model.specs.Views.{the_request}
+use Rattle.register_store.specs.declared.found.Found.{Found}
+use Rattle.register_store.specs.Columns.{bytes_in}
+use Rattle.register_store.specs.Register.{number_of}
+
+-- the columns `filer` and `idem` of `kept` equal these texts, as SQL compares
+abbrev pub has_texts : List ℕ → List ℕ → Row → Bool
+has_texts filer key row = is_true (binary (Compare Eq Binary) (column row 1) (Text filer)) && (is_true (binary (Compare Eq Binary) (column row 2) (Text key)) && true)
+
+-- the column `seq` of `finding` equals this number, as SQL compares
+abbrev pub has_seq : ℤ → Row → Bool
+has_seq seq row = is_true (binary (Compare Eq Binary) (column row 0) (Int seq)) && true
+
+-- in no order
+abbrev pub unsorted : Row → Row
+unsorted row = []
+
+-- the columns `seq`, `body` and `number` of a kept row
+abbrev pub found_in : Row → Row
+found_in row = column row 0 ∷ column row 3 ∷ column row 4 ∷ []
+
+-- the columns `code` and `place` of a finding's row
+abbrev pub pair_in : Row → Row
+pair_in row = column row 2 ∷ column row 3 ∷ []
+
+-- the same of a kept request at its place
+abbrev pub found_row : ℕ → Kept → Row
+found_row seq k = Int (pos seq) ∷ Blob k.request.body ∷ or_null (λ n. Int (pos n)) (number_of k.outcome) ∷ []
+
+-- the codes, by number
+abbrev pub all_codes : List Code
+all_codes = NotJson ∷ NotObject ∷ DocumentInfo ∷ DocumentType ∷ Namespaces ∷ NamespaceUri ∷ Taxonomy ∷ Facts ∷ Fact ∷ ValueCode ∷ Decimals ∷ Dimensions ∷ ConceptMissing ∷ EntityMissing ∷ DimensionValue ∷ Name ∷ UnboundPrefix ∷ NotTheFiler ∷ Period ∷ PeriodOrder ∷ UnitForm ∷ Number ∷ Language ∷ UnknownDimension ∷ TooMany ∷ []
+
+-- whether the value is this whole number
+abbrev pub is_whole : Value → ℕ → Bool
+is_whole (Int (pos n)) m = nat_eq n m
+is_whole _ m = false
+
+-- the code whose number the value is, the first where it is none's
+abbrev pub code_in : Value → Code
+code_in v = unwrap_or (find (λ c. is_whole v (code_number c)) all_codes) NotJson
+
+-- of the columns `code` and `place`
+abbrev pub finding_in : Row → Pair
+finding_in row = record { place = bytes_in (column row 1); code = code_in (column row 0) }
+
+-- the kept request stands at this place, where the first of them stands at `at`
+abbrev pub IsPlaced : ℕ → ℕ → List Kept → Kept → Type 0
+IsPlaced at seq [] k = ⊥
+IsPlaced at seq (x ∷ ks) k = ((seq ≡ at) × (k ≡ x)) ⊎ IsPlaced (at + 1) seq ks k
+
+-- what was found is the kept request of this filer and key, at its place
+pub record IsFound (filer key : List ℕ) (F : List Request) (found : Found) : Type 0 where
+  pub k : Kept
+  pub seq : ℕ
+  pub placed : IsPlaced 1 seq (kept F) k
+  pub is : (body : List ℕ) → kept_for (kept F) (the_request filer key body) ≡ Some k
+  pub request : k.request ≡ the_request filer key found.body.items
+  pub seq_is : found.seq ≡ pos seq
+  pub number_is : found.number ≡ number_of k.outcome
+
+-- so is an answer, also where nothing is kept of them
+abbrev pub IsLookUp : List ℕ → List ℕ → List Request → Option Found → Type 0
+IsLookUp filer key F None = (body : List ℕ) → kept_for (kept F) (the_request filer key body) ≡ None
+IsLookUp filer key F (Some found) = IsFound filer key F found
+
+-- what was read of rows, of which there is one at most
+abbrev pub IsReading : List Row → Option Found → Type 0
+IsReading rows None = rows ≡ []
+IsReading rows (Some found) = (rows ≢ []) × ((seq : ℕ) (k : Kept) → rows ≡ found_row seq k ∷ []
+    → (found.seq ≡ pos seq) × (found.body.items ≡ k.request.body) × (found.number ≡ number_of k.outcome))

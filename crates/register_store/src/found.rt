@@ -1,0 +1,196 @@
+//! What is kept of a filer and key: its row, and the findings where it was refused.
+
+ghost use Rattle.std.specs.Prelude.{◌≡◌, ℕ, ℤ, pos, false, List, map, option_map, string_bytes, IsTrue, IfOk, OnOk, MatchOption};
+ghost use Rattle.sqlite.specs.Order.{Row as Cells};
+ghost use Rattle.sqlite.specs.Held.{state};
+ghost use Rattle.sqlite.specs.State.{HasCleanDisk, Survives};
+ghost use Rattle.xbrl_report.specs.Pair.{Pair};
+ghost use Rattle.filing_model.specs.Request.{Request};
+ghost use Rattle.filing_model.specs.Register.{Kept, kept};
+ghost use Rattle.filing_model.specs.Answer.{kept_for};
+ghost use Rattle.filing_model.specs.Views.{the_request};
+ghost use Rattle.table_rows.specs.Standing.{Stands};
+ghost use Rattle.register_store.specs.Schema.{IsDeclared};
+ghost use Rattle.register_store.specs.Register.{findings_of, number_of};
+ghost use Rattle.xbrl_report.specs.CodeNumber.{number_of as code_number};
+ghost use Rattle.register_store.specs.Store.{IsRegisterOf};
+ghost use Rattle.register_store.specs.Outcomes.{kept_as};
+ghost use Rattle.register_store.specs.Found.{IsFound, IsLookUp, IsPlaced, IsReading, found_row, finding_in};
+
+use crate::fault::StoreFault;
+use crate::outcome::{KeptRow, Outcome};
+use crate::rows::{rows_of_findings, rows_with_key};
+use sqlite::{Alter, Connection, Row};
+use std::alloc::Global;
+use xbrl_report::{Code, Finding, Findings};
+
+/// A kept row without its filer and key: its place, the body, and its number where it was registered.
+#[derive(Drop)]
+pub struct Found {
+    pub seq: i64,
+    pub body: Vec<u8>,
+    pub number: Option<u64>,
+}
+
+/// What a row with the columns `seq`, `body` and `number` says.
+fn read_found(row: &Row) -> Result<Found, StoreFault>
+    ensures { IfOk result (λ found. (seq : ℕ) (k : Kept) → row.now ≡ found_row seq k
+        → (found.seq ≡ pos seq) × (found.body.items ≡ k.request.body) × (found.number ≡ number_of k.outcome)) }
+{
+    let seq = row.get(0)?;
+    let body = row.get(1)?;
+    let number = row.get(2)?;
+    Ok(Found { seq, body, number })
+}
+
+/// The text that bytes are.
+fn text_of(bytes: Vec<u8>) -> Result<String, StoreFault>
+    ensures { IfOk result (λ text. string_bytes text ≡ bytes.items) }
+{
+    match String::from_utf8(bytes) {
+        Ok(text) => Ok(text),
+        Err(_) => Err(StoreFault::Store),
+    }
+}
+
+/// The code of this number.
+fn code_of(number: i64) -> Result<Code, StoreFault>
+    ensures { IfOk result (λ code. number ≡ pos (code_number code)) }
+{
+    match Code::of_number(number) {
+        Some(code) => Ok(code),
+        None => Err(StoreFault::Store),
+    }
+}
+
+/// The finding of a row with the columns `code` and `place`.
+fn read_finding(row: &Row) -> Result<Finding, StoreFault>
+    ensures { IfOk result (λ finding. finding ≡ finding_in row.now) }
+{
+    let number: i64 = row.get(0)?;
+    let code = code_of(number)?;
+    let bytes: Vec<u8> = row.get(1)?;
+    let place = text_of(bytes)?;
+    Ok(Finding { place, code })
+}
+
+/// The findings of such rows.
+fn read_list(alloc: Global, rows: &[Row]) -> Result<Vec<Finding>, StoreFault>
+    ensures { IfOk result (λ list. list.items ≡ map finding_in rows.now) }
+{
+    let mut list = Vec::new(alloc);
+    for row in rows {
+        list.push(read_finding(row)?)?;
+    }
+    Ok(list)
+}
+
+/// The same, as they stand in a refusal.
+fn read_findings(alloc: Global, rows: &[Row]) -> Result<Findings, StoreFault>
+    ensures { IfOk result (λ findings. findings ≡ map finding_in rows.now) }
+{
+    match Findings::from_list(read_list(alloc, rows)?) {
+        Some(findings) => Ok(findings),
+        None => Err(StoreFault::Store),
+    }
+}
+
+/// What the first row says, if there is one.
+fn read_first(rows: &[Row]) -> Result<Option<Found>, StoreFault>
+    ensures { IfOk result (IsReading rows.now) }
+{
+    match rows.first() {
+        None => Ok(None),
+        Some(row) => Ok(Some(read_found(row)?)),
+    }
+}
+
+/// The row that is kept for a filer and key.
+fn look_up<S: Alter>(
+    conn: &mut Connection<S>,
+    filer: &str,
+    key: &str,
+) -> Result<Option<Found>, StoreFault>
+    ensures found { HasCleanDisk (state S.Store conn.new) → (F : List Request) → Stands (IsRegisterOf F) (state S.Store conn.old) → IfOk result (IsLookUp filer.now key.now F) }
+    ensures same { HasCleanDisk (state S.Store conn.new) → (F : List Request) → Stands (IsRegisterOf F) (state S.Store conn.old) → Stands (IsRegisterOf F) (state S.Store conn.new) }
+    ensures open { HasCleanDisk (state S.Store conn.new) → (F : List Request) → Stands (IsRegisterOf F) (state S.Store conn.old) → OnOk result (IsTrue (state S.Store conn.new).is_open) }
+    ensures mode { conn.old.in_transaction ≡ false → conn.new.in_transaction ≡ false }
+    ensures survives { Survives (state S.Store conn.old) (state S.Store conn.new) (λ _. IsDeclared (state S.Store conn.old).now.schema → ⊥) }
+{
+    match rows_with_key(conn, filer, key) {
+        Ok(rows) => read_first(&rows),
+        Err(error) => Err(StoreFault::from(error)),
+    }
+}
+
+/// The findings of the refused request at this place.
+fn findings_at<S: Alter>(
+    conn: &mut Connection<S>,
+    alloc: Global,
+    seq: i64,
+) -> Result<Findings, StoreFault>
+    ensures found { HasCleanDisk (state S.Store conn.new) → (F : List Request) → Stands (IsRegisterOf F) (state S.Store conn.old)
+        → (n : ℕ) (k : Kept) → seq ≡ pos n → IsPlaced 1 n (kept F) k → IfOk result (λ findings. findings ≡ findings_of k.outcome) }
+    ensures same { HasCleanDisk (state S.Store conn.new) → (F : List Request) → Stands (IsRegisterOf F) (state S.Store conn.old) → Stands (IsRegisterOf F) (state S.Store conn.new) }
+    ensures open { HasCleanDisk (state S.Store conn.new) → (F : List Request) → Stands (IsRegisterOf F) (state S.Store conn.old) → OnOk result (IsTrue (state S.Store conn.new).is_open) }
+    ensures mode { conn.old.in_transaction ≡ false → conn.new.in_transaction ≡ false }
+    ensures survives { Survives (state S.Store conn.old) (state S.Store conn.new) (λ _. IsDeclared (state S.Store conn.old).now.schema → ⊥) }
+{
+    match rows_of_findings(conn, seq) {
+        Ok(rows) => read_findings(alloc, &rows),
+        Err(error) => Err(StoreFault::from(error)),
+    }
+}
+
+/// A kept row whole: with its number, or with its findings where it has none.
+fn complete<S: Alter>(
+    conn: &mut Connection<S>,
+    alloc: Global,
+    found: Found,
+) -> Result<KeptRow, StoreFault>
+    ensures found { HasCleanDisk (state S.Store conn.new) → (filer key : List ℕ) (F : List Request) → Stands (IsRegisterOf F) (state S.Store conn.old)
+        → (is : IsFound filer key F found) → IfOk result (λ row. kept_as filer key row ≡ is.k) }
+    ensures same { HasCleanDisk (state S.Store conn.new) → (F : List Request) → Stands (IsRegisterOf F) (state S.Store conn.old) → Stands (IsRegisterOf F) (state S.Store conn.new) }
+    ensures open { HasCleanDisk (state S.Store conn.new) → (F : List Request) → Stands (IsRegisterOf F) (state S.Store conn.old) → IsTrue (state S.Store conn.old).is_open → OnOk result (IsTrue (state S.Store conn.new).is_open) }
+    ensures mode { conn.old.in_transaction ≡ false → conn.new.in_transaction ≡ false }
+    ensures survives { Survives (state S.Store conn.old) (state S.Store conn.new) (λ _. IsDeclared (state S.Store conn.old).now.schema → ⊥) }
+{
+    let Found { seq, body, number } = found;
+    match number {
+        Some(number) => Ok(KeptRow {
+            body,
+            outcome: Outcome::Registered(number),
+        }),
+        None => match findings_at(conn, alloc, seq) {
+            Ok(findings) => Ok(KeptRow {
+                body,
+                outcome: Outcome::Refused(findings),
+            }),
+            Err(fault) => Err(fault),
+        },
+    }
+}
+
+/// What is kept of a filer and key, or `None` where they are new.
+pub fn find_kept<S: Alter>(
+    conn: &mut Connection<S>,
+    alloc: Global,
+    filer: &str,
+    key: &str,
+) -> Result<Option<KeptRow>, StoreFault>
+    ensures found { HasCleanDisk (state S.Store conn.new) → (F : List Request) → Stands (IsRegisterOf F) (state S.Store conn.old)
+        → (body : List ℕ) → IfOk result (λ row. option_map (kept_as filer.now key.now) row ≡ kept_for (kept F) (the_request filer.now key.now body)) }
+    ensures same { HasCleanDisk (state S.Store conn.new) → (F : List Request) → Stands (IsRegisterOf F) (state S.Store conn.old) → Stands (IsRegisterOf F) (state S.Store conn.new) }
+    ensures open { HasCleanDisk (state S.Store conn.new) → (F : List Request) → Stands (IsRegisterOf F) (state S.Store conn.old) → OnOk result (IsTrue (state S.Store conn.new).is_open) }
+    ensures mode { conn.old.in_transaction ≡ false → conn.new.in_transaction ≡ false }
+    ensures crash { Survives (state S.Store conn.old) (state S.Store conn.new) (λ _. (F : List Request) → Stands (IsRegisterOf F) (state S.Store conn.old) → IsTrue (state S.Store conn.old).is_open → ⊥) }
+{
+    match look_up(conn, filer, key) {
+        Ok(Some(found)) => match complete(conn, alloc, found) {
+            Ok(row) => Ok(Some(row)),
+            Err(fault) => Err(fault),
+        },
+        Ok(None) => Ok(None),
+        Err(fault) => Err(fault),
+    }
+}
