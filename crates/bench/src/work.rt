@@ -61,7 +61,7 @@ pub struct Totals {
 /// Serves the input as one connection, over a register that begins empty.
 pub fn serve_pieces(alloc: Global, input: &[u8], most: usize) -> anyhow::Result<Totals> {
     let mut output: Vec<u8> = Vec::new(alloc);
-    let mut intake = Intake::new(alloc, LIMIT);
+    let mut intake = Intake::in_memory(alloc, LIMIT)?;
     let mut reader = Device::new(Pieces { rest: input, most });
     let served = serve(
         alloc,

@@ -26,7 +26,14 @@ pub fn perform<R: Read + Drop, W: Write + Drop, E: Write>(
     output: W,
     errors: &mut E,
 ) -> u8 {
-    let mut intake = Intake::new(alloc, LIMIT);
+    let mut intake = match Intake::in_memory(alloc, LIMIT) {
+        Ok(intake) => intake,
+        Err(fault) => {
+            // Nothing is left to be done where this text can't be written either.
+            let _ = writeln!(errors, "intake: {fault}");
+            return FAULT;
+        }
+    };
     let mut reader = Device::new(input);
     let mut writer = Device::new(output);
     match serve(alloc, &mut reader, &mut writer, &mut intake).ended {

@@ -287,7 +287,12 @@ impl<S: Alter> Intake<S> {
             return Err(Unavailable::Full { kept });
         }
         let judged = judge(self.alloc, filer, body)?;
-        let outcome = self.store.add(&NewRow { filer, key, body, judged: &judged })?;
+        let outcome = self.store.add(&NewRow {
+            filer,
+            key,
+            body,
+            judged: &judged,
+        })?;
         self.remember(filer, key, body, &outcome);
         Ok(answer_by(outcome, false))
     }

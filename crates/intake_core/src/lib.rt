@@ -10,3 +10,6 @@ mod reply;
 pub use filing_model::plain::{Answer, FilingRow};
 pub use intake::{Intake, Unavailable};
 pub use reply::{list_reply, reply_of, word_reply};
+
+#[cfg(test)]
+mod tests;

@@ -17,10 +17,11 @@ returns-in-Some-clause-answer g c = λ clean requests h.
     let r : Request = the_request c.args.filer.now c.args.key.now c.args.body.now in
     let cleaned : HasCleanDisk (shows g.S.Store c.find.new.self) = subst (λ s. HasCleanDisk (shows g.S.Store s)) c.repeat.ensures.rest.0 clean in
     let k = kept_as c.args.filer.now c.args.key.now c.in-Some.row in
-    let found : kept_for (kept requests) r ≡ Some k = sym (rw c.in-Some.is at (c.in_ok-row.ensures.found cleaned requests h.rows c.args.body.now)) in
-    (c.repeat.ensures.answer ∙ sym (answer_kept requests r k found),
-    Holds-repeat requests r c.repeat.new.self (kept_has_key requests r k found)
-    (c.repeat.ensures.same requests (Holds-asked requests c.args.self.now _ h refl (c.in_ok-row.ensures.same cleaned requests h.rows)) found))
+    let found : kept_for (kept requests) r ≡ Some k = sym (rw c.in-Some.is at (c.in_ok-row.ensures.found cleaned requests h.rows c.args.body.now)) in (
+      c.repeat.ensures.answer ∙ sym (answer_kept requests r k found),
+      Holds-repeat requests r c.repeat.new.self (kept_has_key requests r k found)
+          (c.repeat.ensures.same requests (Holds-asked requests c.args.self.now _ h refl (c.in_ok-row.ensures.same cleaned requests h.rows)) found),
+    )
 
 pub returns-in-Some-clause-room : goal.returns-in-Some-clause-room
 returns-in-Some-clause-room g c = λ clean requests h new.

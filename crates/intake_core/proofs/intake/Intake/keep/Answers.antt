@@ -13,7 +13,8 @@ pub returns-clause-answer : goal.returns-clause-answer
 returns-clause-answer g c = λ clean requests h new.
     let r : Request = the_request c.args.filer.now c.args.key.now c.args.body.now in
     let cleaned : HasCleanDisk (shows g.S.Store c.add.new.self) = subst (λ s. HasCleanDisk (shows g.S.Store s)) c.remember.ensures.rest.0 clean in
-    let added = c.in_ok-outcome.ensures.added cleaned requests h.rows new in
-    (c.answer_by.ensures ∙ ap (λ o. answer_by o false) added.0 ∙ sym (answer_new requests r new),
-    c.remember.ensures.same (requests ++ r ∷ []) (Holds-more requests r c.args.self.now _ new h refl added.1)
-    (IsKeptIn-new requests r (view_outcome c.in_ok-outcome.outcome) new added.0))
+    let added = c.in_ok-outcome.ensures.added cleaned requests h.rows new in (
+      c.answer_by.ensures ∙ ap (λ o. answer_by o false) added.0 ∙ sym (answer_new requests r new),
+      c.remember.ensures.same (requests ++ r ∷ []) (Holds-more requests r c.args.self.now _ new h refl added.1)
+          (IsKeptIn-new requests r (view_outcome c.in_ok-outcome.outcome) new added.0),
+    )
