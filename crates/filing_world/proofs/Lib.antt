@@ -1,0 +1,4 @@
+pub mod Lists
+pub mod Hearing
+pub mod Stability
+pub mod Keeping
