@@ -8,3 +8,6 @@ pub mod Alike
 pub mod Appending
 pub mod Valid
 pub mod Stopping
+pub mod Contents
+pub mod Sizes
+pub mod Finals

@@ -15,15 +15,17 @@ use Rattle.filing_model.specs.Prefix.{IsPrefixOf}
 use Rattle.filing_model.specs.Request.{Request, firsts}
 use Rattle.filing_model.specs.Answer.{Answer, answer, IsRegistered}
 use Rattle.filing_model.specs.Reply.{reply_of, unavailable, refused_status}
-use Rattle.filing_model.specs.Outbox.{Open, Confirmed, Refused, Clashed, moved, state_told, IsSendable, bytes_of}
+use Rattle.filing_model.specs.Outbox.{Open, Confirmed, Refused, Clashed, moved, state_told, IsSendable, IsFinal, bytes_of}
 use Rattle.filing_model.specs.Stopping.{BeginsPlaces}
 use Rattle.filing_model.specs.Text.{Filed, RouteFits, MarksFit, completed, completed_at, requests_of_route, reply, reply_on, reply_text, text, interim_of, next_interim}
-use Rattle.filing_model.proofs.Answers.{answer_registered, registered_grows, registered_bound}
+use Rattle.filing_model.proofs.Answers.{answer_registered, registered_grows}
 use Rattle.filing_model.proofs.Lists.{append_nil, prefix_nil, take_prefix, take_within, take_all, prefix_trans}
-use Rattle.filing_model.proofs.Firsts.{firsts_more, firsts_one_more}
+use Rattle.filing_model.proofs.Finals.{answer-final, unavailable-final, told-exactly, answer_number}
+use Rattle.filing_model.proofs.Firsts.{firsts_more}
 use Rattle.filing_world.specs.World.{Sent, Output}
 use Rattle.filing_world.specs.Headline.{IsOutput}
-use Rattle.filing_world.specs.Laws.{Laws, IsAlone, FilesAlone, IsFinal}
+use Rattle.filing_world.specs.Laws.{WireLaws, IsAlone, FilesAlone}
+use Rattle.filing_world.proofs.Posting.{own_front}
 
 -- ---- statuses other than 201 confirm nothing
 
@@ -49,18 +51,18 @@ unfolding moved
 other_reply reply n h e = other_status reply.status (tree reply.content) n h e
 
 -- only an answer that registers confirms, and under its number
-pub confirms : Laws → (a : Answer) (n : ℕ) → ((m : ℕ) (b : Bool) → a ≡ Answer.Registered m b → m < 2 ^ 63) → moved Open (reply_of a) ≡ Confirmed n → (b : Bool) × (a ≡ Answer.Registered n b)
+pub confirms : (a : Answer) (n : ℕ) → ((m : ℕ) (b : Bool) → a ≡ Answer.Registered m b → m < 2 ^ 63) → moved Open (reply_of a) ≡ Confirmed n → (b : Bool) × (a ≡ Answer.Registered n b)
 unfolding reply_of
-confirms laws (Answer.Registered m b) n small h = (b, ap (λ k. Answer.Registered k b) (laws.told m n b (small m b refl) h))
-confirms laws (Answer.Refused found b) n small h = absurd (other_reply (reply_of (Answer.Refused found b)) n (refused_other found) h)
-confirms laws Answer.KeyReused n small h = absurd (other_reply (reply_of Answer.KeyReused) n refl h)
+confirms (Answer.Registered m b) n small h = (b, ap (λ k. Answer.Registered k b) (told-exactly m n b (small m b refl) h))
+confirms (Answer.Refused found b) n small h = absurd (other_reply (reply_of (Answer.Refused found b)) n (refused_other found) h)
+confirms Answer.KeyReused n small h = absurd (other_reply (reply_of Answer.KeyReused) n refl h)
 
 -- ---- an entry's own request
 
 reply_alone : (before : List Request) (m : Message) (r : Request) → FilesAlone m r → reply before m ≡ reply_of (answer before r)
 reply_alone before m r alone = ap (reply_on before) alone.filed
 
-module _ (laws : Laws) (limit : ℕ) (before : List Request) (small : length (firsts before) ≤ 2 ^ 62) (r : Request) (part : List ℕ) (heard : ReplyParts) (n : ℕ) (spelled : SpellsReply part heard) (confirmed : moved Open heard ≡ Confirmed n) where
+module _ (laws : WireLaws) (limit : ℕ) (before : List Request) (small : length (firsts before) ≤ 2 ^ 62) (r : Request) (part : List ℕ) (heard : ReplyParts) (n : ℕ) (spelled : SpellsReply part heard) (confirmed : moved Open heard ≡ Confirmed n) where
   nothing_heard : part ≡ [] → ⊥
   nothing_heard e = laws.nothing heard (subst (λ bytes. SpellsReply bytes heard) e spelled)
 
@@ -83,16 +85,16 @@ module _ (laws : Laws) (limit : ℕ) (before : List Request) (small : length (fi
 
   heard_answer : (close : Bool) → IsPrefixOf part (render (reply_of (answer before r)) close) → IsRegistered (before ++ r ∷ []) r n
   heard_answer close front =
-      let same = heard_is (reply_of (answer before r)) close (laws.final before r small) front in
-      let found = confirms laws (answer before r) n number (ap (moved Open) (sym same) ∙ confirmed) in
+      let same = heard_is (reply_of (answer before r)) close (answer-final before r small) front in
+      let found = confirms (answer before r) n number (ap (moved Open) (sym same) ∙ confirmed) in
       answer_registered before r n found.0 found.1
     where
       number : (m : ℕ) (b : Bool) → answer before r ≡ Answer.Registered m b → m < 2 ^ 63
-      number m b e = omega (arith, registered_bound (before ++ r ∷ []) r m (answer_registered before r m b e), firsts_one_more before r)
+      number m b e = omega (arith, small, answer_number before r m b e)
 
   heard_unavailable : (close : Bool) → IsPrefixOf part (render unavailable close) → ⊥
   heard_unavailable close front =
-      let same = heard_is unavailable close laws.final_unavailable front in
+      let same = heard_is unavailable close unavailable-final front in
       other_reply unavailable n refl (ap (moved Open) (sym same) ∙ confirmed)
 
   silent_interim : (m : Message) → FilesAlone m r → interim_of (Place.Read m) ≡ []
@@ -125,10 +127,10 @@ module _ (laws : Laws) (limit : ℕ) (before : List Request) (small : length (fi
       alone
 
 -- A reply read from any part of an output to an entry's request confirms only what is registered.
-pub hears : Laws → (limit : ℕ) (done : List Request) (sent : List Sent) (output : Output) (r : Request) → (out : IsOutput limit done sent output) → length (firsts done) ≤ 2 ^ 62 → IsSendable r → out.item.bytes ≡ bytes_of r → (given : ℕ) (heard : ReplyParts) → GivesReply (take given output.bytes) heard → (n : ℕ) → moved Open heard ≡ Confirmed n → IsRegistered done r n
+pub hears : WireLaws → (limit : ℕ) (done : List Request) (sent : List Sent) (output : Output) (r : Request) → (out : IsOutput limit done sent output) → length (firsts done) ≤ 2 ^ 62 → IsSendable r → out.item.bytes ≡ bytes_of r → (given : ℕ) (heard : ReplyParts) → GivesReply (take given output.bytes) heard → (n : ℕ) → moved Open heard ≡ Confirmed n → IsRegistered done r n
 hears laws limit done sent output r out few sendable own given heard gives n confirmed =
     let part : List ℕ = take gives.0 (take given output.bytes) in
-    let alone = laws.own r output.given out.places out.ending sendable (subst (λ bytes. BeginsPlaces (take output.given bytes) out.places out.ending) own out.begins) in
+    let alone = own_front r (laws.posted r sendable) output.given out.places out.ending (subst (λ bytes. BeginsPlaces (take output.given bytes) out.places out.ending) own out.begins) in
     let front = prefix_trans part output.bytes (text out.before out.places out.ending output.marks) (prefix_trans part (take given output.bytes) output.bytes (take_within gives.0 (take given output.bytes)) (take_within given output.bytes)) out.written in
     let small : length (firsts out.before) ≤ 2 ^ 62 = omega (arith, firsts_more out.before (completed out.places output.marks ++ out.later), ap (λ requests. length (firsts requests)) out.stands) in
     let here = heard_alone laws limit out.before small r part heard n gives.1 confirmed out.places out.ending output.marks alone out.fit front in

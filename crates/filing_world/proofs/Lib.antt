@@ -1,4 +1,5 @@
 pub mod Lists
+pub mod Posting
 pub mod Hearing
 pub mod Stability
 pub mod Keeping
