@@ -11,3 +11,5 @@ pub mod Stopping
 pub mod Contents
 pub mod Sizes
 pub mod Finals
+pub mod Posted
+pub mod Serving

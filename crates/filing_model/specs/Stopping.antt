@@ -1,11 +1,11 @@
 -- What serving some bytes may mark, write and end with, where it is stopped at a place or where memory runs out.
 use Rattle.std.specs.Prelude.{◌≡◌, ℕ, ◌≤◌, ◌⊎◌, ◌-◌, Bool, true, false, List, [], ◌∷◌, length, take, drop, min, max, Option, Some, None, nat_le, if◌then◌else◌}
-use Rattle.http_wire.specs.declared.refusal.ConnFault.TheVariants.{ReadLimit, Memory}
+use Rattle.http_wire.specs.declared.refusal.ConnFault.TheVariants.{Read as ReadFault, Write, ReadLimit, Memory}
 use Rattle.http_wire.specs.Head.{closes}
 use Rattle.http_wire.specs.Message.{Place, Read, Refused, Ending, Rest, BeginsRequest, IsRefused, Asks, HasPlaces}
 use Rattle.filing_model.specs.declared.served.Mark.{Mark}
 use Rattle.filing_model.specs.declared.served.Ended.{Ended}
-use Rattle.filing_model.specs.declared.served.Ended.TheVariants.{Fault}
+use Rattle.filing_model.specs.declared.served.Ended.TheVariants.{Closed, InputEnded, Fault}
 use Rattle.filing_model.specs.Prefix.{IsPrefixOf}
 use Rattle.filing_model.specs.Request.{Request}
 use Rattle.filing_model.specs.Serving.{end_of}
@@ -70,3 +70,13 @@ pub record ServesUntil (limit : ℕ) (done : List Request) (bytes : List ℕ) (c
   pub ending : Ending
   pub fit : MarksFit limit done places marks
   pub gives : IsWhole done bytes crash places ending marks ended out ⊎ IsCut done bytes crash places ending marks ended out
+
+-- Of some bytes the first were read when serving ended so: all of them where the input ended, and so many as the limit has reads
+-- where that ended it. No read and no write failed.
+abbrev pub IsEndOf : List ℕ → List ℕ → Ended → Type 0
+IsEndOf read more Closed = Unit {0}
+IsEndOf read more InputEnded = more ≡ []
+IsEndOf read more (Fault ReadFault) = ⊥
+IsEndOf read more (Fault (Write sent)) = ⊥
+IsEndOf read more (Fault ReadLimit) = read_limit ≤ length read
+IsEndOf read more (Fault Memory) = Unit {0}
