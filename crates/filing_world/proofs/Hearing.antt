@@ -25,7 +25,7 @@ use Rattle.filing_model.proofs.Firsts.{firsts_more}
 use Rattle.filing_world.specs.World.{Sent, Output}
 use Rattle.filing_world.specs.Headline.{IsOutput}
 use Rattle.filing_world.specs.Laws.{WireLaws, IsAlone, FilesAlone}
-use Rattle.filing_world.proofs.Posting.{own_front}
+use Rattle.filing_world.proofs.Posting.{posted, own_front}
 
 -- ---- statuses other than 201 confirm nothing
 
@@ -81,7 +81,7 @@ module _ (laws : WireLaws) (limit : ℕ) (before : List Request) (small : length
   heard_is : (reply : ReplyParts) (close : Bool) → IsFinal reply → IsPrefixOf part (render reply close) → heard ≡ reply
   heard_is reply close final front =
       let cut = take_prefix (length part) part (render reply close) front in
-      laws.alone reply heard close cut.0 final (subst (λ bytes. SpellsReply bytes heard) (sym (take_all part) ∙ cut.1) spelled)
+      (laws.front (render reply close) reply heard cut.0 (laws.rendered reply close final) (subst (λ bytes. SpellsReply bytes heard) (sym (take_all part) ∙ cut.1) spelled)).0
 
   heard_answer : (close : Bool) → IsPrefixOf part (render (reply_of (answer before r)) close) → IsRegistered (before ++ r ∷ []) r n
   heard_answer close front =
@@ -130,7 +130,7 @@ module _ (laws : WireLaws) (limit : ℕ) (before : List Request) (small : length
 pub hears : WireLaws → (limit : ℕ) (done : List Request) (sent : List Sent) (output : Output) (r : Request) → (out : IsOutput limit done sent output) → length (firsts done) ≤ 2 ^ 62 → IsSendable r → out.item.bytes ≡ bytes_of r → (given : ℕ) (heard : ReplyParts) → GivesReply (take given output.bytes) heard → (n : ℕ) → moved Open heard ≡ Confirmed n → IsRegistered done r n
 hears laws limit done sent output r out few sendable own given heard gives n confirmed =
     let part : List ℕ = take gives.0 (take given output.bytes) in
-    let alone = own_front r (laws.posted r sendable) output.given out.places out.ending (subst (λ bytes. BeginsPlaces (take output.given bytes) out.places out.ending) own out.begins) in
+    let alone = own_front r (posted r sendable) output.given out.places out.ending (subst (λ bytes. BeginsPlaces (take output.given bytes) out.places out.ending) own out.begins) in
     let front = prefix_trans part output.bytes (text out.before out.places out.ending output.marks) (prefix_trans part (take given output.bytes) output.bytes (take_within gives.0 (take given output.bytes)) (take_within given output.bytes)) out.written in
     let small : length (firsts out.before) ≤ 2 ^ 62 = omega (arith, firsts_more out.before (completed out.places output.marks ++ out.later), ap (λ requests. length (firsts requests)) out.stands) in
     let here = heard_alone laws limit out.before small r part heard n gives.1 confirmed out.places out.ending output.marks alone out.fit front in

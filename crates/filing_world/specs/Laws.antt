@@ -1,5 +1,5 @@
 -- What the world needs of the wire.
-use Rattle.std.specs.Prelude.{◌≡◌, ℕ, ◌⊎◌, Bool, true, false, List, [], ◌∷◌, take}
+use Rattle.std.specs.Prelude.{◌≡◌, ℕ, ◌≤◌, ◌⊎◌, Bool, true, false, List, [], ◌∷◌, length, take}
 use Rattle.http_wire.specs.Head.{closes}
 use Rattle.http_wire.specs.Message.{Place, Ending, awaits, SpellsRequest}
 use Rattle.http_wire.specs.Request.{Request as Message}
@@ -27,9 +27,10 @@ IsAlone places ending r =
     ((places ≡ []) × ((ending ≡ Ending.Closed) ⊎ (ending ≡ Ending.Rest false)))
     ⊎ ((m : Message) × (places ≡ Place.Read m ∷ []) × (ending ≡ Ending.Closed) × FilesAlone m r)
 
+-- what is owed of the wire's replies
 pub record WireLaws : Type 0 where
-  -- An entry's request is one message, which files it.
-  pub posted : (r : Request) → IsSendable r → IsPosted r
-  -- Of a rendered reply no part spells another.
-  pub alone : (reply other : ReplyParts) (close : Bool) (n : ℕ) → IsFinal reply → SpellsReply (take n (render reply close)) other → other ≡ reply
-  pub nothing : (other : ReplyParts) → SpellsReply [] other → ⊥
+  -- A rendered reply is read as it was made.
+  pub rendered : (reply : ReplyParts) (close : Bool) → IsFinal reply → SpellsReply (render reply close) reply
+  -- Of the bytes of a reply no part spells another, and no shorter part spells it.
+  pub front : (bytes : List ℕ) (reply other : ReplyParts) (n : ℕ) → SpellsReply bytes reply → SpellsReply (take n bytes) other → (other ≡ reply) × (length bytes ≤ n)
+  pub nothing : (other : ReplyParts) → ¬ (SpellsReply [] other)
