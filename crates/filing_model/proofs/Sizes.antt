@@ -124,7 +124,7 @@ refused_text found repeat = refl
 pub length-refused : (found : List Pair) (repeat : Bool) → fits found ≡ true → length (compact_text (answer_data (Answer.Refused found repeat))) ≤ 6400000
 unfolding fits
 length-refused found repeat fit =
-    let parts = and_parts _ _ fit in
+    let parts : (nat_le (length found) 1000 ≡ true) × (list_all (λ f. nat_le (length f.place) 1024) found ≡ true) = and_parts _ _ fit in
     let items = items_text false (items_of (map finding_data found)) in
     omega (
       arith,

@@ -3,3 +3,4 @@ pub mod Posting
 pub mod Hearing
 pub mod Stability
 pub mod Keeping
+pub mod Plays

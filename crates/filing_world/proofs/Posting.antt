@@ -41,7 +41,7 @@ module _ (r : Request) (is : IsPosted r) (n : ℕ) where
   whole = take-append-drop n (bytes_of r)
 
   -- what the front begins with, the whole does
-  head_is : (parts : RequestParts) (k : ℕ) → BeginsHead front parts k → parts ≡ is.message.head
+  pub head_is : (parts : RequestParts) (k : ℕ) → BeginsHead front parts k → parts ≡ is.message.head
   head_is parts k h =
       let long = subst (λ bytes. BeginsHead bytes parts k) whole (BeginsHead-more front (drop n (bytes_of r)) parts k h) in
       (BeginsHead-unique (bytes_of r) parts is.message.head k is.spells.head_len long is.spells.head).0
@@ -51,7 +51,7 @@ module _ (r : Request) (is : IsPosted r) (n : ℕ) where
       let long = subst (λ bytes. BeginsRequest bytes m k) whole (BeginsRequest-more front (drop n (bytes_of r)) m k b) in
       (BeginsRequest-unique (bytes_of r) m is.message k (length (bytes_of r)) long is.spells).0
 
-  never_refused : (refusal : Refusal) → ¬ (IsRefused front refusal)
+  pub never_refused : (refusal : Refusal) → ¬ (IsRefused front refusal)
   never_refused refusal refused =
       let long = subst (λ bytes. IsRefused bytes refusal) whole (IsRefused-more front (drop n (bytes_of r)) refusal refused) in
       IsRefused-excludes (bytes_of r) is.message.head is.spells.head_len refusal is.spells.head long

@@ -1,0 +1,139 @@
+-- Events on outboxes of one entry each, and what the world is after them.
+use Rattle.std.proofs.Common.{◌≡◌, ◌⊎◌, ℕ, ◌<◌, ◌≤◌, Bool, true, false, not, ◌&&◌, List, [], ◌∷◌, ◌++◌, length, take, drop, Some, None, refl, sym, ap, ◌∙◌, subst, inl, inr, arith}
+use Rattle.std.proofs.lemmas.Bool.{both_ways, le-leb}
+use Rattle.std.proofs.lemmas.Grind.{common_steps}
+use Rattle.http_wire.specs.Head.{RequestParts, closes, max_body_len}
+use Rattle.http_wire.specs.Message.{Place, Read, Ending, Rest, BeginsHead, BeginsRequest, HasPlaces, awaits}
+use Rattle.http_wire.specs.Request.{Request as Message}
+use Rattle.http_wire.specs.Reply.{ReplyParts, render}
+use Rattle.http_wire.specs.Response.{GivesReply}
+use Rattle.http_wire.proofs.Unique.{BeginsRequest-unique}
+use Rattle.http_wire.proofs.MoreBytes.{BeginsRequest-more}
+use Rattle.filing_model.specs.declared.served.Mark.{Mark}
+use Rattle.filing_model.specs.declared.served.Mark.TheVariants.{Done}
+use Rattle.filing_model.specs.declared.served.Ended.TheVariants.{Closed, InputEnded}
+use Rattle.filing_model.specs.Request.{Request, has_key, firsts}
+use Rattle.filing_model.specs.Answer.{answer}
+use Rattle.filing_model.specs.Reply.{reply_of}
+use Rattle.filing_model.specs.Outbox.{State, Open, moved, bytes_of, IsSendable}
+use Rattle.filing_model.specs.Stopping.{Crash, No, Before, After, ServesUntil}
+use Rattle.filing_model.specs.Text.{Filed, RouteFits, requests_of_route, route, completed, MarksFit, interim_of, reply_on, reply_text, text}
+use Rattle.filing_model.proofs.Lists.{append_nil}
+use Rattle.filing_world.specs.World.{Outbox, Sent, Output, World, Put, Send, Deliver, Hand, RestartServer, RestartOutbox, numbered, renewed, new_outbox}
+use Rattle.filing_world.specs.Schedules.{entry_with, outbox_with, item_of}
+use Rattle.filing_world.specs.Step.{Step}
+use Rattle.filing_world.proofs.Posting.{posted, head_is, never_refused}
+use Rattle.filing_world.specs.Laws.{IsPosted}
+
+-- ---- the ends
+
+abbrev pub after_put : World → ℕ → Request → World
+after_put old outbox r = record old { outboxes = renewed old.outboxes outbox (outbox_with r Open) }
+
+pub plays_put : (old : World) (outbox : ℕ) (r : Request) → IsSendable r → numbered old.outboxes outbox ≡ Some (new_outbox r.filer) → Step old (Put outbox r.key r.body) (after_put old outbox r)
+plays_put old outbox r sendable here = record {
+  is_key = sendable.key;
+  box = new_outbox r.filer;
+  here = here;
+  up = refl;
+  becomes = rw (le-leb (length r.body) max_body_len sendable.body) refl;
+}
+
+abbrev pub after_send : World → ℕ → Request → World
+after_send old outbox r = record old { sent = old.sent ++ item_of outbox r ∷ [] }
+
+pub plays_send : (old : World) (outbox : ℕ) (r : Request) (state : State) → numbered old.outboxes outbox ≡ Some (outbox_with r state) → Step old (Send outbox 1) (after_send old outbox r)
+plays_send old outbox r state here = record { box = outbox_with r state; here = here; up = refl; what = entry_with r state; there = refl; becomes = refl }
+
+abbrev pub after_restart : World → World
+after_restart old = record old { up = true }
+
+abbrev pub after_outbox : World → ℕ → Request → State → World
+after_outbox old outbox r state = record old { outboxes = renewed old.outboxes outbox (outbox_with r state) }
+
+pub plays_outbox : (old : World) (outbox : ℕ) (r : Request) (state : State) → numbered old.outboxes outbox ≡ Some (outbox_with r state) → Step old (RestartOutbox outbox) (after_outbox old outbox r state)
+plays_outbox old outbox r state here = record { box = outbox_with r state; here = here; becomes = refl }
+
+-- ---- a delivery
+
+module _ (r : Request) (sendable : IsSendable r) where
+  is : IsPosted r
+  is = posted r sendable
+
+  abbrev bytes : List ℕ
+  bytes = bytes_of r
+
+  places_whole : HasPlaces bytes (Read is.message ∷ []) Ending.Closed
+  places_whole = (length bytes, is.spells, (λ _. (refl, refl)), λ (open' : closes is.message.head ≡ false). absurd (both_ways _ open' is.closes'))
+
+  -- a part that is not the whole holds nothing
+  places_part : (n : ℕ) → n < length bytes → HasPlaces (take n bytes) [] (Rest false)
+  places_part n short = (
+    false,
+    record { none = none; refused = never_refused r is n },
+    λ parts k h. ap awaits (head_is r is n parts k h) ∙ is.alone.silent,
+    refl,
+  )
+    where
+      none : (m : Message) (k : ℕ) → ¬ (BeginsRequest (take n bytes) m k)
+      none m k b =
+          let whole : take n bytes ++ drop n bytes ≡ bytes = grind (arith, common_steps) in
+          let long = subst (λ bs. BeginsRequest bs m k) whole (BeginsRequest-more (take n bytes) (drop n bytes) m k b) in
+          let all = (BeginsRequest-unique bytes m is.message k (length bytes) long is.spells).1 in
+          let size : length (take n bytes) ≤ n = grind (arith, common_steps) in
+          omega (arith, b.whole, all, size, short)
+
+  completed_one : completed (Read is.message ∷ []) (Done ∷ []) ≡ r ∷ []
+  unfolding completed
+  completed_one = ap (λ to. requests_of_route to Done ++ []) is.alone.filed
+
+  silent : interim_of (Read is.message) ≡ []
+  silent = rw is.alone.silent refl
+
+  fit_one : (limit : ℕ) (done : List Request) → (has_key done r ≡ true) ⊎ (length (firsts done) < limit) → MarksFit limit done (Read is.message ∷ []) (Done ∷ [])
+  unfolding MarksFit
+  fit_one limit done room = (subst (λ to. RouteFits limit done to Done) (sym is.alone.filed) room, tt)
+
+  fit_none : (limit : ℕ) (done : List Request) → MarksFit limit done (Read is.message ∷ []) []
+  unfolding MarksFit
+  fit_none limit done = tt
+
+  text_one : (done : List Request) → render (reply_of (answer done r)) true ≡ text done (Read is.message ∷ []) Ending.Closed (Done ∷ [])
+  unfolding text
+  text_one done =
+      let reply : reply_text done (Read is.message) Done ≡ render (reply_of (answer done r)) true = rw (is.closes', is.alone.filed) refl in
+      sym (ap (λ front. front ++ (reply_text done (Read is.message) Done ++ [])) silent ∙ append_nil _ ∙ reply)
+
+  text_none : (done : List Request) → [] ≡ text done (Read is.message ∷ []) Ending.Closed []
+  unfolding text
+  text_none done = sym silent
+
+  -- the whole request was served, and perhaps stopped
+  serves_done : (limit : ℕ) (done : List Request) → (has_key done r ≡ true) ⊎ (length (firsts done) < limit) → ServesUntil limit done bytes No (Read is.message ∷ []) (Done ∷ []) (Some Closed) (render (reply_of (answer done r)) true)
+  serves_done limit done room = record {
+    ending = Ending.Closed;
+    fit = fit_one limit done room;
+    gives = inl (record { splits = places_whole; all = refl; written = text_one done; end = refl });
+  }
+
+  serves_after : (limit : ℕ) (done : List Request) → (has_key done r ≡ true) ⊎ (length (firsts done) < limit) → ServesUntil limit done bytes (After 1) (Read is.message ∷ []) (Done ∷ []) None []
+  serves_after limit done room = record {
+    ending = Ending.Closed;
+    fit = fit_one limit done room;
+    gives = inl (record { splits = places_whole; all = refl; written = text_none done; end = refl });
+  }
+
+  serves_before : (limit : ℕ) (done : List Request) → ServesUntil limit done bytes (Before 1) (Read is.message ∷ []) [] None []
+  serves_before limit done = record {
+    ending = Ending.Closed;
+    fit = fit_none limit done;
+    gives = inl (record { splits = places_whole; all = refl; written = text_none done; end = refl });
+  }
+
+  serves_part : (limit : ℕ) (done : List Request) (n : ℕ) → n < length bytes → ServesUntil limit done (take n bytes) No [] [] (Some InputEnded) []
+  unfolding text MarksFit
+  serves_part limit done n short = record {
+    ending = Rest false;
+    fit = tt;
+    gives = inl (record { splits = places_part n short; all = refl; written = refl; end = refl });
+  }
