@@ -14,5 +14,7 @@ pub mod PostLaws
 pub mod PostLemmas
 pub mod ReceivedLemmas
 pub mod Unique
+pub mod ReplyHead
+pub mod ReplyRead
 pub mod UniqueReply
 pub mod ValueLemmas

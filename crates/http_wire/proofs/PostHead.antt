@@ -74,7 +74,7 @@ post_head-print filer key len =
     lines-flat (codes "POST /filings/") filer (codes " HTTP/1.1") (codes "Host: localhost") (codes "Idempotency-Key: ") (spelling key) (codes "Content-Type: application/json") (codes "Content-Length: ") (decimal len) (codes "Connection: close") (codes "\r\n")
     ∙ sym (five-print (codes "POST") (codes "/filings/" ++ filer) (codes "Host") (codes "localhost") (codes "Idempotency-Key") (spelling key) (codes "Content-Type") (codes "application/json") (codes "Content-Length") (decimal len) (codes "Connection") (codes "close"))
 
-IsField-spaced : (name value : List ℕ) → 0 < length name → AllPass is_token_byte name → AllPass is_value_byte value → IsField (spaced name value)
+pub IsField-spaced : (name value : List ℕ) → 0 < length name → AllPass is_token_byte name → AllPass is_value_byte value → IsField (spaced name value)
 IsField-spaced name value some token all = record {
   name = (some, token);
   raw = All-cons (λ b. IsTrue (is_value_byte b)) space value refl all;
@@ -112,7 +112,7 @@ module _ (filer key : List ℕ) (len : ℕ) (filer_is : is_filer filer ≡ true)
 five : {a b c d e v w x y z : List ℕ × List ℕ} → a ≡ v → b ≡ w → c ≡ x → d ≡ y → e ≡ z → a ∷ b ∷ c ∷ d ∷ e ∷ [] ≡ v ∷ w ∷ x ∷ y ∷ z ∷ []
 five p q r s t = cc
 
-agree-one : (part : List ℕ) → is_number part ≡ true → agree (part ∷ []) ≡ true
+pub agree-one : (part : List ℕ) → is_number part ≡ true → agree (part ∷ []) ≡ true
 agree-one part is =
     let same : (digits_value 10 part == digits_value 10 part) ≡ true = grind (arith, nat_tests) in
     rw (is, same) refl
