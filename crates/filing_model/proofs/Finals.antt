@@ -4,7 +4,7 @@ use Rattle.std.specs.Prelude.{nat_eq, nat_le, nat_lt, ◌&&◌, IsSome}
 use Rattle.std.specs.List.{AllByRecursion}
 use Rattle.std.proofs.lemmas.Bool.{cases_Bool, le-leb, lt-ltb}
 use Rattle.http_wire.specs.Reply.{phrase}
-use Rattle.http_wire.specs.Response.{max_content_len}
+use Rattle.http_wire.specs.Response.{max_content_len, IsReadable}
 use Rattle.json.specs.Print.{escape_byte}
 use Rattle.serde_json.specs.Written.{compact_text}
 use Rattle.xbrl_report.specs.CodeNumber.{number_of}
@@ -15,7 +15,7 @@ use Rattle.filing_model.specs.Request.{Request, same_content, has_key, firsts}
 use Rattle.filing_model.specs.Register.{Outcome, Kept, filings, verdict, outcome_by, judged, kept_after, kept}
 use Rattle.filing_model.specs.Answer.{Answer, answer_by, answer_from, answer}
 use Rattle.filing_model.specs.Reply.{answer_data, refused_status, reply_of, unavailable}
-use Rattle.filing_model.specs.Outbox.{Open, Confirmed, moved, confirmed_by, IsFinal}
+use Rattle.filing_model.specs.Outbox.{Open, Confirmed, moved}
 use Rattle.filing_model.proofs.Keeping.{kept_found, all_found, all_push}
 use Rattle.filing_model.proofs.Firsts.{firsts_one_more}
 use Rattle.filing_model.proofs.Answers.{has_key_itself, answer_registered, registered_bound}
@@ -90,37 +90,37 @@ unfolding escape_byte
 short_reused = omega arith
 
 -- an answer whose number and findings are within the limits has a reply that a client reads
-reply-final : (a : Answer) → ((n : ℕ) (b : Bool) → a ≡ Answer.Registered n b → n < 2 ^ 64) → ((found : List Pair) (b : Bool) → a ≡ Answer.Refused found b → fits found ≡ true) → IsFinal (reply_of a)
+reply-readable : (a : Answer) → ((n : ℕ) (b : Bool) → a ≡ Answer.Registered n b → n < 2 ^ 64) → ((found : List Pair) (b : Bool) → a ≡ Answer.Refused found b → fits found ≡ true) → IsReadable (reply_of a)
 unfolding reply_of phrase
-reply-final (Answer.Registered n b) number fit = record {
-  phrased = refl;
+reply-readable (Answer.Registered n b) number fit = record {
+  named = refl;
   final = λ e. absurd (omega (arith, e));
   some = answer-some (Answer.Registered n b);
   short = omega (arith, length-registered n b (number n b refl));
 }
-reply-final (Answer.Refused found b) number fit = record {
-  phrased = (refused-phrased found).0;
+reply-readable (Answer.Refused found b) number fit = record {
+  named = (refused-phrased found).0;
   final = (refused-phrased found).1;
   some = answer-some (Answer.Refused found b);
   short = omega (arith, length-refused found b (fit found b refl));
 }
-reply-final Answer.KeyReused number fit = record {
-  phrased = refl;
+reply-readable Answer.KeyReused number fit = record {
+  named = refl;
   final = λ e. absurd (omega (arith, e));
   some = answer-some Answer.KeyReused;
   short = short_reused;
 }
 
 -- The reply to a filed request, and the one where it could not be decided, are ones that a client reads.
-pub answer-final : (requests : List Request) (r : Request) → length (firsts requests) ≤ 2 ^ 62 → IsFinal (reply_of (answer requests r))
-answer-final requests r few = reply-final (answer requests r)
+pub answer-readable : (requests : List Request) (r : Request) → length (firsts requests) ≤ 2 ^ 62 → IsReadable (reply_of (answer requests r))
+answer-readable requests r few = reply-readable (answer requests r)
     (λ n b told. omega (arith, few, answer_number requests r n b told))
     (λ found b told. answer-fits requests r found b told)
 
-pub unavailable-final : IsFinal unavailable
+pub unavailable-readable : IsReadable unavailable
 unfolding phrase escape_byte
-unavailable-final = record {
-  phrased = refl;
+unavailable-readable = record {
+  named = refl;
   final = λ e. absurd (omega (arith, e));
   some = omega arith;
   short = omega arith;

@@ -1,13 +1,13 @@
 -- A POST to a filer's path with a key files a request.
-use Rattle.std.proofs.Common.{◌≡◌, ℕ, Bool, true, false, cond, List, [], ◌∷◌, ◌++◌, Option, Some, drop, refl, sym, ap, ◌∙◌}
-use Rattle.std.specs.Prelude.{codes, bytes_eq, nat_eq}
+use Rattle.std.proofs.Common.{◌≡◌, ℕ, true, false, List, [], ◌∷◌, ◌++◌, Some, refl, ap, ◌∙◌}
+use Rattle.std.specs.Prelude.{codes, bytes_eq}
 use Rattle.key_string.specs.Filer.{is_filer}
-use Rattle.key_string.specs.Key.{IsKey, spelling, key_of_field}
+use Rattle.key_string.specs.Key.{IsKey, spelling}
 use Rattle.key_string.proofs.Fields.{key_of_field-spelled}
 use Rattle.http_wire.specs.Coding.{has_content_coding}
 use Rattle.http_wire.specs.Head.{RequestParts, values_named}
 use Rattle.http_wire.specs.Request.{Request as Message}
-use Rattle.filing_model.specs.Text.{Route, Filed, filer_of_path, route_by_key, route_by_keys, route_by_method, route_by_filer, bare, is_head, route}
+use Rattle.filing_model.specs.Text.{Route, Filed, filer_of_path, route_by_key, route_by_keys, route_by_method, route_by_filer, bare, route}
 
 filer_of_path-filings : (filer : List ℕ) → is_filer filer ≡ true → filer_of_path (codes "/filings/" ++ filer) ≡ Some filer
 filer_of_path-filings filer h = rw h refl

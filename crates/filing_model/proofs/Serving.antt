@@ -6,17 +6,16 @@ use Rattle.std.proofs.lemmas.Grind.{common_steps}
 use Rattle.http_wire.specs.declared.refusal.ConnFault.{ConnFault}
 use Rattle.http_wire.specs.declared.refusal.ConnFault.TheVariants.{Read as ReadFault, Write, ReadLimit, Memory}
 use Rattle.http_wire.specs.Head.{closes}
-use Rattle.http_wire.specs.Message.{Place, Read, Refused, Ending, Rest, BeginsRequest, Asks, HasPlaces}
+use Rattle.http_wire.specs.Message.{Place, Read, Refused, Ending, Rest, Asks, HasPlaces}
 use Rattle.http_wire.specs.Request.{Request as Message}
 use Rattle.http_wire.proofs.MoreBytes.{BeginsHead-more, BeginsRequest-more, IsRefused-more}
 use Rattle.filing_model.specs.declared.served.Mark.{Mark}
 use Rattle.filing_model.specs.declared.served.Ended.{Ended}
 use Rattle.filing_model.specs.declared.served.Ended.TheVariants.{Closed, InputEnded, Fault}
-use Rattle.filing_model.specs.Prefix.{IsPrefixOf}
 use Rattle.filing_model.specs.Request.{Request, firsts}
-use Rattle.filing_model.specs.Text.{MarksFit, completed, text}
-use Rattle.filing_model.specs.Serving.{AreMarked, end_of, kept_by, GoesThrough, MayBegin, IsServed, IsCutShort, Serves}
-use Rattle.filing_model.specs.Stopping.{Crash, No, read_limit, BeginsPlaces, IsWhole, IsCut, ServesUntil, IsEndOf}
+use Rattle.filing_model.specs.Text.{completed, text}
+use Rattle.filing_model.specs.Serving.{end_of, kept_by, GoesThrough, MayBegin, IsServed, IsCutShort, Serves}
+use Rattle.filing_model.specs.Stopping.{No, read_limit, BeginsPlaces, ServesUntil, IsEndOf}
 use Rattle.filing_model.proofs.Lists.{append_nil, take_all}
 use Rattle.filing_model.proofs.Firsts.{firsts-firsts}
 use Rattle.filing_model.proofs.Alike.{firsts_alike, text_alike, marks_fit_alike}

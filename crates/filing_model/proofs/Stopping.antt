@@ -1,5 +1,5 @@
 -- Serving that was stopped, or that came to an end early.
-use Rattle.std.proofs.Common.{◌≡◌, ℕ, ◌≤◌, Bool, true, false, List, [], ◌∷◌, ◌++◌, length, drop, take, Option, Some, sym, subst, ⊎_elim}
+use Rattle.std.proofs.Common.{◌≡◌, ℕ, Bool, true, false, List, [], ◌∷◌, length, drop, Option, sym, subst, ⊎_elim}
 use Rattle.http_wire.specs.Head.{closes}
 use Rattle.http_wire.specs.Message.{Place, Read, Refused, Ending, Rest, Asks, HasPlaces}
 use Rattle.filing_model.specs.declared.served.Mark.{Mark}

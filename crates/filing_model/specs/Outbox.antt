@@ -1,5 +1,5 @@
 -- The reports that a filer has to send, and what a reply says of each.
-use Rattle.std.specs.Prelude.{◌≡◌, ℕ, ◌≢◌, ◌^◌, ◌<◌, ◌≤◌, ◌==◌, Bool, true, false, ◌&&◌, ◌||◌, List, length, codes, nat_le, nat_lt, bytes_eq, Option, Some, None, option_map, option_and_then, unwrap_or, IsSome, if◌then◌else◌}
+use Rattle.std.specs.Prelude.{◌≡◌, ℕ, ◌^◌, ◌≤◌, ◌==◌, Bool, true, false, ◌&&◌, ◌||◌, List, length, codes, nat_le, nat_lt, bytes_eq, Option, Some, None, option_map, option_and_then, unwrap_or, if◌then◌else◌}
 use Rattle.serde_json.specs.Data.{Data}
 use Rattle.serde_json.specs.Find.{get, as_str, as_number, as_u64}
 use Rattle.key_string.specs.Key.{IsKey}
@@ -7,8 +7,7 @@ use Rattle.key_string.specs.Filer.{is_filer}
 use Rattle.xbrl_report.specs.Findings.{tree}
 use Rattle.http_wire.specs.Head.{max_body_len}
 use Rattle.http_wire.specs.Posting.{render_post}
-use Rattle.http_wire.specs.Reply.{ReplyParts, phrase}
-use Rattle.http_wire.specs.Response.{max_content_len}
+use Rattle.http_wire.specs.Reply.{ReplyParts}
 use Rattle.filing_model.specs.Request.{Request}
 
 -- what is known of a report: nothing yet; its number in the register; that it was refused; or that its key stands for another body
@@ -73,12 +72,3 @@ pub record IsSendable (r : Request) : Type 0 where
   pub filer : is_filer r.filer ≡ true
   pub key : IsKey r.key
   pub body : length r.body ≤ max_body_len
-
--- ---- replies
-
--- a reply with a status that is no interim one, and with a content that is within what a client reads
-pub record IsFinal (reply : ReplyParts) : Type 0 where
-  pub phrased : IsSome (phrase reply.status)
-  pub final : reply.status ≢ 100
-  pub some : 0 < length reply.content
-  pub short : length reply.content ≤ max_content_len

@@ -1,5 +1,5 @@
 -- What serving some bytes may mark, write and end with, where it is stopped at a place or where memory runs out.
-use Rattle.std.specs.Prelude.{◌≡◌, ℕ, ◌≤◌, ◌⊎◌, ◌-◌, Bool, true, false, List, [], ◌∷◌, length, take, drop, min, max, Option, Some, None, nat_le, if◌then◌else◌}
+use Rattle.std.specs.Prelude.{◌≡◌, ℕ, ◌≤◌, ◌⊎◌, ◌-◌, true, false, List, [], ◌∷◌, length, take, drop, min, max, Option, Some, None, nat_le, if◌then◌else◌}
 use Rattle.http_wire.specs.declared.refusal.ConnFault.TheVariants.{Read as ReadFault, Write, ReadLimit, Memory}
 use Rattle.http_wire.specs.Head.{closes}
 use Rattle.http_wire.specs.Message.{Place, Read, Refused, Ending, Rest, BeginsRequest, IsRefused, Asks, HasPlaces}

@@ -8,23 +8,25 @@ use Rattle.http_wire.specs.Head.{closes}
 use Rattle.http_wire.specs.Message.{Place, Ending}
 use Rattle.http_wire.specs.Request.{Request as Message}
 use Rattle.http_wire.specs.Reply.{ReplyParts, render}
-use Rattle.http_wire.specs.Response.{SpellsReply, GivesReply}
+use Rattle.http_wire.specs.Response.{SpellsReply, GivesReply, IsReadable}
+use Rattle.http_wire.proofs.ReplyRead.{reply-alone}
+use Rattle.http_wire.proofs.UniqueReply.{SpellsReply-nothing}
 use Rattle.filing_model.specs.declared.served.Mark.{Mark}
 use Rattle.filing_model.specs.declared.served.Mark.TheVariants.{Done, Unavailable, NotFiled}
 use Rattle.filing_model.specs.Prefix.{IsPrefixOf}
 use Rattle.filing_model.specs.Request.{Request, firsts}
 use Rattle.filing_model.specs.Answer.{Answer, answer, IsRegistered}
 use Rattle.filing_model.specs.Reply.{reply_of, unavailable, refused_status}
-use Rattle.filing_model.specs.Outbox.{Open, Confirmed, Refused, Clashed, moved, state_told, IsSendable, IsFinal, bytes_of}
+use Rattle.filing_model.specs.Outbox.{Open, Confirmed, Refused, Clashed, moved, state_told, IsSendable, bytes_of}
 use Rattle.filing_model.specs.Stopping.{BeginsPlaces}
 use Rattle.filing_model.specs.Text.{Filed, RouteFits, MarksFit, completed, completed_at, requests_of_route, reply, reply_on, reply_text, text, interim_of, next_interim}
 use Rattle.filing_model.proofs.Answers.{answer_registered, registered_grows}
 use Rattle.filing_model.proofs.Lists.{append_nil, prefix_nil, take_prefix, take_within, take_all, prefix_trans}
-use Rattle.filing_model.proofs.Finals.{answer-final, unavailable-final, told-exactly, answer_number}
+use Rattle.filing_model.proofs.Finals.{answer-readable, unavailable-readable, told-exactly, answer_number}
 use Rattle.filing_model.proofs.Firsts.{firsts_more}
 use Rattle.filing_world.specs.World.{Sent, Output}
 use Rattle.filing_world.specs.Headline.{IsOutput}
-use Rattle.filing_world.specs.Laws.{WireLaws, IsAlone, FilesAlone}
+use Rattle.filing_world.specs.Posting.{IsAlone, FilesAlone}
 use Rattle.filing_world.proofs.Posting.{posted, own_front}
 
 -- ---- statuses other than 201 confirm nothing
@@ -62,9 +64,9 @@ confirms Answer.KeyReused n small h = absurd (other_reply (reply_of Answer.KeyRe
 reply_alone : (before : List Request) (m : Message) (r : Request) → FilesAlone m r → reply before m ≡ reply_of (answer before r)
 reply_alone before m r alone = ap (reply_on before) alone.filed
 
-module _ (laws : WireLaws) (limit : ℕ) (before : List Request) (small : length (firsts before) ≤ 2 ^ 62) (r : Request) (part : List ℕ) (heard : ReplyParts) (n : ℕ) (spelled : SpellsReply part heard) (confirmed : moved Open heard ≡ Confirmed n) where
+module _ (limit : ℕ) (before : List Request) (small : length (firsts before) ≤ 2 ^ 62) (r : Request) (part : List ℕ) (heard : ReplyParts) (n : ℕ) (spelled : SpellsReply part heard) (confirmed : moved Open heard ≡ Confirmed n) where
   nothing_heard : part ≡ [] → ⊥
-  nothing_heard e = laws.nothing heard (subst (λ bytes. SpellsReply bytes heard) e spelled)
+  nothing_heard e = SpellsReply-nothing heard (subst (λ bytes. SpellsReply bytes heard) e spelled)
 
   silent_end : (ending : Ending) → (ending ≡ Ending.Closed) ⊎ (ending ≡ Ending.Rest false) → next_interim [] ending ≡ []
   silent_end ending silent = ⊎_elim
@@ -78,14 +80,14 @@ module _ (laws : WireLaws) (limit : ℕ) (before : List Request) (small : length
   no_place ending silent (mark ∷ marks) fit front = fit
 
   -- what is heard of a rendered reply is that reply
-  heard_is : (reply : ReplyParts) (close : Bool) → IsFinal reply → IsPrefixOf part (render reply close) → heard ≡ reply
+  heard_is : (reply : ReplyParts) (close : Bool) → IsReadable reply → IsPrefixOf part (render reply close) → heard ≡ reply
   heard_is reply close final front =
       let cut = take_prefix (length part) part (render reply close) front in
-      (laws.front (render reply close) reply heard cut.0 (laws.rendered reply close final) (subst (λ bytes. SpellsReply bytes heard) (sym (take_all part) ∙ cut.1) spelled)).0
+      reply-alone reply heard close cut.0 final (subst (λ bytes. SpellsReply bytes heard) (sym (take_all part) ∙ cut.1) spelled)
 
   heard_answer : (close : Bool) → IsPrefixOf part (render (reply_of (answer before r)) close) → IsRegistered (before ++ r ∷ []) r n
   heard_answer close front =
-      let same = heard_is (reply_of (answer before r)) close (answer-final before r small) front in
+      let same = heard_is (reply_of (answer before r)) close (answer-readable before r small) front in
       let found = confirms (answer before r) n number (ap (moved Open) (sym same) ∙ confirmed) in
       answer_registered before r n found.0 found.1
     where
@@ -94,7 +96,7 @@ module _ (laws : WireLaws) (limit : ℕ) (before : List Request) (small : length
 
   heard_unavailable : (close : Bool) → IsPrefixOf part (render unavailable close) → ⊥
   heard_unavailable close front =
-      let same = heard_is unavailable close unavailable-final front in
+      let same = heard_is unavailable close unavailable-readable front in
       other_reply unavailable n refl (ap (moved Open) (sym same) ∙ confirmed)
 
   silent_interim : (m : Message) → FilesAlone m r → interim_of (Place.Read m) ≡ []
@@ -127,11 +129,11 @@ module _ (laws : WireLaws) (limit : ℕ) (before : List Request) (small : length
       alone
 
 -- A reply read from any part of an output to an entry's request confirms only what is registered.
-pub hears : WireLaws → (limit : ℕ) (done : List Request) (sent : List Sent) (output : Output) (r : Request) → (out : IsOutput limit done sent output) → length (firsts done) ≤ 2 ^ 62 → IsSendable r → out.item.bytes ≡ bytes_of r → (given : ℕ) (heard : ReplyParts) → GivesReply (take given output.bytes) heard → (n : ℕ) → moved Open heard ≡ Confirmed n → IsRegistered done r n
-hears laws limit done sent output r out few sendable own given heard gives n confirmed =
+pub hears : (limit : ℕ) (done : List Request) (sent : List Sent) (output : Output) (r : Request) → (out : IsOutput limit done sent output) → length (firsts done) ≤ 2 ^ 62 → IsSendable r → out.item.bytes ≡ bytes_of r → (given : ℕ) (heard : ReplyParts) → GivesReply (take given output.bytes) heard → (n : ℕ) → moved Open heard ≡ Confirmed n → IsRegistered done r n
+hears limit done sent output r out few sendable own given heard gives n confirmed =
     let part : List ℕ = take gives.0 (take given output.bytes) in
     let alone = own_front r (posted r sendable) output.given out.places out.ending (subst (λ bytes. BeginsPlaces (take output.given bytes) out.places out.ending) own out.begins) in
     let front = prefix_trans part output.bytes (text out.before out.places out.ending output.marks) (prefix_trans part (take given output.bytes) output.bytes (take_within gives.0 (take given output.bytes)) (take_within given output.bytes)) out.written in
     let small : length (firsts out.before) ≤ 2 ^ 62 = omega (arith, firsts_more out.before (completed out.places output.marks ++ out.later), ap (λ requests. length (firsts requests)) out.stands) in
-    let here = heard_alone laws limit out.before small r part heard n gives.1 confirmed out.places out.ending output.marks alone out.fit front in
+    let here = heard_alone limit out.before small r part heard n gives.1 confirmed out.places out.ending output.marks alone out.fit front in
     subst (λ requests. IsRegistered requests r n) (append_assoc out.before (completed out.places output.marks) out.later ∙ sym out.stands) (registered_grows (out.before ++ completed out.places output.marks) out.later r n here)

@@ -24,7 +24,6 @@ use Rattle.filing_world.specs.World.{Outbox, Sent, Output, World, Event, Put, Se
 use Rattle.filing_world.specs.Step.{is_no, with_entry, Puts, Sends, Delivers, Hears, heard_by, Hands, Restarts, Step, Run}
 use Rattle.filing_world.specs.Headline.{AreFilers, start, IsOutput, IsOwn, Holds}
 use Rattle.filing_world.specs.Invariant.{IsSound, IsSoundBox, AllBoxes, AllOutputs, AllOwn, Keeps}
-use Rattle.filing_world.specs.Laws.{WireLaws}
 use Rattle.filing_world.proofs.Lists.{numbered_renewed, renewed_numbered, renewed_other, numbered_push, numbered_grows, get_push, same_element}
 use Rattle.filing_world.proofs.Hearing.{hears}
 use Rattle.filing_world.proofs.Stability.{answers_stand}
@@ -251,8 +250,8 @@ heard_sound done filer entry bytes crash heard sound tells hears = record { send
     registered (Before j) (Some reply) hears state was n e = absurd hears
     registered (After j) (Some reply) hears state was n e = by_reply reply hears state was n e
 
-pub keeps_hand : WireLaws → (old : World) (output given : ℕ) (crash : Crash) (new : World) → Keeps old → Hands old output given crash new → Keeps new
-keeps_hand laws old output given crash new keeps step = subst Keeps (sym step.becomes) after
+pub keeps_hand : (old : World) (output given : ℕ) (crash : Crash) (new : World) → Keeps old → Hands old output given crash new → Keeps new
+keeps_hand old output given crash new keeps step = subst Keeps (sym step.becomes) after
   where
     entry : Entry
     entry = record step.entry { state = heard_by step.entry.state step.heard }
@@ -280,7 +279,7 @@ keeps_hand laws old output given crash new keeps step = subst Keeps (sym step.be
         ap (λ (x : Sent). x.bytes) same_item ∙ own.bytes ∙ (λ i. bytes_of (request_of (same_box i).filer (same_entry i)))
 
     tells : (reply : ReplyParts) → GivesReply (take given step.from.bytes) reply → (n : ℕ) → moved Open reply ≡ Confirmed n → IsRegistered old.done (request_of step.box.filer step.entry) n
-    tells reply gives n e = hears laws old.limit old.done old.sent step.from (request_of step.box.filer step.entry) out (omega (arith, keeps.few, keeps.limit)) sound.sendable bytes given reply gives n e
+    tells reply gives n e = hears old.limit old.done old.sent step.from (request_of step.box.filer step.entry) out (omega (arith, keeps.few, keeps.limit)) sound.sendable bytes given reply gives n e
 
     new_entry : IsSound old.done step.box.filer entry
     new_entry = heard_sound old.done step.box.filer step.entry (take given step.from.bytes) crash step.heard sound tells step.hears
@@ -330,18 +329,18 @@ keeps_restart old outbox new keeps step = subst Keeps (sym step.becomes) after
     }
 
 -- whatever happens next, the world keeps it
-pub keeps_step : WireLaws → (old : World) (event : Event) (new : World) → Keeps old → Step old event new → Keeps new
-keeps_step laws old (Put outbox key body) new keeps step = keeps_put old outbox (record { key = key; body = body; state = Open }) new refl keeps step
-keeps_step laws old (Send outbox entry) new keeps step = keeps_send old outbox entry new keeps step
-keeps_step laws old (Stranger bytes) new keeps step = subst Keeps (sym step) (keeps_sent old (record { from = None; bytes = bytes }) keeps (λ outbox number from. absurd (cc)))
-keeps_step laws old (Deliver item given crash) new keeps step = keeps_deliver old item given crash new keeps step
-keeps_step laws old (Hand output given crash) new keeps step = keeps_hand laws old output given crash new keeps step
-keeps_step laws old RestartServer new keeps step = subst Keeps (sym step) (record { outputs = keeps.outputs; own = keeps.own; boxes = keeps.boxes; few = keeps.few; limit = keeps.limit })
-keeps_step laws old (RestartOutbox outbox) new keeps step = keeps_restart old outbox new keeps step
+pub keeps_step : (old : World) (event : Event) (new : World) → Keeps old → Step old event new → Keeps new
+keeps_step old (Put outbox key body) new keeps step = keeps_put old outbox (record { key = key; body = body; state = Open }) new refl keeps step
+keeps_step old (Send outbox entry) new keeps step = keeps_send old outbox entry new keeps step
+keeps_step old (Stranger bytes) new keeps step = subst Keeps (sym step) (keeps_sent old (record { from = None; bytes = bytes }) keeps (λ outbox number from. absurd (cc)))
+keeps_step old (Deliver item given crash) new keeps step = keeps_deliver old item given crash new keeps step
+keeps_step old (Hand output given crash) new keeps step = keeps_hand old output given crash new keeps step
+keeps_step old RestartServer new keeps step = subst Keeps (sym step) (record { outputs = keeps.outputs; own = keeps.own; boxes = keeps.boxes; few = keeps.few; limit = keeps.limit })
+keeps_step old (RestartOutbox outbox) new keeps step = keeps_restart old outbox new keeps step
 
-pub keeps_run : WireLaws → (old : World) (events : List Event) (new : World) → Keeps old → Run old events new → Keeps new
-keeps_run laws old [] new keeps run = subst Keeps (sym run) keeps
-keeps_run laws old (event ∷ events) new keeps run = keeps_run laws run.0 events new (keeps_step laws old event run.0 keeps run.1) run.2
+pub keeps_run : (old : World) (events : List Event) (new : World) → Keeps old → Run old events new → Keeps new
+keeps_run old [] new keeps run = subst Keeps (sym run) keeps
+keeps_run old (event ∷ events) new keeps run = keeps_run run.0 events new (keeps_step old event run.0 keeps run.1) run.2
 
 -- ---- at first, and what follows
 
@@ -390,8 +389,8 @@ holds world keeps = record {
   sent = keeps.own;
 }
 
-pub holds_after : WireLaws → (filers : List (List ℕ)) (limit : ℕ) (events : List Event) (world : World) → AreFilers filers → limit ≤ 2 ^ 62 → Run (start filers limit) events world → Holds world
-holds_after laws filers limit events world are small run = holds world (keeps_run laws (start filers limit) events world (keeps_start filers limit are small) run)
+pub holds_after : (filers : List (List ℕ)) (limit : ℕ) (events : List Event) (world : World) → AreFilers filers → limit ≤ 2 ^ 62 → Run (start filers limit) events world → Holds world
+holds_after filers limit events world are small run = holds world (keeps_run (start filers limit) events world (keeps_start filers limit are small) run)
 
 -- a run that goes on by one event
 pub run_push : (old : World) (events : List Event) (between : World) (event : Event) (new : World) → Run old events between → Step between event new → Run old (events ++ event ∷ []) new

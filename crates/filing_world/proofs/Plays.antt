@@ -1,29 +1,27 @@
 -- Events on outboxes of one entry each, and what the world is after them.
-use Rattle.std.proofs.Common.{◌≡◌, ◌⊎◌, ℕ, ◌<◌, ◌≤◌, Bool, true, false, not, ◌&&◌, List, [], ◌∷◌, ◌++◌, length, take, drop, Some, None, refl, sym, ap, ◌∙◌, subst, inl, inr, arith}
+use Rattle.std.proofs.Common.{◌≡◌, ◌⊎◌, ℕ, ◌<◌, ◌≤◌, true, false, List, [], ◌∷◌, ◌++◌, length, take, drop, Some, None, refl, sym, ap, ◌∙◌, subst, inl, arith}
 use Rattle.std.proofs.lemmas.Bool.{both_ways, le-leb}
 use Rattle.std.proofs.lemmas.Grind.{common_steps}
-use Rattle.http_wire.specs.Head.{RequestParts, closes, max_body_len}
-use Rattle.http_wire.specs.Message.{Place, Read, Ending, Rest, BeginsHead, BeginsRequest, HasPlaces, awaits}
+use Rattle.http_wire.specs.Head.{closes, max_body_len}
+use Rattle.http_wire.specs.Message.{Read, Ending, Rest, BeginsRequest, HasPlaces, awaits}
 use Rattle.http_wire.specs.Request.{Request as Message}
-use Rattle.http_wire.specs.Reply.{ReplyParts, render}
-use Rattle.http_wire.specs.Response.{GivesReply}
+use Rattle.http_wire.specs.Reply.{render}
 use Rattle.http_wire.proofs.Unique.{BeginsRequest-unique}
 use Rattle.http_wire.proofs.MoreBytes.{BeginsRequest-more}
-use Rattle.filing_model.specs.declared.served.Mark.{Mark}
 use Rattle.filing_model.specs.declared.served.Mark.TheVariants.{Done}
 use Rattle.filing_model.specs.declared.served.Ended.TheVariants.{Closed, InputEnded}
 use Rattle.filing_model.specs.Request.{Request, has_key, firsts}
 use Rattle.filing_model.specs.Answer.{answer}
 use Rattle.filing_model.specs.Reply.{reply_of}
-use Rattle.filing_model.specs.Outbox.{State, Open, moved, bytes_of, IsSendable}
-use Rattle.filing_model.specs.Stopping.{Crash, No, Before, After, ServesUntil}
-use Rattle.filing_model.specs.Text.{Filed, RouteFits, requests_of_route, route, completed, MarksFit, interim_of, reply_on, reply_text, text}
+use Rattle.filing_model.specs.Outbox.{State, Open, bytes_of, IsSendable}
+use Rattle.filing_model.specs.Stopping.{No, Before, After, ServesUntil}
+use Rattle.filing_model.specs.Text.{RouteFits, requests_of_route, completed, MarksFit, interim_of, reply_text, text}
 use Rattle.filing_model.proofs.Lists.{append_nil}
-use Rattle.filing_world.specs.World.{Outbox, Sent, Output, World, Put, Send, Deliver, Hand, RestartServer, RestartOutbox, numbered, renewed, new_outbox}
+use Rattle.filing_world.specs.World.{World, Put, Send, RestartOutbox, numbered, renewed, new_outbox}
 use Rattle.filing_world.specs.Schedules.{entry_with, outbox_with, item_of}
 use Rattle.filing_world.specs.Step.{Step}
 use Rattle.filing_world.proofs.Posting.{posted, head_is, never_refused}
-use Rattle.filing_world.specs.Laws.{IsPosted}
+use Rattle.filing_world.specs.Posting.{IsPosted}
 
 -- ---- the ends
 

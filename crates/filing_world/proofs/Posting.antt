@@ -14,7 +14,7 @@ use Rattle.filing_model.specs.Request.{Request}
 use Rattle.filing_model.specs.Outbox.{bytes_of, IsSendable}
 use Rattle.filing_model.specs.Stopping.{BeginsPlaces}
 use Rattle.filing_model.proofs.Posted.{route-post}
-use Rattle.filing_world.specs.Laws.{FilesAlone, IsPosted, IsAlone}
+use Rattle.filing_world.specs.Posting.{FilesAlone, IsPosted, IsAlone}
 
 -- the bytes that are sent for a request are one message, which files it
 pub posted : (r : Request) → IsSendable r → IsPosted r

@@ -1,15 +1,9 @@
 -- Worked schedules: a few events each, with one entry in each outbox.
-use Rattle.std.specs.Prelude.{◌≡◌, ◌≢◌, ℕ, ◌≤◌, Bool, true, List, [], ◌∷◌, length, map, Some}
+use Rattle.std.specs.Prelude.{◌≡◌, ℕ, true, [], ◌∷◌, Some}
 use Rattle.xbrl_report.specs.Findings.{findings}
-use Rattle.http_wire.specs.Reply.{render}
 use Rattle.filing_model.specs.Request.{Request}
-use Rattle.filing_model.specs.Register.{Filing, register}
-use Rattle.filing_model.specs.Answer.{Answer}
-use Rattle.filing_model.specs.Reply.{reply_of}
-use Rattle.filing_model.specs.Outbox.{State, Open, Entry, bytes_of, IsSendable}
-use Rattle.filing_model.specs.Stopping.{No, Before, After}
-use Rattle.filing_world.specs.World.{Outbox, Sent, World, Event, Put, Send, Deliver, Hand, RestartServer, RestartOutbox}
-use Rattle.filing_world.specs.Headline.{states}
+use Rattle.filing_model.specs.Outbox.{State, Entry, bytes_of, IsSendable}
+use Rattle.filing_world.specs.World.{Outbox, Sent}
 
 -- an outbox of the request's filer with this one entry
 abbrev pub entry_with : Request → State → Entry

@@ -6,12 +6,11 @@ ghost use Rattle.std.specs.Prelude.{ℕ, List, ◌≤◌, ◌^◌};
 ghost use Rattle.filing_world.specs.World.{World, Event};
 ghost use Rattle.filing_world.specs.Step.{Run};
 ghost use Rattle.filing_world.specs.Headline.{AreFilers, start, Holds};
-ghost use Rattle.filing_world.specs.Laws.{WireLaws};
 
 /// Whatever is sent, cut, lost, repeated, reordered or stopped: the register has the valid ones among
 /// the first completed request of each filer and key, numbered in order; each completed repeat gets
 /// its first's status and content; and each entry that counts as confirmed stands in the register
 /// exactly once, with its bytes, under the number that it was told.
 pub fn any_schedule()
-    ensures { WireLaws → (filers : List (List ℕ)) (limit : ℕ) (events : List Event) (world : World) → AreFilers filers → limit ≤ 2 ^ 62 → Run (start filers limit) events world → Holds world }
+    ensures { (filers : List (List ℕ)) (limit : ℕ) (events : List Event) (world : World) → AreFilers filers → limit ≤ 2 ^ 62 → Run (start filers limit) events world → Holds world }
 {}
