@@ -20,7 +20,7 @@ use Rattle.serde_json.specs.Written.{compact_text, outline}
 use Rattle.serde_json.proofs.Numbers.{number_of-decimal}
 use Rattle.serde_json.proofs.Texts.{print-outline}
 use Rattle.filing_model.specs.Answer.{Answer}
-use Rattle.filing_model.specs.Outbox.{Open, moved, confirmed_by}
+use Rattle.filing_model.specs.Outbox.{Open, Clashed, moved, confirmed_by}
 use Rattle.filing_model.specs.Reply.{answer_data, reply_of}
 
 -- ---- reading back
@@ -62,3 +62,18 @@ utf8-registered n h =
 pub moved-registered : (n : ℕ) (repeat : Bool) → n < 2 ^ 64 → moved Open (reply_of (Answer.Registered n repeat)) ≡ confirmed_by (Some n)
 unfolding moved reply_of
 moved-registered n repeat h = rw (utf8-registered n h, read-registered n h) refl
+
+-- a key that was used for another body clashes
+abbrev reused : Data
+reused = answer_data Answer.KeyReused
+
+utf8-reused : is_utf8 (compact_text reused) ≡ true
+unfolding escape_byte
+utf8-reused = is_utf8-from_IsUtf8 (compact_text reused) (IsUtf8-from_ascii (compact_text reused) (ascii (compact_text reused) refl))
+
+read-reused : read (compact_text reused) ≡ Some reused
+read-reused = read-compact_text reused (tt, tt) (omega arith) refl
+
+pub moved-reused : moved Open (reply_of Answer.KeyReused) ≡ Clashed
+unfolding moved reply_of
+moved-reused = rw (utf8-reused, read-reused) refl

@@ -4,3 +4,5 @@ pub mod Hearing
 pub mod Stability
 pub mod Keeping
 pub mod Plays
+pub mod Told
+pub mod Worked

@@ -1,11 +1,14 @@
 -- Events on outboxes of one entry each, and what the world is after them.
-use Rattle.std.proofs.Common.{◌≡◌, ◌⊎◌, ℕ, ◌<◌, ◌≤◌, true, false, List, [], ◌∷◌, ◌++◌, length, take, drop, Some, None, refl, sym, ap, ◌∙◌, subst, inl, arith}
+use Rattle.std.proofs.Common.{◌≡◌, ◌⊎◌, ℕ, ◌<◌, ◌≤◌, Bool, true, false, List, [], ◌∷◌, ◌++◌, length, take, drop, Some, None, refl, sym, ap, ◌∙◌, subst, inl, arith}
 use Rattle.std.proofs.lemmas.Bool.{both_ways, le-leb}
 use Rattle.std.proofs.lemmas.Grind.{common_steps}
 use Rattle.http_wire.specs.Head.{closes, max_body_len}
 use Rattle.http_wire.specs.Message.{Read, Ending, Rest, BeginsRequest, HasPlaces, awaits}
 use Rattle.http_wire.specs.Request.{Request as Message}
-use Rattle.http_wire.specs.Reply.{render}
+use Rattle.http_wire.specs.Reply.{ReplyParts, render}
+use Rattle.http_wire.specs.Response.{BeginsReply, SpellsReply, GivesReply, IsReadable}
+use Rattle.http_wire.proofs.ReplyRead.{reply-spells}
+use Rattle.http_wire.proofs.UniqueReply.{BeginsReply-more, BeginsReply-unique}
 use Rattle.http_wire.proofs.Unique.{BeginsRequest-unique}
 use Rattle.http_wire.proofs.MoreBytes.{BeginsRequest-more}
 use Rattle.filing_model.specs.declared.served.Mark.TheVariants.{Done}
@@ -13,11 +16,11 @@ use Rattle.filing_model.specs.declared.served.Ended.TheVariants.{Closed, InputEn
 use Rattle.filing_model.specs.Request.{Request, has_key, firsts}
 use Rattle.filing_model.specs.Answer.{answer}
 use Rattle.filing_model.specs.Reply.{reply_of}
-use Rattle.filing_model.specs.Outbox.{State, Open, bytes_of, IsSendable}
+use Rattle.filing_model.specs.Outbox.{State, Open, moved, bytes_of, IsSendable}
 use Rattle.filing_model.specs.Stopping.{No, Before, After, ServesUntil}
 use Rattle.filing_model.specs.Text.{RouteFits, requests_of_route, completed, MarksFit, interim_of, reply_text, text}
-use Rattle.filing_model.proofs.Lists.{append_nil}
-use Rattle.filing_world.specs.World.{World, Put, Send, RestartOutbox, numbered, renewed, new_outbox}
+use Rattle.filing_model.proofs.Lists.{append_nil, prefix_trans, take_within}
+use Rattle.filing_world.specs.World.{Output, World, Put, Send, Deliver, Hand, RestartOutbox, numbered, renewed, new_outbox}
 use Rattle.filing_world.specs.Schedules.{entry_with, outbox_with, item_of}
 use Rattle.filing_world.specs.Step.{Step}
 use Rattle.filing_world.proofs.Posting.{posted, head_is, never_refused}
@@ -135,3 +138,172 @@ module _ (r : Request) (sendable : IsSendable r) where
     fit = tt;
     gives = inl (record { splits = places_part n short; all = refl; written = refl; end = refl });
   }
+
+-- ---- deliveries of an entry's request
+
+all_of : (n : ℕ) (xs : List ℕ) → length xs ≤ n → xs ≡ take n xs
+all_of n xs enough = grind (arith, common_steps)
+
+part_of : (n : ℕ) (xs : List ℕ) → n < length xs → n ≡ length (take n xs)
+part_of n xs short = grind (arith, common_steps)
+
+-- the request is completed and answered
+abbrev pub after_done : World → ℕ → Request → World
+after_done old item r = record old {
+  done = old.done ++ r ∷ [];
+  outputs = old.outputs ++ record { item = item; given = length (bytes_of r); before = length old.done; marks = Done ∷ []; ended = Some Closed; bytes = render (reply_of (answer old.done r)) true } ∷ [];
+  up = true;
+}
+
+-- completed, and the intake stopped before the first byte of the reply
+abbrev pub after_commit : World → ℕ → Request → World
+after_commit old item r = record old {
+  done = old.done ++ r ∷ [];
+  outputs = old.outputs ++ record { item = item; given = length (bytes_of r); before = length old.done; marks = Done ∷ []; ended = None; bytes = [] } ∷ [];
+  up = false;
+}
+
+-- not completed, since the intake stopped before it
+abbrev pub after_stop : World → ℕ → Request → World
+after_stop old item r = record old {
+  outputs = old.outputs ++ record { item = item; given = length (bytes_of r); before = length old.done; marks = []; ended = None; bytes = [] } ∷ [];
+  up = false;
+}
+
+-- a part of the request came
+abbrev pub after_part : World → ℕ → ℕ → World
+after_part old item n = record old {
+  outputs = old.outputs ++ record { item = item; given = n; before = length old.done; marks = []; ended = Some InputEnded; bytes = [] } ∷ [];
+  up = true;
+}
+
+module _ (old : World) (item outbox all : ℕ) (r : Request) (sendable : IsSendable r) (up : old.up ≡ true) (here : numbered old.sent item ≡ Some (item_of outbox r)) where
+  pub plays_done : length (bytes_of r) ≤ all → (has_key old.done r ≡ true) ⊎ (length (firsts old.done) < old.limit) → Step old (Deliver item all No) (after_done old item r)
+  plays_done enough room = record {
+    up = up;
+    from = item_of outbox r;
+    here = here;
+    places = Read (is r sendable).message ∷ [];
+    marks = Done ∷ [];
+    ended = Some Closed;
+    out = render (reply_of (answer old.done r)) true;
+    serves = subst (λ bs. ServesUntil old.limit old.done bs No (Read (is r sendable).message ∷ []) (Done ∷ []) (Some Closed) (render (reply_of (answer old.done r)) true)) (all_of all (bytes_of r) enough) (serves_done r sendable old.limit old.done room);
+    becomes = λ i. record old {
+      done = old.done ++ sym (completed_one r sendable) i;
+      outputs = old.outputs ++ record { item = item; given = length (all_of all (bytes_of r) enough i); before = length old.done; marks = Done ∷ []; ended = Some Closed; bytes = render (reply_of (answer old.done r)) true } ∷ [];
+      up = true;
+    };
+  }
+
+  pub plays_commit : length (bytes_of r) ≤ all → (has_key old.done r ≡ true) ⊎ (length (firsts old.done) < old.limit) → Step old (Deliver item all (After 1)) (after_commit old item r)
+  plays_commit enough room = record {
+    up = up;
+    from = item_of outbox r;
+    here = here;
+    places = Read (is r sendable).message ∷ [];
+    marks = Done ∷ [];
+    ended = None;
+    out = [];
+    serves = subst (λ bs. ServesUntil old.limit old.done bs (After 1) (Read (is r sendable).message ∷ []) (Done ∷ []) None []) (all_of all (bytes_of r) enough) (serves_after r sendable old.limit old.done room);
+    becomes = λ i. record old {
+      done = old.done ++ sym (completed_one r sendable) i;
+      outputs = old.outputs ++ record { item = item; given = length (all_of all (bytes_of r) enough i); before = length old.done; marks = Done ∷ []; ended = None; bytes = [] } ∷ [];
+      up = false;
+    };
+  }
+
+  pub plays_stop : length (bytes_of r) ≤ all → Step old (Deliver item all (Before 1)) (after_stop old item r)
+  unfolding completed
+  plays_stop enough = record {
+    up = up;
+    from = item_of outbox r;
+    here = here;
+    places = Read (is r sendable).message ∷ [];
+    marks = [];
+    ended = None;
+    out = [];
+    serves = subst (λ bs. ServesUntil old.limit old.done bs (Before 1) (Read (is r sendable).message ∷ []) [] None []) (all_of all (bytes_of r) enough) (serves_before r sendable old.limit old.done);
+    becomes = λ i. record old {
+      done = sym (append_nil old.done) i;
+      outputs = old.outputs ++ record { item = item; given = length (all_of all (bytes_of r) enough i); before = length old.done; marks = []; ended = None; bytes = [] } ∷ [];
+      up = false;
+    };
+  }
+
+  pub plays_part : (n : ℕ) → n < length (bytes_of r) → Step old (Deliver item n No) (after_part old item n)
+  unfolding completed
+  plays_part n short = record {
+    up = up;
+    from = item_of outbox r;
+    here = here;
+    places = [];
+    marks = [];
+    ended = Some InputEnded;
+    out = [];
+    serves = serves_part r sendable old.limit old.done n short;
+    becomes = λ i. record old {
+      done = sym (append_nil old.done) i;
+      outputs = old.outputs ++ record { item = item; given = part_of n (bytes_of r) short i; before = length old.done; marks = []; ended = Some InputEnded; bytes = [] } ∷ [];
+      up = true;
+    };
+  }
+
+-- ---- a reply
+
+module _ (old : World) (output outbox given : ℕ) (r : Request) (state : State) (from : Output) (here : numbered old.outputs output ≡ Some from) (item_here : numbered old.sent from.item ≡ Some (item_of outbox r)) (box_here : numbered old.outboxes outbox ≡ Some (outbox_with r state)) where
+  -- a reply is heard, and moves the entry
+  pub plays_hand : (reply : ReplyParts) (to : State) → GivesReply (take given from.bytes) reply → moved state reply ≡ to → Step old (Hand output given No) (after_outbox old outbox r to)
+  plays_hand reply to gives moves = record {
+    from = from;
+    here = here;
+    item = item_of outbox r;
+    item_here = item_here;
+    outbox = outbox;
+    number = 1;
+    sender = refl;
+    box = outbox_with r state;
+    box_here = box_here;
+    up = refl;
+    entry = entry_with r state;
+    entry_here = refl;
+    heard = Some reply;
+    hears = gives;
+    becomes = ap (after_outbox old outbox r) (sym moves);
+  }
+
+  -- none is heard
+  pub plays_deaf : ((reply : ReplyParts) → ¬ (GivesReply (take given from.bytes) reply)) → Step old (Hand output given No) (after_outbox old outbox r state)
+  plays_deaf silent = record {
+    from = from;
+    here = here;
+    item = item_of outbox r;
+    item_here = item_here;
+    outbox = outbox;
+    number = 1;
+    sender = refl;
+    box = outbox_with r state;
+    box_here = box_here;
+    up = refl;
+    entry = entry_with r state;
+    entry_here = refl;
+    heard = None;
+    hears = inl silent;
+    becomes = refl;
+  }
+
+-- the whole of a written reply gives it
+pub gives_whole : (reply : ReplyParts) (close : Bool) (all : ℕ) → IsReadable reply → length (render reply close) ≤ all → GivesReply (take all (render reply close)) reply
+gives_whole reply close all readable enough =
+    let whole = all_of all (render reply close) enough in
+    (all, subst (λ bs. SpellsReply bs reply) (whole ∙ ap (take all) whole) (reply-spells reply close readable))
+
+-- and a part that is not the whole gives none
+pub gives_none : (reply other : ReplyParts) (close : Bool) (n : ℕ) → IsReadable reply → n < length (render reply close) → ¬ (GivesReply (take n (render reply close)) other)
+gives_none reply other close n readable short gives =
+    let whole = render reply close in
+    let part = take gives.0 (take n whole) in
+    let front = prefix_trans part (take n whole) whole (take_within gives.0 (take n whole)) (take_within n whole) in
+    let long = subst (λ bs. BeginsReply bs other (length part)) (sym front.1) (BeginsReply-more part front.0 other (length part) gives.1) in
+    let same = (BeginsReply-unique whole other reply (length part) (length whole) long (reply-spells reply close readable)).1 in
+    let size : length part ≤ n = grind (arith, common_steps) in
+    omega (arith, same, size, short)

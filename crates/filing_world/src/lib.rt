@@ -2,6 +2,8 @@
 //! live here: the definitions of what may happen, and laws over every run of them. There is no code.
 #![tactic(auto)]
 
+pub mod schedules;
+
 ghost use Rattle.std.specs.Prelude.{ℕ, List, ◌≤◌, ◌^◌};
 ghost use Rattle.filing_world.specs.World.{World, Event};
 ghost use Rattle.filing_world.specs.Step.{Run};
