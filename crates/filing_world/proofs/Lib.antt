@@ -6,3 +6,4 @@ pub mod Keeping
 pub mod Plays
 pub mod Told
 pub mod Worked
+pub mod Never

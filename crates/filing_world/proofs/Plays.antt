@@ -13,6 +13,7 @@ use Rattle.http_wire.proofs.Unique.{BeginsRequest-unique}
 use Rattle.http_wire.proofs.MoreBytes.{BeginsRequest-more}
 use Rattle.filing_model.specs.declared.served.Mark.TheVariants.{Done}
 use Rattle.filing_model.specs.declared.served.Ended.TheVariants.{Closed, InputEnded}
+use Rattle.filing_model.specs.Prefix.{IsPrefixOf}
 use Rattle.filing_model.specs.Request.{Request, has_key, firsts}
 use Rattle.filing_model.specs.Answer.{answer}
 use Rattle.filing_model.specs.Reply.{reply_of}
@@ -298,12 +299,18 @@ gives_whole reply close all readable enough =
     (all, subst (λ bs. SpellsReply bs reply) (whole ∙ ap (take all) whole) (reply-spells reply close readable))
 
 -- and a part that is not the whole gives none
-pub gives_none : (reply other : ReplyParts) (close : Bool) (n : ℕ) → IsReadable reply → n < length (render reply close) → ¬ (GivesReply (take n (render reply close)) other)
-gives_none reply other close n readable short gives =
+pub gives_none : (reply other : ReplyParts) (close : Bool) (part : List ℕ) → IsReadable reply → IsPrefixOf part (render reply close) → length part < length (render reply close) → ¬ (GivesReply part other)
+gives_none reply other close part readable begins short gives =
     let whole = render reply close in
-    let part = take gives.0 (take n whole) in
-    let front = prefix_trans part (take n whole) whole (take_within gives.0 (take n whole)) (take_within n whole) in
-    let long = subst (λ bs. BeginsReply bs other (length part)) (sym front.1) (BeginsReply-more part front.0 other (length part) gives.1) in
-    let same = (BeginsReply-unique whole other reply (length part) (length whole) long (reply-spells reply close readable)).1 in
-    let size : length part ≤ n = grind (arith, common_steps) in
+    let given = take gives.0 part in
+    let front = prefix_trans given part whole (take_within gives.0 part) begins in
+    let long = subst (λ bs. BeginsReply bs other (length given)) (sym front.1) (BeginsReply-more given front.0 other (length given) gives.1) in
+    let same = (BeginsReply-unique whole other reply (length given) (length whole) long (reply-spells reply close readable)).1 in
+    let size : length given ≤ length part = grind (arith, common_steps) in
     omega (arith, same, size, short)
+
+-- as its first bytes
+pub gives_none_first : (reply other : ReplyParts) (close : Bool) (n : ℕ) → IsReadable reply → n < length (render reply close) → ¬ (GivesReply (take n (render reply close)) other)
+gives_none_first reply other close n readable short =
+    let size : length (take n (render reply close)) ≤ n = grind (arith, common_steps) in
+    gives_none reply other close (take n (render reply close)) readable (take_within n (render reply close)) (omega (arith, size, short))

@@ -1,5 +1,5 @@
 -- What the first request of a filer and key is told, and what a second one is.
-use Rattle.std.proofs.Common.{◌≡◌, ◌≢◌, ℕ, ◌^◌, ◌≤◌, Bool, true, false, List, [], ◌∷◌, ◌++◌, length, Some, refl, sym, ap, ◌∙◌, ⊎_elim, arith}
+use Rattle.std.proofs.Common.{◌≡◌, ◌≢◌, ◌≤◌, true, false, List, [], ◌∷◌, length, Some, refl, sym, ap, ◌∙◌, ⊎_elim, arith}
 use Rattle.std.specs.Prelude.{bytes_eq}
 use Rattle.std.proofs.lemmas.Bool.{cases_Bool}
 use Rattle.std.proofs.lemmas.Slice.Eq.{bytes_eq-Decides}
@@ -13,7 +13,7 @@ use Rattle.filing_model.specs.Outbox.{Open, Confirmed, Clashed, moved}
 use Rattle.filing_model.proofs.Answers.{answer_stable, answer_new, answer_kept, reply_of-as_repeat}
 use Rattle.filing_model.proofs.Contents.{moved-reused}
 use Rattle.filing_model.proofs.Finals.{answer-readable, told-confirms}
-use Rattle.filing_model.proofs.Firsts.{firsts_short, same_key-refl}
+use Rattle.filing_model.proofs.Firsts.{firsts_short}
 use Rattle.filing_model.proofs.Keeping.{register_repeat}
 use Rattle.filing_world.specs.Schedules.{IsGood, filing_of, registered_bytes, clash_bytes}
 

@@ -1,5 +1,5 @@
 -- Each worked schedule is a run, and what it leaves.
-use Rattle.std.proofs.Common.{◌≡◌, ◌≢◌, ◌⊎◌, ℕ, ◌<◌, ◌≤◌, Bool, true, false, List, [], ◌∷◌, ◌++◌, length, take, Some, refl, sym, ap, ap₂, ◌∙◌, subst, inl, inr, arith}
+use Rattle.std.proofs.Common.{◌≡◌, ◌⊎◌, ℕ, ◌<◌, ◌≤◌, true, List, [], ◌∷◌, length, take, refl, ap, ap₂, inl, inr, arith}
 use Rattle.http_wire.specs.Reply.{ReplyParts, render}
 use Rattle.http_wire.specs.Response.{GivesReply}
 use Rattle.filing_model.specs.Request.{Request, has_key, firsts}
@@ -8,11 +8,11 @@ use Rattle.filing_model.specs.Answer.{answer}
 use Rattle.filing_model.specs.Reply.{reply_of}
 use Rattle.filing_model.specs.Outbox.{State, Open, Confirmed, Clashed, moved, IsSendable, bytes_of}
 use Rattle.filing_model.proofs.Firsts.{firsts_none}
-use Rattle.filing_world.specs.World.{World, Output, numbered}
-use Rattle.filing_world.specs.Step.{Step, Run}
-use Rattle.filing_world.specs.Headline.{start, states}
-use Rattle.filing_world.specs.Schedules.{IsGood, filing_of, registered_bytes, clash_bytes, IsAll, Leaves, MayLeave, item_of, outbox_with, stopped_and_sent_again, lost_reply, late_reply, cut_delivery, stopped_before, stopped_after, two_outboxes, AreRivals}
-use Rattle.filing_world.proofs.Plays.{after_put, plays_put, after_send, plays_send, after_restart, after_outbox, plays_outbox, after_done, plays_done, after_commit, plays_commit, after_stop, plays_stop, after_part, plays_part, plays_hand, plays_deaf, gives_whole, gives_none}
+use Rattle.filing_world.specs.World.{World}
+use Rattle.filing_world.specs.Step.{Run}
+use Rattle.filing_world.specs.Headline.{start}
+use Rattle.filing_world.specs.Schedules.{IsGood, filing_of, registered_bytes, clash_bytes, IsAll, MayLeave, stopped_and_sent_again, lost_reply, late_reply, cut_delivery, stopped_before, stopped_after, two_outboxes, AreRivals}
+use Rattle.filing_world.proofs.Plays.{after_put, plays_put, after_send, plays_send, after_restart, after_outbox, plays_outbox, after_done, plays_done, after_commit, plays_commit, after_stop, plays_stop, after_part, plays_part, plays_hand, plays_deaf, gives_whole, gives_none_first}
 use Rattle.filing_world.proofs.Told.{told_first, registered_one, told_again, written_first, written_again, readable_after, known, registered_two, written_clash, told_clash}
 
 -- a confirmed entry stays so
@@ -90,7 +90,7 @@ module _ (r : Request) (good : IsGood r) (limit all : ℕ) (some : 0 < limit) (e
                 plays_done sent_again 2 1 all r good.sendable refl refl enough.request again,
                 (
                   heard_part,
-                  plays_deaf repeated 2 1 cut r Open _ refl refl refl (λ reply. gives_none (reply_of (answer (r ∷ []) r)) reply true cut (readable_after (r ∷ []) r (omega arith)) (omega (arith, short, ap length (written_again r good)))),
+                  plays_deaf repeated 2 1 cut r Open _ refl refl refl (λ reply. gives_none_first (reply_of (answer (r ∷ []) r)) reply true cut (readable_after (r ∷ []) r (omega arith)) (omega (arith, short, ap length (written_again r good)))),
                   refl,
                 ),
               ),
@@ -125,7 +125,7 @@ module _ (r : Request) (good : IsGood r) (limit all : ℕ) (some : 0 < limit) (e
                 plays_done sent_again 2 1 all r good.sendable refl refl enough.request again,
                 (
                   heard_part,
-                  plays_deaf repeated 2 1 cut r Open _ refl refl refl (λ reply. gives_none (reply_of (answer (r ∷ []) r)) reply true cut (readable_after (r ∷ []) r (omega arith)) (omega (arith, short, ap length (written_again r good)))),
+                  plays_deaf repeated 2 1 cut r Open _ refl refl refl (λ reply. gives_none_first (reply_of (answer (r ∷ []) r)) reply true cut (readable_after (r ∷ []) r (omega arith)) (omega (arith, short, ap length (written_again r good)))),
                   (
                     heard,
                     plays_hand heard_part 2 1 all r Open _ refl refl refl (reply_of (answer (r ∷ []) r)) (Confirmed 1) hears_again (told_again r good),

@@ -1,5 +1,5 @@
 -- What holds of the world after any events.
-use Rattle.std.specs.Prelude.{◌≡◌, ◌⊎◌, ℕ, true, List, [], ◌∷◌, ◌++◌, length, take, map, Some, slice_get, suc, Option, None, filter_map}
+use Rattle.std.specs.Prelude.{◌≡◌, ◌⊎◌, ℕ, true, List, [], ◌∷◌, ◌++◌, length, take, map, Some, slice_get, suc, Option, None, filter_map, ◌≤◌, ◌^◌}
 use Rattle.std.specs.List.{list_all}
 use Rattle.key_string.specs.Filer.{is_filer}
 use Rattle.http_wire.specs.Message.{Place, Ending}
@@ -14,7 +14,8 @@ use Rattle.filing_model.specs.Laws.{IsRegisterOf}
 use Rattle.filing_model.specs.Outbox.{State, Open, Confirmed, Refused, Clashed, Entry, request_of, bytes_of}
 use Rattle.filing_model.specs.Stopping.{BeginsPlaces}
 use Rattle.filing_model.specs.Text.{MarksFit, completed, completed_at, text, RepliesStand}
-use Rattle.filing_world.specs.World.{Outbox, Sent, Output, World, numbered, new_outbox}
+use Rattle.filing_world.specs.Step.{Run}
+use Rattle.filing_world.specs.World.{Event, Outbox, Sent, Output, World, numbered, new_outbox}
 
 -- the codes of filers
 abbrev pub AreFilers : List (List ℕ) → Type 0
@@ -68,6 +69,26 @@ pub record Holds (world : World) : Type 0 where
   pub confirmed : (outbox number n : ℕ) (box : Outbox) (entry : Entry) → numbered world.outboxes outbox ≡ Some box → numbered box.entries number ≡ Some entry → entry.state ≡ Confirmed n → numbers_of (request_of box.filer entry) (register world.done) ≡ n ∷ []
   -- all requests of one entry carry its key and body
   pub sent : (k outbox number : ℕ) (item : Sent) → slice_get world.sent k ≡ Some item → item.from ≡ Some (outbox, number) → IsOwn world.outboxes item outbox number
+
+-- some events lead to the world from a start
+pub record IsReached (world : World) : Type 0 where
+  pub filers : List (List ℕ)
+  pub limit : ℕ
+  pub events : List Event
+  pub are : AreFilers filers
+  pub bound : limit ≤ 2 ^ 62
+  pub run : Run (start filers limit) events world
+
+-- an entry with this request counts as confirmed under the number
+pub record IsConfirmed (world : World) (r : Request) (n : ℕ) : Type 0 where
+  pub outbox : ℕ
+  pub number : ℕ
+  pub box : Outbox
+  pub entry : Entry
+  pub here : numbered world.outboxes outbox ≡ Some box
+  pub there : numbered box.entries number ≡ Some entry
+  pub is : request_of box.filer entry ≡ r
+  pub confirmed : entry.state ≡ Confirmed n
 
 -- ---- lists of all entries
 

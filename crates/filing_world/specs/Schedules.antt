@@ -1,5 +1,5 @@
 -- Worked schedules: a few events each, with one entry in each outbox.
-use Rattle.std.specs.Prelude.{◌≡◌, ◌≢◌, ℕ, ◌<◌, ◌≤◌, true, false, List, [], ◌∷◌, length, map, Some}
+use Rattle.std.specs.Prelude.{◌≡◌, ◌≢◌, ℕ, ◌≤◌, true, false, List, [], ◌∷◌, length, map, Some}
 use Rattle.xbrl_report.specs.Findings.{findings}
 use Rattle.http_wire.specs.Reply.{render}
 use Rattle.filing_model.specs.Request.{Request}
@@ -9,7 +9,7 @@ use Rattle.filing_model.specs.Reply.{reply_of}
 use Rattle.filing_model.specs.Outbox.{State, Entry, bytes_of, IsSendable}
 use Rattle.filing_model.specs.Stopping.{No, Before, After}
 use Rattle.filing_world.specs.World.{Outbox, Sent, World, Event, Put, Send, Deliver, Hand, RestartServer, RestartOutbox}
-use Rattle.filing_world.specs.Headline.{start, states}
+use Rattle.filing_world.specs.Headline.{states}
 use Rattle.filing_world.specs.Step.{Run}
 
 -- an outbox of the request's filer with this one entry

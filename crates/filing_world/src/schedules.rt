@@ -2,10 +2,18 @@
 //! as its contract: that it is a run, and what it leaves; or that no run goes so. The reports are any
 //! reports in which nothing is found, and `all` is as many bytes as anything has.
 
-ghost use Rattle.std.specs.Prelude.{◌≡◌, ◌<◌, ℕ, [], ◌∷◌, length, take};
+ghost use Rattle.std.specs.Prelude.{◌≡◌, ◌<◌, ℕ, Bool, List, [], ◌∷◌, ◌++◌, length, take, slice_get, Some};
+ghost use Rattle.http_wire.specs.Reply.{ReplyParts, render};
+ghost use Rattle.http_wire.specs.Response.{IsReadable};
+ghost use Rattle.filing_model.specs.Prefix.{IsPrefixOf};
 ghost use Rattle.filing_model.specs.Request.{Request};
+ghost use Rattle.filing_model.specs.Register.{Filing, register};
+ghost use Rattle.filing_model.specs.Reply.{unavailable};
 ghost use Rattle.filing_model.specs.Outbox.{Open, Confirmed, Clashed, IsSendable, bytes_of};
-ghost use Rattle.filing_world.specs.Headline.{start};
+ghost use Rattle.filing_model.specs.Stopping.{Crash};
+ghost use Rattle.filing_world.specs.World.{World, Output, Sent, Deliver, Hand, numbered};
+ghost use Rattle.filing_world.specs.Step.{Step};
+ghost use Rattle.filing_world.specs.Headline.{IsReached, IsConfirmed, start, states};
 ghost use Rattle.filing_world.specs.Schedules.{IsGood, IsAll, AreRivals, MayLeave, filing_of, registered_bytes, clash_bytes};
 ghost use Rattle.filing_world.specs.Schedules.{stopped_and_sent_again, lost_reply, late_reply, cut_delivery, stopped_before, stopped_after, two_outboxes};
 
@@ -61,4 +69,26 @@ pub fn completes_nothing_before_a_stop()
 pub fn registers_before_a_stop()
     ensures { (r : Request) (limit all : ℕ) → IsGood r → 0 < limit → IsAll all r
         → MayLeave (start (r.filer ∷ []) limit) (stopped_after r all) 1 (filing_of r ∷ []) ([] ∷ []) ((1, 1, Open) ∷ []) }
+{}
+
+/// What is handed over of a reply, unless it is the whole, moves no entry: none is confirmed by a reply
+/// that was cut.
+pub fn moves_nothing_by_a_cut_reply()
+    ensures { (old new : World) (output given : ℕ) (crash : Crash) (from : Output) (reply : ReplyParts) (close : Bool)
+        → numbered old.outputs output ≡ Some from → IsReadable reply → IsPrefixOf (take given from.bytes) (render reply close) → length (take given from.bytes) < length (render reply close)
+        → Step old (Hand output given crash) new → states new ≡ states old }
+{}
+
+/// No number is given twice: the filings of the register have different numbers, and two entries that
+/// count as confirmed under one number have one filer, key and body.
+pub fn gives_no_number_twice()
+    ensures filings { (done : List Request) (k j : ℕ) (f g : Filing) → slice_get (register done) k ≡ Some f → slice_get (register done) j ≡ Some g → f.number ≡ g.number → k ≡ j }
+    ensures entries { (world : World) (r s : Request) (n : ℕ) → IsReached world → IsConfirmed world r n → IsConfirmed world s n → r ≡ s }
+{}
+
+/// An entry's request that is told that it could not be decided is not completed.
+pub fn completes_nothing_by_an_undecided_request()
+    ensures { (old new : World) (item given : ℕ) (crash : Crash) (from : Sent) (r : Request) (output : Output) (close : Bool)
+        → IsReached old → numbered old.sent item ≡ Some from → IsSendable r → from.bytes ≡ bytes_of r → Step old (Deliver item given crash) new
+        → new.outputs ≡ old.outputs ++ output ∷ [] → output.bytes ≡ render unavailable close → new.done ≡ old.done }
 {}
