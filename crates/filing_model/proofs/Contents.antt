@@ -47,7 +47,7 @@ registered_text n = refl
 read-registered : (n : ℕ) → n < 2 ^ 64 → read (compact_text (registered n)) ≡ Some (registered n)
 read-registered n h = read-compact_text (registered n) (IsNumber-decimal n h, (tt, tt)) (omega arith) (rw (number_of-decimal n h) refl)
 
-ascii : (bs : List ℕ) → list_all (λ b. nat_lt b 128) bs ≡ true → IsAscii bs
+pub ascii : (bs : List ℕ) → list_all (λ b. nat_lt b 128) bs ≡ true → IsAscii bs
 ascii [] h i = IsAscii-nil i
 ascii (b ∷ bs) h zero = ltb-true _ _ (and_parts _ _ h).0
 ascii (b ∷ bs) h (suc i) = ascii bs (and_parts _ _ h).1 i

@@ -7,3 +7,4 @@ pub mod Plays
 pub mod Told
 pub mod Worked
 pub mod Never
+pub mod Examples

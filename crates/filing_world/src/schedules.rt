@@ -2,7 +2,7 @@
 //! as its contract: that it is a run, and what it leaves; or that no run goes so. The reports are any
 //! reports in which nothing is found, and `all` is as many bytes as anything has.
 
-ghost use Rattle.std.specs.Prelude.{◌≡◌, ◌<◌, ℕ, Bool, List, [], ◌∷◌, ◌++◌, length, take, slice_get, Some};
+ghost use Rattle.std.specs.Prelude.{◌≡◌, ◌<◌, ℕ, Bool, List, [], ◌∷◌, ◌++◌, length, take, codes, slice_get, Some};
 ghost use Rattle.http_wire.specs.Reply.{ReplyParts, render};
 ghost use Rattle.http_wire.specs.Response.{IsReadable};
 ghost use Rattle.filing_model.specs.Prefix.{IsPrefixOf};
@@ -69,6 +69,12 @@ pub fn completes_nothing_before_a_stop()
 pub fn registers_before_a_stop()
     ensures { (r : Request) (limit all : ℕ) → IsGood r → 0 < limit → IsAll all r
         → MayLeave (start (r.filer ∷ []) limit) (stopped_after r all) 1 (filing_of r ∷ []) ([] ∷ []) ((1, 1, Open) ∷ []) }
+{}
+
+/// The replies of these schedules, byte for byte.
+pub fn replies_in_these_bytes()
+    ensures registered { registered_bytes ≡ codes "HTTP/1.1 201 Created\r\nContent-Type: application/json\r\nContent-Length: 34\r\nConnection: close\r\n\r\n{\"number\":1,\"status\":\"registered\"}" }
+    ensures clash { clash_bytes ≡ codes "HTTP/1.1 422 Unprocessable Content\r\nContent-Type: application/json\r\nContent-Length: 23\r\nConnection: close\r\n\r\n{\"status\":\"key-reused\"}" }
 {}
 
 /// What is handed over of a reply, unless it is the whole, moves no entry: none is confirmed by a reply
