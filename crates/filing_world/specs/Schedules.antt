@@ -1,5 +1,5 @@
 -- Worked schedules: a few events each, with one entry in each outbox.
-use Rattle.std.specs.Prelude.{◌≡◌, ◌≢◌, ℕ, ◌≤◌, true, false, List, [], ◌∷◌, length, map, Some}
+use Rattle.std.specs.Prelude.{◌≡◌, ◌≢◌, ℕ, ◌≤◌, true, false, List, [], ◌∷◌, length, map, codes, Some}
 use Rattle.xbrl_report.specs.Findings.{findings}
 use Rattle.http_wire.specs.Reply.{render}
 use Rattle.filing_model.specs.Request.{Request}
@@ -28,7 +28,11 @@ pub record IsGood (r : Request) : Type 0 where
   pub sendable : IsSendable r
   pub valid : findings r.filer r.body ≡ []
 
--- its filing, where it is the first
+-- a small report of this kind
+abbrev pub small : Request
+small = record { filer = codes "ACME"; key = codes "k-1"; body = codes "{\"documentInfo\":{\"documentType\":\"https://xbrl.org/2021/xbrl-json\",\"taxonomy\":[\"t\"]}}" }
+
+-- the filing of a report, where it is the first
 abbrev pub filing_of : Request → Filing
 filing_of r = record { number = 1; request = r }
 

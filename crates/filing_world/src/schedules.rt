@@ -14,7 +14,7 @@ ghost use Rattle.filing_model.specs.Stopping.{Crash};
 ghost use Rattle.filing_world.specs.World.{World, Output, Sent, Deliver, Hand, numbered};
 ghost use Rattle.filing_world.specs.Step.{Step};
 ghost use Rattle.filing_world.specs.Headline.{IsReached, IsConfirmed, start, states};
-ghost use Rattle.filing_world.specs.Schedules.{IsGood, IsAll, AreRivals, MayLeave, filing_of, registered_bytes, clash_bytes};
+ghost use Rattle.filing_world.specs.Schedules.{IsGood, IsAll, AreRivals, MayLeave, filing_of, registered_bytes, clash_bytes, small};
 ghost use Rattle.filing_world.specs.Schedules.{stopped_and_sent_again, lost_reply, late_reply, cut_delivery, stopped_before, stopped_after, two_outboxes};
 
 /// The intake stops after its commit, before the first byte of the reply. Both ends are restarted, and
@@ -69,6 +69,13 @@ pub fn completes_nothing_before_a_stop()
 pub fn registers_before_a_stop()
     ensures { (r : Request) (limit all : ℕ) → IsGood r → 0 < limit → IsAll all r
         → MayLeave (start (r.filer ∷ []) limit) (stopped_after r all) 1 (filing_of r ∷ []) ([] ∷ []) ((1, 1, Open) ∷ []) }
+{}
+
+/// There are such reports: nothing is found in this one, which takes 84 bytes, and 227 with the head of
+/// its request.
+pub fn files_such_a_report()
+    ensures good { IsGood small }
+    ensures bytes { length (bytes_of small) ≡ 227 }
 {}
 
 /// The replies of these schedules, byte for byte.
