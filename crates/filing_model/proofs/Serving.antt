@@ -7,6 +7,7 @@ use Rattle.http_wire.specs.declared.refusal.ConnFault.{ConnFault}
 use Rattle.http_wire.specs.declared.refusal.ConnFault.TheVariants.{Read as ReadFault, Write, ReadLimit, Memory}
 use Rattle.http_wire.specs.Head.{closes}
 use Rattle.http_wire.specs.Message.{Place, Read, Refused, Ending, Rest, Asks, HasPlaces}
+use Rattle.http_wire.specs.Received.{max_reads}
 use Rattle.http_wire.specs.Request.{Request as Message}
 use Rattle.http_wire.proofs.MoreBytes.{BeginsHead-more, BeginsRequest-more, IsRefused-more}
 use Rattle.filing_model.specs.declared.served.Mark.{Mark}
@@ -15,7 +16,7 @@ use Rattle.filing_model.specs.declared.served.Ended.TheVariants.{Closed, InputEn
 use Rattle.filing_model.specs.Request.{Request, firsts}
 use Rattle.filing_model.specs.Text.{completed, text}
 use Rattle.filing_model.specs.Serving.{end_of, kept_by, GoesThrough, MayBegin, IsServed, IsCutShort, Serves}
-use Rattle.filing_model.specs.Stopping.{No, read_limit, BeginsPlaces, ServesUntil, IsEndOf}
+use Rattle.filing_model.specs.Stopping.{No, BeginsPlaces, ServesUntil, IsEndOf}
 use Rattle.filing_model.proofs.Lists.{append_nil, take_all}
 use Rattle.filing_model.proofs.Firsts.{firsts-firsts}
 use Rattle.filing_model.proofs.Alike.{firsts_alike, text_alike, marks_fit_alike}
@@ -109,7 +110,7 @@ module _ (limit : ℕ) (done before after : List Request) (same : before ≡ fir
   ended : more ≡ [] → IsServed limit before after read marks InputEnded out → Carried InputEnded
   ended none s = whole InputEnded s (subst (λ bs. HasPlaces bs s.places s.ending) (sym (ap (λ ms. read ++ ms) none ∙ append_nil read)) s.splits)
 
-  cut : (fault : ConnFault) → (Some (Fault fault) ≡ Some (Fault Memory)) ⊎ ((read_limit ≤ length (read ++ more)) × (Some (Fault fault) ≡ Some (Fault ReadLimit))) → IsCutShort limit before after read marks out → Carried (Fault fault)
+  cut : (fault : ConnFault) → (Some (Fault fault) ≡ Some (Fault Memory)) ⊎ ((max_reads ≤ length (read ++ more)) × (Some (Fault fault) ≡ Some (Fault ReadLimit))) → IsCutShort limit before after read marks out → Carried (Fault fault)
   cut fault why s =
       let places : List Place = map Read s.messages ++ s.last in
       let ending : Ending = cut_end s.asks in

@@ -4,12 +4,13 @@ use Rattle.std.specs.List.{list_any}
 use Rattle.key_string.specs.Key.{IsKey}
 use Rattle.http_wire.specs.Head.{max_body_len}
 use Rattle.http_wire.specs.Message.{Place}
+use Rattle.http_wire.specs.Received.{max_reads}
 use Rattle.http_wire.specs.Reply.{ReplyParts}
 use Rattle.http_wire.specs.Response.{GivesReply}
 use Rattle.filing_model.specs.declared.served.Mark.{Mark}
 use Rattle.filing_model.specs.declared.served.Ended.{Ended}
 use Rattle.filing_model.specs.Outbox.{State, Open, moved, Entry, request_of, bytes_of}
-use Rattle.filing_model.specs.Stopping.{read_limit, Crash, No, Before, After, ServesUntil}
+use Rattle.filing_model.specs.Stopping.{Crash, No, Before, After, ServesUntil}
 use Rattle.filing_model.specs.Text.{completed}
 use Rattle.filing_world.specs.World.{Outbox, Sent, Output, World, Event, Put, Send, Stranger, Deliver, Hand, RestartServer, RestartOutbox, numbered, renewed}
 
@@ -70,8 +71,8 @@ abbrev pub Hears : List ℕ → Crash → Option ReplyParts → Type 0
 Hears bytes No (Some reply) = GivesReply bytes reply
 Hears bytes (After j) (Some reply) = GivesReply bytes reply
 Hears bytes (Before j) (Some reply) = ⊥
-Hears bytes No None = ((reply : ReplyParts) → ¬ GivesReply bytes reply) ⊎ (read_limit ≤ length bytes)
-Hears bytes (After j) None = ((reply : ReplyParts) → ¬ GivesReply bytes reply) ⊎ (read_limit ≤ length bytes)
+Hears bytes No None = ((reply : ReplyParts) → ¬ GivesReply bytes reply) ⊎ (max_reads ≤ length bytes)
+Hears bytes (After j) None = ((reply : ReplyParts) → ¬ GivesReply bytes reply) ⊎ (max_reads ≤ length bytes)
 Hears bytes (Before j) None = Unit {0}
 
 -- the state after that
