@@ -8,3 +8,4 @@ pub mod Told
 pub mod Worked
 pub mod Never
 pub mod Examples
+pub mod Unplayable

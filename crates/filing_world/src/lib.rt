@@ -6,7 +6,7 @@ pub mod schedules;
 
 ghost use Rattle.std.specs.Prelude.{ℕ, List, ◌≤◌, ◌^◌};
 ghost use Rattle.filing_world.specs.World.{World, Event};
-ghost use Rattle.filing_world.specs.Step.{Run};
+ghost use Rattle.filing_world.specs.Step.{Step, Run, CannotPlay};
 ghost use Rattle.filing_world.specs.Headline.{AreFilers, start, Holds};
 
 /// Whatever is sent, cut, lost, repeated, reordered or stopped: the register has the valid ones among
@@ -15,4 +15,9 @@ ghost use Rattle.filing_world.specs.Headline.{AreFilers, start, Holds};
 /// exactly once, with its bytes, under the number that it was told.
 pub fn any_schedule()
     ensures { (filers : List (List ℕ)) (limit : ℕ) (events : List Event) (world : World) → AreFilers filers → limit ≤ 2 ^ 62 → Run (start filers limit) events world → Holds world }
+{}
+
+/// What names nothing, hands a stranger a reply or needs an end that is down is no step.
+pub fn what_cannot_be_played()
+    ensures { (old new : World) (event : Event) → CannotPlay old event → ¬ (Step old event new) }
 {}
