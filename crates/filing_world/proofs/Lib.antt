@@ -6,6 +6,7 @@ pub mod Keeping
 pub mod Plays
 pub mod Told
 pub mod Worked
+pub mod Sharing
 pub mod Never
 pub mod Examples
 pub mod Unplayable
