@@ -7,3 +7,9 @@ pub mod Scans
 pub mod Alike
 pub mod Appending
 pub mod Valid
+pub mod Stopping
+pub mod Contents
+pub mod Sizes
+pub mod Finals
+pub mod Posted
+pub mod Serving

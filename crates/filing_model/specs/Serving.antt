@@ -47,8 +47,8 @@ MayBegin bytes [] = Unit {0}
 MayBegin bytes (Read message ∷ places) = ((n : ℕ) × BeginsRequest bytes message n) × (places ≡ [])
 MayBegin bytes (Refused refusal ∷ places) = IsRefused bytes refusal × (places ≡ [])
 
--- A fault ended early: the marks are those of the first places, and what went out begins their text,
--- and the interim response that the rest asks for.
+-- A fault ended early: the marks are those of the first places, and what went out begins their text, and the interim
+-- response that the rest asks for where no place of it was marked.
 pub record IsCutShort (limit : ℕ) (before after : List Request) (bytes : List ℕ) (marks : List Mark) (out : List ℕ) : Type 0 where
   pub messages : List Message
   pub rest : List ℕ
@@ -56,7 +56,7 @@ pub record IsCutShort (limit : ℕ) (before after : List Request) (bytes : List 
   pub last : List Place
   pub begins : MayBegin rest last
   pub asks : Bool
-  pub asked : asks ≡ true → Asks rest true
+  pub asked : asks ≡ true → (last ≡ []) × Asks rest true
   pub marked : AreMarked limit before (map Read messages ++ last) marks
   pub written : IsPrefixOf out (text before (map Read messages ++ last) (if asks then Rest true else Ending.Closed) marks)
   pub kept : after ≡ kept_by before (completed (map Read messages ++ last) marks)

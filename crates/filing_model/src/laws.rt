@@ -2,11 +2,20 @@
 //! live here: functions that do nothing, each with a law about the definitions as its contract. The
 //! code that decides requests has contracts by the same definitions.
 
-ghost use Rattle.std.specs.Prelude.{◌≡◌, ℕ, Bool, true, List};
-ghost use Rattle.filing_model.specs.Request.{Request, has_key};
+ghost use Rattle.std.specs.Prelude.{◌≡◌, ℕ, ◌^◌, ◌<◌, ◌≤◌, Bool, true, List, ◌++◌, length, Some};
+ghost use Rattle.http_wire.specs.Message.{Place};
+ghost use Rattle.http_wire.specs.Response.{IsReadable};
+ghost use Rattle.filing_model.specs.declared.served.Ended.{Ended};
+ghost use Rattle.filing_model.specs.declared.served.Mark.{Mark};
+ghost use Rattle.filing_model.specs.Request.{Request, has_key, firsts};
 ghost use Rattle.filing_model.specs.Register.{register};
 ghost use Rattle.filing_model.specs.Answer.{answer};
 ghost use Rattle.filing_model.specs.Answer.Answer.{Registered};
+ghost use Rattle.filing_model.specs.Outbox.{Open, Confirmed, moved};
+ghost use Rattle.filing_model.specs.Reply.{reply_of, unavailable};
+ghost use Rattle.filing_model.specs.Serving.{Serves};
+ghost use Rattle.filing_model.specs.Stopping.{No, IsEndOf, ServesUntil};
+ghost use Rattle.filing_model.specs.Text.{completed};
 ghost use Rattle.filing_model.specs.Laws.{IsRegisterOf, RepeatChangesNothing, RegisterGrows, RepeatGetsTheFirst, StaysRegistered};
 
 /// The register is the valid ones among the first request of each filer and key, numbered 1, 2, ..
@@ -37,4 +46,25 @@ pub fn repeat_gets_the_first()
 /// that it was told, for good.
 pub fn registered_for_good()
     ensures { (requests : List Request) (r : Request) (number : ℕ) (repeat : Bool) → answer requests r ≡ Registered number repeat → StaysRegistered requests r number }
+{}
+
+/// Each reply to a request that files is one that a client reads: a final status with a phrase, and a
+/// content of 1 to 8,388,608 bytes. So is the reply where the request could not be decided.
+pub fn every_reply_is_read()
+    ensures answered { (requests : List Request) (r : Request) → length (firsts requests) ≤ 2 ^ 62 → IsReadable (reply_of (answer requests r)) }
+    ensures undecided { IsReadable unavailable }
+{}
+
+/// A number is heard as it was told: the reply that tells it moves an open entry to it, and to no other.
+pub fn a_number_is_heard_as_told()
+    ensures confirms { (m : ℕ) (repeat : Bool) → 1 ≤ m → m < 2 ^ 63 → moved Open (reply_of (Registered m repeat)) ≡ Confirmed m }
+    ensures exactly { (m n : ℕ) (repeat : Bool) → m < 2 ^ 63 → moved Open (reply_of (Registered m repeat)) ≡ Confirmed n → m ≡ n }
+{}
+
+/// What was served of the bytes that were read is what may be served of all that were given, after any
+/// requests whose firsts were kept.
+pub fn serves_as_the_model_says()
+    ensures { (limit : ℕ) (done before after : List Request) (read more : List ℕ) (marks : List Mark) (ended : Ended) (out : List ℕ)
+        → before ≡ firsts done → IsEndOf read more ended → Serves limit before after read marks ended out
+        → (places : List Place) × ServesUntil limit done (read ++ more) No places marks (Some ended) out × (after ≡ firsts (done ++ completed places marks)) }
 {}

@@ -6,3 +6,4 @@ pub mod Places
 pub mod Answering
 pub mod Continuing
 pub mod Lent
+pub mod Whole

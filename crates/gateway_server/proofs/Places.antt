@@ -55,7 +55,7 @@ module _ (limit : ℕ) (before now : List Request) (bytes rest : List ℕ) (mark
   unfolding text MarksFit completed
   unmarked asks part asked prefix =
       subst (λ (ms : List Mark). IsCutShort limit before now bytes ms (out ++ part)) (append_nil marks)
-      (HasServed-cut limit before now bytes rest marks out h [] asks [] now part tt asked (record { all = refl; fit = tt }) refl (by_asks asks prefix))
+      (HasServed-cut limit before now bytes rest marks out h [] asks [] now part tt (λ yes. (refl, asked yes)) (record { all = refl; fit = tt }) refl (by_asks asks prefix))
     where
       by_asks : (b : Bool) → IsPrefixOf part (if b then interim else []) → IsPrefixOf part (text now [] (if b then Rest true else Ending.Closed) [])
       by_asks true p = p

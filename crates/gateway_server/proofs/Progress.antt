@@ -132,7 +132,7 @@ module _ (limit : ℕ) (before now : List Request) (bytes rest : List ℕ) (mark
       }
 
   -- a fault ended it, with these marks of the place that stands next, and this part of its text
-  pub HasServed-cut : (last : List Place) (asks : Bool) (ms : List Mark) (after : List Request) (part : List ℕ) → MayBegin rest last → (asks ≡ true → Asks rest true) → AreMarked limit now last ms → after ≡ kept_by now (completed last ms)
+  pub HasServed-cut : (last : List Place) (asks : Bool) (ms : List Mark) (after : List Request) (part : List ℕ) → MayBegin rest last → (asks ≡ true → (last ≡ []) × Asks rest true) → AreMarked limit now last ms → after ≡ kept_by now (completed last ms)
       → IsPrefixOf part (text now last (if asks then Rest true else Ending.Closed) ms) → IsCutShort limit before after bytes (marks ++ ms) (out ++ part)
   HasServed-cut last asks ms after part begins asked m kept prefix = record {
     messages = h.messages;

@@ -1,3 +1,4 @@
+pub mod AloneLemmas
 pub mod BlockLemmas
 pub mod BufferLemmas
 pub mod DeviceLemmas
@@ -5,7 +6,15 @@ pub mod DigitLemmas
 pub mod FoundLemmas
 pub mod HeadLemmas
 pub mod InboxLemmas
+pub mod LineLemmas
 pub mod MoreBytes
 pub mod PartLemmas
+pub mod PostHead
+pub mod PostLaws
+pub mod PostLemmas
 pub mod ReceivedLemmas
 pub mod Unique
+pub mod ReplyHead
+pub mod ReplyRead
+pub mod UniqueReply
+pub mod ValueLemmas

@@ -1,10 +1,10 @@
 -- Reading a reply: interim responses, and then the final one with its content (RFC 9110 and RFC 9112).
-use Rattle.std.specs.Prelude.{◌≡◌, ◌≢◌, ℕ, ◌+◌, ◌≤◌, Bool, true, false, List, [], length, take, drop, slice_range, codes, nat_le, ◌&&◌, map}
+use Rattle.std.specs.Prelude.{◌≡◌, ◌≢◌, ℕ, ◌+◌, ◌<◌, ◌≤◌, IsSome, Bool, true, false, List, [], length, take, drop, slice_range, codes, nat_le, ◌&&◌, map}
 use Rattle.httparse.specs.Grammar.{ResponseHead, ReadsResponse, status_code}
 use Rattle.httparse.specs.Spans.{name_and_value}
 use Rattle.http_wire.specs.Block.{skipped_len, IsBlockEnd}
 use Rattle.http_wire.specs.Head.{HasPlainLines, max_fields, values_named, parts_named, agree, agreed_number}
-use Rattle.http_wire.specs.Reply.{ReplyParts}
+use Rattle.http_wire.specs.Reply.{ReplyParts, phrase}
 
 -- own rule: the most bytes of a reply's content that a client reads
 abbrev pub max_content_len : ℕ
@@ -68,3 +68,10 @@ SpellsReply bytes reply = BeginsReply bytes reply (length bytes)
 -- some of these bytes, from the first on, spell the reply
 abbrev pub GivesReply : List ℕ → ReplyParts → Type 0
 GivesReply bytes reply = (n : ℕ) × SpellsReply (take n bytes) reply
+
+-- a final reply of a known status, with content within the client's limit
+pub record IsReadable (reply : ReplyParts) : Type 0 where
+  pub named : IsSome (phrase reply.status)
+  pub final : reply.status ≢ 100
+  pub some : 0 < length reply.content
+  pub short : length reply.content ≤ max_content_len

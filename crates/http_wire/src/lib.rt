@@ -11,6 +11,7 @@ mod fields;
 mod framing;
 mod head;
 mod inbox;
+pub mod laws;
 mod lists;
 mod parts;
 mod place;

@@ -1,4 +1,4 @@
-use Rattle.std.proofs.Common.{ℕ, List, rules, tests, refl}
+use Rattle.std.proofs.Common.{rules, tests, refl}
 use Rattle.std.proofs.lemmas.Iterator.Consumers.{YieldsList-from_first}
 use Rattle.std.proofs.lemmas.Iterator.Search.{any_from_yields_List}
 use Rattle.http_wire.specs.Coding.{is_coding}

@@ -2,7 +2,6 @@ use Rattle.std.proofs.Common.{◌≡◌, ℕ, List, ◌+◌, ◌≤◌, ◌++◌
 use Rattle.std.proofs.lemmas.Grind.{common_steps}
 use Rattle.std.specs.Io.KnownBytes.{Consumes}
 use Rattle.http_wire.specs.Buffer.{buffered}
-use Rattle.http_wire.specs.declared.buffer.Buffer.{Buffer}
 use Rattle.http_wire.proofs.BufferLemmas.{slice_range-join, slice_range-same}
 use Rattle.http_wire.proofs.buffer.Buffer.fill.Goals as goal
 

@@ -1,0 +1,69 @@
+-- The front of an entry's request holds no place, or the one that files it.
+use Rattle.std.proofs.Common.{◌≡◌, ℕ, true, false, List, [], ◌∷◌, ◌++◌, length, take, drop, refl, sym, ap, ◌∙◌, subst, inl, inr}
+use Rattle.std.proofs.lemmas.Bool.{both_ways}
+use Rattle.std.proofs.lemmas.List.{take-append-drop}
+use Rattle.http_wire.specs.Head.{RequestParts, closes}
+use Rattle.http_wire.specs.Message.{Place, Read, Refused, Ending, Rest, BeginsHead, BeginsRequest, IsRefused, awaits}
+use Rattle.http_wire.specs.Posting.{post_request}
+use Rattle.http_wire.specs.Request.{Request as Message}
+use Rattle.http_wire.specs.declared.refusal.Refusal.{Refusal}
+use Rattle.http_wire.proofs.MoreBytes.{BeginsHead-more, BeginsRequest-more, IsRefused-more}
+use Rattle.http_wire.proofs.PostLaws.{post-spells, post_parts-silent, post_parts-closes, post_parts-key, post_parts-uncoded}
+use Rattle.http_wire.proofs.Unique.{BeginsHead-unique, BeginsRequest-unique, IsRefused-excludes}
+use Rattle.filing_model.specs.Request.{Request}
+use Rattle.filing_model.specs.Outbox.{bytes_of, IsSendable}
+use Rattle.filing_model.specs.Stopping.{BeginsPlaces}
+use Rattle.filing_model.proofs.Posted.{route-post}
+use Rattle.filing_world.specs.Posting.{FilesAlone, IsPosted, IsAlone}
+
+-- the bytes that are sent for a request are one message, which files it
+pub posted : (r : Request) → IsSendable r → IsPosted r
+posted r sendable = record {
+  message = post_request r.filer r.key r.body;
+  spells = post-spells r.filer r.key r.body sendable.filer sendable.key sendable.body;
+  closes' = post_parts-closes r.filer r.key (length r.body);
+  alone = record {
+    filed = route-post (post_request r.filer r.key r.body) r.filer r.key sendable.filer sendable.key (record {
+      method = refl;
+      path = refl;
+      keys = post_parts-key r.filer r.key (length r.body);
+      uncoded = post_parts-uncoded r.filer r.key (length r.body);
+    });
+    silent = post_parts-silent r.filer r.key (length r.body);
+  };
+}
+
+module _ (r : Request) (is : IsPosted r) (n : ℕ) where
+  abbrev front : List ℕ
+  front = take n (bytes_of r)
+
+  whole : front ++ drop n (bytes_of r) ≡ bytes_of r
+  whole = take-append-drop n (bytes_of r)
+
+  -- what the front begins with, the whole does
+  pub head_is : (parts : RequestParts) (k : ℕ) → BeginsHead front parts k → parts ≡ is.message.head
+  head_is parts k h =
+      let long = subst (λ bytes. BeginsHead bytes parts k) whole (BeginsHead-more front (drop n (bytes_of r)) parts k h) in
+      (BeginsHead-unique (bytes_of r) parts is.message.head k is.spells.head_len long is.spells.head).0
+
+  message_is : (m : Message) (k : ℕ) → BeginsRequest front m k → m ≡ is.message
+  message_is m k b =
+      let long = subst (λ bytes. BeginsRequest bytes m k) whole (BeginsRequest-more front (drop n (bytes_of r)) m k b) in
+      (BeginsRequest-unique (bytes_of r) m is.message k (length (bytes_of r)) long is.spells).0
+
+  pub never_refused : (refusal : Refusal) → ¬ (IsRefused front refusal)
+  never_refused refusal refused =
+      let long = subst (λ bytes. IsRefused bytes refusal) whole (IsRefused-more front (drop n (bytes_of r)) refusal refused) in
+      IsRefused-excludes (bytes_of r) is.message.head is.spells.head_len refusal is.spells.head long
+
+  pub own_front : (places : List Place) (ending : Ending) → BeginsPlaces front places ending → IsAlone places ending r
+  own_front [] Ending.Closed h = inl (refl, inl refl)
+  own_front [] (Rest false) h = inl (refl, inr refl)
+  own_front [] (Rest true) h =
+      let same = head_is h.0 h.1 h.2 in
+      absurd (both_ways _ (ap awaits same ∙ is.alone.silent) h.3)
+  own_front (Refused refusal ∷ places) ending h = absurd (never_refused refusal h.0)
+  own_front (Read m ∷ places) ending h =
+      let same = message_is m h.0 h.1 in
+      let last = h.2 (ap (λ (x : Message). closes x.head) same ∙ is.closes') in
+      inr (m, ap (λ rest. Read m ∷ rest) last.0, last.1, subst (λ x. FilesAlone x r) (sym same) is.alone)

@@ -1,0 +1,44 @@
+//! What holds of every request and every reply as they are written. What may live here: functions that
+//! do nothing, each with a law about the definitions as its contract. The code that reads and writes
+//! messages has contracts by the same definitions.
+
+ghost use Rattle.std.specs.Prelude.{◌≡◌, ◌≤◌, ℕ, Bool, true, List, [], length, take};
+ghost use Rattle.key_string.specs.Filer.{is_filer};
+ghost use Rattle.key_string.specs.Key.{IsKey};
+ghost use Rattle.http_wire.specs.Head.{max_body_len};
+ghost use Rattle.http_wire.specs.Message.{Place, Ending, HasPlaces, SpellsRequest};
+ghost use Rattle.http_wire.specs.Posting.{render_post, post_request, HoldsAlone};
+ghost use Rattle.http_wire.specs.Reply.{ReplyParts, render};
+ghost use Rattle.http_wire.specs.Response.{BeginsReply, SpellsReply, IsReadable};
+
+/// What a filer writes is read as the request that it is made of: a POST to the filer's path, with the
+/// key and the report.
+pub fn post_is_read()
+    ensures { (filer key body : List ℕ) → is_filer filer ≡ true → IsKey key → length body ≤ max_body_len → SpellsRequest (render_post filer key body) (post_request filer key body) }
+{}
+
+/// However it is cut, nothing else is read in it: what arrives of a filer's request holds no place and
+/// asks for nothing, or it is the whole request, after which the connection closes.
+pub fn cut_post_is_nothing_or_whole()
+    ensures { (filer key body : List ℕ) → is_filer filer ≡ true → IsKey key → length body ≤ max_body_len → (n : ℕ) (places : List Place) (ending : Ending) → HasPlaces (take n (render_post filer key body)) places ending → HoldsAlone (post_request filer key body) places ending }
+{}
+
+/// What the intake writes of a final reply with content is read as this reply.
+pub fn reply_is_read()
+    ensures { (reply : ReplyParts) (close : Bool) → IsReadable reply → SpellsReply (render reply close) reply }
+{}
+
+/// However it is cut, no other reply is read in it.
+pub fn cut_reply_is_no_other()
+    ensures { (reply other : ReplyParts) (close : Bool) (n : ℕ) → IsReadable reply → SpellsReply (take n (render reply close)) other → other ≡ reply }
+{}
+
+/// No bytes begin with two replies, or with one that ends in two places.
+pub fn bytes_begin_with_one_reply()
+    ensures { (bytes : List ℕ) (reply other : ReplyParts) (n m : ℕ) → BeginsReply bytes reply n → BeginsReply bytes other m → (other ≡ reply) × (m ≡ n) }
+{}
+
+/// Where nothing is read, there is no reply.
+pub fn nothing_is_no_reply()
+    ensures { (reply : ReplyParts) → ¬ (SpellsReply [] reply) }
+{}
