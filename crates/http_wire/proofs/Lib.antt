@@ -11,6 +11,7 @@ pub mod MoreBytes
 pub mod PartLemmas
 pub mod PostHead
 pub mod PostLaws
+pub mod PostLines
 pub mod PostLemmas
 pub mod ReceivedLemmas
 pub mod Unique
