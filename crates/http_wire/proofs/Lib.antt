@@ -15,7 +15,11 @@ pub mod PostLines
 pub mod PostLemmas
 pub mod ReceivedLemmas
 pub mod Unique
+pub mod RefusedReply
 pub mod ReplyHead
+pub mod ReplyLemmas
 pub mod ReplyRead
+pub mod ResponseLemmas
+pub mod TakeLemmas
 pub mod UniqueReply
 pub mod ValueLemmas

@@ -19,6 +19,8 @@ mod posting;
 mod received;
 mod refusal;
 mod reply;
+mod reply_reader;
+mod response;
 mod send;
 mod split;
 mod target;
@@ -32,8 +34,9 @@ pub use fields::FieldsNamed;
 pub use head::{Head, HeadFault, MAX_BODY_LEN, read_head};
 pub use inbox::{Inbox, Message};
 pub use posting::append_request;
-pub use refusal::{ConnFault, Next, Refusal};
+pub use refusal::{ConnFault, Next, Refusal, ReplyFault};
 pub use reply::{Reply, append_reply, phrase};
+pub use reply_reader::read_reply;
 pub use write::write_reply;
 
 #[cfg(test)]
