@@ -16,6 +16,7 @@ pub mod PostLemmas
 pub mod ReceivedLemmas
 pub mod Unique
 pub mod RefusedReply
+pub mod ReplyAgain
 pub mod ReplyHead
 pub mod ReplyLemmas
 pub mod ReplyRead

@@ -86,7 +86,7 @@ long-no_head : (bytes : List ℕ) → IsTooLong bytes → (parts : ResponseParts
 long-no_head bytes t parts n h = IsTooLong-excludes bytes n h.block t
 
 -- it isn't an interim response
-Refuses-stops : (bytes : List ℕ) → Refuses bytes → Stops bytes
+pub Refuses-stops : (bytes : List ℕ) → Refuses bytes → Stops bytes
 Refuses-stops bytes (inl bad) = λ parts n h. absurd (bad-no_head bytes bad parts n h)
 Refuses-stops bytes (inr (inl long)) = λ parts n h. absurd (long-no_head bytes long parts n h)
 Refuses-stops bytes (inr (inr (fault, (parts, n, h, final, e)))) = Stops-final bytes parts n h final
@@ -111,7 +111,7 @@ Refuses-undeclared bytes parts n len h e (inr (inr (fault, (q, m, g, final, wron
 -- ---- cut replies
 
 -- a reply in the bytes begins them
-GivesReply-begins : (bytes : List ℕ) (reply : ReplyParts) → GivesReply bytes reply → (n : ℕ) × BeginsReply bytes reply n
+pub GivesReply-begins : (bytes : List ℕ) (reply : ReplyParts) → GivesReply bytes reply → (n : ℕ) × BeginsReply bytes reply n
 GivesReply-begins bytes reply g =
     (length (take g.0 bytes), subst (λ l. BeginsReply l reply (length (take g.0 bytes))) (take-append-drop g.0 bytes) (BeginsReply-more (take g.0 bytes) (drop g.0 bytes) reply (length (take g.0 bytes)) g.1))
 

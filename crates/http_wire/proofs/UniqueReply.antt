@@ -97,7 +97,7 @@ BeginsResponseHead-more bytes rest parts n h = record {
   head = subst (λ block. ReadsResponseHead block parts) (sym (block-more bytes rest n h.block)) h.head;
 }
 
-drop-more : (n : ℕ) (xs ys : List ℕ) → n ≤ length xs → drop n xs ++ ys ≡ drop n (xs ++ ys)
+pub drop-more : (n : ℕ) (xs ys : List ℕ) → n ≤ length xs → drop n xs ++ ys ≡ drop n (xs ++ ys)
 drop-more n xs ys within = grind (arith, common_steps)
 
 pub BeginsInterims-more : (bytes rest : List ℕ) (n : ℕ) → BeginsInterims bytes n → BeginsInterims (bytes ++ rest) n

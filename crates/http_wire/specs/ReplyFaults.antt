@@ -73,3 +73,13 @@ IsReplyFailure before after failed TooLarge = HasGiven before after (λ bytes. I
 IsReplyFailure before after failed Read = failed
 IsReplyFailure before after failed ReadLimit = HasGiven before after (λ bytes. max_reads ≤ length bytes)
 IsReplyFailure before after failed Memory = Unit {0}
+
+-- a fault of the reader or of memory, of which the bytes show nothing
+abbrev pub IsOfReader : ReplyFault → Type 0
+IsOfReader Cut = ⊥
+IsOfReader Malformed = ⊥
+IsOfReader NoLength = ⊥
+IsOfReader TooLarge = ⊥
+IsOfReader Read = Unit {0}
+IsOfReader ReadLimit = Unit {0}
+IsOfReader Memory = Unit {0}

@@ -128,6 +128,7 @@ fn readers_that_fail(rt: HostRuntime) {
 }
 
 #[test]
+#[tactic(auto, unfolding(crate::specs::Reply::phrase))]
 fn what_is_written_is_read_again(rt: HostRuntime) -> Result<(), Fail> {
     let mut content = Vec::new(rt.alloc());
     content.resize(100_000, b'x')?;
