@@ -8,7 +8,7 @@ use Rattle.std.proofs.lemmas.Slice.Eq.{bytes_eq-Decides}
 use Rattle.httparse.specs.declared.spans.HeaderSpan.{HeaderSpan}
 use Rattle.httparse.specs.declared.spans.RequestSpans.{RequestSpans}
 use Rattle.httparse.specs.declared.spans.Span.{Span}
-use Rattle.httparse.specs.Grammar.{RequestHead}
+use Rattle.httparse.specs.Grammar.{Field}
 use Rattle.httparse.specs.Spans.{span_bytes, header_bytes, name_and_value, IsWithin, IsHeaderWithin, IsRequestWithin, IsRequestOf}
 use Rattle.http_wire.specs.Head.{RequestParts, HasPlainLines, ReadsHead, IsHeadFault, before_query, written_path, framing_fault, has_host_fault, has_coding, agree, lengths, lacks_length, body_length, max_body_len}
 use Rattle.http_wire.specs.declared.head.HeadSpans.{HeadSpans}
@@ -49,9 +49,9 @@ written_path-at target shown path false len s e l =
     rw (l, test) (grind (arith, common_steps))
 
 -- the fields that the spans cover are no more than the spans
-pub fields-few : (block : List ℕ) (headers : List HeaderSpan) (count : ℕ) (head : RequestHead) → count ≤ 64
-    → map (header_bytes block) (take count headers) ≡ map name_and_value head.fields → length head.fields ≤ 64
-fields-few block headers count head few same = grind (arith, common_steps, ap length same)
+pub fields-few : (block : List ℕ) (headers : List HeaderSpan) (count : ℕ) (fields : List Field) → count ≤ 64
+    → map (header_bytes block) (take count headers) ≡ map name_and_value fields → length fields ≤ 64
+fields-few block headers count fields few same = grind (arith, common_steps, ap length same)
 
 -- the spans of a parsed head, with that of its path
 abbrev pub head_spans : RequestSpans → List HeaderSpan → Span → HeadSpans
@@ -77,7 +77,7 @@ module _ (block : List ℕ) (headers : List HeaderSpan) (r : RequestSpans) (path
         lines = lines;
         head = read.0;
         reads = rw rest at at.reads;
-        few = fields-few block headers r.headers read.0 (omega (arith, within.section.count_fits)) at.fields;
+        few = fields-few block headers r.headers read.0.fields (omega (arith, within.section.count_fits)) at.fields;
         target = target.0;
         spells = subst (λ text. Spells text target.0) at.path target.1;
         method = at.method;

@@ -11,10 +11,16 @@ pub mod MoreBytes
 pub mod PartLemmas
 pub mod PostHead
 pub mod PostLaws
+pub mod PostLines
 pub mod PostLemmas
 pub mod ReceivedLemmas
 pub mod Unique
+pub mod RefusedReply
+pub mod ReplyAgain
 pub mod ReplyHead
+pub mod ReplyLemmas
 pub mod ReplyRead
+pub mod ResponseLemmas
+pub mod TakeLemmas
 pub mod UniqueReply
 pub mod ValueLemmas

@@ -16,7 +16,7 @@ use Rattle.key_string.specs.Filer.{is_filer}
 use Rattle.key_string.specs.Key.{spelling, IsKey}
 use Rattle.http_wire.specs.Block.{BeginsBlock}
 use Rattle.http_wire.specs.Head.{ReadsHead, IsHead, lengths, agree, agreed_number, is_number, body_length, framing_fault, max_body_len}
-use Rattle.http_wire.specs.Posting.{render_post_head, post_parts}
+use Rattle.http_wire.specs.Posting.{post_line, key_line, render_post_head, post_parts}
 use Rattle.http_wire.specs.Reply.{line, length_line}
 use Rattle.http_wire.proofs.LineLemmas.{IsLines, IsLines-line, IsLines-join, HasPlainLines-of_lines, BeginsBlock-of_lines}
 use Rattle.http_wire.proofs.PostLemmas.{target_uri, target-uri, target-utf8, filer-value, filer-length, target-spells, target-written, spelling-value, spelling-length, spelling-field}
@@ -69,7 +69,7 @@ lines-flat c₁ f c₂ h c₃ s t c₄ d k e = simp append_assoc
 
 -- it writes these bytes
 post_head-print : (filer key : List ℕ) (len : ℕ) → render_post_head filer key len ≡ print_request (post_head filer key len)
-unfolding post_head render_post_head length_line
+unfolding post_head render_post_head post_line key_line length_line
 post_head-print filer key len =
     lines-flat (codes "POST /filings/") filer (codes " HTTP/1.1") (codes "Host: localhost") (codes "Idempotency-Key: ") (spelling key) (codes "Content-Type: application/json") (codes "Content-Length: ") (decimal len) (codes "Connection: close") (codes "\r\n")
     ∙ sym (five-print (codes "POST") (codes "/filings/" ++ filer) (codes "Host") (codes "localhost") (codes "Idempotency-Key") (spelling key) (codes "Content-Type") (codes "application/json") (codes "Content-Length") (decimal len) (codes "Connection") (codes "close"))
@@ -158,7 +158,7 @@ module _ (filer key : List ℕ) (len : ℕ) (filer_is : is_filer filer ≡ true)
       (IsLines-line (codes "Connection: close") (all (codes "Connection: close") refl) (omega arith))
 
   post_lines-head : render_post_head filer key len ≡ post_lines filer key len ++ crlf_bytes
-  unfolding post_lines render_post_head length_line
+  unfolding post_lines render_post_head post_line key_line length_line
   post_lines-head = refl
 
   post_lines-short : length (post_lines filer key len) + 2 ≤ 16384

@@ -1,5 +1,5 @@
 -- What several reads come to.
-use Rattle.std.proofs.Common.{◌≡◌, ℕ, ◌≤◌, List, [], ◌++◌, length, drop, Option, sym, ap, ◌∙◌, subst, arith}
+use Rattle.std.proofs.Common.{◌≡◌, ℕ, ◌≤◌, List, [], ◌++◌, length, drop, Option, refl, sym, ap, ◌∙◌, subst, arith}
 use Rattle.std.proofs.lemmas.Grind.{common_steps}
 use Rattle.std.specs.Io.KnownBytes.{Consumes}
 use Rattle.http_wire.specs.declared.received.Received.{Received}
@@ -26,6 +26,7 @@ Receives-join a b c x y z first second = record {
   each =
       let both = ap length (drop-twice (held_bytes x) (held_bytes y) (held_bytes z) first.bytes second.bytes) in
       grind (arith, common_steps, first.each, second.each, both);
+  idle = λ same. second.idle (omega (arith, first.reads, second.reads)) ∙ first.idle (omega (arith, first.reads, second.reads));
 }
 
 -- a read of nothing
@@ -37,6 +38,7 @@ Receives-nil a x =
       given = subst (Consumes a a) (sym none) (Consumes-nil a);
       reads = omega arith;
       each = omega arith;
+      idle = λ _. refl;
     }
 
 -- two times nothing

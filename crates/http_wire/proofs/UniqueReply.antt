@@ -1,16 +1,17 @@
 -- Bytes are read as one reply, and more bytes leave it as it was.
-use Rattle.std.proofs.Common.{◌≡◌, ℕ, ◌+◌, ◌≤◌, true, false, List, [], ◌++◌, length, take, drop, map, refl, sym, ap, ap₂, ◌∙◌, subst, inl, inr, ◌⊎◌, arith, length-append}
+use Rattle.std.proofs.Common.{◌≡◌, ℕ, ◌+◌, ◌-◌, ◌≤◌, true, false, List, [], ◌++◌, length, take, drop, map, refl, sym, ap, ap₂, ◌∙◌, subst, inl, inr, ◌⊎◌, arith, length-append}
 use Rattle.std.specs.Prelude.{slice_range, codes}
 use Rattle.std.proofs.lemmas.Grind.{common_steps}
 use Rattle.std.proofs.lemmas.List.{take-append-drop}
 use Rattle.httparse.specs.Grammar.{ResponseHead, status_code}
 use Rattle.httparse.specs.Spans.{name_and_value}
 use Rattle.httparse.proofs.GrammarLemmas.{response_unique}
-use Rattle.http_wire.specs.Block.{skipped_len}
+use Rattle.http_wire.specs.Block.{EndsAt, IsBlockEnd, from_block, skipped_len}
 use Rattle.http_wire.specs.Head.{parts_named, agreed_number}
 use Rattle.http_wire.specs.Reply.{ReplyParts}
 use Rattle.http_wire.specs.Response.{ResponseParts, ReadsResponseHead, BeginsResponseHead, BeginsInterims, none, more, is_interim, BeginsReply, SpellsReply}
-use Rattle.http_wire.proofs.MoreBytes.{IsBlockEnd-more, IsBlockEnd-within, block-more, slice_range-more}
+use Rattle.http_wire.proofs.MoreBytes.{EndsAt-more, EndsAt-front, skipped_len-more, from_block-more, IsBlockEnd-more, IsBlockEnd-within, block-more, slice_range-more}
+use Rattle.http_wire.proofs.BlockLemmas.{EndsAt-within}
 use Rattle.http_wire.proofs.Unique.{IsBlockEnd-unique}
 
 abbrev response_by : ℕ → List (List ℕ × List ℕ) → ResponseParts
@@ -39,35 +40,40 @@ interims-cases : (bytes : List ℕ) (n : ℕ) → BeginsInterims bytes n → (n 
 interims-cases bytes n none = inl refl
 interims-cases bytes n (more {bytes = b} {parts = p} {n = k} {m = m} h is rest) = inr (p, k, m, h, is, rest, refl)
 
--- after so many bytes a final head stands
-abbrev HasFinal : List ℕ → Type 0
-HasFinal bytes = (parts : ResponseParts) × (n : ℕ) × BeginsResponseHead bytes parts n × (is_interim parts.status ≡ false)
+-- no interim response begins the bytes
+abbrev pub Stops : List ℕ → Type 0
+Stops bytes = (parts : ResponseParts) (n : ℕ) → BeginsResponseHead bytes parts n → is_interim parts.status ≡ false
 
--- a final head is no interim one
-final-no_interim : (bytes : List ℕ) (p q : ResponseParts) (n m : ℕ) → BeginsResponseHead bytes p n → is_interim p.status ≡ false → BeginsResponseHead bytes q m → ¬ (is_interim q.status ≡ true)
-final-no_interim bytes p q n m a final b is =
-    let same : is_interim p.status ≡ is_interim q.status = ap (λ (parts : ResponseParts). is_interim parts.status) (BeginsResponseHead-unique bytes p q n m a b).0 in
-    cc
+-- a final head stops them
+pub Stops-final : (bytes : List ℕ) (p : ResponseParts) (n : ℕ) → BeginsResponseHead bytes p n → is_interim p.status ≡ false → Stops bytes
+Stops-final bytes p n h final = λ q m g. ap (λ (parts : ResponseParts). is_interim parts.status) (BeginsResponseHead-unique bytes q p m n g h).0 ∙ final
 
 drop-sum : (k m : ℕ) (xs : List ℕ) → drop (k + m) xs ≡ drop m (drop k xs)
 drop-sum k m xs = grind (arith, common_steps)
 
--- the interim responses before a final head end in one place
-interims-same : (bytes : List ℕ) (n m : ℕ) → BeginsInterims bytes n → HasFinal (drop n bytes) → BeginsInterims bytes m → HasFinal (drop m bytes) → n ≡ m
+-- interim responses that something else follows end in one place
+pub interims-same : (bytes : List ℕ) (n m : ℕ) → BeginsInterims bytes n → Stops (drop n bytes) → BeginsInterims bytes m → Stops (drop m bytes) → n ≡ m
 interims-same bytes n m none f b g = elim (interims-cases bytes m b) [
   | inl zero ↦ sym zero
-  | inr h ↦ absurd (final-no_interim bytes f.0 h.0 f.1 h.1 f.2 f.3 h.3 h.4)
+  | inr h ↦ let stopped = f h.0 h.1 h.3 in let is = h.4 in cc
 ]
 interims-same bytes n m (more {bytes = own} {parts = p} {n = first} {m = rest} a is others) f b g = elim (interims-cases bytes m b) [
-  | inl zero ↦ absurd (let at = subst (λ k. HasFinal (drop k bytes)) zero g in final-no_interim bytes at.0 p at.1 first at.2 at.3 a is)
+  | inl zero ↦ let stopped = subst (λ k. Stops (drop k bytes)) zero g p first a in cc
   | inr h ↦
       let same : h.1 ≡ first = (BeginsResponseHead-unique bytes h.0 p h.1 first h.3 a).1 in
-      let left = subst HasFinal (drop-sum first rest bytes) f in
+      let left = subst Stops (drop-sum first rest bytes) f in
       let place : m ≡ first + h.2 = h.6 ∙ ap (λ k. k + h.2) same in
-      let right = subst HasFinal (ap (λ k. drop k bytes) place ∙ drop-sum first h.2 bytes) g in
+      let right = subst Stops (ap (λ k. drop k bytes) place ∙ drop-sum first h.2 bytes) g in
       let next : rest ≡ h.2 = interims-same (drop first bytes) rest h.2 others left (subst (λ k. BeginsInterims (drop k bytes) h.2) same h.5) right in
       ap (λ k. first + k) next ∙ sym place
 ]
+
+-- one more interim response
+pub interims-push : (bytes : List ℕ) (n m : ℕ) (parts : ResponseParts) → BeginsInterims bytes n → BeginsResponseHead (drop n bytes) parts m → is_interim parts.status ≡ true → BeginsInterims bytes (n + m)
+interims-push bytes n m parts none h is = subst (BeginsInterims bytes) (omega arith) (more h is none)
+interims-push bytes n m parts (more {bytes = own} {parts = p} {n = first} {m = rest} a before others) h is =
+    let later = interims-push (drop first bytes) rest m parts others (subst (λ l. BeginsResponseHead l parts m) (drop-sum first rest bytes) h) is in
+    subst (BeginsInterims bytes) (omega arith) (more a before later)
 
 abbrev reply_by : ℕ → List ℕ → ReplyParts
 reply_by status content = record { status = status; content = content }
@@ -75,7 +81,7 @@ reply_by status content = record { status = status; content = content }
 -- bytes begin with one reply
 pub BeginsReply-unique : (bytes : List ℕ) (r s : ReplyParts) (n m : ℕ) → BeginsReply bytes r n → BeginsReply bytes s m → (r ≡ s) × (n ≡ m)
 BeginsReply-unique bytes r s n m a b =
-    let skipped = interims-same bytes a.skipped b.skipped a.interims (a.parts, a.head_len, a.head, a.declares.final) b.interims (b.parts, b.head_len, b.head, b.declares.final) in
+    let skipped = interims-same bytes a.skipped b.skipped a.interims (Stops-final _ a.parts a.head_len a.head a.declares.final) b.interims (Stops-final _ b.parts b.head_len b.head b.declares.final) in
     let head = BeginsResponseHead-unique (drop b.skipped bytes) a.parts b.parts a.head_len b.head_len (subst (λ k. BeginsResponseHead (drop k bytes) a.parts a.head_len) skipped a.head) b.head in
     let len : length r.content ≡ length s.content = a.declares.length_is ∙ ap (λ (p : ResponseParts). agreed_number (parts_named (codes "content-length") p.fields)) head.0 ∙ sym b.declares.length_is in
     let end : n ≡ m = omega (arith, a.length_is, b.length_is, skipped, head.1, len) in
@@ -85,16 +91,16 @@ BeginsReply-unique bytes r s n m a b =
 
 -- ---- more bytes
 
-BeginsResponseHead-more : (bytes rest : List ℕ) (parts : ResponseParts) (n : ℕ) → BeginsResponseHead bytes parts n → BeginsResponseHead (bytes ++ rest) parts n
+pub BeginsResponseHead-more : (bytes rest : List ℕ) (parts : ResponseParts) (n : ℕ) → BeginsResponseHead bytes parts n → BeginsResponseHead (bytes ++ rest) parts n
 BeginsResponseHead-more bytes rest parts n h = record {
   block = IsBlockEnd-more bytes rest n h.block;
   head = subst (λ block. ReadsResponseHead block parts) (sym (block-more bytes rest n h.block)) h.head;
 }
 
-drop-more : (n : ℕ) (xs ys : List ℕ) → n ≤ length xs → drop n xs ++ ys ≡ drop n (xs ++ ys)
+pub drop-more : (n : ℕ) (xs ys : List ℕ) → n ≤ length xs → drop n xs ++ ys ≡ drop n (xs ++ ys)
 drop-more n xs ys within = grind (arith, common_steps)
 
-BeginsInterims-more : (bytes rest : List ℕ) (n : ℕ) → BeginsInterims bytes n → BeginsInterims (bytes ++ rest) n
+pub BeginsInterims-more : (bytes rest : List ℕ) (n : ℕ) → BeginsInterims bytes n → BeginsInterims (bytes ++ rest) n
 BeginsInterims-more bytes rest n none = none
 BeginsInterims-more bytes rest n (more {bytes = own} {parts = p} {n = first} {m = later} a is others) =
     let within = (IsBlockEnd-within bytes first a.block).2 in
@@ -114,6 +120,57 @@ BeginsReply-more bytes rest reply n b = record {
   whole = omega (arith, b.whole, length-append bytes rest);
   content = b.content ∙ sym (slice_range-more bytes rest (b.skipped + b.head_len) n b.whole);
 }
+
+-- ---- fewer bytes
+
+IsBlockEnd-front : (bytes rest : List ℕ) (n : ℕ) → n ≤ length bytes → IsBlockEnd (bytes ++ rest) n → IsBlockEnd bytes n
+IsBlockEnd-front bytes rest n within b =
+    let ends = EndsAt-within (from_block (bytes ++ rest)) b.0 b.1.ends in
+    let four : 4 ≤ length bytes = omega (arith, ends.0, b.2, within) in
+    let skipped = skipped_len-more bytes rest four in
+    let text = from_block-more bytes rest four in
+    let size : length (from_block bytes) ≡ length bytes - skipped_len bytes = grind (arith, common_steps) in
+    let low : b.0 ≤ length (from_block bytes) = omega (arith, size, b.2, within, skipped) in (
+      b.0,
+      record {
+        ends = EndsAt-front (from_block bytes) rest b.0 low (subst (λ t. EndsAt t b.0) text b.1.ends);
+        first = λ k less e. b.1.first k less (subst (λ t. EndsAt t k) (sym text) (EndsAt-more (from_block bytes) rest k e));
+        short = b.1.short;
+      },
+      b.2 ∙ ap (λ k. k + b.0) skipped,
+    )
+
+BeginsResponseHead-front : (bytes rest : List ℕ) (parts : ResponseParts) (n : ℕ) → n ≤ length bytes → BeginsResponseHead (bytes ++ rest) parts n → BeginsResponseHead bytes parts n
+BeginsResponseHead-front bytes rest parts n within h =
+    let block = IsBlockEnd-front bytes rest n within h.block in
+    record { block = block; head = subst (λ b. ReadsResponseHead b parts) (block-more bytes rest n block) h.head }
+
+BeginsInterims-front : (all bytes rest : List ℕ) (n : ℕ) → all ≡ bytes ++ rest → n ≤ length bytes → BeginsInterims all n → BeginsInterims bytes n
+BeginsInterims-front all bytes rest n same within none = none
+BeginsInterims-front all bytes rest n same within (more {bytes = own} {parts = p} {n = first} {m = later} a is others) =
+    let low : first ≤ length bytes = omega (arith, within) in
+    let head = BeginsResponseHead-front bytes rest p first low (subst (λ l. BeginsResponseHead l p first) same a) in
+    let left : drop first all ≡ drop first bytes ++ rest = ap (drop first) same ∙ sym (drop-more first bytes rest low) in
+    let size : length (drop first bytes) ≡ length bytes - first = grind (arith, common_steps) in
+    more head is (BeginsInterims-front (drop first all) (drop first bytes) rest later left (omega (arith, size, within)) others)
+
+-- a reply needs no bytes after it
+pub BeginsReply-front : (bytes rest : List ℕ) (reply : ReplyParts) (n : ℕ) → n ≤ length bytes → BeginsReply (bytes ++ rest) reply n → BeginsReply bytes reply n
+BeginsReply-front bytes rest reply n within b =
+    let low : b.skipped ≤ length bytes = omega (arith, within, b.length_is) in
+    let size : length (drop b.skipped bytes) ≡ length bytes - b.skipped = grind (arith, common_steps) in
+    record {
+      skipped = b.skipped;
+      interims = BeginsInterims-front (bytes ++ rest) bytes rest b.skipped refl low b.interims;
+      parts = b.parts;
+      head_len = b.head_len;
+      head = BeginsResponseHead-front (drop b.skipped bytes) rest b.parts b.head_len (omega (arith, size, within, b.length_is)) (subst (λ l. BeginsResponseHead l b.parts b.head_len) (sym (drop-more b.skipped bytes rest low)) b.head);
+      declares = b.declares;
+      status = b.status;
+      length_is = b.length_is;
+      whole = within;
+      content = b.content ∙ slice_range-more bytes rest (b.skipped + b.head_len) n within;
+    }
 
 -- no bytes are a reply
 pub SpellsReply-nothing : (reply : ReplyParts) → ¬ (SpellsReply [] reply)

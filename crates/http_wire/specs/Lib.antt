@@ -19,6 +19,8 @@ pub mod Posting
 pub mod Received
 pub mod Replies
 pub mod Reply
+pub mod ReplyFaults
+pub mod ReplyReading
 pub mod Request
 pub mod Response
 pub mod Spans

@@ -7,13 +7,21 @@ use Rattle.http_wire.specs.Message.{Place, Read, Ending, Closed, Rest}
 use Rattle.http_wire.specs.Reply.{line, length_line}
 use Rattle.http_wire.specs.Request.{Request}
 
+-- request-line (RFC 9112, section 3): the filer's code is in the path
+unfoldable pub post_line : List ℕ → List ℕ
+post_line filer = line (codes "POST /filings/" ++ filer ++ codes " HTTP/1.1")
+
+-- the key as a String (RFC 8941, section 3.3.3)
+unfoldable pub key_line : List ℕ → List ℕ
+key_line key = line (codes "Idempotency-Key: " ++ spelling key)
+
 -- The head of the request: the filer's code in the path, the key as a String, and the length of the report. The connection is closed
 -- after the reply. This order of lines is an own rule.
 unfoldable pub render_post_head : List ℕ → List ℕ → ℕ → List ℕ
 render_post_head filer key len =
-    line (codes "POST /filings/" ++ filer ++ codes " HTTP/1.1")
+    post_line filer
     ++ line (codes "Host: localhost")
-    ++ line (codes "Idempotency-Key: " ++ spelling key)
+    ++ key_line key
     ++ line (codes "Content-Type: application/json")
     ++ length_line len
     ++ line (codes "Connection: close")

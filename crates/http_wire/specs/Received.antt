@@ -19,12 +19,14 @@ held_bytes r = buffered r.bytes
 abbrev pub read_count : Received → ℕ
 read_count r = r.reads
 
--- What is held now is what was held, and what the reader gave since: at least a byte in each read that is counted.
+-- What is held now is what was held, and what the reader gave since: at least a byte in each read that is counted,
+-- and nothing where none is.
 pub record Receives (before after : Option (List ℕ)) (old new : Received) : Type 0 where
   pub bytes : held_bytes new ≡ held_bytes old ++ drop (length (held_bytes old)) (held_bytes new)
   pub given : Consumes before after (drop (length (held_bytes old)) (held_bytes new))
   pub reads : read_count old ≤ read_count new
   pub each : read_count new ≤ read_count old + length (drop (length (held_bytes old)) (held_bytes new))
+  pub idle : read_count new ≡ read_count old → held_bytes new ≡ held_bytes old
 
 -- nothing was read
 pub record ReceivesNothing {R : Type 0} (before after : R) (old new : Received) : Type 0 where

@@ -1,6 +1,6 @@
 //! The values of the fields of one name in a head (RFC 9110, sections 5.1 and 5.3).
-ghost use Rattle.std.specs.Prelude.{◌≡◌, ◌≤◌, All, length};
-ghost use Rattle.httparse.specs.Spans.{IsHeaderWithin};
+ghost use Rattle.std.specs.Prelude.{◌≡◌, ◌≤◌, All, length, map};
+ghost use Rattle.httparse.specs.Spans.{IsHeaderWithin, header_bytes};
 ghost use Rattle.http_wire.specs.Head.{values_named};
 ghost use Rattle.http_wire.specs.Spans.{parts_at, IsHeadWithin};
 
@@ -25,11 +25,15 @@ impl<'h> FieldsNamed<'h> {
         ensures values { values_left result ≡ values_named name.now (parts_at block.now spans.now).fields }
         ensures few { length (values_left result) ≤ 64 }
     {
-        FieldsNamed {
-            block,
-            spans: &spans.fields[..spans.count],
-            name,
-        }
+        FieldsNamed::of(block, &spans.fields[..spans.count], name)
+    }
+
+    /// The same of fields of which no head is known.
+    pub(crate) fn of(block: &'h [u8], spans: &'h [HeaderSpan], name: &'h [u8]) -> FieldsNamed<'h>
+        requires { All (IsHeaderWithin (length block.now)) spans.now }
+        ensures { values_left result ≡ values_named name.now (map (header_bytes block.now) spans.now) }
+    {
+        FieldsNamed { block, spans, name }
     }
 }
 

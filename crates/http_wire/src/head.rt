@@ -15,7 +15,7 @@ use std::marker::Model;
 use thiserror::Error;
 
 /// The most fields of a head. An own rule.
-const MAX_FIELDS: usize = 64;
+pub(crate) const MAX_FIELDS: usize = 64;
 
 /// The most bytes of a request's body. An own rule.
 pub const MAX_BODY_LEN: usize = 1_048_576;
@@ -190,7 +190,7 @@ fn parse_head(alloc: Global, block: &[u8]) -> Result<HeadSpans, HeadFault>
 }
 
 /// Whether the block begins with no line end, and each LF directly follows a CR.
-fn has_plain_lines(block: &[u8]) -> bool
+pub(crate) fn has_plain_lines(block: &[u8]) -> bool
     ensures { IsTrue result ↔ HasPlainLines block.now }
 {
     for (i, byte) in block.iter().enumerate() {

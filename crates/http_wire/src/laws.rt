@@ -2,14 +2,17 @@
 //! do nothing, each with a law about the definitions as its contract. The code that reads and writes
 //! messages has contracts by the same definitions.
 
-ghost use Rattle.std.specs.Prelude.{◌≡◌, ◌≤◌, ℕ, Bool, true, List, [], length, take};
+ghost use Rattle.std.specs.Prelude.{◌≡◌, ◌≤◌, ℕ, Bool, true, List, [], length, take, Option, Some};
 ghost use Rattle.key_string.specs.Filer.{is_filer};
 ghost use Rattle.key_string.specs.Key.{IsKey};
+ghost use Rattle.http_wire.specs.Device.{HasFailed};
 ghost use Rattle.http_wire.specs.Head.{max_body_len};
 ghost use Rattle.http_wire.specs.Message.{Place, Ending, HasPlaces, SpellsRequest};
 ghost use Rattle.http_wire.specs.Posting.{render_post, post_request, HoldsAlone};
 ghost use Rattle.http_wire.specs.Reply.{ReplyParts, render};
-ghost use Rattle.http_wire.specs.Response.{BeginsReply, SpellsReply, IsReadable};
+ghost use Rattle.http_wire.specs.ReplyFaults.{HasGiven, IsReplyFailure, IsOfReader};
+ghost use Rattle.http_wire.specs.Response.{BeginsReply, SpellsReply, GivesReply, IsReadable};
+ghost use Rattle.http_wire.specs.declared.refusal.ReplyFault.{ReplyFault};
 
 /// What a filer writes is read as the request that it is made of: a POST to the filer's path, with the
 /// key and the report.
@@ -41,4 +44,11 @@ pub fn bytes_begin_with_one_reply()
 /// Where nothing is read, there is no reply.
 pub fn nothing_is_no_reply()
     ensures { (reply : ReplyParts) → ¬ (SpellsReply [] reply) }
+{}
+
+/// What is written of such a reply is read again: where a reader gives it, in whatever pieces, no other
+/// reply is read, and where none is read, the reader or the memory failed.
+pub fn written_reply_is_read_again()
+    ensures same { (reply : ReplyParts) (close : Bool) (after : Option (List ℕ)) → IsReadable reply → (other : ReplyParts) → HasGiven (Some (render reply close)) after (λ bytes. GivesReply bytes other) → other ≡ reply }
+    ensures fault { (reply : ReplyParts) (close : Bool) (after : Option (List ℕ)) → IsReadable reply → (old new : ℕ) (fault : ReplyFault) → IsReplyFailure (Some (render reply close)) after (HasFailed old new) fault → IsOfReader fault }
 {}

@@ -15,9 +15,12 @@ pub mod laws;
 mod lists;
 mod parts;
 mod place;
+mod posting;
 mod received;
 mod refusal;
 mod reply;
+mod reply_reader;
+mod response;
 mod send;
 mod split;
 mod target;
@@ -30,8 +33,10 @@ pub use device::{Device, DeviceFailed, Sink, Source};
 pub use fields::FieldsNamed;
 pub use head::{Head, HeadFault, MAX_BODY_LEN, read_head};
 pub use inbox::{Inbox, Message};
-pub use refusal::{ConnFault, Next, Refusal};
+pub use posting::append_request;
+pub use refusal::{ConnFault, Next, Refusal, ReplyFault};
 pub use reply::{Reply, append_reply, phrase};
+pub use reply_reader::read_reply;
 pub use write::write_reply;
 
 #[cfg(test)]

@@ -4,12 +4,15 @@ ghost use Rattle.std.specs.List.{list_any, list_all, prefix_len};
 ghost use Rattle.std.specs.Char.{is_ascii_digit};
 ghost use Rattle.std.specs.Str.Parse.{digits_value};
 ghost use Rattle.httparse.specs.Grammar.{AllPass};
-ghost use Rattle.http_wire.specs.Head.{is_number, same_name, max_body_len};
+ghost use Rattle.http_wire.specs.Head.{is_number, same_name};
 ghost use Rattle.http_wire.specs.Lists.{IsAgreed, significant};
 ghost use Rattle.http_wire.specs.PartsLeft.{parts_left};
+ghost use Rattle.http_wire.specs.Response.{max_content_len};
 
-use crate::head::MAX_BODY_LEN;
 use crate::parts::Parts;
+
+/// The most bytes of the content of any message. An own rule.
+pub(crate) const MAX_CONTENT_LEN: usize = 8_388_608;
 
 /// Whether one of the parts is this word, in any case.
 pub(crate) fn has_word(mut parts: Parts, word: &[u8]) -> bool
@@ -24,7 +27,7 @@ fn is_same_name(a: &[u8], b: &[u8]) -> bool
     a.eq_ignore_ascii_case(b)
 }
 
-/// The number that all parts write, or 1,048,577 in place of a larger one; 0 without parts, none
+/// The number that all parts write, or 8,388,609 in place of a larger one; 0 without parts, none
 /// where they don't agree (RFC 9112, section 6.3).
 pub(crate) fn agreed_length(mut parts: Parts) -> Option<usize>
     ensures { IsAgreed (parts_left parts.entry) result }
@@ -79,14 +82,14 @@ fn significant_digits(part: &[u8]) -> &[u8]
     digits
 }
 
-/// The number that the digits write, or 1,048,577 in place of a larger one.
+/// The number that the digits write, or 8,388,609 in place of a larger one.
 fn bounded_value(digits: &[u8]) -> usize
     requires { AllPass is_ascii_digit digits.now }
-    ensures { result ≡ min (digits_value 10 digits.now) (max_body_len + 1) }
+    ensures { result ≡ min (digits_value 10 digits.now) (max_content_len + 1) }
 {
     let mut value = 0;
     for digit in digits {
-        value = (value * 10 + usize::from(digit - b'0')).min(MAX_BODY_LEN + 1);
+        value = (value * 10 + usize::from(digit - b'0')).min(MAX_CONTENT_LEN + 1);
     }
     value
 }

@@ -109,7 +109,7 @@ impl Received {
 
     /// Makes one read; `false` where it gave nothing, and so the input has ended. Only a read that
     /// gave bytes is counted.
-    fn read_more<R: Source>(&mut self, reader: &mut R) -> Result<bool, ConnFault>
+    pub(crate) fn read_more<R: Source>(&mut self, reader: &mut R) -> Result<bool, ConnFault>
         requires { length (held_bytes self.old) < MAX_HELD }
         ensures reads { Receives (R.left reader.old) (R.left reader.new) self.old self.new }
         ensures counted { result ≡ Ok true → read_count self.new ≡ read_count self.old + 1 }

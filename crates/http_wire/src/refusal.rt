@@ -1,6 +1,7 @@
 //! What stands on a connection, and why one can't go on.
 ghost use Rattle.std.specs.Prelude.{◌≡◌};
 ghost use Rattle.http_wire.specs.declared.refusal.ConnFault.TheVariants.{Memory};
+ghost use Rattle.http_wire.specs.declared.refusal.ReplyFault.TheVariants.{Memory as NoMemory};
 
 use crate::head::HeadFault;
 use std::alloc::{AllocError, AllocFailed};
@@ -39,6 +40,30 @@ pub enum ConnFault {
     Memory,
 }
 
+/// Why no reply was read.
+#[derive(Clone, Copy, Debug, PartialEq, Eq, Error)]
+pub enum ReplyFault {
+    /// The input ended inside the reply.
+    #[error("the reply is cut")]
+    Cut,
+    /// A head isn't one of a response, there is a Transfer-Encoding, or the parts of Content-Length
+    /// aren't one number (RFC 9112, sections 4, 5 and 6.3).
+    #[error("the reply is malformed")]
+    Malformed,
+    /// There is no Content-Length, an own rule.
+    #[error("the content length of the reply is missing")]
+    NoLength,
+    /// A head of more than 16,384 bytes, or a content of more than 8,388,608, own rules.
+    #[error("the reply is too large")]
+    TooLarge,
+    #[error("the reader failed")]
+    Read,
+    #[error("too many reads")]
+    ReadLimit,
+    #[error("out of memory")]
+    Memory,
+}
+
 impl From<AllocError> for ConnFault {
     ghost from_gives = { λ _ fault. fault ≡ Memory };
 
@@ -52,5 +77,27 @@ impl<T: Drop> From<AllocFailed<T>> for ConnFault {
 
     fn from(_error: AllocFailed<T>) -> ConnFault {
         ConnFault::Memory
+    }
+}
+
+impl From<AllocError> for ReplyFault {
+    ghost from_gives = { λ _ fault. fault ≡ NoMemory };
+
+    fn from(_error: AllocError) -> ReplyFault {
+        ReplyFault::Memory
+    }
+}
+
+impl From<ConnFault> for ReplyFault {
+    ghost use Rattle.http_wire.specs.ReplyFaults.{fault_of_read};
+
+    ghost from_gives = { λ fault own. own ≡ fault_of_read fault };
+
+    fn from(fault: ConnFault) -> ReplyFault {
+        match fault {
+            ConnFault::Read | ConnFault::Write { .. } => ReplyFault::Read,
+            ConnFault::ReadLimit => ReplyFault::ReadLimit,
+            ConnFault::Memory => ReplyFault::Memory,
+        }
     }
 }

@@ -98,7 +98,7 @@ fn push_content_length(len: usize, out: &mut Vec<u8>) -> Result<(), AllocError>
 }
 
 #[tactic(auto, unfolding(crate::specs::Reply::length_line))]
-fn push_length(len: usize, out: &mut Vec<u8>) -> Result<(), AllocError>
+pub(crate) fn push_length(len: usize, out: &mut Vec<u8>) -> Result<(), AllocError>
     ensures { OnOk result (out.new.items ≡ out.old.items ++ length_line len) }
 {
     out.extend_from_slice(b"Content-Length: ")?;

@@ -14,7 +14,7 @@ returns-then-are_numbers_of c =
     let is : is_number first ≡ true = cc in
     let agreed = agree-by_digits first c.significant_digits-digits.result.now later is c.significant_digits-digits.ensures in
     let value = ap (digits_value 10) c.significant_digits-digits.ensures ∙ digits_value-significant first in
-    rw parts (agreed ∙ sym c.are_numbers_of.ensures ∙ c.if-are_numbers_of.true, c.bounded_value.ensures ∙ ap (λ n. min n 1048577) value)
+    rw parts (agreed ∙ sym c.are_numbers_of.ensures ∙ c.if-are_numbers_of.true, c.bounded_value.ensures ∙ ap (λ n. min n 8388609) value)
 
 pub returns-else-is_number : goal.returns-else-is_number
 returns-else-is_number c =

@@ -1,0 +1,66 @@
+-- What the calls that read a reply do to the bytes that are held.
+use Rattle.std.specs.Prelude.{◌≡◌, ℕ, ◌+◌, ◌<◌, ◌≤◌, List, [], ◌++◌, length, Option}
+use Rattle.std.specs.Io.KnownBytes.{Consumes, IsAtEnd}
+use Rattle.http_wire.specs.declared.received.Received.{Received}
+use Rattle.http_wire.specs.declared.refusal.ReplyFault.{ReplyFault}
+use Rattle.http_wire.specs.declared.refusal.ReplyFault.TheVariants.{Cut, Malformed, NoLength, TooLarge, Read, ReadLimit, Memory}
+use Rattle.http_wire.specs.declared.response.ResponseHead.{ResponseHead}
+use Rattle.http_wire.specs.Block.{IsUnended, IsTooLong}
+use Rattle.http_wire.specs.Received.{held_bytes, read_count, max_reads}
+use Rattle.http_wire.specs.ReplyFaults.{BeginsBadHead, content_length}
+use Rattle.http_wire.specs.Response.{ResponseParts, ReadsResponseHead, BeginsResponseHead, BeginsInterims}
+
+-- what a client needs of these parts
+pub record ShowsParts (head : ResponseHead) (parts : ResponseParts) : Type 0 where
+  pub status : head.status ≡ parts.status
+  pub content_len : head.content_len ≡ content_length parts.fields
+
+-- the block is the head of a response, of which this is shown
+abbrev pub IsResponseBlock : List ℕ → ResponseHead → Type 0
+IsResponseBlock block head = (parts : ResponseParts) × ReadsResponseHead block parts × ShowsParts head parts
+
+-- These bytes were taken off the front of what was held and what the reader gave since.
+pub record Takes (before after : Option (List ℕ)) (old new : Received) (taken : List ℕ) : Type 0 where
+  pub read : List ℕ
+  pub given : Consumes before after read
+  pub bytes : held_bytes old ++ read ≡ taken ++ held_bytes new
+  pub count : read_count new ≤ read_count old + length read
+
+-- A head was taken.
+pub record TakesHead (before after : Option (List ℕ)) (old new : Received) (head : ResponseHead) : Type 0 where
+  pub block : List ℕ
+  pub takes : Takes before after old new block
+  pub parts : ResponseParts
+  pub begins : BeginsResponseHead (block ++ held_bytes new) parts (length block)
+  pub shows : ShowsParts head parts
+
+-- why no head was taken
+abbrev pub IsHeadFailure : Option (List ℕ) → Option (List ℕ) → Type 0 → Received → Received → ReplyFault → Type 0
+IsHeadFailure before after failed old new Cut = Takes before after old new [] × IsUnended (held_bytes new) × IsAtEnd after
+IsHeadFailure before after failed old new Malformed = Takes before after old new [] × BeginsBadHead (held_bytes new)
+IsHeadFailure before after failed old new NoLength = ⊥
+IsHeadFailure before after failed old new TooLarge = Takes before after old new [] × IsTooLong (held_bytes new)
+IsHeadFailure before after failed old new Read = failed
+IsHeadFailure before after failed old new ReadLimit = Takes before after old new [] × (read_count new ≡ max_reads)
+IsHeadFailure before after failed old new Memory = Unit {0}
+
+-- less than the content was taken
+abbrev pub TakesLess : Option (List ℕ) → Option (List ℕ) → Received → Received → ℕ → Type 0
+TakesLess before after old new len = (part : List ℕ) × Takes before after old new part × (held_bytes new ≡ []) × (length part < len)
+
+-- why no content was taken
+abbrev pub IsContentFailure : Option (List ℕ) → Option (List ℕ) → Type 0 → Received → Received → ℕ → ReplyFault → Type 0
+IsContentFailure before after failed old new len Cut = TakesLess before after old new len × IsAtEnd after
+IsContentFailure before after failed old new len Malformed = ⊥
+IsContentFailure before after failed old new len NoLength = ⊥
+IsContentFailure before after failed old new len TooLarge = ⊥
+IsContentFailure before after failed old new len Read = failed
+IsContentFailure before after failed old new len ReadLimit = TakesLess before after old new len × (read_count new ≡ max_reads)
+IsContentFailure before after failed old new len Memory = Unit {0}
+
+-- Since the reader stood at `first` it gave interim responses, which were taken, and what is held.
+pub record HasSkipped (first after : Option (List ℕ)) (r : Received) : Type 0 where
+  pub taken : List ℕ
+  pub given : Consumes first after (taken ++ held_bytes r)
+  pub count : read_count r ≤ length (taken ++ held_bytes r)
+  pub interims : BeginsInterims (taken ++ held_bytes r) (length taken)

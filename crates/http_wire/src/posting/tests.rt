@@ -1,0 +1,40 @@
+use super::*;
+use key_string::is_filer;
+use std::test::Fail;
+
+const REPORT: &str =
+    "{\"documentInfo\":{\"documentType\":\"https://xbrl.org/2021/xbrl-json\",\"namespaces\":{\"eg\":\"http://example.com/eg\",\"iso4217\":\"http://www.xbrl.org/2003/iso4217\",\"lei\":\"http://standards.iso.org/iso/17442\"},\"taxonomy\":[\"http://example.com/eg.xsd\"]},\"facts\":{\"f1\":{\"value\":\"100\",\"decimals\":0,\"dimensions\":{\"concept\":\"eg:Assets\",\"entity\":\"lei:ACME\",\"period\":\"2024-12-31T00:00:00\",\"unit\":\"iso4217:EUR\"}}}}";
+
+const SMALLEST: &str =
+    "{\"documentInfo\":{\"documentType\":\"https://xbrl.org/2021/xbrl-json\",\"taxonomy\":[\"t\"]}}";
+
+const SMALLEST_POSTED: &str =
+    "POST /filings/ACME HTTP/1.1\r\nHost: localhost\r\nIdempotency-Key: \"k-1\"\r\nContent-Type: application/json\r\nContent-Length: 84\r\nConnection: close\r\n\r\n{\"documentInfo\":{\"documentType\":\"https://xbrl.org/2021/xbrl-json\",\"taxonomy\":[\"t\"]}}";
+
+#[test]
+fn reports_of_a_filer(rt: HostRuntime) -> Result<(), Fail> {
+    let filer = "ACME";
+    assert!(rt; is_filer(filer));
+    let key = KeyText::new(rt.alloc(), "k-1")?;
+    let mut out = Vec::new(rt.alloc());
+    append_request(filer, &key, SMALLEST.as_bytes(), &mut out)?;
+    assert_eq!(rt; out.len(), 227);
+    assert_eq!(rt; out.as_slice(), SMALLEST_POSTED.as_bytes());
+    append_request(filer, &key, REPORT.as_bytes(), &mut out)?;
+    assert_eq!(rt; out.len(), 227 + 537);
+    Ok(())
+}
+
+#[test]
+fn a_key_is_spelled_with_escapes(rt: HostRuntime) -> Result<(), Fail> {
+    let filer = "a.b_c-9";
+    assert!(rt; is_filer(filer));
+    let key = KeyText::new(rt.alloc(), "a\"b\\c")?;
+    let mut out = Vec::new(rt.alloc());
+    append_request(filer, &key, b"[]", &mut out)?;
+    assert_eq!(rt;
+        out.as_slice(),
+        b"POST /filings/a.b_c-9 HTTP/1.1\r\nHost: localhost\r\nIdempotency-Key: \"a\\\"b\\\\c\"\r\nContent-Type: application/json\r\nContent-Length: 2\r\nConnection: close\r\n\r\n[]".as_slice()
+    );
+    Ok(())
+}
