@@ -62,7 +62,7 @@ impl<S: Alter + Drop> Store<S> {
     ghost use Rattle.register_store.specs.Store.{shows, HasRequests, Leaves};
 
     /// Makes the tables of a register that has no request, in one transaction. A refusal gives the connection up, and
-    /// leaves the database as it was. The tables are those of a register where the database had none before.
+    /// leaves the database as it was. What is said of rows holds where the database had no table before.
     pub fn create(alloc: Global, mut conn: Connection<S>) -> Result<Store<S>, CreateFault>
         requires autocommit { conn.in_transaction ≡ false }
         requires unlimited { conn.step_limit ≡ None }
