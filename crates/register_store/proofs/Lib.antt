@@ -1,10 +1,10 @@
 pub mod Adding
-pub mod Counting
 pub mod CreateTexts
 pub mod FactLemmas
 pub mod FindLemmas
 pub mod FindReads
 pub mod FindTexts
+pub mod Floats
 pub mod Growing
 pub mod ListLemmas
 pub mod Making

@@ -17,6 +17,7 @@ ghost use Rattle.register_store.specs.Store.{IsRegisterOf};
 ghost use Rattle.register_store.specs.Outcomes.{kept_as};
 ghost use Rattle.register_store.specs.Found.{IsFound, IsLookUp, IsPlaced, IsReading, found_row, finding_in};
 
+use crate::facts::read_text;
 use crate::fault::StoreFault;
 use crate::outcome::{KeptRow, Outcome};
 use crate::rows::{rows_of_findings, rows_with_key};
@@ -43,16 +44,6 @@ fn read_found(row: &Row) -> Result<Found, StoreFault>
     Ok(Found { seq, body, number })
 }
 
-/// The text that bytes are.
-fn text_of(bytes: Vec<u8>) -> Result<String, StoreFault>
-    ensures { IfOk result (λ text. string_bytes text ≡ bytes.items) }
-{
-    match String::from_utf8(bytes) {
-        Ok(text) => Ok(text),
-        Err(_) => Err(StoreFault::Store),
-    }
-}
-
 /// The code of this number.
 fn code_of(number: i64) -> Result<Code, StoreFault>
     ensures { IfOk result (λ code. number ≡ pos (code_number code)) }
@@ -69,8 +60,7 @@ fn read_finding(row: &Row) -> Result<Finding, StoreFault>
 {
     let number: i64 = row.get(0)?;
     let code = code_of(number)?;
-    let bytes: Vec<u8> = row.get(1)?;
-    let place = text_of(bytes)?;
+    let place = read_text(row, 1)?;
     Ok(Finding { place, code })
 }
 

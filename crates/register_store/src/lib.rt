@@ -4,6 +4,7 @@
 #![tactic(auto)]
 
 mod completed;
+mod content;
 mod counts;
 mod create;
 mod facts;
@@ -19,6 +20,10 @@ mod store;
 mod write;
 
 pub use completed::{Completed, Registered};
+pub use content::findings_value;
 pub use fault::{CreateFault, StoreFault};
 pub use outcome::{KeptRow, NewRow, Outcome};
 pub use store::Store;
+
+#[cfg(test)]
+mod tests;
