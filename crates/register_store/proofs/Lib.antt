@@ -1,4 +1,5 @@
 pub mod Adding
+pub mod CellLemmas
 pub mod Counting
 pub mod CreateTexts
 pub mod FactLemmas

@@ -3,6 +3,7 @@
 //! known here.
 #![tactic(auto)]
 
+mod cells;
 mod completed;
 mod counts;
 mod create;
