@@ -14,6 +14,7 @@ pub mod NumberLemmas
 pub mod OurGains
 pub mod ReadLemmas
 pub mod ReadTexts
+pub mod SegmentLemmas
 pub mod StepsOfLists
 pub mod StoreLemmas
 pub mod Texts

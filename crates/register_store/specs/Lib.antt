@@ -1,3 +1,4 @@
+pub mod Audit
 pub mod Cells
 pub mod Changes
 pub mod Columns

@@ -3,6 +3,7 @@
 //! known here.
 #![tactic(auto)]
 
+mod audit;
 mod cells;
 mod completed;
 mod counts;
@@ -16,6 +17,7 @@ mod names;
 mod outcome;
 mod reads;
 mod rows;
+mod segments;
 mod store;
 mod write;
 

@@ -1,0 +1,167 @@
+//! Whether the rows of a register's tables stand for a list of requests. No SQL is known here.
+
+ghost use Rattle.std.specs.Prelude.{◌≡◌, ◌≢◌, ◌↔◌, ◌<◌, ◌≤◌, ◌^◌, ◌+◌, ◌&&◌, ℕ, suc, pos, List, [], ◌∷◌, ◌++◌, map, length, bytes_eq, take, get_or, Some, None, true, false, IsTrue, IfOk, MatchOption};
+ghost use Rattle.std.specs.List.{list_any};
+ghost use Rattle.sqlite.specs.declared.types.Value.TheVariants.{Int, Text, Blob};
+ghost use Rattle.sqlite.specs.Order.{column};
+ghost use Rattle.sqlite.specs.Values.{or_null};
+ghost use Rattle.key_string.specs.Key.{IsKey};
+ghost use Rattle.xbrl_report.specs.ReportParts.{facts as facts_of};
+ghost use Rattle.xbrl_report.specs.Judgement.{IsJudgement, HasFacts};
+ghost use Rattle.filing_model.specs.Register.{Outcome};
+ghost use Rattle.register_store.specs.Audit.{Others, Begins, IsSound, IsVerdict, view_rest, request_outcome};
+ghost use Rattle.register_store.specs.Cells.{value_of};
+ghost use Rattle.register_store.specs.Columns.{text_in, bytes_in, request_in};
+ghost use Rattle.register_store.specs.Outcomes.{outcome_of, filings_by};
+ghost use Rattle.register_store.specs.Register.{kept_row};
+
+use crate::cells::{Cell, is_row};
+use crate::segments::{after_facts, after_filing, after_findings};
+use key_string::read_filer;
+use sqlite::Row;
+use sqlite::types::ValueRef;
+use std::alloc::{AllocError, Global};
+use xbrl_report::{Fact, Finding, Judged, judge};
+
+/// The most bytes of a body.
+const MAX_BODY_LEN: usize = 1_048_576;
+
+/// The most characters of a key.
+const MAX_KEY_LEN: usize = 1024;
+
+/// The most requests that a register keeps.
+const MAX_KEPT: u64 = 1 << 62;
+
+/// The rows of the tables beside `kept` that no kept row has accounted for, and the number of the next filing.
+#[derive(Clone, Copy)]
+pub(crate) struct Rest<'a> {
+    pub(crate) findings: &'a [Row],
+    pub(crate) filings: &'a [Row],
+    pub(crate) facts: &'a [Row],
+    pub(crate) number: u64,
+}
+
+/// What an audit found.
+#[derive(Clone, Copy)]
+pub(crate) enum Verdict {
+    /// The rows stand for a list of requests, of which so many are registered.
+    Sound { filings: u64 },
+    /// They stand for none: the kept row at this place, counted from 1, is the first that is not sound, or at 0 rows of the
+    /// other tables are left over.
+    Damaged { row: u64 },
+}
+
+/// The bytes of a text, none where the column has no text.
+fn text_at(row: &Row, at: usize) -> &[u8]
+    ensures { result.now ≡ text_in (column row.now at) }
+{
+    match row.get_ref(at) {
+        Ok(ValueRef::Text(text)) => text,
+        _ => &[],
+    }
+}
+
+/// The bytes of a blob, none where the column has none.
+fn bytes_at(row: &Row, at: usize) -> &[u8]
+    ensures { result.now ≡ bytes_in (column row.now at) }
+{
+    match row.get_ref(at) {
+        Ok(ValueRef::Blob(bytes)) => bytes,
+        _ => &[],
+    }
+}
+
+fn is_key(text: &[u8]) -> bool
+    ensures { IsTrue result ↔ IsKey text.now }
+{
+    !text.is_empty()
+        && text.len() <= MAX_KEY_LEN
+        && text.iter().all(|byte| matches!(byte, b' '..=b'~'))
+}
+
+fn has_key(row: &Row, filer: &[u8], key: &[u8]) -> bool
+    ensures { result ≡ (bytes_eq (request_in row.now).filer filer.now && bytes_eq (request_in row.now).key key.now) }
+{
+    text_at(row, 1) == filer && text_at(row, 2) == key
+}
+
+/// Whether one of the rows has this filer and key.
+fn is_repeated(rows: &[Row], filer: &[u8], key: &[u8]) -> bool
+    ensures { result ≡ list_any (λ row. bytes_eq (request_in row).filer filer.now && bytes_eq (request_in row).key key.now) rows.now }
+{
+    rows.iter().any(|row| has_key(row, filer, key))
+}
+
+/// Whether the row has this place and this number beside its own request.
+fn is_kept_row(row: &Row, seq: u64, number: Cell<'_>) -> bool
+    requires { seq < 2 ^ 63 }
+    ensures { IsTrue result ↔ (row.now ≡ Int (pos seq) ∷ Text (request_in row.now).filer ∷ Text (request_in row.now).key ∷ Blob (request_in row.now).body ∷ value_of number.entry ∷ []) }
+{
+    is_row(
+        row,
+        &[
+            Cell::Int(seq as i64),
+            Cell::Text(text_at(row, 1)),
+            Cell::Text(text_at(row, 2)),
+            Cell::Blob(bytes_at(row, 3)),
+            number,
+        ],
+    )
+}
+
+/// What is left behind the rows of a refused request, if they are there.
+fn after_refused<'a>(
+    row: &Row,
+    seq: u64,
+    findings: &[Finding],
+    rest: Rest<'a>,
+) -> Option<Rest<'a>>
+    requires { seq < 2 ^ 63 }
+    ensures { MatchOption result
+        ((tail : Others) → row.now ≡ kept_row seq (request_outcome row.now (Outcome.Refused findings.now)) → Begins seq (request_outcome row.now (Outcome.Refused findings.now)) (view_rest rest.entry) tail → ⊥)
+        (λ tail. (row.now ≡ kept_row seq (request_outcome row.now (Outcome.Refused findings.now))) × Begins seq (request_outcome row.now (Outcome.Refused findings.now)) (view_rest rest.entry) (view_rest tail) × (tail.number ≡ rest.entry.number)) }
+{
+    if !is_kept_row(row, seq, Cell::Null) {
+        return None;
+    }
+    let findings = after_findings(rest.findings, seq, findings)?;
+    Some(Rest { findings, ..rest })
+}
+
+/// What is left behind the rows of a registered request, if they are there.
+fn after_valid<'a>(row: &Row, seq: u64, facts: &[Fact], rest: Rest<'a>) -> Option<Rest<'a>>
+    requires seq { seq < 2 ^ 63 }
+    requires number { rest.number < 2 ^ 63 }
+    requires facts { facts.now ≡ facts_of (request_in row.now).body }
+    ensures { MatchOption result
+        ((tail : Others) → row.now ≡ kept_row seq (request_outcome row.now (Outcome.Registered rest.entry.number)) → Begins seq (request_outcome row.now (Outcome.Registered rest.entry.number)) (view_rest rest.entry) tail → ⊥)
+        (λ tail. (row.now ≡ kept_row seq (request_outcome row.now (Outcome.Registered rest.entry.number))) × Begins seq (request_outcome row.now (Outcome.Registered rest.entry.number)) (view_rest rest.entry) (view_rest tail) × (tail.number ≡ rest.entry.number + 1)) }
+{
+    if !is_kept_row(row, seq, Cell::Int(rest.number as i64)) {
+        return None;
+    }
+    let filings = after_filing(rest.filings, rest.number, seq)?;
+    let facts = after_facts(rest.facts, rest.number, facts)?;
+    Some(Rest {
+        findings: rest.findings,
+        filings,
+        facts,
+        number: rest.number + 1,
+    })
+}
+
+/// What is left behind the rows of a request that was judged so, if they are there.
+fn after_judged<'a>(row: &Row, seq: u64, judged: &Judged, rest: Rest<'a>) -> Option<Rest<'a>>
+    requires seq { seq < 2 ^ 63 }
+    requires number { rest.number < 2 ^ 63 }
+    requires facts { HasFacts (request_in row.now).body judged.now }
+    ensures { MatchOption result
+        ((tail : Others) → row.now ≡ kept_row seq (request_outcome row.now (outcome_of rest.entry.number judged.now)) → Begins seq (request_outcome row.now (outcome_of rest.entry.number judged.now)) (view_rest rest.entry) tail → ⊥)
+        (λ tail. (row.now ≡ kept_row seq (request_outcome row.now (outcome_of rest.entry.number judged.now))) × Begins seq (request_outcome row.now (outcome_of rest.entry.number judged.now)) (view_rest rest.entry) (view_rest tail)
+        × (tail.number ≡ rest.entry.number + filings_by (outcome_of rest.entry.number judged.now))) }
+{
+    match judged {
+        Judged::Valid(report) => after_valid(row, seq, report.facts(), rest),
+        Judged::Refused(findings) => after_refused(row, seq, findings.list(), rest),
+    }
+}
