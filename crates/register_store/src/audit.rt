@@ -1,6 +1,6 @@
 //! Whether the rows of a register's tables stand for a list of requests. No SQL is known here.
 
-ghost use Rattle.std.specs.Prelude.{◌≡◌, ◌≢◌, ◌↔◌, ◌<◌, ◌≤◌, ◌^◌, ◌+◌, ◌&&◌, ℕ, suc, pos, List, [], ◌∷◌, ◌++◌, map, length, bytes_eq, take, get_or, Some, None, true, false, IsTrue, IfOk, MatchOption};
+ghost use Rattle.std.specs.Prelude.{◌≡◌, ◌≢◌, ◌↔◌, ◌<◌, ◌≤◌, ◌^◌, ◌+◌, ◌&&◌, ℕ, suc, pos, List, [], ◌∷◌, ◌++◌, map, length, bytes_eq, take, get_or, Some, None, true, false, IsTrue, IfOk, IfSome, MatchOption};
 ghost use Rattle.std.specs.List.{list_any};
 ghost use Rattle.sqlite.specs.declared.types.Value.TheVariants.{Int, Text, Blob};
 ghost use Rattle.sqlite.specs.Order.{column};
@@ -92,10 +92,22 @@ fn is_repeated(rows: &[Row], filer: &[u8], key: &[u8]) -> bool
     rows.iter().any(|row| has_key(row, filer, key))
 }
 
+/// The number of a filing as a column holds it.
+fn number_cell(number: Option<u64>) -> Cell<'static>
+    requires { IfSome number (λ n. n < 2 ^ 63) }
+    ensures { value_of result ≡ or_null (λ n. Int (pos n)) number }
+{
+    match number {
+        Some(number) => Cell::Int(number as i64),
+        None => Cell::Null,
+    }
+}
+
 /// Whether the row has this place and this number beside its own request.
-fn is_kept_row(row: &Row, seq: u64, number: Cell<'_>) -> bool
-    requires { seq < 2 ^ 63 }
-    ensures { IsTrue result ↔ (row.now ≡ Int (pos seq) ∷ Text (request_in row.now).filer ∷ Text (request_in row.now).key ∷ Blob (request_in row.now).body ∷ value_of number.entry ∷ []) }
+fn is_kept_row(row: &Row, seq: u64, number: Option<u64>) -> bool
+    requires seq { seq < 2 ^ 63 }
+    requires number { IfSome number (λ n. n < 2 ^ 63) }
+    ensures { IsTrue result ↔ (row.now ≡ Int (pos seq) ∷ Text (request_in row.now).filer ∷ Text (request_in row.now).key ∷ Blob (request_in row.now).body ∷ or_null (λ n. Int (pos n)) number ∷ []) }
 {
     is_row(
         row,
@@ -104,7 +116,7 @@ fn is_kept_row(row: &Row, seq: u64, number: Cell<'_>) -> bool
             Cell::Text(text_at(row, 1)),
             Cell::Text(text_at(row, 2)),
             Cell::Blob(bytes_at(row, 3)),
-            number,
+            number_cell(number),
         ],
     )
 }
@@ -121,7 +133,7 @@ fn after_refused<'a>(
         ((tail : Others) → row.now ≡ kept_row seq (request_outcome row.now (Outcome.Refused findings.now)) → Begins seq (request_outcome row.now (Outcome.Refused findings.now)) (view_rest rest.entry) tail → ⊥)
         (λ tail. (row.now ≡ kept_row seq (request_outcome row.now (Outcome.Refused findings.now))) × Begins seq (request_outcome row.now (Outcome.Refused findings.now)) (view_rest rest.entry) (view_rest tail) × (tail.number ≡ rest.entry.number)) }
 {
-    if !is_kept_row(row, seq, Cell::Null) {
+    if !is_kept_row(row, seq, None) {
         return None;
     }
     let findings = after_findings(rest.findings, seq, findings)?;
@@ -137,7 +149,7 @@ fn after_valid<'a>(row: &Row, seq: u64, facts: &[Fact], rest: Rest<'a>) -> Optio
         ((tail : Others) → row.now ≡ kept_row seq (request_outcome row.now (Outcome.Registered rest.entry.number)) → Begins seq (request_outcome row.now (Outcome.Registered rest.entry.number)) (view_rest rest.entry) tail → ⊥)
         (λ tail. (row.now ≡ kept_row seq (request_outcome row.now (Outcome.Registered rest.entry.number))) × Begins seq (request_outcome row.now (Outcome.Registered rest.entry.number)) (view_rest rest.entry) (view_rest tail) × (tail.number ≡ rest.entry.number + 1)) }
 {
-    if !is_kept_row(row, seq, Cell::Int(rest.number as i64)) {
+    if !is_kept_row(row, seq, Some(rest.number)) {
         return None;
     }
     let filings = after_filing(rest.filings, rest.number, seq)?;
