@@ -1,4 +1,5 @@
 pub mod Adding
+pub mod AuditLemmas
 pub mod CellLemmas
 pub mod Counting
 pub mod CreateTexts

@@ -9,11 +9,12 @@ ghost use Rattle.key_string.specs.Key.{IsKey};
 ghost use Rattle.xbrl_report.specs.ReportParts.{facts as facts_of};
 ghost use Rattle.xbrl_report.specs.Judgement.{IsJudgement, HasFacts};
 ghost use Rattle.filing_model.specs.Register.{Outcome};
-ghost use Rattle.register_store.specs.Audit.{Others, Begins, IsSound, IsVerdict, view_rest, request_outcome};
+ghost use Rattle.filing_model.specs.Request.{has_key};
+ghost use Rattle.register_store.specs.Audit.{Others, Begins, IsSound, IsVerdict, view_rest, request_outcome, kept_in};
 ghost use Rattle.register_store.specs.Cells.{value_of};
 ghost use Rattle.register_store.specs.Columns.{text_in, bytes_in, request_in};
 ghost use Rattle.register_store.specs.Outcomes.{outcome_of, filings_by};
-ghost use Rattle.register_store.specs.Register.{kept_row};
+ghost use Rattle.register_store.specs.Register.{IsCompleted, kept_row};
 
 use crate::cells::{Cell, is_row};
 use crate::segments::{after_facts, after_filing, after_findings};
@@ -79,7 +80,7 @@ fn is_key(text: &[u8]) -> bool
         && text.iter().all(|byte| matches!(byte, b' '..=b'~'))
 }
 
-fn has_key(row: &Row, filer: &[u8], key: &[u8]) -> bool
+fn has_filer_and_key(row: &Row, filer: &[u8], key: &[u8]) -> bool
     ensures { result ≡ (bytes_eq (request_in row.now).filer filer.now && bytes_eq (request_in row.now).key key.now) }
 {
     text_at(row, 1) == filer && text_at(row, 2) == key
@@ -89,7 +90,7 @@ fn has_key(row: &Row, filer: &[u8], key: &[u8]) -> bool
 fn is_repeated(rows: &[Row], filer: &[u8], key: &[u8]) -> bool
     ensures { result ≡ list_any (λ row. bytes_eq (request_in row).filer filer.now && bytes_eq (request_in row).key key.now) rows.now }
 {
-    rows.iter().any(|row| has_key(row, filer, key))
+    rows.iter().any(|row| has_filer_and_key(row, filer, key))
 }
 
 /// The number of a filing as a column holds it.
@@ -175,5 +176,87 @@ fn after_judged<'a>(row: &Row, seq: u64, judged: &Judged, rest: Rest<'a>) -> Opt
     match judged {
         Judged::Valid(report) => after_valid(row, seq, report.facts(), rest),
         Judged::Refused(findings) => after_refused(row, seq, findings.list(), rest),
+    }
+}
+
+/// The filer of a row whose request may be completed, and whose filer and key none of the earlier rows has.
+fn new_filer<'a>(earlier: &[Row], row: &'a Row) -> Option<&'a str>
+    ensures { MatchOption result
+        (IsCompleted (request_in row.now) → has_key (map request_in earlier.now) (request_in row.now) ≡ false → ⊥)
+        (λ filer. (filer.now ≡ (request_in row.now).filer) × IsCompleted (request_in row.now) × (has_key (map request_in earlier.now) (request_in row.now) ≡ false)) }
+{
+    let key = text_at(row, 2);
+    let Some(filer) = read_filer(text_at(row, 1)) else {
+        return None;
+    };
+    if !is_key(key) {
+        return None;
+    }
+    if bytes_at(row, 3).len() > MAX_BODY_LEN {
+        return None;
+    }
+    if is_repeated(earlier, filer.as_bytes(), key) {
+        return None;
+    }
+    Some(filer)
+}
+
+/// Whether the next kept row is sound after the earlier ones: what is left behind its rows in the other tables, or `None`.
+/// The error is want of memory.
+fn check_next<'a>(
+    alloc: Global,
+    earlier: &[Row],
+    row: &Row,
+    seq: u64,
+    rest: Rest<'a>,
+) -> Result<Option<Rest<'a>>, AllocError>
+    requires seq { seq < 2 ^ 63 }
+    requires number { rest.number < 2 ^ 63 }
+    ensures { IfOk result (λ next. MatchOption next
+        ((tail : Others) → IsSound earlier.now seq rest.entry.number row.now (view_rest rest.entry) tail → ⊥)
+        (λ tail. IsSound earlier.now seq rest.entry.number row.now (view_rest rest.entry) (view_rest tail) × (tail.number ≡ rest.entry.number + filings_by (kept_in row.now rest.entry.number).outcome))) }
+{
+    let Some(filer) = new_filer(earlier, row) else {
+        return Ok(None);
+    };
+    match judge(alloc, filer, bytes_at(row, 3)) {
+        Ok(judged) => Ok(after_judged(row, seq, &judged, rest)),
+        Err(error) => Err(error),
+    }
+}
+
+/// Audits the rows of `kept`, by `seq`, with those of the other tables, each in the order of its key. The error is want of
+/// memory.
+pub(crate) fn audit(
+    alloc: Global,
+    kept: &[Row],
+    findings: &[Row],
+    filings: &[Row],
+    facts: &[Row],
+) -> Result<Verdict, AllocError>
+    ensures { IfOk result (λ verdict. IsVerdict kept.now (record { finding = findings.now; filing = filings.now; fact = facts.now }) verdict) }
+{
+    if kept.len() as u64 > MAX_KEPT {
+        return Err(AllocError);
+    }
+    let mut rest = Rest {
+        findings,
+        filings,
+        facts,
+        number: 1,
+    };
+    for at in 0..kept.len() {
+        let seq = at as u64 + 1;
+        match check_next(alloc, &kept[..at], &kept[at], seq, rest)? {
+            Some(next) => rest = next,
+            None => return Ok(Verdict::Damaged { row: seq }),
+        }
+    }
+    if rest.findings.is_empty() && rest.filings.is_empty() && rest.facts.is_empty() {
+        Ok(Verdict::Sound {
+            filings: rest.number - 1,
+        })
+    } else {
+        Ok(Verdict::Damaged { row: 0 })
     }
 }
