@@ -1,12 +1,13 @@
 -- An audit from row to row.
-use Rattle.std.proofs.Common.{◌≡◌, ◌≢◌, ◌⊎◌, inl, inr, ◌<◌, ◌≤◌, ℕ, ◌+◌, zero, suc, Bool, true, false, not, List, [], ◌∷◌, ◌++◌, append-nil, append_assoc, length, length-append, map, take, drop, get_or, refl, sym, ap, ap₂, subst, ◌∙◌, arith, ⊎_elim}
+use Rattle.std.proofs.Common.{◌≡◌, ◌≢◌, ◌⊎◌, inl, inr, ◌<◌, ◌≤◌, ℕ, ◌+◌, zero, suc, Bool, true, false, not, List, [], ◌∷◌, ◌++◌, append-nil, append_assoc, length, length-append, map, take, drop, get_or, refl, sym, ap, ap₂, subst, subst₂, ◌∙◌, arith, ⊎_elim}
 use Rattle.std.specs.Prelude.{filter}
 use Rattle.std.specs.List.{AllByRecursion}
 use Rattle.std.proofs.lemmas.Bool.{cases_Bool}
 use Rattle.std.proofs.lemmas.List.{take_more, take-append-drop, map-append, append_cancel_left}
 use Rattle.sqlite.specs.Order.{Row}
 use Rattle.filing_model.specs.Request.{Request, firsts, has_key, same_key}
-use Rattle.filing_model.specs.Register.{Kept, filings, verdict, judged, kept, register}
+use Rattle.filing_model.specs.Register.{Outcome, Kept, filings, kept_after, verdict, judged, kept, register}
+use Rattle.filing_model.specs.Register.Outcome.{Registered, Refused}
 use Rattle.filing_model.proofs.Firsts.{firsts_new, firsts-append, firsts_short}
 use Rattle.filing_model.proofs.Keeping.{kept_new, kept_grows, requests_of_kept}
 use Rattle.table_rows.specs.Rows.{counted_from}
@@ -45,14 +46,13 @@ unfolding verdict
 kept_is_judged F row = refl
 
 module _ (all rest tail : Others) (F : List Request) (front : List Row) (row : Row) (first : AreFirst front all rest F) (sound : IsSound front (suc (length F)) (suc (length (register F))) row rest tail) where
-  r : Request
+  abbrev r : Request
   r = request_in row
 
-  k : Kept
+  abbrev k : Kept
   k = judged (kept F) r
 
   new : has_key F r ≡ false
-  unfolding r
   new = subst (λ G. has_key G r ≡ false) (requests_first front F first.distinct first.kept_is) sound.fresh
 
   next_in : (rows : ℕ → Kept → List Row) (whole left behind : List Row) → whole ≡ joined_from rows 1 (kept F) ++ left → left ≡ rows (suc (length F)) k ++ behind → whole ≡ joined_from rows 1 (kept (F ++ r ∷ [])) ++ behind
@@ -64,7 +64,6 @@ module _ (all rest tail : Others) (F : List Request) (front : List Row) (row : R
 
   -- the rows with a sound one are first too
   pub first_more : AreFirst (front ++ row ∷ []) all tail (F ++ request_in row ∷ [])
-  unfolding r
   first_more =
       let at : 1 + length (kept F) ≡ suc (length F) = omega (arith, kept_length F first.distinct) in
       let is = kept_is_judged F row in
@@ -78,7 +77,6 @@ module _ (all rest tail : Others) (F : List Request) (front : List Row) (row : R
       }
 
   pub register_more : length (register (F ++ request_in row ∷ [])) ≡ length (register F) + filings_by (kept_in row (suc (length (register F)))).outcome
-  unfolding r
   register_more = registered_more F r new ∙ ap (λ (x : Kept). length (register F) + filings_by x.outcome) (sym (kept_is_judged F row))
 
 filter_short : (p : Request → Bool) (F : List Request) → length (filter p F) ≤ length F
@@ -102,3 +100,34 @@ apart_from F G r once all = ⊎_elim
         absurd (omega (arith, long, one, two, three)))
     (λ (h : has_key F r ≡ false). h)
     (cases_Bool (has_key F r))
+
+one_filing : (o : Outcome) → filings_by o ≤ 1
+one_filing (Registered number) = omega arith
+one_filing (Refused found) = omega arith
+
+-- the first rows are those of some requests, so many of which are registered
+abbrev pub Stood : List Row → Others → Others → ℕ → ℕ → Type 0
+Stood rows all rest i number = (F : List Request) × (length F ≡ i) × (number ≡ suc (length (register F))) × AreFirst (take i rows) all rest F × (length (register F) ≤ length F)
+
+pub none_yet : (rows : List Row) (all : Others) → Stood rows all all 0 1
+unfolding firsts kept_after filings
+none_yet rows all = ([], refl, refl, record { distinct = refl; completed = tt; kept_is = refl; finding_is = refl; filing_is = refl; fact_is = refl }, omega arith)
+
+pub one_more : (rows : List Row) (all rest tail : Others) (i number next : ℕ) (row : Row) → i < length rows → row ≡ get_or rows i row → Stood rows all rest i number
+    → IsSound (take i rows) (i + 1) number row rest tail × (next ≡ number + filings_by (kept_in row number).outcome) → Stood rows all tail (i + 1) next
+one_more rows all rest tail i number next row below at stood sound =
+    let F = stood.0 in
+    let seq : i + 1 ≡ suc (length F) = omega (arith, stood.1) in
+    let is = subst₂ (λ s n. IsSound (take i rows) s n row rest tail) seq stood.2 sound.0 in
+    let more = first_more all rest tail F (take i rows) row stood.3 is in
+    let count = register_more all rest tail F (take i rows) row stood.3 is in
+    let told : next ≡ suc (length (register F)) + filings_by (kept_in row (suc (length (register F)))).outcome = sound.1 ∙ ap (λ n. n + filings_by (kept_in row n).outcome) stood.2 in
+    let few = one_filing (kept_in row (suc (length (register F)))).outcome in
+    let long = length-append F (request_in row ∷ []) in
+    let front : take (i + 1) rows ≡ take i rows ++ row ∷ [] = take_more rows i row below ∙ ap (λ r. take i rows ++ r ∷ []) (sym at) in (
+      F ++ request_in row ∷ [],
+      omega (arith, long, stood.1),
+      omega (arith, told, count),
+      subst (λ l. AreFirst l all tail (F ++ request_in row ∷ [])) (sym front) more,
+      omega (arith, long, count, few, stood.4),
+    )
