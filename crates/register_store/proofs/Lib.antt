@@ -1,4 +1,7 @@
 pub mod Adding
+pub mod AuditLemmas
+pub mod AuditSteps
+pub mod CellLemmas
 pub mod CreateTexts
 pub mod FactLemmas
 pub mod FindLemmas
@@ -13,6 +16,7 @@ pub mod NumberLemmas
 pub mod OurGains
 pub mod ReadLemmas
 pub mod ReadTexts
+pub mod SegmentLemmas
 pub mod StepsOfLists
 pub mod StoreLemmas
 pub mod Texts

@@ -44,7 +44,7 @@ kept_read F old new rows was r =
     let same = filter_every wanted in
     r.ordered wanted has (subst (RisesBy by_first) (sym same) (counted_rise kept_row by_first (λ _ _. refl) 1 (kept F))) ∙ ap (map whole) same ∙ map_whole wanted
 
-requests_said : (at : ℕ) (ks : List Kept) → map request_in (counted_from kept_row at ks) ≡ map (λ (k : Kept). k.request) ks
+pub requests_said : (at : ℕ) (ks : List Kept) → map request_in (counted_from kept_row at ks) ≡ map (λ (k : Kept). k.request) ks
 requests_said at [] = refl
 requests_said at (k ∷ ks) = ap (λ l. k.request ∷ l) (requests_said (at + 1) ks)
 

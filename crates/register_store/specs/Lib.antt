@@ -1,3 +1,5 @@
+pub mod Audit
+pub mod Cells
 pub mod Changes
 pub mod Columns
 pub mod Faults

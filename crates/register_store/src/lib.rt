@@ -3,6 +3,8 @@
 //! known here.
 #![tactic(auto)]
 
+mod audit;
+mod cells;
 mod completed;
 mod content;
 mod counts;
@@ -16,6 +18,7 @@ mod names;
 mod outcome;
 mod reads;
 mod rows;
+mod segments;
 mod store;
 mod write;
 

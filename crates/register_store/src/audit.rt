@@ -1,0 +1,262 @@
+//! Whether the rows of a register's tables stand for a list of requests. No SQL is known here.
+
+ghost use Rattle.std.specs.Prelude.{◌≡◌, ◌≢◌, ◌↔◌, ◌<◌, ◌≤◌, ◌^◌, ◌+◌, ◌&&◌, ℕ, suc, pos, List, [], ◌∷◌, ◌++◌, map, length, bytes_eq, take, get_or, Some, None, true, false, IsTrue, IfOk, IfSome, MatchOption};
+ghost use Rattle.std.specs.List.{list_any};
+ghost use Rattle.sqlite.specs.declared.types.Value.TheVariants.{Int, Text, Blob};
+ghost use Rattle.sqlite.specs.Order.{column};
+ghost use Rattle.sqlite.specs.Values.{or_null};
+ghost use Rattle.key_string.specs.Key.{IsKey};
+ghost use Rattle.xbrl_report.specs.ReportParts.{facts as facts_of};
+ghost use Rattle.xbrl_report.specs.Judgement.{IsJudgement, HasFacts};
+ghost use Rattle.filing_model.specs.Register.{Outcome};
+ghost use Rattle.filing_model.specs.Request.{has_key};
+ghost use Rattle.register_store.specs.Audit.{Others, Begins, IsSound, IsVerdict, view_rest, request_outcome, kept_in};
+ghost use Rattle.register_store.specs.Cells.{value_of};
+ghost use Rattle.register_store.specs.Columns.{text_in, bytes_in, request_in};
+ghost use Rattle.register_store.specs.Outcomes.{outcome_of, filings_by};
+ghost use Rattle.register_store.specs.Register.{IsCompleted, kept_row};
+
+use crate::cells::{Cell, is_row};
+use crate::segments::{after_facts, after_filing, after_findings};
+use key_string::read_filer;
+use sqlite::Row;
+use sqlite::types::ValueRef;
+use std::alloc::{AllocError, Global};
+use xbrl_report::{Fact, Finding, Judged, judge};
+
+/// The most bytes of a body.
+const MAX_BODY_LEN: usize = 1_048_576;
+
+/// The most characters of a key.
+const MAX_KEY_LEN: usize = 1024;
+
+/// The most requests that a register keeps.
+const MAX_KEPT: u64 = 1 << 62;
+
+/// The rows of the tables beside `kept` that no kept row has accounted for, and the number of the next filing.
+#[derive(Clone, Copy)]
+pub(crate) struct Rest<'a> {
+    pub(crate) findings: &'a [Row],
+    pub(crate) filings: &'a [Row],
+    pub(crate) facts: &'a [Row],
+    pub(crate) number: u64,
+}
+
+/// What an audit found.
+#[derive(Clone, Copy)]
+pub(crate) enum Verdict {
+    /// The rows stand for a list of requests, of which so many are registered.
+    Sound { filings: u64 },
+    /// They stand for none: the kept row at this place, counted from 1, is the first that is not sound, or at 0 rows of the
+    /// other tables are left over.
+    Damaged { row: u64 },
+}
+
+/// The bytes of a text, none where the column has no text.
+fn text_at(row: &Row, at: usize) -> &[u8]
+    ensures { result.now ≡ text_in (column row.now at) }
+{
+    match row.get_ref(at) {
+        Ok(ValueRef::Text(text)) => text,
+        _ => &[],
+    }
+}
+
+/// The bytes of a blob, none where the column has none.
+fn bytes_at(row: &Row, at: usize) -> &[u8]
+    ensures { result.now ≡ bytes_in (column row.now at) }
+{
+    match row.get_ref(at) {
+        Ok(ValueRef::Blob(bytes)) => bytes,
+        _ => &[],
+    }
+}
+
+fn is_key(text: &[u8]) -> bool
+    ensures { IsTrue result ↔ IsKey text.now }
+{
+    !text.is_empty()
+        && text.len() <= MAX_KEY_LEN
+        && text.iter().all(|byte| matches!(byte, b' '..=b'~'))
+}
+
+fn has_filer_and_key(row: &Row, filer: &[u8], key: &[u8]) -> bool
+    ensures { result ≡ (bytes_eq (request_in row.now).filer filer.now && bytes_eq (request_in row.now).key key.now) }
+{
+    text_at(row, 1) == filer && text_at(row, 2) == key
+}
+
+/// Whether one of the rows has this filer and key.
+fn is_repeated(rows: &[Row], filer: &[u8], key: &[u8]) -> bool
+    ensures { result ≡ list_any (λ row. bytes_eq (request_in row).filer filer.now && bytes_eq (request_in row).key key.now) rows.now }
+{
+    rows.iter().any(|row| has_filer_and_key(row, filer, key))
+}
+
+/// The number of a filing as a column holds it.
+fn number_cell(number: Option<u64>) -> Cell<'static>
+    requires { IfSome number (λ n. n < 2 ^ 63) }
+    ensures { value_of result ≡ or_null (λ n. Int (pos n)) number }
+{
+    match number {
+        Some(number) => Cell::Int(number as i64),
+        None => Cell::Null,
+    }
+}
+
+/// Whether the row has this place and this number beside its own request.
+fn is_kept_row(row: &Row, seq: u64, number: Option<u64>) -> bool
+    requires seq { seq < 2 ^ 63 }
+    requires number { IfSome number (λ n. n < 2 ^ 63) }
+    ensures { IsTrue result ↔ (row.now ≡ Int (pos seq) ∷ Text (request_in row.now).filer ∷ Text (request_in row.now).key ∷ Blob (request_in row.now).body ∷ or_null (λ n. Int (pos n)) number ∷ []) }
+{
+    is_row(
+        row,
+        &[
+            Cell::Int(seq as i64),
+            Cell::Text(text_at(row, 1)),
+            Cell::Text(text_at(row, 2)),
+            Cell::Blob(bytes_at(row, 3)),
+            number_cell(number),
+        ],
+    )
+}
+
+/// What is left behind the rows of a refused request, if they are there.
+fn after_refused<'a>(
+    row: &Row,
+    seq: u64,
+    findings: &[Finding],
+    rest: Rest<'a>,
+) -> Option<Rest<'a>>
+    requires { seq < 2 ^ 63 }
+    ensures { MatchOption result
+        ((tail : Others) → row.now ≡ kept_row seq (request_outcome row.now (Outcome.Refused findings.now)) → Begins seq (request_outcome row.now (Outcome.Refused findings.now)) (view_rest rest.entry) tail → ⊥)
+        (λ tail. (row.now ≡ kept_row seq (request_outcome row.now (Outcome.Refused findings.now))) × Begins seq (request_outcome row.now (Outcome.Refused findings.now)) (view_rest rest.entry) (view_rest tail) × (tail.number ≡ rest.entry.number)) }
+{
+    if !is_kept_row(row, seq, None) {
+        return None;
+    }
+    let findings = after_findings(rest.findings, seq, findings)?;
+    Some(Rest { findings, ..rest })
+}
+
+/// What is left behind the rows of a registered request, if they are there.
+fn after_valid<'a>(row: &Row, seq: u64, facts: &[Fact], rest: Rest<'a>) -> Option<Rest<'a>>
+    requires seq { seq < 2 ^ 63 }
+    requires number { rest.number < 2 ^ 63 }
+    requires facts { facts.now ≡ facts_of (request_in row.now).body }
+    ensures { MatchOption result
+        ((tail : Others) → row.now ≡ kept_row seq (request_outcome row.now (Outcome.Registered rest.entry.number)) → Begins seq (request_outcome row.now (Outcome.Registered rest.entry.number)) (view_rest rest.entry) tail → ⊥)
+        (λ tail. (row.now ≡ kept_row seq (request_outcome row.now (Outcome.Registered rest.entry.number))) × Begins seq (request_outcome row.now (Outcome.Registered rest.entry.number)) (view_rest rest.entry) (view_rest tail) × (tail.number ≡ rest.entry.number + 1)) }
+{
+    if !is_kept_row(row, seq, Some(rest.number)) {
+        return None;
+    }
+    let filings = after_filing(rest.filings, rest.number, seq)?;
+    let facts = after_facts(rest.facts, rest.number, facts)?;
+    Some(Rest {
+        findings: rest.findings,
+        filings,
+        facts,
+        number: rest.number + 1,
+    })
+}
+
+/// What is left behind the rows of a request that was judged so, if they are there.
+fn after_judged<'a>(row: &Row, seq: u64, judged: &Judged, rest: Rest<'a>) -> Option<Rest<'a>>
+    requires seq { seq < 2 ^ 63 }
+    requires number { rest.number < 2 ^ 63 }
+    requires facts { HasFacts (request_in row.now).body judged.now }
+    ensures { MatchOption result
+        ((tail : Others) → row.now ≡ kept_row seq (request_outcome row.now (outcome_of rest.entry.number judged.now)) → Begins seq (request_outcome row.now (outcome_of rest.entry.number judged.now)) (view_rest rest.entry) tail → ⊥)
+        (λ tail. (row.now ≡ kept_row seq (request_outcome row.now (outcome_of rest.entry.number judged.now))) × Begins seq (request_outcome row.now (outcome_of rest.entry.number judged.now)) (view_rest rest.entry) (view_rest tail)
+        × (tail.number ≡ rest.entry.number + filings_by (outcome_of rest.entry.number judged.now))) }
+{
+    match judged {
+        Judged::Valid(report) => after_valid(row, seq, report.facts(), rest),
+        Judged::Refused(findings) => after_refused(row, seq, findings.list(), rest),
+    }
+}
+
+/// The filer of a row whose request may be completed, and whose filer and key none of the earlier rows has.
+fn new_filer<'a>(earlier: &[Row], row: &'a Row) -> Option<&'a str>
+    ensures { MatchOption result
+        (IsCompleted (request_in row.now) → has_key (map request_in earlier.now) (request_in row.now) ≡ false → ⊥)
+        (λ filer. (filer.now ≡ (request_in row.now).filer) × IsCompleted (request_in row.now) × (has_key (map request_in earlier.now) (request_in row.now) ≡ false)) }
+{
+    let key = text_at(row, 2);
+    let Some(filer) = read_filer(text_at(row, 1)) else {
+        return None;
+    };
+    if !is_key(key) {
+        return None;
+    }
+    if bytes_at(row, 3).len() > MAX_BODY_LEN {
+        return None;
+    }
+    if is_repeated(earlier, filer.as_bytes(), key) {
+        return None;
+    }
+    Some(filer)
+}
+
+/// Whether the next kept row is sound after the earlier ones: what is left behind its rows in the other tables, or `None`.
+/// The error is want of memory.
+fn check_next<'a>(
+    alloc: Global,
+    earlier: &[Row],
+    row: &Row,
+    seq: u64,
+    rest: Rest<'a>,
+) -> Result<Option<Rest<'a>>, AllocError>
+    requires seq { seq < 2 ^ 63 }
+    requires number { rest.number < 2 ^ 63 }
+    ensures { IfOk result (λ next. MatchOption next
+        ((tail : Others) → IsSound earlier.now seq rest.entry.number row.now (view_rest rest.entry) tail → ⊥)
+        (λ tail. IsSound earlier.now seq rest.entry.number row.now (view_rest rest.entry) (view_rest tail) × (tail.number ≡ rest.entry.number + filings_by (kept_in row.now rest.entry.number).outcome))) }
+{
+    let Some(filer) = new_filer(earlier, row) else {
+        return Ok(None);
+    };
+    match judge(alloc, filer, bytes_at(row, 3)) {
+        Ok(judged) => Ok(after_judged(row, seq, &judged, rest)),
+        Err(error) => Err(error),
+    }
+}
+
+/// Audits the rows of `kept`, by `seq`, with those of the other tables, each in the order of its key. The error is want of
+/// memory.
+pub(crate) fn audit(
+    alloc: Global,
+    kept: &[Row],
+    findings: &[Row],
+    filings: &[Row],
+    facts: &[Row],
+) -> Result<Verdict, AllocError>
+    ensures { IfOk result (λ verdict. IsVerdict kept.now (record { finding = findings.now; filing = filings.now; fact = facts.now }) verdict) }
+{
+    if kept.len() as u64 > MAX_KEPT {
+        return Err(AllocError);
+    }
+    let mut rest = Rest {
+        findings,
+        filings,
+        facts,
+        number: 1,
+    };
+    for at in 0..kept.len() {
+        let seq = at as u64 + 1;
+        match check_next(alloc, &kept[..at], &kept[at], seq, rest)? {
+            Some(next) => rest = next,
+            None => return Ok(Verdict::Damaged { row: seq }),
+        }
+    }
+    if rest.findings.is_empty() && rest.filings.is_empty() && rest.facts.is_empty() {
+        Ok(Verdict::Sound {
+            filings: rest.number - 1,
+        })
+    } else {
+        Ok(Verdict::Damaged { row: 0 })
+    }
+}
