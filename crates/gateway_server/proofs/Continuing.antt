@@ -1,5 +1,6 @@
 -- A connection that goes on by one place, or ends.
-use Rattle.std.proofs.Common.{◌≡◌, ℕ, Bool, true, false, List, [], ◌∷◌, ◌++◌, take, drop, length, Option, Some, None, Result, Ok, Err, refl, sym, ap, ◌∙◌, subst, append_assoc, inl, inr, ◌⊎◌}
+use Rattle.std.proofs.Common.{arith, ◌≡◌, ◌≢◌, ℕ, ◌+◌, ◌≤◌, Bool, true, false, List, [], ◌∷◌, ◌++◌, take, drop, length, Option, Some, None, Result, Ok, Err, refl, sym, ap, ◌∙◌, subst, append_assoc, inl, inr, ◌⊎◌}
+use Rattle.std.proofs.lemmas.List.{length-append}
 use Rattle.std.specs.Io.KnownBytes.{Consumes, Appends, IsAtEnd}
 use Rattle.http_wire.specs.declared.inbox.Inbox.{Inbox}
 use Rattle.http_wire.specs.declared.refusal.ConnFault.{ConnFault}
@@ -7,10 +8,11 @@ use Rattle.http_wire.specs.declared.refusal.ConnFault.TheVariants.{Write, ReadLi
 use Rattle.http_wire.specs.declared.refusal.ConnFault.TheVariants as fault
 use Rattle.http_wire.specs.declared.refusal.Next.{Next}
 use Rattle.http_wire.specs.declared.refusal.Refusal.{Refusal}
-use Rattle.http_wire.specs.Calls.{interim_if, WritesAsked, WritesUpTo}
+use Rattle.http_wire.specs.Calls.{interim_if, WritesAsked, WritesUpTo, IsFault}
 use Rattle.http_wire.specs.Head.{closes}
-use Rattle.http_wire.specs.Inbox.{held, unread, lent_len, lent_request, lent_awaits, is_over, got, ReadsOn, LendsFirst, IsNew}
+use Rattle.http_wire.specs.Inbox.{held, unread, lent_len, lent_request, lent_awaits, is_over, got, ReadsOn, LendsFirst, IsNew, reads}
 use Rattle.http_wire.specs.Message.{Place, Read, Refused, Ending, Rest, Asks, IsRest, IsRefused, awaits, interim}
+use Rattle.http_wire.specs.Received.{max_reads}
 use Rattle.http_wire.specs.Request.{Request as Message}
 use Rattle.std.proofs.Math.Seq.{drop-nil}
 use Rattle.http_wire.proofs.DeviceLemmas.{Appends-join, Appends-nil, Consumes-join, Consumes-nil}
@@ -21,10 +23,26 @@ use Rattle.filing_model.specs.Request.{Request}
 use Rattle.filing_model.specs.Serving.{kept_by, IsServed, IsCutShort, Serves}
 use Rattle.filing_model.specs.Text.{interim_of, reply_text, next_interim}
 use Rattle.filing_model.proofs.Lists.{append_nil}
-use Rattle.gateway_server.specs.Answered.{IsMarked, IsAnswered, IsPartly, IsUntouched, Answers}
+use Rattle.gateway_server.specs.Answered.{IsMarked, IsAnswered, IsPartly, IsUntouched, Answers, IsReplyFault}
 use Rattle.gateway_server.specs.Progress.{HasServed, GoesOn, HasMessage, HasRefusal, ServesConnection, Continues}
 use Rattle.gateway_server.proofs.Progress.{HasServed-none, HasServed-more, HasServed-end}
 use Rattle.gateway_server.proofs.Places.{served_last, served_push, served_part, served_read, served_asked, served_nothing, served_rest}
+
+-- ---- the limit of reads
+
+-- it is reached where the fault says so
+pub is_limit : (read_failed write_failed : Type 0) (count : ℕ) (f : ConnFault) → IsFault read_failed write_failed count f → f ≡ ReadLimit → count ≡ max_reads
+is_limit read_failed write_failed count fault.Read why e = absurd (cc)
+is_limit read_failed write_failed count (Write sent) why e = absurd (cc)
+is_limit read_failed write_failed count ReadLimit why e = why
+is_limit read_failed write_failed count Memory why e = absurd (cc)
+
+-- no reply fails by it
+pub is_no_limit : (failed : Type 0) (f : ConnFault) → IsReplyFault failed f → f ≢ ReadLimit
+is_no_limit failed fault.Read why e = why
+is_no_limit failed (Write sent) why e = absurd (cc)
+is_no_limit failed ReadLimit why e = why
+is_no_limit failed Memory why e = absurd (cc)
 
 -- ---- what was read
 
@@ -38,12 +56,15 @@ module _ (limit : ℕ) (before now : List Request) (left left' left'' written wr
   served_held : HasServed limit before now read_since (held new) marks h.sent
   served_held = subst (λ (rest : List ℕ). HasServed limit before now read_since rest marks h.sent) (sym r.held_is) (HasServed-more limit before now h.got (unread old) (got old new) marks h.sent h.served)
 
+  counted_since : reads new ≤ length read_since
+  counted_since = subst (λ (n : ℕ). reads new ≤ n) (sym (length-append h.got (got old new))) (omega (arith, h.counted, r.each))
+
   wrote_more : (written'' : Option (List ℕ)) (text : List ℕ) → Appends written' written'' text → Appends written written'' (h.sent ++ text)
   wrote_more written'' text w = Appends-join written written' written'' h.sent text h.wrote w
 
   -- a message came
   pub HasMessage-next : (written'' : Option (List ℕ)) → LendsFirst new → Appends written' written'' (interim_if (lent_awaits new)) → HasMessage limit before now left left'' written written'' new marks
-  HasMessage-next written'' lends w = record { got = read_since; sent = h.sent; read = consumed; wrote = wrote_more written'' (interim_if (lent_awaits new)) w; served = served_held; lends = lends }
+  HasMessage-next written'' lends w = record { got = read_since; sent = h.sent; read = consumed; counted = counted_since; wrote = wrote_more written'' (interim_if (lent_awaits new)) w; served = served_held; lends = lends }
 
   -- what is refused came
   pub HasRefusal-next : (written'' : Option (List ℕ)) (refusal : Refusal) → IsRefused (held new) refusal → Appends written' written'' [] → HasRefusal limit before now left left'' written written'' new refusal marks
@@ -58,25 +79,30 @@ module _ (limit : ℕ) (before now : List Request) (left left' left'' written wr
     wrote = wrote_more written'' text w;
     serves = subst (λ (t : List ℕ). IsServed limit before now read_since marks InputEnded (h.sent ++ t)) (by_asks asks ∙ sym e) (HasServed-end limit before now read_since (held new) marks h.sent served_held asks rest asked);
     at_end = λ _. ended;
+    limited = λ e. absurd (cc);
   }
     where
       by_asks : (b : Bool) → next_interim [] (Rest b) ≡ interim_if b
       by_asks true = refl
       by_asks false = refl
 
-  cut : (written'' : Option (List ℕ)) (text : List ℕ) (f : ConnFault) → Appends written' written'' text → IsCutShort limit before now read_since marks (h.sent ++ text) → ServesConnection limit before now left left'' written written'' marks (Fault f)
-  cut written'' text f w c = record { got = read_since; sent = h.sent ++ text; read = consumed; wrote = wrote_more written'' text w; serves = c; at_end = λ e. absurd (cc) }
+  -- all reads were made, where the fault says so
+  abbrev Limited : ConnFault → Type 0
+  Limited f = f ≡ ReadLimit → max_reads ≤ length read_since
 
-  cut_asked : (written'' : Option (List ℕ)) (f : ConnFault) → WritesAsked written' written'' (held new) → ServesConnection limit before now left left'' written written'' marks (Fault f)
-  cut_asked written'' f (text, (asks, asked, e), w) = cut written'' text f w (subst (λ (t : List ℕ). IsCutShort limit before now read_since marks (h.sent ++ t)) (sym e) (served_asked limit before now read_since (held new) marks h.sent served_held asks asked))
+  cut : (written'' : Option (List ℕ)) (text : List ℕ) (f : ConnFault) → Limited f → Appends written' written'' text → IsCutShort limit before now read_since marks (h.sent ++ text) → ServesConnection limit before now left left'' written written'' marks (Fault f)
+  cut written'' text f limited w c = record { got = read_since; sent = h.sent ++ text; read = consumed; wrote = wrote_more written'' text w; serves = c; at_end = λ e. absurd (cc); limited = λ e. limited (cc) }
+
+  cut_asked : (written'' : Option (List ℕ)) (f : ConnFault) → Limited f → WritesAsked written' written'' (held new) → ServesConnection limit before now left left'' written written'' marks (Fault f)
+  cut_asked written'' f limited (text, (asks, asked, e), w) = cut written'' text f limited w (subst (λ (t : List ℕ). IsCutShort limit before now read_since marks (h.sent ++ t)) (sym e) (served_asked limit before now read_since (held new) marks h.sent served_held asks asked))
 
   -- a fault came
-  pub Serves-fault : (written'' : Option (List ℕ)) (f : ConnFault) → WritesUpTo written' written'' (held new) f → ServesConnection limit before now left left'' written written'' marks (Fault f)
-  Serves-fault written'' fault.Read w = cut_asked written'' fault.Read w
-  Serves-fault written'' (Write sent) w = cut written'' (take sent interim) (Write sent) w.2 (served_rest limit before now read_since (held new) marks h.sent served_held sent (λ _. w.0))
-  Serves-fault written'' ReadLimit w = cut_asked written'' ReadLimit w
-  Serves-fault written'' Memory (inl w) = cut_asked written'' Memory w
-  Serves-fault written'' Memory (inr w) = cut written'' [] Memory w (served_nothing limit before now read_since (held new) marks h.sent served_held)
+  pub Serves-fault : (written'' : Option (List ℕ)) (f : ConnFault) → (f ≡ ReadLimit → reads new ≡ max_reads) → WritesUpTo written' written'' (held new) f → ServesConnection limit before now left left'' written written'' marks (Fault f)
+  Serves-fault written'' fault.Read all w = cut_asked written'' fault.Read (λ e. absurd (cc)) w
+  Serves-fault written'' (Write sent) all w = cut written'' (take sent interim) (Write sent) (λ e. absurd (cc)) w.2 (served_rest limit before now read_since (held new) marks h.sent served_held sent (λ _. w.0))
+  Serves-fault written'' ReadLimit all w = cut_asked written'' ReadLimit (λ e. subst (λ (n : ℕ). n ≤ length read_since) (all refl) counted_since) w
+  Serves-fault written'' Memory all (inl w) = cut_asked written'' Memory (λ e. absurd (cc)) w
+  Serves-fault written'' Memory all (inr w) = cut written'' [] Memory (λ e. absurd (cc)) w (served_nothing limit before now read_since (held new) marks h.sent served_held)
 
 -- ---- what was answered
 
@@ -103,6 +129,7 @@ module _ (limit : ℕ) (before now : List Request) (left left' written written' 
     serves = subst (λ (ms : List Mark). IsServed limit before after h.got ms Closed (h.sent ++ (interim_of (Read lent) ++ reply_text now (Read lent) a.marked.mark))) (sym a.marked.marks)
         (served_last limit before now h.got (held inbox) marks h.sent h.served (Read lent) ((lent_len inbox, h.lends.begins), refl) a.marked.mark after closed a.marked.fit a.marked.kept);
     at_end = λ e. absurd (cc);
+    limited = λ e. absurd (cc);
   }
 
   -- the message was answered, and more may come
@@ -111,6 +138,7 @@ module _ (limit : ℕ) (before now : List Request) (left left' written written' 
     got = h.got;
     sent = h.sent ++ (interim_of (Read lent) ++ reply_text now (Read lent) a.marked.mark);
     read = h.read;
+    counted = h.counted;
     wrote = wrote_after written'' (reply_text now (Read lent) a.marked.mark) a.written;
     served = subst (λ (ms : List Mark). HasServed limit before after h.got (unread inbox) ms (h.sent ++ (interim_of (Read lent) ++ reply_text now (Read lent) a.marked.mark))) (sym a.marked.marks)
         (served_push limit before now h.got (held inbox) marks h.sent h.served lent (lent_len inbox) a.marked.mark after h.lends.begins open' a.marked.fit a.marked.kept);
@@ -118,8 +146,8 @@ module _ (limit : ℕ) (before now : List Request) (left left' written written' 
   }
 
   -- a fault came
-  pub Serves-unanswered : (after : List Request) (new : List Mark) (written'' : Option (List ℕ)) (f : ConnFault) → IsUntouched now after marks new written' written'' ⊎ IsPartly limit now after (Read lent) marks new written' written'' → ServesConnection limit before after left left' written written'' new (Fault f)
-  Serves-unanswered after new written'' f (inl u) = record {
+  pub Serves-unanswered : (after : List Request) (new : List Mark) (written'' : Option (List ℕ)) (f : ConnFault) → f ≢ ReadLimit → IsUntouched now after marks new written' written'' ⊎ IsPartly limit now after (Read lent) marks new written' written'' → ServesConnection limit before after left left' written written'' new (Fault f)
+  Serves-unanswered after new written'' f other (inl u) = record {
     got = h.got;
     sent = h.sent ++ (interim_of (Read lent) ++ []);
     read = h.read;
@@ -129,8 +157,9 @@ module _ (limit : ℕ) (before now : List Request) (left left' written written' 
         (subst (λ (t : List ℕ). IsCutShort limit before now h.got marks (h.sent ++ t)) (sym (append_nil (interim_of (Read lent))))
         (served_read limit before now h.got (held inbox) marks h.sent h.served lent (lent_len inbox) h.lends.begins)));
     at_end = λ e. absurd (cc);
+    limited = λ e. absurd (other (cc));
   }
-  Serves-unanswered after new written'' f (inr p) = record {
+  Serves-unanswered after new written'' f other (inr p) = record {
     got = h.got;
     sent = h.sent ++ (interim_of (Read lent) ++ take p.sent (reply_text now (Read lent) p.marked.mark));
     read = h.read;
@@ -138,6 +167,7 @@ module _ (limit : ℕ) (before now : List Request) (left left' written written' 
     serves = subst (λ (ms : List Mark). IsCutShort limit before after h.got ms (h.sent ++ (interim_of (Read lent) ++ take p.sent (reply_text now (Read lent) p.marked.mark)))) (sym p.marked.marks)
         (served_part limit before now h.got (held inbox) marks h.sent h.served (Read lent) ((lent_len inbox, h.lends.begins), refl) p.marked.mark after p.sent p.marked.fit p.marked.kept);
     at_end = λ e. absurd (cc);
+    limited = λ e. absurd (other (cc));
   }
 
 -- ---- what was refused
@@ -156,19 +186,21 @@ module _ (limit : ℕ) (before now : List Request) (left left' written written' 
     serves = subst (λ (ms : List Mark). IsServed limit before now h.got ms Closed (h.sent ++ reply_text now (Refused refusal) a.marked.mark)) (sym a.marked.marks)
         (served_last limit before now h.got (held inbox) marks h.sent h.served (Refused refusal) (h.refused, refl) a.marked.mark now tt a.marked.fit a.marked.kept);
     at_end = λ e. absurd (cc);
+    limited = λ e. absurd (cc);
   }
 
   -- a fault came
-  pub Serves-unrefused : (new : List Mark) (written'' : Option (List ℕ)) (f : ConnFault) → IsUntouched now now marks new written' written'' ⊎ IsPartly limit now now (Refused refusal) marks new written' written'' → ServesConnection limit before now left left' written written'' new (Fault f)
-  Serves-unrefused new written'' f (inl u) = record {
+  pub Serves-unrefused : (new : List Mark) (written'' : Option (List ℕ)) (f : ConnFault) → f ≢ ReadLimit → IsUntouched now now marks new written' written'' ⊎ IsPartly limit now now (Refused refusal) marks new written' written'' → ServesConnection limit before now left left' written written'' new (Fault f)
+  Serves-unrefused new written'' f other (inl u) = record {
     got = h.got;
     sent = h.sent ++ [];
     read = h.read;
     wrote = wrote_refusal written'' [] u.written;
     serves = subst (λ (ms : List Mark). IsCutShort limit before now h.got ms (h.sent ++ [])) (sym u.marks) (served_nothing limit before now h.got (held inbox) marks h.sent h.served);
     at_end = λ e. absurd (cc);
+    limited = λ e. absurd (other (cc));
   }
-  Serves-unrefused new written'' f (inr p) = record {
+  Serves-unrefused new written'' f other (inr p) = record {
     got = h.got;
     sent = h.sent ++ take p.sent (reply_text now (Refused refusal) p.marked.mark);
     read = h.read;
@@ -176,6 +208,7 @@ module _ (limit : ℕ) (before now : List Request) (left left' written written' 
     serves = subst (λ (ms : List Mark). IsCutShort limit before now h.got ms (h.sent ++ take p.sent (reply_text now (Refused refusal) p.marked.mark))) (sym p.marked.marks)
         (served_part limit before now h.got (held inbox) marks h.sent h.served (Refused refusal) (h.refused, refl) p.marked.mark now p.sent p.marked.fit p.marked.kept);
     at_end = λ e. absurd (cc);
+    limited = λ e. absurd (other (cc));
   }
 
 -- ---- the beginning
@@ -189,6 +222,7 @@ GoesOn-new limit before left written inbox marks is none = record {
   got = [];
   sent = [];
   read = Consumes-nil left;
+  counted = omega (arith, is.count);
   wrote = Appends-nil written;
   served = subst (λ (ms : List Mark). HasServed limit before before [] (unread inbox) ms []) (sym none)
       (subst (λ (rest : List ℕ). HasServed limit before before [] rest [] []) (sym (unread-new inbox is)) (HasServed-none limit before));
@@ -204,4 +238,5 @@ Serves-none limit before left written marks none = record {
   wrote = Appends-nil written;
   serves = subst (λ (ms : List Mark). IsCutShort limit before before [] ms []) (sym none) (served_nothing limit before before [] [] [] [] (HasServed-none limit before));
   at_end = λ e. absurd (cc);
+  limited = λ e. absurd (cc);
 }

@@ -1,11 +1,12 @@
 use Rattle.std.proofs.Common.{◌≡◌, ℕ, List, Option, length, true, false, sym, ap, ◌∙◌, subst, ◌⊎◌, ◌≤◌}
+use Rattle.http_wire.specs.Device.{HasFailed}
 use Rattle.http_wire.specs.Head.{closes, max_body_len}
 use Rattle.http_wire.specs.Inbox.{held, lent_len, LendsFirst}
 use Rattle.http_wire.specs.Message.{Read}
 use Rattle.http_wire.specs.Request.{Request as Message}
 use Rattle.gateway_server.specs.Answered.{IsAnswered, IsUntouched, IsPartly}
 use Rattle.gateway_server.specs.Route.{view_message}
-use Rattle.gateway_server.proofs.Continuing.{Serves-closed, GoesOn-answered, Serves-unanswered}
+use Rattle.gateway_server.proofs.Continuing.{Serves-closed, GoesOn-answered, Serves-unanswered, is_no_limit}
 use Rattle.gateway_server.proofs.Lent.{lent_is, body_short}
 use Rattle.gateway_server.proofs.serving.serve_message.Goals as goal
 
@@ -53,4 +54,5 @@ returns-in-Err-clause-serves g c = λ before left left' written h.
     let same : m ≡ h.lends.request = sym (lent_is c.args.inbox.now h.lends m c.message-message.ensures) in
     Serves-unanswered c.args.intake.now.limit before requests left left' written from c.args.inbox.now old h
     after new to c.in-Err.fault
+    (is_no_limit (HasFailed (g.W.Sink.write_failures c.args.writer.now) (g.W.Sink.write_failures c.answer.new.writer)) c.in-Err.fault c.in-Err.ensures.fault)
     (subst (λ (r : Message). IsUntouched requests after old new from to ⊎ IsPartly c.args.intake.now.limit requests after (Read r) old new from to) same c.in-Err.ensures.answers)

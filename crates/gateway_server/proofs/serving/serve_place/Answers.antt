@@ -1,9 +1,10 @@
 use Rattle.std.proofs.Common.{◌≡◌, true, false, true≢false, sym, ◌∙◌, inl, inr}
 use Rattle.std.specs.Io.KnownBytes.{IsAtEnd}
 use Rattle.http_wire.specs.Calls.{WritesAsked}
-use Rattle.http_wire.specs.Inbox.{held}
+use Rattle.http_wire.specs.Device.{HasFailed}
+use Rattle.http_wire.specs.Inbox.{held, reads}
 use Rattle.http_wire.specs.Message.{IsRest}
-use Rattle.gateway_server.proofs.Continuing.{HasMessage-next, HasRefusal-next, Serves-end, Serves-fault}
+use Rattle.gateway_server.proofs.Continuing.{HasMessage-next, HasRefusal-next, Serves-end, Serves-fault, is_limit}
 use Rattle.gateway_server.proofs.serving.serve_place.Goals as goal
 
 pub returns-in-Ok-Message-clause-serves : goal.returns-in-Ok-Message-clause-serves
@@ -35,4 +36,6 @@ returns-in-Ok-End-clause-serves g c = λ before left written h.
 pub returns-in-Err-clause-serves : goal.returns-in-Err-clause-serves
 returns-in-Err-clause-serves g c = λ before left written h.
     Serves-fault c.args.intake.now.limit before c.args.intake.now.requests left (g.R.Source.left c.args.reader.now) (g.R.Source.left c.next.new.reader) written (g.W.Sink.written c.args.writer.now) c.args.inbox.now c.next.new.self c.args.marks.now.items h
-    c.next.ensures.reads (g.W.Sink.written c.next.new.writer) c.in-Err.fault c.in-Err.ensures.part
+    c.next.ensures.reads (g.W.Sink.written c.next.new.writer) c.in-Err.fault
+    (is_limit (HasFailed (g.R.Source.read_failures c.args.reader.now) (g.R.Source.read_failures c.next.new.reader)) (HasFailed (g.W.Sink.write_failures c.args.writer.now) (g.W.Sink.write_failures c.next.new.writer)) (reads c.next.new.self) c.in-Err.fault c.in-Err.ensures.fault)
+    c.in-Err.ensures.part
