@@ -65,6 +65,7 @@ module _ (ours : List Table) (table : Table) where
       → ((row : Row) → row ≡ with_rowid Chosen (old.trees table.tree) (cast_row table source) → shown table row ≡ values) → Gains ours table (values ∷ []) old new
   gained source values old new declared i shows = record {
     schema_is = i.schema_is ∙ sym declared.is;
+    sound = λ _. i.sound;
     gained = subst (λ v. IsPermutation (v ∷ map (shown table) (old.trees table.tree)) (map (shown table) (new.trees table.tree))) (shows i.row i.row_is)
         (subst (λ rows. IsPermutation (shown table i.row ∷ map (shown table) (old.trees table.tree)) (map (shown table) rows)) (sym i.rows)
         (IsPermutation-map (shown table) _ _ (put_fresh i.row (old.trees table.tree) i.fresh)));
@@ -83,7 +84,7 @@ others_then table (t ∷ ours) a b c p q = ((λ n. q.0 n ∙ p.0 n), others_then
 
 module _ (ours : List Table) (table : Table) where
   pub gains_none : (db : Database) → Gains ours table [] db db
-  gains_none db = record { schema_is = refl; gained = IsPermutation-refl _; others = same_others table ours db }
+  gains_none db = record { schema_is = refl; sound = λ sound. sound; gained = IsPermutation-refl _; others = same_others table ours db }
 
   pub gains_then : (rs ss : List Row) (a b c : Database) → Gains ours table rs a b → Gains ours table ss b c → Gains ours table (rs ++ ss) a c
   gains_then rs ss a b c p q =
@@ -92,6 +93,7 @@ module _ (ours : List Table) (table : Table) where
       subst (IsPermutation ((rs ++ ss) ++ had)) (append_assoc ss rs had) (IsPermutation-append_left had _ _ (IsPermutation-append_comm rs ss)) in
       record {
         schema_is = q.schema_is ∙ p.schema_is;
+        sound = λ sound. q.sound (p.sound sound);
         gained = IsPermutation-trans _ _ _ swapped (IsPermutation-trans _ _ _ (IsPermutation-append_right ss _ _ p.gained) q.gained);
         others = others_then table ours a b c p.others q.others;
       }

@@ -25,7 +25,7 @@ use Rattle.sqlite.specs.Source.TheVariants.{Values}
 use Rattle.sqlite.specs.Command.{Command}
 use Rattle.sqlite.specs.Command.TheVariants.{Insert}
 use Rattle.sqlite.specs.Listing.{understood}
-use Rattle.sqlite.specs.Effect.{Database, value_rows}
+use Rattle.sqlite.specs.Effect.{Database, IsDatabase, value_rows}
 use Rattle.sqlite.specs.Rows.{Written, Task}
 use Rattle.sqlite.specs.Does.{Tally, Does, AtPlace, OnRows}
 use Rattle.sqlite.specs.State.{State, mode_of, Executes}
@@ -79,6 +79,7 @@ pub record Inserted (schema : Schema) (table : Table) (source : Row) (old new : 
   pub row : Row
   pub row_is : row ≡ with_rowid Chosen (old.trees table.tree) (cast_row table source)
   pub schema_is : new.schema ≡ schema
+  pub sound : IsDatabase new
   pub fresh : is_taken (old.trees table.tree) row ≡ false
   pub rows : new.trees table.tree ≡ put_row row (old.trees table.tree)
   pub others : AllByRecursion (λ t. t.tree ≢ table.tree → new.trees t.tree ≡ old.trees t.tree) schema.tables
@@ -115,6 +116,7 @@ module _ (schema : Schema) (at : ℕ) (name : List ℕ) (tree : ℕ) (columns : 
         row = with_rowid Chosen (db tree) (cast_row it (eval_all terms ((params ++ []) ∷ [])));
         row_is = refl;
         schema_is = ap (λ (d : Database). d.schema) now;
+        sound = w.sound;
         fresh = free_if _ applied.fresh;
         rows = ap (λ (t : Trees). t tree) after ∙ applied.rows;
         others = subst (λ (trees : Trees). AllByRecursion (λ t. t.tree ≢ tree → trees t.tree ≡ db t.tree) schema.tables) (sym after) applied.tables;

@@ -3,7 +3,7 @@ use Rattle.std.specs.Prelude.{◌≡◌, ◌≢◌, ℕ, ◌+◌, List, [], ◌�
 use Rattle.std.specs.List.{range_with_len, AllByRecursion}
 use Rattle.sqlite.specs.Order.{Row, column}
 use Rattle.sqlite.specs.Table.{Table}
-use Rattle.sqlite.specs.Effect.{Database}
+use Rattle.sqlite.specs.Effect.{Database, IsDatabase}
 use Rattle.sqlite.specs.State.{State}
 use Rattle.sqlite.specs.declared.error.Error.{Error}
 use Rattle.sqlite.specs.declared.error.Error.TheVariants.{QueryReturnedNoRows}
@@ -22,9 +22,10 @@ Holds db table rows = IsPermutation rows (map (shown table) (db.trees table.tree
 abbrev pub KeepsOthers : List Table → Table → Database → Database → Type 0
 KeepsOthers ours table old new = AllByRecursion (λ t. t.tree ≢ table.tree → new.trees t.tree ≡ old.trees t.tree) ours
 
--- the table gains these rows, and the others stay
+-- the table gains these rows, and the others stay; a database that SQLite's files can have stays one
 pub record Gains (ours : List Table) (table : Table) (rows : List Row) (old new : Database) : Type 0 where
   pub schema_is : new.schema ≡ old.schema
+  pub sound : IsDatabase old → IsDatabase new
   pub gained : IsPermutation (rows ++ map (shown table) (old.trees table.tree)) (map (shown table) (new.trees table.tree))
   pub others : KeepsOthers ours table old new
 
