@@ -7,3 +7,4 @@ pub mod Scans
 pub mod Alike
 pub mod Appending
 pub mod Valid
+pub mod Stopping

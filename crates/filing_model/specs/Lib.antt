@@ -8,3 +8,5 @@ pub mod Text
 pub mod Views
 pub mod Serving
 pub mod Laws
+pub mod Outbox
+pub mod Stopping

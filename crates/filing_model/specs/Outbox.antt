@@ -1,0 +1,74 @@
+-- The reports that a filer has to send, and what a reply says of each.
+use Rattle.std.specs.Prelude.{◌≡◌, ℕ, ◌^◌, ◌≤◌, ◌==◌, Bool, true, false, ◌&&◌, ◌||◌, List, length, codes, nat_le, nat_lt, bytes_eq, Option, Some, None, option_map, option_and_then, unwrap_or, if◌then◌else◌}
+use Rattle.serde_json.specs.Data.{Data}
+use Rattle.serde_json.specs.Find.{get, as_str, as_number, as_u64}
+use Rattle.key_string.specs.Key.{IsKey}
+use Rattle.key_string.specs.Filer.{is_filer}
+use Rattle.xbrl_report.specs.Findings.{tree}
+use Rattle.http_wire.specs.Head.{max_body_len}
+use Rattle.http_wire.specs.Posting.{render_post}
+use Rattle.http_wire.specs.Reply.{ReplyParts}
+use Rattle.filing_model.specs.Request.{Request}
+
+-- what is known of a report: nothing yet; its number in the register; that it was refused; or that its key stands for another body
+pub data State : Type 0 where
+  Open : State
+  Confirmed : ℕ → State
+  Refused : State
+  Clashed : State
+
+-- ---- what a reply says
+
+-- whether the member `status` is this word
+abbrev pub says : List ℕ → Data → Bool
+says word d = unwrap_or (option_map (λ text. bytes_eq text word) (option_and_then as_str (get (codes "status") d))) false
+
+-- the member `number`, where it is a whole number that is not below zero
+abbrev pub number_told : Data → Option ℕ
+number_told d = option_and_then as_u64 (option_and_then as_number (get (codes "number") d))
+
+-- a number of the register is from 1 to 2^63 - 1
+abbrev pub confirmed_by : Option ℕ → State
+confirmed_by None = Open
+confirmed_by (Some n) = if nat_le 1 n && nat_lt n (2 ^ 63) then Confirmed n else Open
+
+-- what the status and the JSON value of a content say of a report
+abbrev pub state_by : ℕ → Data → State
+state_by status d =
+    if (status == 201) && says (codes "registered") d then confirmed_by (number_told d)
+    else (if ((status == 422) || (status == 400)) && says (codes "refused") d then Refused
+    else (if (status == 422) && says (codes "key-reused") d then Clashed else Open))
+
+-- the same, where the content need be no JSON
+abbrev pub state_told : ℕ → Option Data → State
+state_told status None = Open
+state_told status (Some d) = state_by status d
+
+-- Open moves by what the reply says; any other state stays
+unfoldable pub moved : State → ReplyParts → State
+moved Open reply = state_told reply.status (tree reply.content)
+moved (Confirmed n) reply = Confirmed n
+moved Refused reply = Refused
+moved Clashed reply = Clashed
+
+-- ---- entries
+
+-- a report under its key, and what is known of it
+pub record Entry : Type 0 where
+  pub key : List ℕ
+  pub body : List ℕ
+  pub state : State
+
+-- the request that an entry of this filer makes
+abbrev pub request_of : List ℕ → Entry → Request
+request_of filer entry = record { filer = filer; key = entry.key; body = entry.body }
+
+-- the bytes that are sent for a request
+abbrev pub bytes_of : Request → List ℕ
+bytes_of r = render_post r.filer r.key r.body
+
+-- a request that may be sent
+pub record IsSendable (r : Request) : Type 0 where
+  pub filer : is_filer r.filer ≡ true
+  pub key : IsKey r.key
+  pub body : length r.body ≤ max_body_len

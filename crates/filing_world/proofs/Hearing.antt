@@ -1,0 +1,135 @@
+-- A confirming reply, read from any part of an output, says that the entry's request is registered.
+use Rattle.std.proofs.Common.{◌≡◌, ℕ, ◌^◌, ◌<◌, ◌≤◌, ◌⊎◌, Bool, true, false, cond, List, [], ◌∷◌, ◌++◌, length, take, Option, Some, None, refl, sym, ap, ◌∙◌, subst, ⊎_elim, arith, append_assoc, ◌==◌}
+use Rattle.serde_json.specs.Data.{Data}
+use Rattle.xbrl_report.specs.Findings.{tree}
+use Rattle.xbrl_report.specs.Pair.{Pair}
+use Rattle.xbrl_report.specs.CodeNumber.{number_of}
+use Rattle.http_wire.specs.Head.{closes}
+use Rattle.http_wire.specs.Message.{Place, Ending}
+use Rattle.http_wire.specs.Request.{Request as Message}
+use Rattle.http_wire.specs.Reply.{ReplyParts, render}
+use Rattle.http_wire.specs.Response.{SpellsReply, GivesReply}
+use Rattle.filing_model.specs.declared.served.Mark.{Mark}
+use Rattle.filing_model.specs.declared.served.Mark.TheVariants.{Done, Unavailable, NotFiled}
+use Rattle.filing_model.specs.Prefix.{IsPrefixOf}
+use Rattle.filing_model.specs.Request.{Request, firsts}
+use Rattle.filing_model.specs.Answer.{Answer, answer, IsRegistered}
+use Rattle.filing_model.specs.Reply.{reply_of, unavailable, refused_status}
+use Rattle.filing_model.specs.Outbox.{Open, Confirmed, Refused, Clashed, moved, state_told, IsSendable, bytes_of}
+use Rattle.filing_model.specs.Stopping.{BeginsPlaces}
+use Rattle.filing_model.specs.Text.{Filed, RouteFits, MarksFit, completed, completed_at, requests_of_route, reply, reply_on, reply_text, text, interim_of, next_interim}
+use Rattle.filing_model.proofs.Answers.{answer_registered, registered_grows, registered_bound}
+use Rattle.filing_model.proofs.Lists.{append_nil, prefix_nil, take_prefix, take_within, take_all, prefix_trans}
+use Rattle.filing_model.proofs.Firsts.{firsts_more, firsts_one_more}
+use Rattle.filing_world.specs.World.{Sent, Output}
+use Rattle.filing_world.specs.Headline.{IsOutput}
+use Rattle.filing_world.specs.Laws.{Laws, IsAlone, FilesAlone, IsFinal}
+
+-- ---- statuses other than 201 confirm nothing
+
+other_word : (a b : Bool) (n : ℕ) → cond a Refused (cond b Clashed Open) ≡ Confirmed n → ⊥
+other_word true b n e = cc
+other_word false true n e = cc
+other_word false false n e = cc
+
+other_status : (status : ℕ) (told : Option Data) (n : ℕ) → (status == 201) ≡ false → state_told status told ≡ Confirmed n → ⊥
+other_status status None n h e = cc
+other_status status (Some d) n h e = other_word _ _ n (rw h at e)
+
+refused_other : (found : List Pair) → (refused_status found == 201) ≡ false
+refused_other [] = refl
+refused_other (f ∷ found) = by_code (number_of f.code == 1)
+  where
+    by_code : (b : Bool) → (cond b 400 422 == 201) ≡ false
+    by_code true = refl
+    by_code false = refl
+
+other_reply : (reply : ReplyParts) (n : ℕ) → (reply.status == 201) ≡ false → moved Open reply ≡ Confirmed n → ⊥
+unfolding moved
+other_reply reply n h e = other_status reply.status (tree reply.content) n h e
+
+-- only an answer that registers confirms, and under its number
+pub confirms : Laws → (a : Answer) (n : ℕ) → ((m : ℕ) (b : Bool) → a ≡ Answer.Registered m b → m < 2 ^ 63) → moved Open (reply_of a) ≡ Confirmed n → (b : Bool) × (a ≡ Answer.Registered n b)
+unfolding reply_of
+confirms laws (Answer.Registered m b) n small h = (b, ap (λ k. Answer.Registered k b) (laws.told m n b (small m b refl) h))
+confirms laws (Answer.Refused found b) n small h = absurd (other_reply (reply_of (Answer.Refused found b)) n (refused_other found) h)
+confirms laws Answer.KeyReused n small h = absurd (other_reply (reply_of Answer.KeyReused) n refl h)
+
+-- ---- an entry's own request
+
+reply_alone : (before : List Request) (m : Message) (r : Request) → FilesAlone m r → reply before m ≡ reply_of (answer before r)
+reply_alone before m r alone = ap (reply_on before) alone.filed
+
+module _ (laws : Laws) (limit : ℕ) (before : List Request) (small : length (firsts before) ≤ 2 ^ 62) (r : Request) (part : List ℕ) (heard : ReplyParts) (n : ℕ) (spelled : SpellsReply part heard) (confirmed : moved Open heard ≡ Confirmed n) where
+  nothing_heard : part ≡ [] → ⊥
+  nothing_heard e = laws.nothing heard (subst (λ bytes. SpellsReply bytes heard) e spelled)
+
+  silent_end : (ending : Ending) → (ending ≡ Ending.Closed) ⊎ (ending ≡ Ending.Rest false) → next_interim [] ending ≡ []
+  silent_end ending silent = ⊎_elim
+      (λ (e : ending ≡ Ending.Closed). ap (next_interim []) e)
+      (λ (e : ending ≡ Ending.Rest false). ap (next_interim []) e)
+      silent
+
+  no_place : (ending : Ending) → (ending ≡ Ending.Closed) ⊎ (ending ≡ Ending.Rest false) → (marks : List Mark) → MarksFit limit before [] marks → IsPrefixOf part (text before [] ending marks) → ⊥
+  unfolding text MarksFit
+  no_place ending silent [] fit front = nothing_heard (prefix_nil part (subst (λ bytes. IsPrefixOf part bytes) (silent_end ending silent) front))
+  no_place ending silent (mark ∷ marks) fit front = fit
+
+  -- what is heard of a rendered reply is that reply
+  heard_is : (reply : ReplyParts) (close : Bool) → IsFinal reply → IsPrefixOf part (render reply close) → heard ≡ reply
+  heard_is reply close final front =
+      let cut = take_prefix (length part) part (render reply close) front in
+      laws.alone reply heard close cut.0 final (subst (λ bytes. SpellsReply bytes heard) (sym (take_all part) ∙ cut.1) spelled)
+
+  heard_answer : (close : Bool) → IsPrefixOf part (render (reply_of (answer before r)) close) → IsRegistered (before ++ r ∷ []) r n
+  heard_answer close front =
+      let same = heard_is (reply_of (answer before r)) close (laws.final before r small) front in
+      let found = confirms laws (answer before r) n number (ap (moved Open) (sym same) ∙ confirmed) in
+      answer_registered before r n found.0 found.1
+    where
+      number : (m : ℕ) (b : Bool) → answer before r ≡ Answer.Registered m b → m < 2 ^ 63
+      number m b e = omega (arith, registered_bound (before ++ r ∷ []) r m (answer_registered before r m b e), firsts_one_more before r)
+
+  heard_unavailable : (close : Bool) → IsPrefixOf part (render unavailable close) → ⊥
+  heard_unavailable close front =
+      let same = heard_is unavailable close laws.final_unavailable front in
+      other_reply unavailable n refl (ap (moved Open) (sym same) ∙ confirmed)
+
+  silent_interim : (m : Message) → FilesAlone m r → interim_of (Place.Read m) ≡ []
+  silent_interim m alone = rw alone.silent refl
+
+  one_text : (m : Message) → FilesAlone m r → (mark : Mark) → text before (Place.Read m ∷ []) Ending.Closed (mark ∷ []) ≡ reply_text before (Place.Read m) mark
+  unfolding text
+  one_text m alone mark = ap (λ front. front ++ (reply_text before (Place.Read m) mark ++ [])) (silent_interim m alone) ∙ append_nil (reply_text before (Place.Read m) mark)
+
+  by_mark : (m : Message) → FilesAlone m r → (mark : Mark) → RouteFits limit before (Filed r) mark → IsPrefixOf part (reply_text before (Place.Read m) mark) → IsRegistered (before ++ requests_of_route (Filed r) mark) r n
+  by_mark m alone Done fit front = heard_answer (closes m.head) (subst (λ reply. IsPrefixOf part (render reply (closes m.head))) (reply_alone before m r alone) front)
+  by_mark m alone Unavailable fit front = absurd (heard_unavailable (closes m.head) front)
+  by_mark m alone NotFiled fit front = absurd fit
+
+  one_place : (m : Message) → FilesAlone m r → (marks : List Mark) → MarksFit limit before (Place.Read m ∷ []) marks → IsPrefixOf part (text before (Place.Read m ∷ []) Ending.Closed marks) → IsRegistered (before ++ completed (Place.Read m ∷ []) marks) r n
+  unfolding text MarksFit completed
+  one_place m alone [] fit front = absurd (nothing_heard (prefix_nil part (subst (λ bytes. IsPrefixOf part bytes) (silent_interim m alone) front)))
+  one_place m alone (mark ∷ []) fit front =
+      subst (λ more. IsRegistered (before ++ more) r n) (sym (append_nil (completed_at (Place.Read m) mark) ∙ ap (λ route. requests_of_route route mark) alone.filed))
+      (by_mark m alone mark (subst (λ route. RouteFits limit before route mark) alone.filed fit.0) (subst (λ bytes. IsPrefixOf part bytes) (one_text m alone mark) front))
+  one_place m alone (mark ∷ another ∷ marks) fit front = absurd fit.1
+
+  pub heard_alone : (places : List Place) (ending : Ending) (marks : List Mark) → IsAlone places ending r → MarksFit limit before places marks → IsPrefixOf part (text before places ending marks) → IsRegistered (before ++ completed places marks) r n
+  heard_alone places ending marks alone fit front = ⊎_elim
+      (λ (e : (places ≡ []) × ((ending ≡ Ending.Closed) ⊎ (ending ≡ Ending.Rest false))).
+      absurd (no_place ending e.1 marks (subst (λ ps. MarksFit limit before ps marks) e.0 fit) (subst (λ ps. IsPrefixOf part (text before ps ending marks)) e.0 front)))
+      (λ (e : (m : Message) × (places ≡ Place.Read m ∷ []) × (ending ≡ Ending.Closed) × FilesAlone m r).
+      subst (λ ps. IsRegistered (before ++ completed ps marks) r n) (sym e.1)
+      (one_place e.0 e.3 marks (subst (λ ps. MarksFit limit before ps marks) e.1 fit) (subst (λ (x : List Place × Ending). IsPrefixOf part (text before x.0 x.1 marks)) (λ i. (e.1 i, e.2 i)) front)))
+      alone
+
+-- A reply read from any part of an output to an entry's request confirms only what is registered.
+pub hears : Laws → (limit : ℕ) (done : List Request) (sent : List Sent) (output : Output) (r : Request) → (out : IsOutput limit done sent output) → length (firsts done) ≤ 2 ^ 62 → IsSendable r → out.item.bytes ≡ bytes_of r → (given : ℕ) (heard : ReplyParts) → GivesReply (take given output.bytes) heard → (n : ℕ) → moved Open heard ≡ Confirmed n → IsRegistered done r n
+hears laws limit done sent output r out few sendable own given heard gives n confirmed =
+    let part : List ℕ = take gives.0 (take given output.bytes) in
+    let alone = laws.own r output.given out.places out.ending sendable (subst (λ bytes. BeginsPlaces (take output.given bytes) out.places out.ending) own out.begins) in
+    let front = prefix_trans part output.bytes (text out.before out.places out.ending output.marks) (prefix_trans part (take given output.bytes) output.bytes (take_within gives.0 (take given output.bytes)) (take_within given output.bytes)) out.written in
+    let small : length (firsts out.before) ≤ 2 ^ 62 = omega (arith, firsts_more out.before (completed out.places output.marks ++ out.later), ap (λ requests. length (firsts requests)) out.stands) in
+    let here = heard_alone laws limit out.before small r part heard n gives.1 confirmed out.places out.ending output.marks alone out.fit front in
+    subst (λ requests. IsRegistered requests r n) (append_assoc out.before (completed out.places output.marks) out.later ∙ sym out.stands) (registered_grows (out.before ++ completed out.places output.marks) out.later r n here)
