@@ -1,0 +1,30 @@
+-- The database's refusals as an outbox names them.
+use Rattle.sqlite.specs.declared.error.Error.{Error}
+use Rattle.table_rows.specs.declared.cause.Cause.{Cause}
+use Rattle.table_rows.specs.declared.cause.Cause.TheVariants as cause
+use Rattle.table_rows.specs.Causes.{cause_of}
+use Rattle.outbox_core.specs.declared.fault.StoreFault.{StoreFault}
+use Rattle.outbox_core.specs.declared.fault.StoreFault.TheVariants as store
+use Rattle.outbox_core.specs.declared.fault.PutFault.{PutFault}
+use Rattle.outbox_core.specs.declared.fault.PutFault.TheVariants as put
+use Rattle.outbox_core.specs.declared.fault.TakeFault.{TakeFault}
+use Rattle.outbox_core.specs.declared.fault.TakeFault.TheVariants as take
+
+-- want of memory is told as that alone
+abbrev pub store_fault_by : Cause → StoreFault
+store_fault_by cause.Memory = store.Memory
+store_fault_by cause.Disk = store.Store
+store_fault_by cause.Other = store.Store
+
+abbrev pub store_fault : Error → StoreFault
+store_fault error = store_fault_by (cause_of error)
+
+-- the same where an entry is put
+abbrev pub putting : StoreFault → PutFault
+putting store.Memory = put.Memory
+putting store.Store = put.Store
+
+-- the same where a reply is taken
+abbrev pub taking : StoreFault → TakeFault
+taking store.Memory = take.Memory
+taking store.Store = take.Store

@@ -1,0 +1,13 @@
+//! The outbox of a filer: the reports that are to be sent, and what is known of each. What may live here: the
+//! two tables of an outbox and the statements on them, how a reply moves an entry, and the calls on an outbox.
+//! Only `tables` knows SQL.
+#![tactic(auto)]
+
+mod entry;
+mod fault;
+mod state;
+mod tables;
+
+pub use entry::Entry;
+pub use fault::{PutFault, StoreFault, TakeFault};
+pub use state::State;
