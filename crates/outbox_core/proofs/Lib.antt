@@ -5,3 +5,4 @@ pub mod WriteLemmas
 pub mod InsertLemmas
 pub mod UpdateLemmas
 pub mod ReadLemmas
+pub mod ListLemmas

@@ -9,6 +9,10 @@ pub record Contents : Type 0 where
   pub filer : List ℕ
   pub entries : List Entry
 
+-- a filer with nothing to send
+abbrev pub empty : List ℕ → Contents
+empty filer = record { filer = filer; entries = [] }
+
 -- the entries with their ids, the first of which is this one
 abbrev pub numbered_from : ℕ → List Entry → List (ℕ × Entry)
 numbered_from id [] = []

@@ -1,10 +1,11 @@
 -- How the tables of an outbox are declared.
-use Rattle.std.specs.Prelude.{◌≡◌, List, [], ◌∷◌, codes}
+use Rattle.std.specs.Prelude.{◌≡◌, ◌||◌, Bool, List, [], ◌∷◌, codes}
 use Rattle.std.specs.List.{AllByRecursion}
 use Rattle.sqlite_value.specs.Keys.{plain}
 use Rattle.sqlite.specs.Table.{Table}
 use Rattle.sqlite.specs.Schema.{Schema}
 use Rattle.sqlite.specs.Kind.TheVariants.{Integer, Text, Blob}
+use Rattle.sqlite_catalog.specs.Change.{is_used}
 use Rattle.table_rows.specs.Tables.{needed, optional, keyed, BeginsWith}
 
 -- what the database is, in which form, and whose
@@ -25,3 +26,7 @@ outbox_tables = meta_table ∷ entry_table ∷ []
 pub record IsDeclared (schema : Schema) : Type 0 where
   pub begins : BeginsWith outbox_tables schema
   pub free : AllByRecursion (λ t. t.references ≡ []) schema.tables
+
+-- whether a table, an index or a view has the name of one of our tables
+abbrev pub is_taken : Schema → Bool
+is_taken schema = is_used schema (codes "outbox_meta") || is_used schema (codes "entry")

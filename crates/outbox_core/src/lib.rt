@@ -3,11 +3,14 @@
 //! Only `tables` knows SQL.
 #![tactic(auto)]
 
+mod entries;
 mod entry;
 mod fault;
+mod outbox;
 mod state;
 mod tables;
 
 pub use entry::Entry;
 pub use fault::{PutFault, StoreFault, TakeFault};
+pub use outbox::Outbox;
 pub use state::State;

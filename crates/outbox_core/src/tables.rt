@@ -128,11 +128,11 @@ pub(crate) fn set_state<S: Alter>(
     requires id { id < 2 ^ 63 }
     requires number { FitsNumber (view_state state) }
     ensures moved { HasCleanDisk (held.state S.Store conn.new) → (it : Contents) → Stands (IsOutboxOf it) (held.state S.Store conn.old) → IsTrue (held.state S.Store conn.old).is_open
-        → IsSome (entry_at it.entries id) → IsOutbox (with_state it id (view_state state))
+        → IsSome (entry_at it.entries id)
         → OnOk result (Stands (IsOutboxOf (with_state it id (view_state state))) (held.state S.Store conn.new) × IsTrue (held.state S.Store conn.new).is_open) }
     ensures kept { HasCleanDisk (held.state S.Store conn.new) → (it : Contents) → Stands (IsOutboxOf it) (held.state S.Store conn.old) → OnErr result (Stands (IsOutboxOf it) (held.state S.Store conn.new)) }
     ensures crash { Survives (held.state S.Store conn.old) (held.state S.Store conn.new) (Commits IsOutboxOf (held.state S.Store conn.old)
-        (λ it trees. IsSome (entry_at it.entries id) → IsOutbox (with_state it id (view_state state)) → Leaves (with_state it id (view_state state)) trees)) }
+        (λ it trees. IsSome (entry_at it.entries id) → Leaves (with_state it id (view_state state)) trees)) }
 {
     conn.execute(
         "UPDATE entry SET state = ?2, number = ?3 WHERE id = ?1",

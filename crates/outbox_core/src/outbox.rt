@@ -1,0 +1,208 @@
+//! The outbox of a filer.
+
+ghost use Rattle.std.specs.Prelude.{◌≡◌, List, ◌+◌, ◌^◌, ◌<◌, ◌≤◌, ◌↔◌, [], ◌∷◌, ◌++◌, length, find, option_map, false, None, Some, IsTrue, IfOk, OnOk, OnErr, IfSome};
+ghost use Rattle.sqlite.specs.State.{HasCleanDisk, Survives};
+ghost use Rattle.sqlite.specs.Held.{state};
+ghost use Rattle.sqlite.specs.Tree.{Trees};
+ghost use Rattle.http_wire.specs.Head.{max_body_len};
+ghost use Rattle.http_wire.specs.Replies.{reply_parts};
+ghost use Rattle.filing_model.specs.Outbox.{Entry as Item, moved};
+ghost use Rattle.outbox_core.specs.Entries.{opened, numbered, has_text, is_open, entry_at, set_state};
+ghost use Rattle.outbox_core.specs.Rows.{Leaves};
+ghost use Rattle.outbox_core.specs.Reading.{view_entry, view_state};
+
+use crate::entries::{add_entry, entry_of, open_entry, take_entry};
+use crate::entry::Entry;
+use crate::fault::{PutFault, StoreFault, TakeFault};
+use crate::state::State;
+use http_wire::{MAX_BODY_LEN, Reply};
+use key_string::KeyText;
+use sqlite::{Alter, Connection};
+use std::alloc::Global;
+use std::marker::Model;
+
+/// The outbox of a filer, over a connection: each report that is to be sent under its key, and what is known of it.
+///
+/// What a clause says of entries holds where the disk is clean as the call ends: where it gave back what was written.
+/// After a call was refused as Store, each later call that can be refused so is, until the database is opened again.
+pub struct Outbox<S: Alter> {
+    pub(crate) alloc: Global,
+    pub(crate) conn: Connection<S>,
+    pub(crate) filer: String,
+    pub(crate) count: u64,
+    pub(crate) has_failed: bool,
+}
+
+impl<S: Alter> Model for Outbox<S> {
+    ghost use Rattle.outbox_core.specs.Box.{Box, box_code};
+    ghost use Rattle.std.specs.Prelude.{◌≤◌, ◌^◌, string_bytes};
+
+    ghost Value = { Box S };
+
+    ghost coded = { box_code S.code };
+
+    ghost view = { λ o. record { conn = o.conn; filer = string_bytes o.filer; count = o.count; has_failed = o.has_failed } };
+
+    ghost invariant = { λ o. o.count ≤ 2 ^ 62 };
+}
+
+impl<S: Alter + Drop> Drop for Outbox<S> {
+    fn drop(self) {
+        let Outbox {
+            alloc: _,
+            conn: _,
+            filer: _,
+            count: _,
+            has_failed: _,
+        } = self;
+    }
+}
+
+impl<S: Alter> Outbox<S> {
+    ghost use Rattle.outbox_core.specs.Box.{shows, contents, HasEntries};
+
+    /// The code of the filer.
+    pub fn filer(&self) -> &str
+        ensures { result.now ≡ self.now.filer }
+    {
+        self.filer.as_str()
+    }
+
+    pub(crate) fn into_conn(self) -> Connection<S>
+        ensures { result ≡ self.conn }
+    {
+        let Outbox {
+            alloc: _,
+            conn,
+            filer: _,
+            count: _,
+            has_failed: _,
+        } = self;
+        conn
+    }
+
+    /// Puts a report in as an open entry and answers its id: 1, 2, 3, .. A refusal gives the key and the body up. With
+    /// 2^62 entries the answer is Store.
+    pub fn put(&mut self, key: KeyText, body: Vec<u8>) -> Result<u64, PutFault>
+        ensures added { HasCleanDisk (shows S.Store self.new) → (entries : List Item) → HasEntries S.Store self.old entries
+            → IfOk result (λ id. (id ≡ 1 + length entries) × HasEntries S.Store self.new (entries ++ opened key body.items ∷ [])) }
+        ensures unused { HasCleanDisk (shows S.Store self.new) → (entries : List Item) → HasEntries S.Store self.old entries → OnOk result (find (has_text key) (numbered entries) ≡ None) }
+        ensures used { HasCleanDisk (shows S.Store self.new) → (entries : List Item) → HasEntries S.Store self.old entries
+            → (id : _) → result ≡ Err (PutFault.KeyUsed id) → option_map (λ x. x.0) (find (has_text key) (numbered entries)) ≡ Some id }
+        ensures too_large { (result ≡ Err PutFault.TooLarge) ↔ ((self.old.has_failed ≡ false) × (max_body_len < length body.items)) }
+
+        // A refusal changes no entry.
+        ensures kept { HasCleanDisk (shows S.Store self.new) → (entries : List Item) → HasEntries S.Store self.old entries → OnErr result (HasEntries S.Store self.new entries) }
+        ensures stopped { IsTrue self.old.has_failed → (result ≡ Err PutFault.Store) × (self.new ≡ self.old) }
+        ensures stops { IsTrue self.new.has_failed ↔ (result ≡ Err PutFault.Store) }
+        ensures filer { self.new.filer ≡ self.old.filer }
+
+        // A crash leaves what one before the call could leave, or the entries with this one, and after Ok these alone.
+        ensures crash { Survives (shows S.Store self.old) (shows S.Store self.new) (λ trees. (entries : List Item) → HasEntries S.Store self.old entries → IsTrue (shows S.Store self.old).is_open
+            → Leaves (contents self.old (entries ++ opened key body.items ∷ [])) trees) }
+        ensures durable { HasCleanDisk (shows S.Store self.new) → (entries : List Item) → HasEntries S.Store self.old entries
+            → OnOk result (IsTrue (shows S.Store self.new).is_open × ((trees : Trees) → (shows S.Store self.new).may_leave trees → Leaves (contents self.new (entries ++ opened key body.items ∷ [])) trees)) }
+    {
+        if self.has_failed {
+            return Err(PutFault::Store);
+        }
+        if body.len() > MAX_BODY_LEN {
+            return Err(PutFault::TooLarge);
+        }
+        match add_entry(&mut self.conn, self.count, key.as_str(), body.as_slice()) {
+            Ok(id) => {
+                self.count = id;
+                Ok(id)
+            }
+            Err(fault) => {
+                self.has_failed = fault == PutFault::Store;
+                Err(fault)
+            }
+        }
+    }
+
+    /// The entry of this id, or `None` where there is none.
+    pub fn entry(&mut self, id: u64) -> Result<Option<Entry>, StoreFault>
+        ensures found { HasCleanDisk (shows S.Store self.new) → (entries : List Item) → HasEntries S.Store self.old entries
+            → IfOk result (λ entry. option_map view_entry entry ≡ option_map (λ e. (id, e)) (entry_at entries id)) }
+
+        // The entries are those of before, whatever the answer is, and a crash leaves what it could leave before.
+        ensures kept { HasCleanDisk (shows S.Store self.new) → (entries : List Item) → HasEntries S.Store self.old entries → HasEntries S.Store self.new entries }
+        ensures stopped { IsTrue self.old.has_failed → (result ≡ Err StoreFault.Store) × (self.new ≡ self.old) }
+        ensures stops { IsTrue self.new.has_failed ↔ (result ≡ Err StoreFault.Store) }
+        ensures filer { self.new.filer ≡ self.old.filer }
+        ensures crash { Survives (shows S.Store self.old) (shows S.Store self.new) (λ _. (entries : List Item) → HasEntries S.Store self.old entries → IsTrue (shows S.Store self.old).is_open → ⊥) }
+    {
+        if self.has_failed {
+            return Err(StoreFault::Store);
+        }
+        if id > self.count {
+            return Ok(None);
+        }
+        match entry_of(&mut self.conn, self.alloc, id) {
+            Ok(entry) => Ok(entry),
+            Err(fault) => {
+                self.has_failed = fault == StoreFault::Store;
+                Err(fault)
+            }
+        }
+    }
+
+    /// The open entry with the least id, or `None` where no entry is open.
+    pub fn next_open(&mut self) -> Result<Option<Entry>, StoreFault>
+        ensures found { HasCleanDisk (shows S.Store self.new) → (entries : List Item) → HasEntries S.Store self.old entries
+            → IfOk result (λ entry. option_map view_entry entry ≡ find is_open (numbered entries)) }
+
+        // The entries are those of before, whatever the answer is, and a crash leaves what it could leave before.
+        ensures kept { HasCleanDisk (shows S.Store self.new) → (entries : List Item) → HasEntries S.Store self.old entries → HasEntries S.Store self.new entries }
+        ensures stopped { IsTrue self.old.has_failed → (result ≡ Err StoreFault.Store) × (self.new ≡ self.old) }
+        ensures stops { IsTrue self.new.has_failed ↔ (result ≡ Err StoreFault.Store) }
+        ensures filer { self.new.filer ≡ self.old.filer }
+        ensures crash { Survives (shows S.Store self.old) (shows S.Store self.new) (λ _. (entries : List Item) → HasEntries S.Store self.old entries → IsTrue (shows S.Store self.old).is_open → ⊥) }
+    {
+        if self.has_failed {
+            return Err(StoreFault::Store);
+        }
+        match open_entry(&mut self.conn, self.alloc) {
+            Ok(entry) => Ok(entry),
+            Err(fault) => {
+                self.has_failed = fault == StoreFault::Store;
+                Err(fault)
+            }
+        }
+    }
+
+    /// Moves an entry by the status and the content of a reply, and answers its state. An entry that is not open
+    /// keeps its state, and no entry's key or body changes.
+    pub fn take(&mut self, id: u64, reply: &Reply) -> Result<State, TakeFault>
+        ensures moved { HasCleanDisk (shows S.Store self.new) → (entries : List Item) → HasEntries S.Store self.old entries
+            → IfOk result (λ to. (Some (view_state to) ≡ option_map (λ e. moved e.state (reply_parts reply.now)) (entry_at entries id)) × HasEntries S.Store self.new (set_state entries id (view_state to))) }
+        ensures no_entry { HasCleanDisk (shows S.Store self.new) → (entries : List Item) → HasEntries S.Store self.old entries → result ≡ Err TakeFault.NoEntry → entry_at entries id ≡ None }
+
+        // A refusal changes no entry.
+        ensures kept { HasCleanDisk (shows S.Store self.new) → (entries : List Item) → HasEntries S.Store self.old entries → OnErr result (HasEntries S.Store self.new entries) }
+        ensures stopped { IsTrue self.old.has_failed → (result ≡ Err TakeFault.Store) × (self.new ≡ self.old) }
+        ensures stops { IsTrue self.new.has_failed ↔ (result ≡ Err TakeFault.Store) }
+        ensures filer { self.new.filer ≡ self.old.filer }
+
+        // A crash leaves what one before the call could leave, or the entries after the move, and after Ok these alone.
+        ensures crash { Survives (shows S.Store self.old) (shows S.Store self.new) (λ trees. (entries : List Item) → HasEntries S.Store self.old entries → IsTrue (shows S.Store self.old).is_open
+            → IfSome (entry_at entries id) (λ e. Leaves (contents self.old (set_state entries id (moved e.state (reply_parts reply.now)))) trees)) }
+        ensures durable { HasCleanDisk (shows S.Store self.new) → (entries : List Item) → HasEntries S.Store self.old entries
+            → IfOk result (λ to. IsTrue (shows S.Store self.new).is_open × ((trees : Trees) → (shows S.Store self.new).may_leave trees → Leaves (contents self.new (set_state entries id (view_state to))) trees)) }
+    {
+        if self.has_failed {
+            return Err(TakeFault::Store);
+        }
+        if id > self.count {
+            return Err(TakeFault::NoEntry);
+        }
+        match take_entry(&mut self.conn, self.alloc, id, reply) {
+            Ok(state) => Ok(state),
+            Err(fault) => {
+                self.has_failed = fault == TakeFault::Store;
+                Err(fault)
+            }
+        }
+    }
+}
