@@ -6,3 +6,4 @@ pub mod InsertLemmas
 pub mod UpdateLemmas
 pub mod ReadLemmas
 pub mod ListLemmas
+pub mod MakeLemmas

@@ -3,12 +3,23 @@ use Rattle.sqlite.specs.declared.error.Error.{Error}
 use Rattle.table_rows.specs.declared.cause.Cause.{Cause}
 use Rattle.table_rows.specs.declared.cause.Cause.TheVariants as cause
 use Rattle.table_rows.specs.Causes.{cause_of}
+use Rattle.outbox_core.specs.declared.fault.OutboxFault.{OutboxFault}
+use Rattle.outbox_core.specs.declared.fault.OutboxFault.TheVariants as outbox
 use Rattle.outbox_core.specs.declared.fault.StoreFault.{StoreFault}
 use Rattle.outbox_core.specs.declared.fault.StoreFault.TheVariants as store
 use Rattle.outbox_core.specs.declared.fault.PutFault.{PutFault}
 use Rattle.outbox_core.specs.declared.fault.PutFault.TheVariants as put
 use Rattle.outbox_core.specs.declared.fault.TakeFault.{TakeFault}
 use Rattle.outbox_core.specs.declared.fault.TakeFault.TheVariants as take
+
+abbrev pub outbox_fault_by : Cause → OutboxFault
+outbox_fault_by cause.Memory = outbox.Memory
+outbox_fault_by cause.Disk = outbox.Disk
+outbox_fault_by cause.Other = outbox.Disk
+
+-- where an outbox is made or opened
+abbrev pub outbox_fault : Error → OutboxFault
+outbox_fault error = outbox_fault_by (cause_of error)
 
 -- want of memory is told as that alone
 abbrev pub store_fault_by : Cause → StoreFault

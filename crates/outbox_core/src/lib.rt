@@ -3,14 +3,16 @@
 //! Only `tables` knows SQL.
 #![tactic(auto)]
 
+mod create;
 mod entries;
 mod entry;
 mod fault;
 mod outbox;
 mod state;
+mod stop;
 mod tables;
 
 pub use entry::Entry;
-pub use fault::{PutFault, StoreFault, TakeFault};
+pub use fault::{OutboxFault, PutFault, StoreFault, TakeFault};
 pub use outbox::Outbox;
 pub use state::State;

@@ -1,22 +1,26 @@
 //! The outbox of a filer.
 
-ghost use Rattle.std.specs.Prelude.{◌≡◌, List, ◌+◌, ◌^◌, ◌<◌, ◌≤◌, ◌↔◌, [], ◌∷◌, ◌++◌, length, find, option_map, false, None, Some, IsTrue, IfOk, OnOk, OnErr, IfSome};
+ghost use Rattle.std.specs.Prelude.{◌≡◌, ◌≢◌, List, ◌+◌, ◌^◌, ◌<◌, ◌≤◌, ◌↔◌, [], ◌∷◌, ◌++◌, length, find, option_map, false, None, Some, IsTrue, IfOk, IfErr, OnOk, OnErr, IfSome, true, Err};
 ghost use Rattle.sqlite.specs.State.{HasCleanDisk, Survives};
 ghost use Rattle.sqlite.specs.Held.{state};
 ghost use Rattle.sqlite.specs.Tree.{Trees};
+ghost use Rattle.key_string.specs.Filer.{is_filer};
 ghost use Rattle.http_wire.specs.Head.{max_body_len};
 ghost use Rattle.http_wire.specs.Replies.{reply_parts};
 ghost use Rattle.filing_model.specs.Outbox.{Entry as Item, moved};
-ghost use Rattle.outbox_core.specs.Entries.{opened, numbered, has_text, is_open, entry_at, set_state};
+ghost use Rattle.table_rows.specs.Tables.{no_schema};
+ghost use Rattle.outbox_core.specs.Schema.{is_taken};
+ghost use Rattle.outbox_core.specs.Entries.{empty, opened, numbered, has_text, is_open, entry_at, set_state};
 ghost use Rattle.outbox_core.specs.Rows.{Leaves};
 ghost use Rattle.outbox_core.specs.Reading.{view_entry, view_state};
 
+use crate::create::{is_taken, make};
 use crate::entries::{add_entry, entry_of, open_entry, take_entry};
 use crate::entry::Entry;
-use crate::fault::{PutFault, StoreFault, TakeFault};
+use crate::fault::{OutboxFault, PutFault, StoreFault, TakeFault};
 use crate::state::State;
 use http_wire::{MAX_BODY_LEN, Reply};
-use key_string::KeyText;
+use key_string::{KeyText, is_filer};
 use sqlite::{Alter, Connection};
 use std::alloc::Global;
 use std::marker::Model;
@@ -55,6 +59,49 @@ impl<S: Alter + Drop> Drop for Outbox<S> {
             count: _,
             has_failed: _,
         } = self;
+    }
+}
+
+impl<S: Alter + Drop> Outbox<S> {
+    ghost use Rattle.outbox_core.specs.Box.{shows, HasEntries};
+
+    /// Makes the tables of an outbox of this filer that has no entry, in one transaction. A refusal gives the connection
+    /// up, and leaves the database as it was. The tables are those of an outbox where the database had none before.
+    pub fn create(alloc: Global, conn: Connection<S>, filer: &str) -> Result<Outbox<S>, OutboxFault>
+        requires autocommit { conn.in_transaction ≡ false }
+        requires unlimited { conn.step_limit ≡ None }
+        ensures made { IfOk result (λ outbox. HasCleanDisk (shows S.Store outbox) → (state S.Store conn).now.schema ≡ no_schema → HasEntries S.Store outbox []) }
+        ensures filer { IfOk result (λ outbox. (outbox.filer ≡ filer.now) × (outbox.has_failed ≡ false)) }
+
+        // BadFiler comes where the text is no filer code, and always there; Taken where it is one and one of the names is
+        // in use, and always there.
+        ensures bad_filer { (result ≡ Err OutboxFault.BadFiler) ↔ (is_filer filer.now ≡ false) }
+        ensures taken { (result ≡ Err OutboxFault.Taken) ↔ ((is_filer filer.now ≡ true) × IsTrue (is_taken (state S.Store conn).now.schema)) }
+        ensures no_other { IfErr result (λ fault. (fault ≢ OutboxFault.NotOurs) × ((row : _) → fault ≢ OutboxFault.Damaged row)) }
+
+        // A crash leaves what one before the call could leave, or the outbox with no entry, and after the call that alone.
+        ensures crash { IfOk result (λ outbox. Survives (state S.Store conn) (shows S.Store outbox) (λ trees. (state S.Store conn).now.schema ≡ no_schema → Leaves (empty filer.now) trees)) }
+        ensures durable { IfOk result (λ outbox. HasCleanDisk (shows S.Store outbox) → (state S.Store conn).now.schema ≡ no_schema
+            → IsTrue (shows S.Store outbox).is_open × ((trees : Trees) → (shows S.Store outbox).may_leave trees → Leaves (empty filer.now) trees)) }
+    {
+        if !is_filer(filer) {
+            return Err(OutboxFault::BadFiler);
+        }
+        if is_taken(conn.schema()) {
+            return Err(OutboxFault::Taken);
+        }
+        let name = String::from_str(alloc, filer)?;
+        let mut conn = conn;
+        match make(&mut conn, filer) {
+            Ok(()) => Ok(Outbox {
+                alloc,
+                conn,
+                filer: name,
+                count: 0,
+                has_failed: false,
+            }),
+            Err(error) => Err(OutboxFault::from(error)),
+        }
     }
 }
 
