@@ -1,11 +1,12 @@
 -- What the columns of a row say of its entry.
-use Rattle.std.proofs.Common.{◌≡◌, ℕ, pos, Option, Some, None, option_map, refl, ap, sym, subst, ◌∙◌, IsSome, IfSome, List}
+use Rattle.std.proofs.Common.{◌≡◌, ℕ, pos, Option, Some, None, option_map, refl, ap, sym, subst, ◌∙◌, IsSome, IfSome, List, [], ◌∷◌, map, ap₂}
+use Rattle.sqlite.specs.declared.types.Value.{Value}
 use Rattle.sqlite.specs.declared.types.Value.TheVariants.{Int}
 use Rattle.sqlite.specs.Order.{Row, column}
 use Rattle.filing_model.specs.Outbox.{Entry, State, Open, Confirmed, Refused, Clashed}
 use Rattle.outbox_core.specs.declared.entry.Entry.{Entry as Read}
-use Rattle.outbox_core.specs.Reading.{Shows, view_entry, view_state}
-use Rattle.outbox_core.specs.Rows.{entry_row, code_of, number_of}
+use Rattle.outbox_core.specs.Reading.{Shows, view_entry, view_state, state_in, state_told, id_and_state}
+use Rattle.outbox_core.specs.Rows.{entry_row, state_row, code_of, number_of}
 
 pub id_shown : (o : Option (ℕ × Entry)) (row : Row) (n : ℕ) → Some row ≡ option_map entry_row o → column row 0 ≡ Int (pos n) → Some n ≡ option_map (λ (x : ℕ × Entry). x.0) o
 id_shown None row n e id = cc
@@ -76,3 +77,19 @@ moved_read (Some x) from to f at is = let same : x.state ≡ from = cc in ap Som
 pub each_read : (o : Option Entry) (from : State) (P : State → Type 0) → option_map (λ (x : Entry). x.state) o ≡ Some from → P from → IfSome o (λ x. P x.state)
 each_read None from P at p = tt
 each_read (Some x) from P at p = let same : x.state ≡ from = cc in subst P (sym same) p
+
+-- ---- the other way
+
+state_back : (state : State) → state_in (Int (pos (code_of state))) (number_of state) ≡ state
+state_back Open = refl
+state_back (Confirmed n) = refl
+state_back Refused = refl
+state_back Clashed = refl
+
+-- two columns that a state was read from tell that state
+pub state_columns_told : (code number : Value) (state : State) → code ≡ Int (pos (code_of state)) → number ≡ number_of state → state_in code number ≡ state
+state_columns_told code number state c n = ap₂ state_in c n ∙ state_back state
+
+pub told_rows : (xs : List (ℕ × Entry)) → map state_told (map state_row xs) ≡ map id_and_state xs
+told_rows [] = refl
+told_rows (x ∷ xs) = ap₂ (λ y ys. y ∷ ys) (ap (λ s. (x.0, s)) (state_back x.1.state)) (told_rows xs)

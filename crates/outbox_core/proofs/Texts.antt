@@ -53,6 +53,15 @@ by_id = (col 1 0, record { collation = Binary; descending = false }) ∷ []
 abbrev pub entry_query : List Term → Query
 entry_query test = one_table 1 test entry_columns by_id
 
+abbrev pub states_text : List ℕ
+states_text = codes "SELECT id, state, number FROM entry ORDER BY id"
+
+abbrev pub state_terms : List Term
+state_terms = col 1 0 ∷ col 1 4 ∷ col 1 5 ∷ []
+
+abbrev pub states_query : Query
+states_query = one_table 1 [] state_terms by_id
+
 abbrev pub insert_terms : List Term
 insert_terms = col 0 0 ∷ lit Null ∷ col 0 1 ∷ col 0 2 ∷ lit (Int (pos 0)) ∷ lit Null ∷ []
 
@@ -88,6 +97,10 @@ module _ (tables : List Table) (indexes : List Index) (views : List View) where
   unfolding understood everything
   asks_by_state = record { names = names; is = refl; plain = (refl, refl); listing = refl }
 
+  asks_states : Asks schema states_text states_query
+  unfolding understood everything
+  asks_states = record { names = codes "id" ∷ codes "state" ∷ codes "number" ∷ []; is = refl; plain = (refl, refl); listing = refl }
+
   does_insert : command_of (understood schema insert_text) ≡ insert_command
   unfolding understood everything
   does_insert = refl
@@ -116,6 +129,9 @@ module _ (schema : Schema) (d : IsDeclared schema) where
 
   pub by_state_asks : Asks schema by_state_text (entry_query (equals 4))
   by_state_asks = subst (λ s. Asks s by_state_text (entry_query (equals 4))) (sym d.begins.is) (asks_by_state d.begins.tables d.begins.indexes d.begins.views)
+
+  pub states_asks : Asks schema states_text states_query
+  states_asks = subst (λ s. Asks s states_text states_query) (sym d.begins.is) (asks_states d.begins.tables d.begins.indexes d.begins.views)
 
   pub insert_is : command_of (understood schema insert_text) ≡ insert_command
   insert_is = subst (λ s. command_of (understood s insert_text) ≡ insert_command) (sym d.begins.is) (does_insert d.begins.tables d.begins.indexes d.begins.views)

@@ -30,6 +30,10 @@ meta_row filer = Int (pos 1) ∷ Text (codes "outbox") ∷ Int (pos 1) ∷ Text 
 abbrev pub entry_row : ℕ × Entry → Row
 entry_row (id, e) = Int (pos id) ∷ Text e.key ∷ Blob e.body ∷ Int (pos (code_of e.state)) ∷ number_of e.state ∷ []
 
+-- its id and its state
+abbrev pub state_row : ℕ × Entry → Row
+state_row (id, e) = Int (pos id) ∷ Int (pos (code_of e.state)) ∷ number_of e.state ∷ []
+
 abbrev pub entry_rows : List Entry → List Row
 entry_rows entries = map entry_row (numbered entries)
 

@@ -1,6 +1,6 @@
 //! What the calls on an outbox do to its entries, in two statements at most.
 
-ghost use Rattle.std.specs.Prelude.{◌≡◌, ◌≢◌, ◌+◌, ◌^◌, ◌<◌, ◌≤◌, length, find, option_map, None, Some, IsTrue, IfOk, IfErr, OnOk, OnErr, IsOk, IfSome, ◌⊎◌};
+ghost use Rattle.std.specs.Prelude.{◌≡◌, ◌≢◌, ◌+◌, ◌^◌, ◌<◌, ◌≤◌, length, find, map, option_map, None, Some, IsTrue, IfOk, IfErr, OnOk, OnErr, IsOk, IfSome, ◌⊎◌};
 ghost use Rattle.sqlite.specs.State.{HasCleanDisk, Survives};
 ghost use Rattle.sqlite.specs.Held.{state};
 ghost use Rattle.key_string.specs.Key.{IsKey};
@@ -10,9 +10,9 @@ ghost use Rattle.filing_model.specs.Outbox.{moved};
 ghost use Rattle.table_rows.specs.Standing.{Stands, Commits};
 ghost use Rattle.outbox_core.specs.Entries.{Contents, IsOutbox, opened, numbered, has_text, is_open, entry_at, with_entry, with_state};
 ghost use Rattle.outbox_core.specs.Rows.{IsOutboxOf, Leaves, entry_row};
-ghost use Rattle.outbox_core.specs.Reading.{view_entry, view_state};
+ghost use Rattle.outbox_core.specs.Reading.{view_entry, view_state, view_pair, id_and_state};
 
-use crate::entry::Entry;
+use crate::entry::{Entry, read_states};
 use crate::fault::{PutFault, StoreFault, TakeFault};
 use crate::state::State;
 use crate::tables;
@@ -110,6 +110,22 @@ pub(crate) fn open_entry<S: Alter>(
     ensures crash { Survives (state S.Store conn.old) (state S.Store conn.new) (Commits IsOutboxOf (state S.Store conn.old) (λ _ _. ⊥)) }
 {
     read_found(alloc, tables::first_open_entry(conn))
+}
+
+/// The ids and the states of all entries.
+pub(crate) fn states_of<S: Alter>(
+    conn: &mut Connection<S>,
+    alloc: Global,
+) -> Result<Vec<(u64, State)>, StoreFault>
+    ensures found { HasCleanDisk (state S.Store conn.new) → (it : Contents) → Stands (IsOutboxOf it) (state S.Store conn.old)
+        → IfOk result (λ states. map view_pair states.items ≡ map id_and_state (numbered it.entries)) }
+    ensures kept { HasCleanDisk (state S.Store conn.new) → (it : Contents) → Stands (IsOutboxOf it) (state S.Store conn.old) → Stands (IsOutboxOf it) (state S.Store conn.new) }
+    ensures crash { Survives (state S.Store conn.old) (state S.Store conn.new) (Commits IsOutboxOf (state S.Store conn.old) (λ _ _. ⊥)) }
+{
+    match tables::state_rows(conn) {
+        Ok(rows) => read_states(alloc, rows.as_slice()),
+        Err(error) => Err(StoreFault::from(error)),
+    }
 }
 
 /// Moves the entry, which is in this state.

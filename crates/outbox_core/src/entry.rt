@@ -1,10 +1,10 @@
 //! An entry, and how a row reads as one.
 
-ghost use Rattle.std.specs.Prelude.{◌≡◌, pos, IfOk, IfSome};
+ghost use Rattle.std.specs.Prelude.{◌≡◌, pos, map, IfOk, IfSome};
 ghost use Rattle.sqlite.specs.declared.types.Value.TheVariants.{Int};
 ghost use Rattle.sqlite.specs.Values.{or_null};
 ghost use Rattle.outbox_core.specs.Rows.{code_of, number_of};
-ghost use Rattle.outbox_core.specs.Reading.{view_state};
+ghost use Rattle.outbox_core.specs.Reading.{view_state, view_pair, state_told};
 
 use crate::fault::StoreFault;
 use crate::state::State;
@@ -68,4 +68,26 @@ impl Entry {
             state,
         })
     }
+}
+
+/// The id and the state that a row of the columns `id`, `state` and `number` tells.
+fn read_state(row: &Row) -> Result<(u64, State), StoreFault>
+    ensures { IfOk result (λ told. view_pair told ≡ state_told row.now) }
+{
+    let id = row.get(0)?;
+    let code = row.get(1)?;
+    let number = row.get(2)?;
+    let state = state_of(code, number).ok_or(StoreFault::Store)?;
+    Ok((id, state))
+}
+
+/// The same of each row.
+pub(crate) fn read_states(alloc: Global, rows: &[Row]) -> Result<Vec<(u64, State)>, StoreFault>
+    ensures { IfOk result (λ states. map view_pair states.items ≡ map state_told rows.now) }
+{
+    let mut states = Vec::new(alloc);
+    for row in rows {
+        states.push(read_state(row)?)?;
+    }
+    Ok(states)
 }

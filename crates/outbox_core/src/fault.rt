@@ -1,6 +1,6 @@
 //! How the calls of an outbox are refused.
 
-use std::alloc::AllocError;
+use std::alloc::{AllocError, AllocFailed};
 use table_rows::Cause;
 
 /// Why an outbox was not made or not opened. The database is as it was, and its connection is given up.
@@ -104,6 +104,17 @@ impl From<sqlite::Error> for StoreFault {
             Cause::Memory => StoreFault::Memory,
             Cause::Disk | Cause::Other => StoreFault::Store,
         }
+    }
+}
+
+impl<T: Drop> From<AllocFailed<T>> for StoreFault {
+    ghost use Rattle.std.specs.Prelude.{◌≡◌};
+    ghost use Rattle.outbox_core.specs.declared.fault.StoreFault.TheVariants.{Memory};
+
+    ghost from_gives = { λ _ fault. fault ≡ Memory };
+
+    fn from(_error: AllocFailed<T>) -> StoreFault {
+        StoreFault::Memory
     }
 }
 

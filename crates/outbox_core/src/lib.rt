@@ -7,6 +7,7 @@ mod create;
 mod entries;
 mod entry;
 mod fault;
+mod key;
 mod outbox;
 mod state;
 mod stop;
@@ -14,5 +15,6 @@ mod tables;
 
 pub use entry::Entry;
 pub use fault::{OutboxFault, PutFault, StoreFault, TakeFault};
+pub use key::key_of;
 pub use outbox::Outbox;
 pub use state::State;

@@ -1,6 +1,6 @@
 //! The outbox of a filer.
 
-ghost use Rattle.std.specs.Prelude.{◌≡◌, ◌≢◌, List, ◌+◌, ◌^◌, ◌<◌, ◌≤◌, ◌↔◌, [], ◌∷◌, ◌++◌, length, find, option_map, false, None, Some, IsTrue, IfOk, IfErr, OnOk, OnErr, IfSome, true, Err};
+ghost use Rattle.std.specs.Prelude.{◌≡◌, ◌≢◌, List, ◌+◌, ◌^◌, ◌<◌, ◌≤◌, ◌↔◌, [], ◌∷◌, ◌++◌, length, find, map, option_map, false, None, Some, IsTrue, IfOk, IfErr, OnOk, OnErr, IfSome, true, Err};
 ghost use Rattle.sqlite.specs.State.{HasCleanDisk, Survives};
 ghost use Rattle.sqlite.specs.Held.{state};
 ghost use Rattle.sqlite.specs.Tree.{Trees};
@@ -12,10 +12,10 @@ ghost use Rattle.table_rows.specs.Tables.{no_schema};
 ghost use Rattle.outbox_core.specs.Schema.{is_taken};
 ghost use Rattle.outbox_core.specs.Entries.{empty, opened, numbered, has_text, is_open, entry_at, set_state};
 ghost use Rattle.outbox_core.specs.Rows.{Leaves};
-ghost use Rattle.outbox_core.specs.Reading.{view_entry, view_state};
+ghost use Rattle.outbox_core.specs.Reading.{view_entry, view_state, view_pair, id_and_state};
 
 use crate::create::{is_taken, make};
-use crate::entries::{add_entry, entry_of, open_entry, take_entry};
+use crate::entries::{add_entry, entry_of, open_entry, states_of, take_entry};
 use crate::entry::Entry;
 use crate::fault::{OutboxFault, PutFault, StoreFault, TakeFault};
 use crate::state::State;
@@ -212,6 +212,30 @@ impl<S: Alter> Outbox<S> {
         }
         match open_entry(&mut self.conn, self.alloc) {
             Ok(entry) => Ok(entry),
+            Err(fault) => {
+                self.has_failed = fault == StoreFault::Store;
+                Err(fault)
+            }
+        }
+    }
+
+    /// The id and the state of each entry, in the order of the ids.
+    pub fn states(&mut self) -> Result<Vec<(u64, State)>, StoreFault>
+        ensures found { HasCleanDisk (shows S.Store self.new) → (entries : List Item) → HasEntries S.Store self.old entries
+            → IfOk result (λ states. map view_pair states.items ≡ map id_and_state (numbered entries)) }
+
+        // The entries are those of before, whatever the answer is, and a crash leaves what it could leave before.
+        ensures kept { HasCleanDisk (shows S.Store self.new) → (entries : List Item) → HasEntries S.Store self.old entries → HasEntries S.Store self.new entries }
+        ensures stopped { IsTrue self.old.has_failed → (result ≡ Err StoreFault.Store) × (self.new ≡ self.old) }
+        ensures stops { IsTrue self.new.has_failed ↔ (result ≡ Err StoreFault.Store) }
+        ensures filer { self.new.filer ≡ self.old.filer }
+        ensures crash { Survives (shows S.Store self.old) (shows S.Store self.new) (λ _. (entries : List Item) → HasEntries S.Store self.old entries → IsTrue (shows S.Store self.old).is_open → ⊥) }
+    {
+        if self.has_failed {
+            return Err(StoreFault::Store);
+        }
+        match states_of(&mut self.conn, self.alloc) {
+            Ok(states) => Ok(states),
             Err(fault) => {
                 self.has_failed = fault == StoreFault::Store;
                 Err(fault)

@@ -1,13 +1,13 @@
 //! The statements on the two tables. No other module knows SQL.
 
-ghost use Rattle.std.specs.Prelude.{◌≡◌, ◌+◌, ◌^◌, ◌<◌, pos, codes, OnErr, length, find, option_map, IsTrue, IfOk, OnOk, IsSome};
+ghost use Rattle.std.specs.Prelude.{◌≡◌, ◌+◌, ◌^◌, ◌<◌, pos, codes, OnErr, length, find, map, option_map, IsTrue, IfOk, OnOk, IsSome};
 ghost use Rattle.sqlite.specs.Values.{or_null};
 ghost use Rattle.sqlite.specs.declared.types.Value.TheVariants.{Int};
 ghost use Rattle.sqlite.specs.State.{HasCleanDisk, Survives};
 ghost use Rattle.sqlite.specs.Held as held;
 ghost use Rattle.table_rows.specs.Standing.{Stands, Commits};
 ghost use Rattle.outbox_core.specs.Entries.{Contents, IsOutbox, opened, numbered, has_id, has_text, is_open, entry_at, with_entry, with_state, FitsNumber};
-ghost use Rattle.outbox_core.specs.Rows.{IsOutboxOf, Leaves, code_of, number_of, entry_row};
+ghost use Rattle.outbox_core.specs.Rows.{IsOutboxOf, Leaves, code_of, number_of, entry_row, state_row};
 ghost use Rattle.outbox_core.specs.Reading.{view_state};
 
 use crate::state::State;
@@ -75,6 +75,16 @@ pub(crate) fn first_open_entry<S: Alter>(conn: &mut Connection<S>) -> Result<Opt
         "SELECT id, idem, body, state, number FROM entry WHERE state = ?1 ORDER BY id",
         params![0i64],
     )
+}
+
+/// The id, the state and the number of each entry, in the order of the ids.
+pub(crate) fn state_rows<S: Alter>(conn: &mut Connection<S>) -> Result<Vec<Row>, Error>
+    ensures found { HasCleanDisk (held.state S.Store conn.new) → (it : Contents) → Stands (IsOutboxOf it) (held.state S.Store conn.old)
+        → IfOk result (λ rows. rows.items ≡ map state_row (numbered it.entries)) }
+    ensures kept { HasCleanDisk (held.state S.Store conn.new) → (it : Contents) → Stands (IsOutboxOf it) (held.state S.Store conn.old) → Stands (IsOutboxOf it) (held.state S.Store conn.new) }
+    ensures crash { Survives (held.state S.Store conn.old) (held.state S.Store conn.new) (Commits IsOutboxOf (held.state S.Store conn.old) (λ _ _. ⊥)) }
+{
+    conn.query_all("SELECT id, state, number FROM entry ORDER BY id", &[])
 }
 
 /// Adds an open entry of this id, which is that after the last.
