@@ -7,3 +7,6 @@ pub mod UpdateLemmas
 pub mod ReadLemmas
 pub mod ListLemmas
 pub mod MakeLemmas
+pub mod KeyLemmas
+pub mod AuditLemmas
+pub mod HeldLemmas

@@ -22,6 +22,7 @@ use Rattle.table_rows.specs.Tables.{schema_with}
 use Rattle.table_rows.proofs.SelectLemmas.{one_table}
 use Rattle.table_rows.proofs.QueryLemmas.{Asks}
 use Rattle.outbox_core.specs.Schema.{outbox_tables, IsDeclared}
+use Rattle.outbox_core.specs.Audit.{meta_text, entries_text}
 
 abbrev pub by_key_text : List ℕ
 by_key_text = codes "SELECT id, idem, body, state, number FROM entry WHERE idem = ?1 ORDER BY id"
@@ -62,6 +63,12 @@ state_terms = col 1 0 ∷ col 1 4 ∷ col 1 5 ∷ []
 abbrev pub states_query : Query
 states_query = one_table 1 [] state_terms by_id
 
+abbrev pub meta_terms : List Term
+meta_terms = col 1 0 ∷ col 1 2 ∷ col 1 3 ∷ col 1 4 ∷ []
+
+abbrev pub meta_query : Query
+meta_query = one_table 0 [] meta_terms []
+
 abbrev pub insert_terms : List Term
 insert_terms = col 0 0 ∷ lit Null ∷ col 0 1 ∷ col 0 2 ∷ lit (Int (pos 0)) ∷ lit Null ∷ []
 
@@ -101,6 +108,14 @@ module _ (tables : List Table) (indexes : List Index) (views : List View) where
   unfolding understood everything
   asks_states = record { names = codes "id" ∷ codes "state" ∷ codes "number" ∷ []; is = refl; plain = (refl, refl); listing = refl }
 
+  asks_meta : Asks schema meta_text meta_query
+  unfolding understood everything
+  asks_meta = record { names = codes "id" ∷ codes "kind" ∷ codes "form" ∷ codes "filer" ∷ []; is = refl; plain = (refl, refl); listing = refl }
+
+  asks_entries : Asks schema entries_text (entry_query [])
+  unfolding understood everything
+  asks_entries = record { names = names; is = refl; plain = (refl, refl); listing = refl }
+
   does_insert : command_of (understood schema insert_text) ≡ insert_command
   unfolding understood everything
   does_insert = refl
@@ -132,6 +147,12 @@ module _ (schema : Schema) (d : IsDeclared schema) where
 
   pub states_asks : Asks schema states_text states_query
   states_asks = subst (λ s. Asks s states_text states_query) (sym d.begins.is) (asks_states d.begins.tables d.begins.indexes d.begins.views)
+
+  pub meta_asks : Asks schema meta_text meta_query
+  meta_asks = subst (λ s. Asks s meta_text meta_query) (sym d.begins.is) (asks_meta d.begins.tables d.begins.indexes d.begins.views)
+
+  pub entries_asks : Asks schema entries_text (entry_query [])
+  entries_asks = subst (λ s. Asks s entries_text (entry_query [])) (sym d.begins.is) (asks_entries d.begins.tables d.begins.indexes d.begins.views)
 
   pub insert_is : command_of (understood schema insert_text) ≡ insert_command
   insert_is = subst (λ s. command_of (understood s insert_text) ≡ insert_command) (sym d.begins.is) (does_insert d.begins.tables d.begins.indexes d.begins.views)

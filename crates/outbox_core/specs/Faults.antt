@@ -21,6 +21,24 @@ outbox_fault_by cause.Other = outbox.Disk
 abbrev pub outbox_fault : Error → OutboxFault
 outbox_fault error = outbox_fault_by (cause_of error)
 
+abbrev pub meta_fault_by : Cause → OutboxFault
+meta_fault_by cause.Memory = outbox.Memory
+meta_fault_by cause.Disk = outbox.Disk
+meta_fault_by cause.Other = outbox.NotOurs
+
+-- where `outbox_meta` cannot be read
+abbrev pub meta_fault : Error → OutboxFault
+meta_fault error = meta_fault_by (cause_of error)
+
+abbrev pub entry_fault_by : Cause → OutboxFault
+entry_fault_by cause.Memory = outbox.Memory
+entry_fault_by cause.Disk = outbox.Disk
+entry_fault_by cause.Other = outbox.Damaged 0
+
+-- where `entry` cannot be read
+abbrev pub entry_fault : Error → OutboxFault
+entry_fault error = entry_fault_by (cause_of error)
+
 -- want of memory is told as that alone
 abbrev pub store_fault_by : Cause → StoreFault
 store_fault_by cause.Memory = store.Memory

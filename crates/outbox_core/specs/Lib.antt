@@ -4,3 +4,4 @@ pub mod Rows
 pub mod Reading
 pub mod Faults
 pub mod Box
+pub mod Audit

@@ -3,7 +3,7 @@
 ghost use Rattle.std.specs.Prelude.{◌≡◌, IfOk};
 ghost use Rattle.uuid.specs.Text.{hyphenated_text, lower};
 
-use key_string::KeyText;
+use key_string::{KeyFault, KeyText};
 use std::alloc::{AllocError, Global};
 use uuid::Uuid;
 
@@ -14,6 +14,9 @@ pub fn key_of(alloc: Global, id: Uuid) -> Result<KeyText, AllocError>
     let mut buffer = [0u8; 36];
     match KeyText::new(alloc, id.hyphenated().encode_lower(&mut buffer)) {
         Ok(key) => Ok(key),
-        Err(_) => Err(AllocError),
+        Err(fault) => {
+            prove!(fault == KeyFault::Memory);
+            Err(AllocError)
+        }
     }
 }

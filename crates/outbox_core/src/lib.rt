@@ -3,6 +3,7 @@
 //! Only `tables` knows SQL.
 #![tactic(auto)]
 
+mod audit;
 mod create;
 mod entries;
 mod entry;

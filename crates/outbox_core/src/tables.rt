@@ -1,11 +1,14 @@
 //! The statements on the two tables. No other module knows SQL.
 
-ghost use Rattle.std.specs.Prelude.{◌≡◌, ◌+◌, ◌^◌, ◌<◌, pos, codes, OnErr, length, find, map, option_map, IsTrue, IfOk, OnOk, IsSome};
+ghost use Rattle.std.specs.Prelude.{◌≡◌, ◌+◌, ◌^◌, ◌<◌, pos, codes, OnErr, length, find, map, option_map, IsTrue, IfOk, IfErr, OnOk, IsSome, false, []};
 ghost use Rattle.sqlite.specs.Values.{or_null};
 ghost use Rattle.sqlite.specs.declared.types.Value.TheVariants.{Int};
-ghost use Rattle.sqlite.specs.State.{HasCleanDisk, Survives};
+ghost use Rattle.sqlite.specs.State.{HasCleanDisk, Survives, Shown, FailsToQuery, IsUnchanged};
 ghost use Rattle.sqlite.specs.Held as held;
+ghost use Rattle.table_rows.specs.Rows.{Holds};
 ghost use Rattle.table_rows.specs.Standing.{Stands, Commits};
+ghost use Rattle.outbox_core.specs.Schema.{IsDeclared, meta_table, entry_table};
+ghost use Rattle.outbox_core.specs.Audit.{meta_text, entries_text};
 ghost use Rattle.outbox_core.specs.Entries.{Contents, IsOutbox, opened, numbered, has_id, has_text, is_open, entry_at, with_entry, with_state, FitsNumber};
 ghost use Rattle.outbox_core.specs.Rows.{IsOutboxOf, Leaves, code_of, number_of, entry_row, state_row};
 ghost use Rattle.outbox_core.specs.Reading.{view_state};
@@ -85,6 +88,33 @@ pub(crate) fn state_rows<S: Alter>(conn: &mut Connection<S>) -> Result<Vec<Row>,
     ensures crash { Survives (held.state S.Store conn.old) (held.state S.Store conn.new) (Commits IsOutboxOf (held.state S.Store conn.old) (λ _ _. ⊥)) }
 {
     conn.query_all("SELECT id, state, number FROM entry ORDER BY id", &[])
+}
+
+/// The rows of `outbox_meta`.
+pub(crate) fn meta_rows<S: Alter>(conn: &mut Connection<S>) -> Result<Vec<Row>, Error>
+    ensures shown { HasCleanDisk (held.state S.Store conn.new) → IfOk result (λ rows. Shown meta_text [] (held.state S.Store conn.old) (held.state S.Store conn.new) rows.items) }
+    ensures held { HasCleanDisk (held.state S.Store conn.new) → IsDeclared (held.state S.Store conn.old).now.schema
+        → IfOk result (λ rows. Holds (held.state S.Store conn.old).now meta_table rows.items × IsUnchanged (held.state S.Store conn.old) (held.state S.Store conn.new)) }
+    ensures failed { HasCleanDisk (held.state S.Store conn.new) → IfErr result (FailsToQuery meta_text [] (held.state S.Store conn.old) (held.state S.Store conn.new)) }
+    ensures mode { conn.old.in_transaction ≡ false → conn.new.in_transaction ≡ false }
+    ensures clean { HasCleanDisk (held.state S.Store conn.new) → HasCleanDisk (held.state S.Store conn.old) }
+{
+    conn.query_all("SELECT id, kind, form, filer FROM outbox_meta", &[])
+}
+
+/// The rows of all entries, in the order of the ids.
+pub(crate) fn all_rows<S: Alter>(conn: &mut Connection<S>) -> Result<Vec<Row>, Error>
+    ensures shown { HasCleanDisk (held.state S.Store conn.new) → IfOk result (λ rows. Shown entries_text [] (held.state S.Store conn.old) (held.state S.Store conn.new) rows.items) }
+    ensures held { HasCleanDisk (held.state S.Store conn.new) → IsDeclared (held.state S.Store conn.old).now.schema
+        → IfOk result (λ rows. Holds (held.state S.Store conn.old).now entry_table rows.items × IsUnchanged (held.state S.Store conn.old) (held.state S.Store conn.new)) }
+    ensures failed { HasCleanDisk (held.state S.Store conn.new) → IfErr result (FailsToQuery entries_text [] (held.state S.Store conn.old) (held.state S.Store conn.new)) }
+    ensures mode { conn.old.in_transaction ≡ false → conn.new.in_transaction ≡ false }
+    ensures clean { HasCleanDisk (held.state S.Store conn.new) → HasCleanDisk (held.state S.Store conn.old) }
+{
+    conn.query_all(
+        "SELECT id, idem, body, state, number FROM entry ORDER BY id",
+        &[],
+    )
 }
 
 /// Adds an open entry of this id, which is that after the last.
