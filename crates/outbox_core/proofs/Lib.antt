@@ -10,3 +10,4 @@ pub mod MakeLemmas
 pub mod KeyLemmas
 pub mod AuditLemmas
 pub mod HeldLemmas
+pub mod DistinctLemmas

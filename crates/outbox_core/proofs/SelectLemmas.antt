@@ -46,7 +46,7 @@ use Rattle.outbox_core.proofs.EntryLemmas.{rises}
 abbrev pub matches : ℕ → Value → Row → Bool
 matches at value w = list_all (λ (v : Value). is_true v) (binary (Compare Eq Binary) (column w at) value ∷ [])
 
-same_words : (a b : List ℕ) → is_eq (bytes_cmp a b) ≡ bytes_eq a b
+pub same_words : (a b : List ℕ) → is_eq (bytes_cmp a b) ≡ bytes_eq a b
 same_words a b = one_answer _ _ (λ h. same_bytes a b h, λ e. subst (λ l. is_eq (bytes_cmp a l) ≡ true) e (bytes_eq_refl a)) (bytes_eq-Decides a b)
 
 pub key_matches : (key : List ℕ) (x : ℕ × Entry) → matches 1 (Text key) (entry_row x) ≡ has_text key x

@@ -1,9 +1,11 @@
 -- What an opening makes of the rows that it finds.
-use Rattle.std.specs.Prelude.{◌≡◌, ◌≤◌, ◌⊎◌, ℕ, suc, pos, ◌^◌, Bool, true, false, ◌&&◌, ◌||◌, if◌then◌else◌, List, [], ◌∷◌, length, codes, bytes_eq, nat_le, nat_lt, Option, Some, None}
+use Rattle.std.specs.Prelude.{IsSome, ◌≡◌, ◌≤◌, ◌⊎◌, ℕ, suc, pos, ◌^◌, Bool, true, false, ◌&&◌, ◌||◌, if◌then◌else◌, List, [], ◌∷◌, length, codes, bytes_eq, nat_le, nat_lt, Option, Some, None}
 use Rattle.std.specs.Ordering.{int_eq}
 use Rattle.sqlite.specs.declared.types.Value.{Value}
 use Rattle.sqlite.specs.declared.types.Value.TheVariants.{Null, Int, Real, Text, Blob}
 use Rattle.sqlite.specs.Order.{Row, column}
+use Rattle.sqlite.specs.Store.{Ghosts}
+use Rattle.sqlite.specs.Held.{Held, state}
 use Rattle.sqlite.specs.State.{State, Shown, FailsToQuery}
 use Rattle.sqlite.specs.declared.error.Error.{Error}
 use Rattle.key_string.specs.Key.{IsKey, is_key}
@@ -89,3 +91,7 @@ IsNoOutbox old new =
 abbrev pub IsDamagedAt : ℕ → State → State → Type 0
 IsDamagedAt row old new =
     ((rows : List Row) × Shown entries_text [] old new rows × (first_damaged 1 rows ≡ Some row)) ⊎ ((row ≡ 0) × (error : Error) × FailsToQuery entries_text [] old new error × (cause_of error ≡ Other))
+
+-- so it is where the filer was found before
+abbrev pub IsDamaged : {S : Type 0} → Ghosts S → ℕ → Held S → Held S → Type 0
+IsDamaged {S} g row old new = (mid : Held S) × ((rows : List Row) × Shown meta_text [] (state g old) (state g mid) rows × IsSome (filer_in rows)) × IsDamagedAt row (state g mid) (state g new)

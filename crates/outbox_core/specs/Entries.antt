@@ -9,6 +9,9 @@ pub record Contents : Type 0 where
   pub filer : List ℕ
   pub entries : List Entry
 
+abbrev pub contents_of : List ℕ → List Entry → Contents
+contents_of filer entries = record { filer = filer; entries = entries }
+
 -- a filer with nothing to send
 abbrev pub empty : List ℕ → Contents
 empty filer = record { filer = filer; entries = [] }

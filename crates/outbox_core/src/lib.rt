@@ -8,6 +8,7 @@ mod create;
 mod entries;
 mod entry;
 mod fault;
+mod finding;
 mod key;
 mod outbox;
 mod state;

@@ -18,6 +18,7 @@ use crate::create::{is_taken, make};
 use crate::entries::{add_entry, entry_of, open_entry, states_of, take_entry};
 use crate::entry::Entry;
 use crate::fault::{OutboxFault, PutFault, StoreFault, TakeFault};
+use crate::finding::{Found, find};
 use crate::state::State;
 use http_wire::{MAX_BODY_LEN, Reply};
 use key_string::{KeyText, is_filer};
@@ -101,6 +102,41 @@ impl<S: Alter + Drop> Outbox<S> {
                 has_failed: false,
             }),
             Err(error) => Err(OutboxFault::from(error)),
+        }
+    }
+}
+
+impl<S: Alter + Drop> Outbox<S> {
+    ghost use Rattle.sqlite.specs.Held.{Held};
+    ghost use Rattle.outbox_core.specs.Schema.{IsDeclared};
+    ghost use Rattle.outbox_core.specs.Rows.{IsOutboxOf};
+    ghost use Rattle.outbox_core.specs.Audit.{IsNoOutbox, IsDamaged};
+    ghost use Rattle.outbox_core.specs.Box.{shows, contents, HasEntries};
+
+    /// Opens the outbox that the database holds. A refusal gives the connection up, and leaves the database as it was. How
+    /// the tables are declared is not tested.
+    pub fn open(alloc: Global, conn: Connection<S>) -> Result<Outbox<S>, OutboxFault>
+        requires autocommit { conn.in_transaction ≡ false }
+        requires unlimited { conn.step_limit ≡ None }
+        ensures opened { IfOk result (λ outbox. HasCleanDisk (shows S.Store outbox) → IsDeclared (state S.Store conn).now.schema
+            → (entries : List Item) × IsOutboxOf (contents outbox entries) (state S.Store conn).now × HasEntries S.Store outbox entries) }
+        ensures able { IfOk result (λ outbox. outbox.has_failed ≡ false) }
+
+        // NotOurs and Damaged come by what was read up to then, where the disk gave back what was written.
+        ensures not_ours { result ≡ Err OutboxFault.NotOurs → (last : Held S) × (HasCleanDisk (state S.Store last) → IsNoOutbox (state S.Store conn) (state S.Store last)) }
+        ensures damaged { (row : _) → result ≡ Err (OutboxFault.Damaged row) → (last : Held S) × (HasCleanDisk (state S.Store last) → IsDamaged S.Store row conn last) }
+        ensures no_other { IfErr result (λ fault. (fault ≢ OutboxFault.BadFiler) × (fault ≢ OutboxFault.Taken)) }
+    {
+        let mut conn = conn;
+        match find(&mut conn, alloc) {
+            Ok(Found { filer, count }) => Ok(Outbox {
+                alloc,
+                conn,
+                filer,
+                count,
+                has_failed: false,
+            }),
+            Err(fault) => Err(fault),
         }
     }
 }
