@@ -1,0 +1,199 @@
+-- The audit of the rows that an opening finds.
+use Rattle.std.proofs.Common.{◌≡◌, ◌<◌, ◌≤◌, ◌^◌, ℕ, zero, suc, pos, negsuc, ℤ, Bool, true, false, cond, List, [], ◌∷◌, map, length, drop, get_or, nat_le, nat_lt, bytes_eq, Option, Some, None, IsSome, refl, sym, ap, ap₂, subst, ◌∙◌, arith, true≢false}
+use Rattle.std.specs.Prelude.{◌&&◌, ◌||◌}
+use Rattle.std.specs.List.{AllByRecursion}
+use Rattle.std.proofs.Math.Seq.{drop-cons}
+use Rattle.std.proofs.lemmas.Bool.Decides.{nat_tests}
+use Rattle.std.proofs.lemmas.Slice.Eq.{bytes_eq-Decides}
+use Rattle.std.proofs.lemmas.List.Elements.{recursion_from_All, All-from_recursion}
+use Rattle.std.proofs.lemmas.List.Sorted.{All-permutation, IsPermutation-sym}
+use Rattle.std.specs.Prelude.{codes}
+use Rattle.sqlite.specs.declared.types.Value.{Value}
+use Rattle.sqlite.specs.declared.types.Value.TheVariants.{Null, Int, Real, Text, Blob}
+use Rattle.sqlite.specs.Order.{Row, column}
+use Rattle.sqlite.specs.Table.{Table}
+use Rattle.sqlite.specs.Effect.{Database}
+use Rattle.sqlite_keyed.proofs.KeyedLemmas.{same_int}
+use Rattle.sqlite_keyed.proofs.ListLemmas.{all-map}
+use Rattle.key_string.specs.Key.{IsKey, is_key}
+use Rattle.key_string.specs.Filer.{is_filer}
+use Rattle.key_string.proofs.Fields.{is_key-IsKey}
+use Rattle.http_wire.specs.Head.{max_body_len}
+use Rattle.filing_model.specs.Outbox.{Entry, State, Open, Confirmed, Refused, Clashed}
+use Rattle.table_rows.specs.Rows.{shown, Holds}
+use Rattle.outbox_core.specs.Schema.{meta_table, entry_table}
+use Rattle.outbox_core.specs.Entries.{FitsNumber, numbered_from}
+use Rattle.outbox_core.specs.Rows.{code_of, number_of, meta_row, entry_row, entry_rows}
+use Rattle.outbox_core.specs.Audit.{is_int, is_absent, is_key_text, is_body, is_number, is_state, is_outbox, filer_text, filer_in, is_sound, first_damaged, IsKept}
+
+-- one row more
+pub one_on : (rows : List Row) (i : ℕ) (row : Row) (b : Bool) → i < length rows → get_or rows i row ≡ row → is_sound (suc i) row ≡ b
+    → first_damaged (suc i) (drop i rows) ≡ cond b (first_damaged (suc (suc i)) (drop (suc i) rows)) (Some (suc i))
+one_on rows i row b low at is = rw (drop-cons rows i row low, at, is) refl
+
+-- ---- what a test says of a value
+
+both : (a b : Bool) → (a && b) ≡ true → (a ≡ true) × (b ≡ true)
+both true b h = (refl, h)
+both false b h = absurd (true≢false (sym h))
+
+never : {X : Type 0} → false ≡ true → X
+never h = absurd (true≢false (sym h))
+
+is_int-of : (n : ℕ) (v : Value) → is_int n v ≡ true → v ≡ Int (pos n)
+is_int-of n Null h = never h
+is_int-of n (Int k) h = ap Int (same_int k (pos n) h)
+is_int-of n (Real x) h = never h
+is_int-of n (Text t) h = never h
+is_int-of n (Blob b) h = never h
+
+absent-of : (v : Value) → is_absent v ≡ true → v ≡ Null
+absent-of Null h = refl
+absent-of (Int k) h = never h
+absent-of (Real x) h = never h
+absent-of (Text t) h = never h
+absent-of (Blob b) h = never h
+
+key-of : (v : Value) → is_key_text v ≡ true → (t : List ℕ) × (v ≡ Text t) × IsKey t
+key-of Null h = never h
+key-of (Int k) h = never h
+key-of (Real x) h = never h
+key-of (Text t) h = (t, refl, is_key-IsKey t h)
+key-of (Blob b) h = never h
+
+short : (n : ℕ) → nat_le n max_body_len ≡ true → n ≤ max_body_len
+short n h = grind (arith, nat_tests)
+
+body-of : (v : Value) → is_body v ≡ true → (b : List ℕ) × (v ≡ Blob b) × (length b ≤ max_body_len)
+body-of Null h = never h
+body-of (Int k) h = never h
+body-of (Real x) h = never h
+body-of (Text t) h = never h
+body-of (Blob b) h = (b, refl, short (length b) h)
+
+fits : (n : ℕ) → (nat_le 1 n && nat_lt n (2 ^ 63)) ≡ true → (1 ≤ n) × (n < 2 ^ 63)
+fits n h = let p = both (nat_le 1 n) (nat_lt n (2 ^ 63)) h in let low = p.0 in let high = p.1 in (grind (arith, nat_tests), grind (arith, nat_tests))
+
+number-of : (v : Value) → is_number v ≡ true → (n : ℕ) × (v ≡ Int (pos n)) × (1 ≤ n) × (n < 2 ^ 63)
+number-of Null h = never h
+number-of (Int (pos n)) h = let f = fits n h in (n, refl, f.0, f.1)
+number-of (Int (negsuc n)) h = never h
+number-of (Real x) h = never h
+number-of (Text t) h = never h
+number-of (Blob b) h = never h
+
+-- the two columns are those of a state
+abbrev AreState : Value → Value → State → Type 0
+AreState code number s = (code ≡ Int (pos (code_of s))) × (number ≡ number_of s) × FitsNumber s
+
+state-of : (code number : Value) → is_state code number ≡ true → (s : State) × AreState code number s
+state-of code number h = go (is_int 1 code) refl h
+  where
+    others : (a b : Bool) → is_int 0 code ≡ a → is_int 2 code ≡ b → ((a || (b || is_int 3 code)) && is_absent number) ≡ true → (s : State) × AreState code number s
+    others true b first two h = (Open, (is_int-of 0 code first, absent-of number h, tt))
+    others false true first two h = (Refused, (is_int-of 2 code two, absent-of number h, tt))
+    others false false first two h = let p = both (is_int 3 code) (is_absent number) h in (Clashed, (is_int-of 3 code p.0, absent-of number p.1, tt))
+
+    go : (b : Bool) → is_int 1 code ≡ b → cond b (is_number number) ((is_int 0 code || (is_int 2 code || is_int 3 code)) && is_absent number) ≡ true → (s : State) × AreState code number s
+    go true one h = let n = number-of number h in (Confirmed n.0, (is_int-of 1 code one, n.1, (n.2, n.3)))
+    go false one h = others (is_int 0 code) (is_int 2 code) refl refl h
+
+-- ---- rows as a table's columns show them
+
+-- what every shown row is, the rows are
+formed : (table : Table) (P : Row → Type 0) → ((r : Row) → P (shown table r)) → (db : Database) (rows : List Row) → Holds db table rows → AllByRecursion P rows
+formed table P each db rows held =
+    recursion_from_All P rows (All-permutation P _ rows (IsPermutation-sym rows _ held) (All-from_recursion P _ (all-map P (shown table) each (db.trees table.tree))))
+
+abbrev HasFive : Row → Type 0
+HasFive row = row ≡ column row 0 ∷ column row 1 ∷ column row 2 ∷ column row 3 ∷ column row 4 ∷ []
+
+abbrev HasFour : Row → Type 0
+HasFour row = row ≡ column row 0 ∷ column row 1 ∷ column row 2 ∷ column row 3 ∷ []
+
+five : (a b c d e a' b' c' d' e' : Value) → a ≡ a' → b ≡ b' → c ≡ c' → d ≡ d' → e ≡ e' → ◌≡◌ {A = Row} (a ∷ b ∷ c ∷ d ∷ e ∷ []) (a' ∷ b' ∷ c' ∷ d' ∷ e' ∷ [])
+five a b c d e a' b' c' d' e' p q r s t = λ i. p i ∷ q i ∷ r i ∷ s i ∷ t i ∷ []
+
+-- ---- the entries
+
+sound-of : (id : ℕ) (row : Row) → HasFive row → is_sound id row ≡ true → (e : Entry) × (row ≡ entry_row (id, e)) × IsKept e
+sound-of id row whole h =
+    let p = both (is_int id (column row 0)) _ h in
+    let q = both (is_key_text (column row 1)) _ p.1 in
+    let r = both (is_body (column row 2)) _ q.1 in
+    let key = key-of (column row 1) q.0 in
+    let body = body-of (column row 2) r.0 in
+    let state = state-of (column row 3) (column row 4) r.1 in (
+      record { key = key.0; body = body.0; state = state.0 },
+      whole ∙ five _ _ _ _ _ _ _ _ _ _ (is_int-of id (column row 0) p.0) key.1 body.1 state.1.0 state.1.1,
+      record { key = key.2; body = body.2; number = state.1.2 },
+    )
+
+abbrev AreEntries : ℕ → List Row → Type 0
+AreEntries id rows = (es : List Entry) × (rows ≡ map entry_row (numbered_from id es)) × AllByRecursion IsKept es × (length rows ≡ length es)
+
+gathered : (id : ℕ) (rows : List Row) → AllByRecursion HasFive rows → first_damaged id rows ≡ None → AreEntries id rows
+gathered id [] whole none = ([], refl, tt, refl)
+gathered id (row ∷ rows) whole none = go (is_sound id row) refl none (gathered (suc id) rows whole.1)
+  where
+    go : (b : Bool) → is_sound id row ≡ b → ◌≡◌ {A = Option ℕ} (cond b (first_damaged (suc id) rows) (Some id)) None → (first_damaged (suc id) rows ≡ None → AreEntries (suc id) rows) → AreEntries id (row ∷ rows)
+    go true sound none more =
+        let e = sound-of id row whole.0 sound in
+        let es = more none in
+        (e.0 ∷ es.0, ap₂ (λ r rs. r ∷ rs) e.1 es.1, (e.2, es.2), ap suc es.3)
+    go false sound none more = absurd cc
+
+-- where no row is damaged, the rows are those of entries
+pub entries_found : (db : Database) (rows : List Row) → Holds db entry_table rows → first_damaged 1 rows ≡ None
+    → (es : List Entry) × Holds db entry_table (entry_rows es) × AllByRecursion IsKept es × (length rows ≡ length es)
+entries_found db rows held none =
+    let all = gathered 1 rows (formed entry_table HasFive (λ r. refl) db rows held) none in
+    (all.0, subst (Holds db entry_table) all.1 held, all.2, all.3)
+
+-- ---- the filer
+
+outbox-of : (v : Value) → is_outbox v ≡ true → v ≡ Text (codes "outbox")
+outbox-of Null h = never h
+outbox-of (Int k) h = never h
+outbox-of (Real x) h = never h
+outbox-of (Text t) h = ap Text ((bytes_eq-Decides t (codes "outbox")).0 h)
+outbox-of (Blob b) h = never h
+
+filer-of : (v : Value) (filer : List ℕ) → filer_text v ≡ Some filer → (v ≡ Text filer) × (is_filer filer ≡ true)
+filer-of Null filer h = absurd cc
+filer-of (Int k) filer h = absurd cc
+filer-of (Real x) filer h = absurd cc
+filer-of (Text t) filer h = go (is_filer t) refl h
+  where
+    go : (b : Bool) → is_filer t ≡ b → ◌≡◌ {A = Option (List ℕ)} (cond b (Some t) None) (Some filer) → (Text t ≡ Text filer) × (is_filer filer ≡ true)
+    go true is h = let same : t ≡ filer = cc in (ap Text same, subst (λ f. is_filer f ≡ true) same is)
+    go false is h = absurd cc
+filer-of (Blob b) filer h = absurd cc
+
+four : (a b c d a' b' c' d' : Value) → a ≡ a' → b ≡ b' → c ≡ c' → d ≡ d' → ◌≡◌ {A = Row} (a ∷ b ∷ c ∷ d ∷ []) (a' ∷ b' ∷ c' ∷ d' ∷ [])
+four a b c d a' b' c' d' p q r s = λ i. p i ∷ q i ∷ r i ∷ s i ∷ []
+
+one_row : (row : Row) (filer : List ℕ) → HasFour row → filer_in (row ∷ []) ≡ Some filer → (row ≡ meta_row filer) × (is_filer filer ≡ true)
+one_row row filer whole h = go (is_int 1 (column row 0) && (is_outbox (column row 1) && is_int 1 (column row 2))) refl h
+  where
+    go : (b : Bool) → (is_int 1 (column row 0) && (is_outbox (column row 1) && is_int 1 (column row 2))) ≡ b → ◌≡◌ {A = Option (List ℕ)} (cond b (filer_text (column row 3)) None) (Some filer)
+        → (row ≡ meta_row filer) × (is_filer filer ≡ true)
+    go true is h =
+        let p = both (is_int 1 (column row 0)) _ is in
+        let q = both (is_outbox (column row 1)) _ p.1 in
+        let f = filer-of (column row 3) filer h in
+        (whole ∙ four _ _ _ _ _ _ _ _ (is_int-of 1 (column row 0) p.0) (outbox-of (column row 1) q.0) (is_int-of 1 (column row 2) q.1) f.0, f.1)
+    go false is h = absurd cc
+
+-- where a filer is found, the row is that of its outbox
+pub filer_found : (db : Database) (rows : List Row) (filer : List ℕ) → Holds db meta_table rows → filer_in rows ≡ Some filer → Holds db meta_table (meta_row filer ∷ []) × (is_filer filer ≡ true)
+filer_found db [] filer held h = absurd cc
+filer_found db (row ∷ []) filer held h =
+    let whole = formed meta_table HasFour (λ r. refl) db (row ∷ []) held in
+    let one = one_row row filer whole.0 h in
+    (subst (λ r. Holds db meta_table (r ∷ [])) one.0 held, one.1)
+filer_found db (row ∷ other ∷ rows) filer held h = absurd cc
+
+pub is_some : {X : Type 0} (o : Option X) (x : X) → o ≡ Some x → IsSome o
+is_some None x h = absurd cc
+is_some (Some y) x h = refl

@@ -1,0 +1,130 @@
+-- Entries by their ids and their keys.
+use Rattle.std.proofs.Common.{◌≡◌, ◌≢◌, ℕ, zero, suc, ◌+◌, ◌<◌, ◌≤◌, pos, Bool, true, false, not, cond, List, [], ◌∷◌, ◌++◌, length, map, filter, find, slice_get, Option, Some, None, option_map, nat_eq, bytes_eq, IsSome, IfSome, arith, add-zero, refl, sym, ap, subst, ◌∙◌, true≢false}
+use Rattle.std.specs.List.{AllByRecursion}
+use Rattle.std.proofs.lemmas.Bool.Decides.{nat_tests}
+use Rattle.std.proofs.lemmas.Slice.Eq.{bytes_eq-Decides}
+use Rattle.sqlite_trees.specs.Tree.{IsAscending}
+use Rattle.filing_model.specs.Outbox.{Entry, State}
+use Rattle.outbox_core.specs.Entries.{numbered, numbered_from, has_id, has_text, entry_at, set_state, put_state, AreDistinct}
+
+-- ---- ids
+
+above : (id n : ℕ) (es : List Entry) → id < n → AllByRecursion (λ (x : ℕ × Entry). id < x.0) (numbered_from n es)
+above id n [] low = tt
+above id n (e ∷ es) low = (low, above id (suc n) es (omega arith))
+
+pub rises : (n : ℕ) (es : List Entry) → IsAscending (λ (x y : ℕ × Entry). x.0 < y.0) (numbered_from n es)
+rises n [] = tt
+rises n (e ∷ es) = (above n (suc n) es (omega arith), rises (suc n) es)
+
+pub numbered_push : (n : ℕ) (es : List Entry) (e : Entry) → numbered_from n (es ++ e ∷ []) ≡ numbered_from n es ++ (n + length es, e) ∷ []
+numbered_push n [] e = ap (λ k. (k, e) ∷ []) (sym (add-zero n))
+numbered_push n (x ∷ es) e = ap (λ l. (n, x) ∷ l) (numbered_push (suc n) es e ∙ ap (λ k. numbered_from (suc n) es ++ (k, e) ∷ []) (omega arith))
+
+find_from : (n k id : ℕ) (es : List Entry) → id ≡ n + k → find (has_id id) (numbered_from n es) ≡ option_map (λ (e : Entry). (id, e)) (slice_get es k)
+find_from n k id [] at = refl
+find_from n zero id (x ∷ es) at =
+    let here : nat_eq n id ≡ true = grind (arith, nat_tests) in
+    let same : n ≡ id = omega arith in
+    rw here (ap (λ m. Some (m, x)) same)
+find_from n (suc k) id (x ∷ es) at =
+    let apart : nat_eq n id ≡ false = grind (arith, nat_tests) in
+    rw apart (find_from (suc n) k id es (omega arith))
+
+none_below : (n : ℕ) (es : List Entry) → 0 < n → find (has_id 0) (numbered_from n es) ≡ None
+none_below n [] low = refl
+none_below n (x ∷ es) low = let apart : nat_eq n 0 ≡ false = grind (arith, nat_tests) in rw apart (none_below (suc n) es (omega arith))
+
+-- the entry that has the id stands at that place
+pub find_id : (id : ℕ) (es : List Entry) → find (has_id id) (numbered es) ≡ option_map (λ (e : Entry). (id, e)) (entry_at es id)
+find_id zero es = none_below 1 es (omega arith)
+find_id (suc k) es = find_from 1 k (suc k) es (omega arith)
+
+get_past : (es : List Entry) (k : ℕ) → length es ≤ k → slice_get es k ≡ None
+get_past [] k far = refl
+get_past (x ∷ es) zero far = absurd (omega arith)
+get_past (x ∷ es) (suc k) far = get_past es k (omega arith)
+
+pub past_end : (es : List Entry) (id : ℕ) → length es < id → entry_at es id ≡ None
+past_end es zero far = refl
+past_end es (suc k) far = get_past es k (omega arith)
+
+-- ---- states
+
+put_same : (es : List Entry) (k : ℕ) (state : State) → option_map (λ (e : Entry). e.state) (slice_get es k) ≡ Some state → put_state es k state ≡ es
+put_same [] k state at = refl
+put_same (x ∷ es) zero state at = let same : x.state ≡ state = cc in ap (λ s. record x { state = s } ∷ es) (sym same)
+put_same (x ∷ es) (suc k) state at = ap (λ l. x ∷ l) (put_same es k state at)
+
+-- an entry that is put into its own state
+pub same_state : (es : List Entry) (id : ℕ) (state : State) → option_map (λ (e : Entry). e.state) (entry_at es id) ≡ Some state → set_state es id state ≡ es
+same_state es zero state at = refl
+same_state es (suc k) state at = put_same es k state at
+
+length_put : (es : List Entry) (k : ℕ) (state : State) → length (put_state es k state) ≡ length es
+length_put [] k state = refl
+length_put (x ∷ es) zero state = refl
+length_put (x ∷ es) (suc k) state = ap suc (length_put es k state)
+
+pub length_set : (es : List Entry) (id : ℕ) (state : State) → length (set_state es id state) ≡ length es
+length_set es zero state = refl
+length_set es (suc k) state = length_put es k state
+
+-- what holds of each entry whatever its state is holds still
+all_put : (P : Entry → Type 0) → ((e : Entry) (state : State) → P e → P (record e { state = state })) → (es : List Entry) (k : ℕ) (state : State) → AllByRecursion P es → AllByRecursion P (put_state es k state)
+all_put P keeps [] k state all = tt
+all_put P keeps (x ∷ es) zero state all = (keeps x state all.0, all.1)
+all_put P keeps (x ∷ es) (suc k) state all = (all.0, all_put P keeps es k state all.1)
+
+pub all_set : (P : Entry → Type 0) → ((e : Entry) (state : State) → P e → P (record e { state = state })) → (es : List Entry) (id : ℕ) (state : State) → AllByRecursion P es → AllByRecursion P (set_state es id state)
+all_set P keeps es zero state all = all
+all_set P keeps es (suc k) state all = all_put P keeps es k state all
+
+-- what holds of every state that is put in
+put_all : (P : State → Type 0) (es : List Entry) (k : ℕ) (state : State) → P state → AllByRecursion (λ (e : Entry). P e.state) es → AllByRecursion (λ (e : Entry). P e.state) (put_state es k state)
+put_all P [] k state p all = tt
+put_all P (x ∷ es) zero state p all = (p, all.1)
+put_all P (x ∷ es) (suc k) state p all = (all.0, put_all P es k state p all.1)
+
+pub set_all : (P : State → Type 0) (es : List Entry) (id : ℕ) (state : State) → P state → AllByRecursion (λ (e : Entry). P e.state) es → AllByRecursion (λ (e : Entry). P e.state) (set_state es id state)
+set_all P es zero state p all = all
+set_all P es (suc k) state p all = put_all P es k state p all
+
+-- ---- keys
+
+distinct_put : (es : List Entry) (k : ℕ) (state : State) → AreDistinct es → AreDistinct (put_state es k state)
+distinct_put [] k state all = tt
+distinct_put (x ∷ es) zero state all = all
+distinct_put (x ∷ es) (suc k) state all = (all_put (λ b. bytes_eq b.key x.key ≡ false) (λ e s apart. apart) es k state all.0, distinct_put es k state all.1)
+
+pub distinct_set : (es : List Entry) (id : ℕ) (state : State) → AreDistinct es → AreDistinct (set_state es id state)
+distinct_set es zero state all = all
+distinct_set es (suc k) state all = distinct_put es k state all
+
+unused_from : (n : ℕ) (es : List Entry) (key : List ℕ) → find (has_text key) (numbered_from n es) ≡ None → AllByRecursion (λ (e : Entry). bytes_eq e.key key ≡ false) es
+unused_from n [] key none = tt
+unused_from n (x ∷ es) key none = go (bytes_eq x.key key) refl none (unused_from (suc n) es key)
+  where
+    go : (b : Bool) → bytes_eq x.key key ≡ b → cond b (Some (n, x)) (find (has_text key) (numbered_from (suc n) es)) ≡ None
+        → (find (has_text key) (numbered_from (suc n) es) ≡ None → AllByRecursion (λ (e : Entry). bytes_eq e.key key ≡ false) es) → AllByRecursion (λ (e : Entry). bytes_eq e.key key ≡ false) (x ∷ es)
+    go true is none more = absurd cc
+    go false is none more = (is, more none)
+
+-- a key that no entry is found to have is that of none
+pub unused : (es : List Entry) (key : List ℕ) → find (has_text key) (numbered es) ≡ None → AllByRecursion (λ (e : Entry). bytes_eq e.key key ≡ false) es
+unused es key none = unused_from 1 es key none
+
+pub all_push : {X : Type 0} (P : X → Type 0) (xs : List X) (x : X) → AllByRecursion P xs → P x → AllByRecursion P (xs ++ x ∷ [])
+all_push P [] x all p = (p, tt)
+all_push P (y ∷ xs) x all p = (all.0, all_push P xs x all.1 p)
+
+turned : (a b : List ℕ) → bytes_eq a b ≡ false → bytes_eq b a ≡ false
+turned a b apart = go (bytes_eq b a) refl
+  where
+    go : (x : Bool) → bytes_eq b a ≡ x → x ≡ false
+    go true is = absurd (true≢false (sym ((bytes_eq-Decides a b).1 (sym ((bytes_eq-Decides b a).0 is))) ∙ apart))
+    go false is = refl
+
+pub distinct_push : (es : List Entry) (e : Entry) → AllByRecursion (λ (b : Entry). bytes_eq b.key e.key ≡ false) es → AreDistinct es → AreDistinct (es ++ e ∷ [])
+distinct_push [] e new all = (tt, tt)
+distinct_push (x ∷ es) e new all = (all_push (λ (b : Entry). bytes_eq b.key x.key ≡ false) es e all.0 (turned x.key e.key new.0), distinct_push es e new.1 all.1)

@@ -1,0 +1,13 @@
+pub mod Texts
+pub mod EntryLemmas
+pub mod SelectLemmas
+pub mod WriteLemmas
+pub mod InsertLemmas
+pub mod UpdateLemmas
+pub mod ReadLemmas
+pub mod ListLemmas
+pub mod MakeLemmas
+pub mod KeyLemmas
+pub mod AuditLemmas
+pub mod HeldLemmas
+pub mod DistinctLemmas

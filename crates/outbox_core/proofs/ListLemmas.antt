@@ -1,0 +1,47 @@
+-- Contents that are still those of an outbox.
+use Rattle.std.proofs.Common.{◌≡◌, ◌≤◌, ℕ, List, length, find, None, true, IsTrue}
+use Rattle.std.specs.List.{AllByRecursion}
+use Rattle.key_string.specs.Filer.{is_filer}
+use Rattle.sqlite_keyed.proofs.ListLemmas.{all_weaker}
+use Rattle.outbox_core.specs.Audit.{IsKept}
+use Rattle.sqlite.specs.Tree.{Trees}
+use Rattle.sqlite.specs.State.{State as Shown}
+use Rattle.key_string.specs.Key.{IsKey}
+use Rattle.http_wire.specs.Head.{max_body_len}
+use Rattle.filing_model.specs.Outbox.{Entry, State, IsSendable, request_of}
+use Rattle.outbox_core.specs.Entries.{Contents, contents_of, IsOutbox, AreDistinct, FitsNumber, numbered, has_text, opened, with_entry, with_state}
+use Rattle.table_rows.specs.Standing.{Stands}
+use Rattle.table_rows.proofs.StandLemmas.{lasting}
+use Rattle.outbox_core.specs.Rows.{IsOutboxOf, Leaves}
+use Rattle.outbox_core.proofs.EntryLemmas.{all_push, all_set, set_all, distinct_push, distinct_set, unused}
+
+-- an entry more, under a key that was not used
+pub one_more : (it : Contents) (key body : List ℕ) → IsKey key → length body ≤ max_body_len → find (has_text key) (numbered it.entries) ≡ None → IsOutbox it → IsOutbox (with_entry it (opened key body))
+one_more it key body is_key short none was = record {
+  filer = was.filer;
+  sendable = all_push (λ e. IsSendable (request_of it.filer e)) it.entries (opened key body) was.sendable (record { filer = was.filer; key = is_key; body = short });
+  numbers = all_push (λ e. FitsNumber e.state) it.entries (opened key body) was.numbers tt;
+  distinct = distinct_push it.entries (opened key body) (unused it.entries key none) was.distinct;
+}
+
+-- an entry in another state
+pub another_state : (it : Contents) (id : ℕ) (state : State) → FitsNumber state → IsOutbox it → IsOutbox (with_state it id state)
+another_state it id state fits was = record {
+  filer = was.filer;
+  sendable = all_set (λ e. IsSendable (request_of it.filer e)) (λ e s sendable. sendable) it.entries id state was.sendable;
+  numbers = set_all FitsNumber it.entries id state fits was.numbers;
+  distinct = distinct_set it.entries id state was.distinct;
+}
+
+-- entries that are kept, under distinct keys
+pub kept_list : (filer : List ℕ) (es : List Entry) → is_filer filer ≡ true → AllByRecursion IsKept es → AreDistinct es → IsOutbox (contents_of filer es)
+kept_list filer es is kept distinct = record {
+  filer = is;
+  sendable = all_weaker IsKept (λ e. IsSendable (request_of filer e)) (λ e k. record { filer = is; key = k.key; body = k.body }) es kept;
+  numbers = all_weaker IsKept (λ e. FitsNumber e.state) (λ e k. k.number) es kept;
+  distinct = distinct;
+}
+
+-- a crash of an open store leaves what it shows
+pub leaves_last : (s : Shown) (it : Contents) → Stands (IsOutboxOf it) s → IsTrue s.is_open → (trees : Trees) → trees ≡ s.committed.trees → Leaves it trees
+leaves_last s it h alive trees last = record { db = s.now; is = lasting (IsOutboxOf it) s h alive trees last; outbox = h.now alive }

@@ -1,0 +1,87 @@
+-- The statements that make the tables of an outbox, in turn.
+use Rattle.std.proofs.Common.{◌≡◌, true, ℕ, pos, List, [], ◌∷◌, codes, Ok, refl, ◌∙◌, sym, ap, subst, arith}
+use Rattle.std.specs.List.{AllByRecursion}
+use Rattle.key_string.specs.Filer.{is_filer}
+use Rattle.sqlite_tied.specs.Compute.{everything}
+use Rattle.sqlite.specs.declared.types.Value.TheVariants.{Null, Int, Text}
+use Rattle.sqlite.specs.Table.{Table}
+use Rattle.sqlite.specs.Schema.{Schema}
+use Rattle.sqlite.specs.Change.{created}
+use Rattle.sqlite.specs.Listing.{understood}
+use Rattle.sqlite.specs.Term.{lit, col}
+use Rattle.sqlite.specs.Source.TheVariants.{Values}
+use Rattle.sqlite.specs.Command.TheVariants.{Insert}
+use Rattle.sqlite.specs.Effect.{Database, IsDatabase}
+use Rattle.sqlite.specs.State.{State, ExecutesInside}
+use Rattle.sqlite.proofs.Callers.{IsPlain, command_of}
+use Rattle.sqlite_catalog.specs.Listing.{automatic}
+use Rattle.sqlite_schema.specs.declared.schema.Index.{Index}
+use Rattle.table_rows.specs.Tables.{no_schema, schema_with, BeginsWith}
+use Rattle.table_rows.specs.Rows.{Gains}
+use Rattle.table_rows.proofs.CreateLemmas.{IsCreation, IsFreshly, creates, none_held}
+use Rattle.table_rows.proofs.GainLemmas.{gained, cast_int}
+use Rattle.table_rows.proofs.InsertLemmas.{inserts}
+use Rattle.outbox_core.specs.Schema.{outbox_tables, meta_table, entry_table, IsDeclared}
+use Rattle.outbox_core.specs.Entries.{IsOutbox, empty}
+use Rattle.outbox_core.specs.Rows.{HasRows, meta_row}
+
+abbrev create_meta : List ℕ
+create_meta = codes "CREATE TABLE outbox_meta (id INTEGER PRIMARY KEY, kind TEXT NOT NULL, form INTEGER NOT NULL, filer TEXT NOT NULL) STRICT"
+
+abbrev create_entry : List ℕ
+create_entry = codes "CREATE TABLE entry (id INTEGER PRIMARY KEY, idem TEXT NOT NULL UNIQUE, body BLOB NOT NULL, state INTEGER NOT NULL, number INTEGER) STRICT"
+
+abbrev insert_meta : List ℕ
+insert_meta = codes "INSERT INTO outbox_meta VALUES (1, 'outbox', 1, ?1)"
+
+abbrev first_schema : Schema
+first_schema = created no_schema meta_table
+
+creates_meta : IsCreation no_schema create_meta meta_table
+unfolding understood everything
+creates_meta = record { command = refl; statement = refl; defined = refl; plain = (refl, refl) }
+
+creates_entry : IsCreation first_schema create_entry (record entry_table { tree = 0 })
+unfolding understood everything
+creates_entry = record { command = refl; statement = refl; defined = refl; plain = (refl, refl) }
+
+-- the index that SQLite makes for the keys
+abbrev own_indexes : List Index
+own_indexes = automatic entry_table 0 (2 ∷ []) 2 ∷ []
+
+abbrev outbox_schema : Schema
+outbox_schema = schema_with outbox_tables [] own_indexes []
+
+inserts_meta : command_of (understood outbox_schema insert_meta) ≡ Insert 0 (Values (lit (Int (pos 1)) ∷ lit Null ∷ lit (Text (codes "outbox")) ∷ lit (Int (pos 1)) ∷ col 0 0 ∷ []) 5)
+unfolding understood everything
+inserts_meta = refl
+
+plain_meta : IsPlain (understood outbox_schema insert_meta)
+unfolding understood everything
+plain_meta = (refl, refl)
+
+abbrev begins : (schema : Schema) → schema ≡ outbox_schema → BeginsWith outbox_tables schema
+begins schema is = record { tables = []; indexes = own_indexes; views = []; is = is }
+
+declared : (schema : Schema) → schema ≡ outbox_schema → IsDeclared schema
+declared schema is = record { begins = begins schema is; free = subst (λ (s : Schema). AllByRecursion (λ (t : Table). t.references ≡ []) s.tables) (sym is) (refl, (refl, tt)) }
+
+module _ (a b c d : State) (n : ℕ × ℕ × ℕ) (filer : List ℕ) where
+  -- inside one transaction
+  pub makes_all : ExecutesInside 0 create_meta [] a b (Ok n.0) → ExecutesInside 0 create_entry [] b c (Ok n.1) → ExecutesInside 0 insert_meta (Text filer ∷ []) c d (Ok n.2) → a.now.schema ≡ no_schema
+      → HasRows (empty filer) d.now × IsDatabase d.now
+  makes_all p q r none =
+      let one = creates no_schema create_meta meta_table a b n.0 creates_meta refl (record { schema_is = none; empty = tt }) p.0 in
+      let two : IsFreshly outbox_schema c.now = creates first_schema create_entry (record entry_table { tree = 0 }) b c n.1 creates_entry refl one q.0 in
+      let i = inserts outbox_schema 0 _ _ _ _ _ _ _ refl _ 5 (λ _. refl) insert_meta _ c d n.2 two.schema_is inserts_meta plain_meta r.0 in
+      let g : Gains outbox_tables meta_table (meta_row filer ∷ []) c.now d.now = gained outbox_tables meta_table _ (meta_row filer) c.now d.now (begins c.now.schema two.schema_is) i (λ row is. rw (is, cast_int (pos 1)) refl) in (
+        record {
+          declared = declared d.now.schema (g.schema_is ∙ two.schema_is);
+          meta_is = rw two.empty.0 at g.gained;
+          entries_are = none_held entry_table c.now d.now two.empty.1.0 (g.others.1.0 (λ same. absurd (omega (arith, same))));
+        },
+        i.sound,
+      )
+
+pub no_entries : (filer : List ℕ) → is_filer filer ≡ true → IsOutbox (empty filer)
+no_entries filer is = record { filer = is; sendable = tt; numbers = tt; distinct = tt }

@@ -1,0 +1,167 @@
+-- What the texts of the statements mean under the declared tables.
+use Rattle.std.proofs.Common.{◌≡◌, ℕ, pos, negsuc, List, [], ◌∷◌, codes, false, None, refl, subst, sym}
+use Rattle.sqlite_tied.specs.Compute.{everything}
+use Rattle.sqlite.specs.declared.types.Value.TheVariants.{Null, Int}
+use Rattle.sqlite.specs.Table.{Table}
+use Rattle.sqlite.specs.Schema.{Schema}
+use Rattle.sqlite.specs.Effect.{Database}
+use Rattle.sqlite_schema.specs.declared.schema.Index.{Index}
+use Rattle.sqlite_schema.specs.declared.schema.View.{View}
+use Rattle.sqlite.specs.Listing.{understood}
+use Rattle.sqlite.specs.Command.{Command}
+use Rattle.sqlite.specs.Command.TheVariants.{Insert, Update}
+use Rattle.sqlite.specs.Source.TheVariants.{Values}
+use Rattle.sqlite.specs.Term.{Term, lit, col, op2}
+use Rattle.sqlite.specs.Query.{Query}
+use Rattle.sqlite_value.specs.declared.keys.Key.{Key}
+use Rattle.sqlite_sql.specs.declared.ops.BinaryOp.TheVariants.{Compare}
+use Rattle.sqlite_sql.specs.declared.ops.CompareOp.TheVariants.{Eq}
+use Rattle.sqlite_value.specs.declared.keys.Collation.TheVariants.{Binary}
+use Rattle.sqlite.proofs.Callers.{IsPlain, command_of}
+use Rattle.table_rows.specs.Tables.{schema_with}
+use Rattle.table_rows.proofs.SelectLemmas.{one_table}
+use Rattle.table_rows.proofs.QueryLemmas.{Asks}
+use Rattle.outbox_core.specs.Schema.{outbox_tables, IsDeclared}
+use Rattle.outbox_core.specs.Audit.{meta_text, entries_text}
+
+abbrev pub by_key_text : List ℕ
+by_key_text = codes "SELECT id, idem, body, state, number FROM entry WHERE idem = ?1 ORDER BY id"
+
+abbrev pub by_id_text : List ℕ
+by_id_text = codes "SELECT id, idem, body, state, number FROM entry WHERE id = ?1 ORDER BY id"
+
+abbrev pub by_state_text : List ℕ
+by_state_text = codes "SELECT id, idem, body, state, number FROM entry WHERE state = ?1 ORDER BY id"
+
+abbrev pub insert_text : List ℕ
+insert_text = codes "INSERT INTO entry (id, idem, body, state) VALUES (?1, ?2, ?3, 0)"
+
+abbrev pub update_text : List ℕ
+update_text = codes "UPDATE entry SET state = ?2, number = ?3 WHERE id = ?1"
+
+-- the column equals the parameter
+abbrev pub equals : ℕ → List Term
+equals at = op2 (Compare Eq Binary) (col 1 at) (col 0 0) ∷ []
+
+-- the five columns of an entry
+abbrev pub entry_columns : List Term
+entry_columns = col 1 0 ∷ col 1 2 ∷ col 1 3 ∷ col 1 4 ∷ col 1 5 ∷ []
+
+-- in the order of the ids
+abbrev pub by_id : List (Term × Key)
+by_id = (col 1 0, record { collation = Binary; descending = false }) ∷ []
+
+abbrev pub entry_query : List Term → Query
+entry_query test = one_table 1 test entry_columns by_id
+
+abbrev pub states_text : List ℕ
+states_text = codes "SELECT id, state, number FROM entry ORDER BY id"
+
+abbrev pub state_terms : List Term
+state_terms = col 1 0 ∷ col 1 4 ∷ col 1 5 ∷ []
+
+abbrev pub states_query : Query
+states_query = one_table 1 [] state_terms by_id
+
+abbrev pub meta_terms : List Term
+meta_terms = col 1 0 ∷ col 1 2 ∷ col 1 3 ∷ col 1 4 ∷ []
+
+abbrev pub meta_query : Query
+meta_query = one_table 0 [] meta_terms []
+
+abbrev pub insert_terms : List Term
+insert_terms = col 0 0 ∷ lit Null ∷ col 0 1 ∷ col 0 2 ∷ lit (Int (pos 0)) ∷ lit Null ∷ []
+
+abbrev pub insert_command : Command
+insert_command = Insert 1 (Values insert_terms 6)
+
+-- the rowid of the row, and then the row as it becomes
+abbrev pub changed_columns : List Term
+changed_columns = col 1 0 ∷ col 1 0 ∷ lit Null ∷ col 1 2 ∷ col 1 3 ∷ col 0 1 ∷ col 0 2 ∷ []
+
+abbrev pub update_query : Query
+update_query = one_table 1 (equals 0) changed_columns []
+
+abbrev pub update_command : Command
+update_command = Update 1 (record { lets = []; body = update_query })
+
+abbrev names : List (List ℕ)
+names = codes "id" ∷ codes "idem" ∷ codes "body" ∷ codes "state" ∷ codes "number" ∷ []
+
+module _ (tables : List Table) (indexes : List Index) (views : List View) where
+  abbrev schema : Schema
+  schema = schema_with outbox_tables tables indexes views
+
+  asks_by_key : Asks schema by_key_text (entry_query (equals 2))
+  unfolding understood everything
+  asks_by_key = record { names = names; is = refl; plain = (refl, refl); listing = refl }
+
+  asks_by_id : Asks schema by_id_text (entry_query (equals 0))
+  unfolding understood everything
+  asks_by_id = record { names = names; is = refl; plain = (refl, refl); listing = refl }
+
+  asks_by_state : Asks schema by_state_text (entry_query (equals 4))
+  unfolding understood everything
+  asks_by_state = record { names = names; is = refl; plain = (refl, refl); listing = refl }
+
+  asks_states : Asks schema states_text states_query
+  unfolding understood everything
+  asks_states = record { names = codes "id" ∷ codes "state" ∷ codes "number" ∷ []; is = refl; plain = (refl, refl); listing = refl }
+
+  asks_meta : Asks schema meta_text meta_query
+  unfolding understood everything
+  asks_meta = record { names = codes "id" ∷ codes "kind" ∷ codes "form" ∷ codes "filer" ∷ []; is = refl; plain = (refl, refl); listing = refl }
+
+  asks_entries : Asks schema entries_text (entry_query [])
+  unfolding understood everything
+  asks_entries = record { names = names; is = refl; plain = (refl, refl); listing = refl }
+
+  does_insert : command_of (understood schema insert_text) ≡ insert_command
+  unfolding understood everything
+  does_insert = refl
+
+  plain_insert : IsPlain (understood schema insert_text)
+  unfolding understood everything
+  plain_insert = (refl, refl)
+
+  does_update : command_of (understood schema update_text) ≡ update_command
+  unfolding understood everything
+  does_update = refl
+
+  plain_update : IsPlain (understood schema update_text)
+  unfolding understood everything
+  plain_update = (refl, refl)
+
+module _ (schema : Schema) (d : IsDeclared schema) where
+  abbrev b : Schema
+  b = schema_with outbox_tables d.begins.tables d.begins.indexes d.begins.views
+
+  pub by_key_asks : Asks schema by_key_text (entry_query (equals 2))
+  by_key_asks = subst (λ s. Asks s by_key_text (entry_query (equals 2))) (sym d.begins.is) (asks_by_key d.begins.tables d.begins.indexes d.begins.views)
+
+  pub by_id_asks : Asks schema by_id_text (entry_query (equals 0))
+  by_id_asks = subst (λ s. Asks s by_id_text (entry_query (equals 0))) (sym d.begins.is) (asks_by_id d.begins.tables d.begins.indexes d.begins.views)
+
+  pub by_state_asks : Asks schema by_state_text (entry_query (equals 4))
+  by_state_asks = subst (λ s. Asks s by_state_text (entry_query (equals 4))) (sym d.begins.is) (asks_by_state d.begins.tables d.begins.indexes d.begins.views)
+
+  pub states_asks : Asks schema states_text states_query
+  states_asks = subst (λ s. Asks s states_text states_query) (sym d.begins.is) (asks_states d.begins.tables d.begins.indexes d.begins.views)
+
+  pub meta_asks : Asks schema meta_text meta_query
+  meta_asks = subst (λ s. Asks s meta_text meta_query) (sym d.begins.is) (asks_meta d.begins.tables d.begins.indexes d.begins.views)
+
+  pub entries_asks : Asks schema entries_text (entry_query [])
+  entries_asks = subst (λ s. Asks s entries_text (entry_query [])) (sym d.begins.is) (asks_entries d.begins.tables d.begins.indexes d.begins.views)
+
+  pub insert_is : command_of (understood schema insert_text) ≡ insert_command
+  insert_is = subst (λ s. command_of (understood s insert_text) ≡ insert_command) (sym d.begins.is) (does_insert d.begins.tables d.begins.indexes d.begins.views)
+
+  pub insert_plain : IsPlain (understood schema insert_text)
+  insert_plain = subst (λ s. IsPlain (understood s insert_text)) (sym d.begins.is) (plain_insert d.begins.tables d.begins.indexes d.begins.views)
+
+  pub update_is : command_of (understood schema update_text) ≡ update_command
+  update_is = subst (λ s. command_of (understood s update_text) ≡ update_command) (sym d.begins.is) (does_update d.begins.tables d.begins.indexes d.begins.views)
+
+  pub update_plain : IsPlain (understood schema update_text)
+  update_plain = subst (λ s. IsPlain (understood s update_text)) (sym d.begins.is) (plain_update d.begins.tables d.begins.indexes d.begins.views)

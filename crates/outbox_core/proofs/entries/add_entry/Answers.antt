@@ -1,0 +1,55 @@
+use Rattle.std.proofs.Common.{◌≡◌, arith, sym, ◌∙◌, Some, None, ap, find}
+use Rattle.sqlite.specs.Held.{state}
+use Rattle.sqlite.specs.State.{HasCleanDisk}
+use Rattle.sqlite.proofs.StateLemmas.{survives_weaker, survives_then}
+use Rattle.table_rows.proofs.ResultLemmas.{on_ok}
+use Rattle.outbox_core.specs.Entries.{has_text, numbered}
+use Rattle.outbox_core.proofs.ReadLemmas.{none_found}
+use Rattle.outbox_core.proofs.ListLemmas.{one_more}
+use Rattle.outbox_core.proofs.entries.add_entry.Goals as goal
+
+pub returns-in-Ok-None-clause-added : goal.returns-in-Ok-None-clause-added
+returns-in-Ok-None-clause-added g c clean it was counted =
+    let early : HasCleanDisk (state g.S.Store c.id_of_key.new.conn) = omega (arith, c.insert_next.ensures.crash.clean) in
+    let none : find (has_text c.args.key.now) (numbered it.entries) ≡ None = none_found _ (rw c.in-Ok-None.field-0-is at (c.in-Ok-None.ensures.found early it was)) in
+    let stands = c.in-Ok-None.ensures.kept early it was in
+    let alive = c.in-Ok-None.ensures.open early it was in
+    c.insert_next.ensures.added clean it stands alive counted (one_more it c.args.key.now c.args.body.now c.requires.key c.requires.body none (stands.now alive).list)
+
+pub returns-in-Ok-None-clause-unused : goal.returns-in-Ok-None-clause-unused
+returns-in-Ok-None-clause-unused g c clean it was =
+    let early : HasCleanDisk (state g.S.Store c.id_of_key.new.conn) = omega (arith, c.insert_next.ensures.crash.clean) in
+    on_ok c.insert_next.result (none_found (find (has_text c.args.key.now) (numbered it.entries)) (rw c.in-Ok-None.field-0-is at (c.in-Ok-None.ensures.found early it was)))
+
+pub returns-in-Ok-None-clause-kept : goal.returns-in-Ok-None-clause-kept
+returns-in-Ok-None-clause-kept g c clean it was =
+    let early : HasCleanDisk (state g.S.Store c.id_of_key.new.conn) = omega (arith, c.insert_next.ensures.crash.clean) in
+    c.insert_next.ensures.kept clean it (c.in-Ok-None.ensures.kept early it was)
+
+pub returns-in-Ok-None-clause-crash : goal.returns-in-Ok-None-clause-crash
+returns-in-Ok-None-clause-crash g c =
+    let old = state g.S.Store c.args.conn.now in
+    let mid = state g.S.Store c.id_of_key.new.conn in
+    let new = state g.S.Store c.insert_next.new.conn in
+    survives_then old mid new _ _ _ (λ _ trees none it was alive counted. absurd (none it was alive))
+    (λ clean trees h it was alive counted.
+    let early : HasCleanDisk mid = omega (arith, c.insert_next.ensures.crash.clean) in
+    let none : find (has_text c.args.key.now) (numbered it.entries) ≡ None = none_found _ (rw c.in-Ok-None.field-0-is at (c.in-Ok-None.ensures.found early it was)) in
+    let stands = c.in-Ok-None.ensures.kept early it was in
+    let still = c.in-Ok-None.ensures.open early it was in
+    h it stands still counted (one_more it c.args.key.now c.args.body.now c.requires.key c.requires.body none (stands.now still).list))
+    c.id_of_key.ensures.crash c.insert_next.ensures.crash
+
+pub returns-in-Ok-Some-clause-used : goal.returns-in-Ok-Some-clause-used
+returns-in-Ok-Some-clause-used g c clean it was id is =
+    let same : c.in-Ok-Some.id ≡ id = cc in
+    let found = rw c.in-Ok-Some.field-0-is at (c.in-Ok-Some.ensures.found clean it was) in
+    sym found ∙ ap Some same
+
+pub returns-in-Ok-Some-clause-crash : goal.returns-in-Ok-Some-clause-crash
+returns-in-Ok-Some-clause-crash g c =
+    survives_weaker (state g.S.Store c.args.conn.now) (state g.S.Store c.id_of_key.new.conn) _ _ (λ _ trees none it was alive counted. absurd (none it was alive)) c.id_of_key.ensures.crash
+
+pub returns-in-Err-clause-crash : goal.returns-in-Err-clause-crash
+returns-in-Err-clause-crash g c =
+    survives_weaker (state g.S.Store c.args.conn.now) (state g.S.Store c.id_of_key.new.conn) _ _ (λ _ trees none it was alive counted. absurd (none it was alive)) c.id_of_key.ensures.crash

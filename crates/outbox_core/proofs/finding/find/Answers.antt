@@ -1,0 +1,42 @@
+use Rattle.std.proofs.Common.{◌≡◌, inl, not, Err, IsTrue, refl, sym, ap, subst, ◌∙◌, string_bytes}
+use Rattle.sqlite.specs.Held.{state}
+use Rattle.sqlite.specs.Effect.{Database, IsDatabase}
+use Rattle.sqlite.specs.State.{HasCleanDisk}
+use Rattle.table_rows.specs.Rows.{Holds}
+use Rattle.table_rows.specs.Standing.{Stands}
+use Rattle.table_rows.proofs.StandLemmas.{stands_on}
+use Rattle.outbox_core.specs.declared.fault.OutboxFault.TheVariants.{Damaged}
+use Rattle.outbox_core.specs.Schema.{IsDeclared, entry_table}
+use Rattle.outbox_core.specs.Entries.{contents_of}
+use Rattle.outbox_core.specs.Rows.{IsOutboxOf, entry_rows}
+use Rattle.outbox_core.proofs.ListLemmas.{kept_list}
+use Rattle.outbox_core.proofs.DistinctLemmas.{distinct_held}
+use Rattle.outbox_core.proofs.finding.find.Goals as goal
+
+pub returns-in-Ok-count_entries-clause-found : goal.returns-in-Ok-count_entries-clause-found
+returns-in-Ok-count_entries-clause-found g c clean declared =
+    let old = state g.S.Store c.args.conn.now in
+    let mid = state g.S.Store c.filer_of.new.conn in
+    let new = state g.S.Store c.count_entries.new.conn in
+    let early : HasCleanDisk mid = c.in-Ok-count_entries.ensures.clean clean in
+    let one = c.in-Ok.ensures.found early declared in
+    let same = one.2 in
+    let still : IsDeclared mid.now.schema = subst (λ (d : Database). IsDeclared d.schema) (sym same.0.now_is) declared in
+    let two = c.in-Ok-count_entries.ensures.counted clean still in
+    let it = contents_of (string_bytes c.in-Ok.filer) two.0 in
+    let sound : IsDatabase old.now = (c.is_settled.ensures.live same.0.was_open).0 in
+    let entries = subst (λ (d : Database). Holds d entry_table (entry_rows two.0)) same.0.now_is two.1 in
+    let here : IsOutboxOf it old.now = record {
+      sound = sound;
+      rows = record { declared = declared; meta_is = one.0; entries_are = entries };
+      list = kept_list (string_bytes c.in-Ok.filer) two.0 one.1 two.2 (distinct_held old.now two.0 sound declared entries);
+    } in
+    let settled : IsTrue c.is_settled.result = c.is_settled.ensures.value ∙ ap not c.requires.autocommit in
+    let stood : Stands (IsOutboxOf it) old = record { autocommit = c.requires.autocommit; now = λ _. here; committed = λ alive. sym (c.is_settled.ensures.settled settled alive) } in
+    (two.0, here, stands_on (IsOutboxOf it) mid new (inl two.4) (stands_on (IsOutboxOf it) old mid (inl same) stood), two.3)
+
+pub returns-in-Err-count_entries-clause-damaged : goal.returns-in-Err-count_entries-clause-damaged
+returns-in-Err-count_entries-clause-damaged g c clean row is =
+    let early : HasCleanDisk (state g.S.Store c.filer_of.new.conn) = c.in-Err-count_entries.ensures.clean clean in
+    let same : c.in-Err-count_entries.fault ≡ Damaged row = cc in
+    (c.filer_of.new.conn, c.in-Ok.ensures.read early, c.in-Err-count_entries.ensures.damaged clean row (ap Err same))

@@ -1,0 +1,36 @@
+-- What an outbox shows.
+use Rattle.std.specs.Prelude.{◌≡◌, ◌≤◌, ◌^◌, ℕ, Bool, false, List, length, None, refl}
+use Rattle.std.specs.Coded.{Coded, code_by, coded×, coded_ℕ, coded_bool, coded_list}
+use Rattle.sqlite.specs.Store.{Ghosts}
+use Rattle.sqlite.specs.Held.{Held, held_code, state}
+use Rattle.sqlite.specs.State.{State}
+use Rattle.filing_model.specs.Outbox.{Entry}
+use Rattle.table_rows.specs.Standing.{Stands}
+use Rattle.outbox_core.specs.Entries.{Contents}
+use Rattle.outbox_core.specs.Rows.{IsOutboxOf}
+
+-- a connection, the filer, how many entries there are, and whether a call was refused as Store
+pub record Box (S : Type 0) : Type 0 where
+  pub conn : Held S
+  pub filer : List ℕ
+  pub count : ℕ
+  pub has_failed : Bool
+
+abbrev pub box_code : {S : Type 0} → Coded S → Coded (Box S)
+box_code {S} store =
+    code_by (Held S × (List ℕ × (ℕ × Bool))) (coded× (held_code store) (coded× (coded_list coded_ℕ) (coded× coded_ℕ coded_bool)))
+    (λ b. (b.conn, (b.filer, (b.count, b.has_failed)))) (λ p. record { conn = p.0; filer = p.1.0; count = p.1.1.0; has_failed = p.1.1.1 }) (λ _. refl)
+
+-- what its connection shows
+abbrev pub shows : {S : Type 0} → Ghosts S → Box S → State
+shows g box = state g box.conn
+
+-- its filer with these entries
+abbrev pub contents : {S : Type 0} → Box S → List Entry → Contents
+contents box entries = record { filer = box.filer; entries = entries }
+
+-- While it is open, the outbox holds these entries, and they are committed. One that a fault of the disk shut says nothing of
+-- its rows.
+pub record HasEntries {S : Type 0} (g : Ghosts S) (box : Box S) (entries : List Entry) : Type 0 where
+  pub stands : Stands (IsOutboxOf (contents box entries)) (shows g box)
+  pub count : box.count ≡ length entries

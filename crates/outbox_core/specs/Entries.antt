@@ -1,0 +1,82 @@
+-- The entries of an outbox as a list, numbered from 1.
+use Rattle.std.specs.Prelude.{◌≡◌, ℕ, zero, suc, ◌≤◌, ◌<◌, ◌^◌, ◌==◌, Bool, true, false, List, [], ◌∷◌, ◌++◌, slice_get, bytes_eq, Option, None}
+use Rattle.std.specs.List.{AllByRecursion}
+use Rattle.key_string.specs.Filer.{is_filer}
+use Rattle.filing_model.specs.Outbox.{Entry, State, Open, Confirmed, Refused, Clashed, IsSendable, request_of}
+
+-- what a filer has to send
+pub record Contents : Type 0 where
+  pub filer : List ℕ
+  pub entries : List Entry
+
+abbrev pub contents_of : List ℕ → List Entry → Contents
+contents_of filer entries = record { filer = filer; entries = entries }
+
+-- a filer with nothing to send
+abbrev pub empty : List ℕ → Contents
+empty filer = record { filer = filer; entries = [] }
+
+-- the entries with their ids, the first of which is this one
+abbrev pub numbered_from : ℕ → List Entry → List (ℕ × Entry)
+numbered_from id [] = []
+numbered_from id (e ∷ es) = (id, e) ∷ numbered_from (suc id) es
+
+abbrev pub numbered : List Entry → List (ℕ × Entry)
+numbered = numbered_from 1
+
+-- the entry of an id, if there is one
+abbrev pub entry_at : List Entry → ℕ → Option Entry
+entry_at entries zero = None
+entry_at entries (suc n) = slice_get entries n
+
+abbrev pub has_id : ℕ → ℕ × Entry → Bool
+has_id id x = x.0 == id
+
+abbrev pub has_text : List ℕ → ℕ × Entry → Bool
+has_text key x = bytes_eq x.1.key key
+
+abbrev pub is_open_state : State → Bool
+is_open_state Open = true
+is_open_state _ = false
+
+abbrev pub is_open : ℕ × Entry → Bool
+is_open x = is_open_state x.1.state
+
+-- an entry as it is first kept
+abbrev pub opened : List ℕ → List ℕ → Entry
+opened key body = record { key = key; body = body; state = Open }
+
+-- the contents with one entry more
+abbrev pub with_entry : Contents → Entry → Contents
+with_entry it e = record { filer = it.filer; entries = it.entries ++ e ∷ [] }
+
+abbrev pub put_state : List Entry → ℕ → State → List Entry
+put_state [] n state = []
+put_state (e ∷ es) zero state = record e { state = state } ∷ es
+put_state (e ∷ es) (suc n) state = e ∷ put_state es n state
+
+-- the entries, with the one of this id in this state
+abbrev pub set_state : List Entry → ℕ → State → List Entry
+set_state entries zero state = entries
+set_state entries (suc n) state = put_state entries n state
+
+-- the contents, with the entry of this id in this state
+abbrev pub with_state : Contents → ℕ → State → Contents
+with_state it id state = record { filer = it.filer; entries = set_state it.entries id state }
+
+-- a number of the register is from 1 to 2^63 - 1
+abbrev pub FitsNumber : State → Type 0
+FitsNumber (Confirmed number) = (1 ≤ number) × (number < 2 ^ 63)
+FitsNumber _ = Unit {0}
+
+-- no key stands twice
+abbrev pub AreDistinct : List Entry → Type 0
+AreDistinct [] = Unit {0}
+AreDistinct (e ∷ es) = AllByRecursion (λ b. bytes_eq b.key e.key ≡ false) es × AreDistinct es
+
+-- contents as an outbox may have them
+pub record IsOutbox (it : Contents) : Type 0 where
+  pub filer : is_filer it.filer ≡ true
+  pub sendable : AllByRecursion (λ e. IsSendable (request_of it.filer e)) it.entries
+  pub numbers : AllByRecursion (λ e. FitsNumber e.state) it.entries
+  pub distinct : AreDistinct it.entries

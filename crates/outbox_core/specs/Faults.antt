@@ -1,0 +1,59 @@
+-- The database's refusals as an outbox names them.
+use Rattle.sqlite.specs.declared.error.Error.{Error}
+use Rattle.table_rows.specs.declared.cause.Cause.{Cause}
+use Rattle.table_rows.specs.declared.cause.Cause.TheVariants as cause
+use Rattle.table_rows.specs.Causes.{cause_of}
+use Rattle.outbox_core.specs.declared.fault.OutboxFault.{OutboxFault}
+use Rattle.outbox_core.specs.declared.fault.OutboxFault.TheVariants as outbox
+use Rattle.outbox_core.specs.declared.fault.StoreFault.{StoreFault}
+use Rattle.outbox_core.specs.declared.fault.StoreFault.TheVariants as store
+use Rattle.outbox_core.specs.declared.fault.PutFault.{PutFault}
+use Rattle.outbox_core.specs.declared.fault.PutFault.TheVariants as put
+use Rattle.outbox_core.specs.declared.fault.TakeFault.{TakeFault}
+use Rattle.outbox_core.specs.declared.fault.TakeFault.TheVariants as take
+
+abbrev pub outbox_fault_by : Cause → OutboxFault
+outbox_fault_by cause.Memory = outbox.Memory
+outbox_fault_by cause.Disk = outbox.Disk
+outbox_fault_by cause.Other = outbox.Disk
+
+-- where an outbox is made or opened
+abbrev pub outbox_fault : Error → OutboxFault
+outbox_fault error = outbox_fault_by (cause_of error)
+
+abbrev pub meta_fault_by : Cause → OutboxFault
+meta_fault_by cause.Memory = outbox.Memory
+meta_fault_by cause.Disk = outbox.Disk
+meta_fault_by cause.Other = outbox.NotOurs
+
+-- where `outbox_meta` cannot be read
+abbrev pub meta_fault : Error → OutboxFault
+meta_fault error = meta_fault_by (cause_of error)
+
+abbrev pub entry_fault_by : Cause → OutboxFault
+entry_fault_by cause.Memory = outbox.Memory
+entry_fault_by cause.Disk = outbox.Disk
+entry_fault_by cause.Other = outbox.Damaged 0
+
+-- where `entry` cannot be read
+abbrev pub entry_fault : Error → OutboxFault
+entry_fault error = entry_fault_by (cause_of error)
+
+-- want of memory is told as that alone
+abbrev pub store_fault_by : Cause → StoreFault
+store_fault_by cause.Memory = store.Memory
+store_fault_by cause.Disk = store.Store
+store_fault_by cause.Other = store.Store
+
+abbrev pub store_fault : Error → StoreFault
+store_fault error = store_fault_by (cause_of error)
+
+-- the same where an entry is put
+abbrev pub putting : StoreFault → PutFault
+putting store.Memory = put.Memory
+putting store.Store = put.Store
+
+-- the same where a reply is taken
+abbrev pub taking : StoreFault → TakeFault
+taking store.Memory = take.Memory
+taking store.Store = take.Store

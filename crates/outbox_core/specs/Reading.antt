@@ -1,0 +1,51 @@
+-- Entries and states without where they lie in memory.
+use Rattle.std.specs.Prelude.{◌≡◌, ℕ, pos, negsuc, if◌then◌else◌}
+use Rattle.std.specs.Ordering.{int_eq}
+use Rattle.sqlite.specs.declared.types.Value.{Value}
+use Rattle.sqlite.specs.declared.types.Value.TheVariants.{Int, Text, Blob}
+use Rattle.sqlite.specs.Order.{Row, column}
+use Rattle.filing_model.specs.Outbox.{Entry, State, Open, Confirmed, Refused, Clashed}
+use Rattle.outbox_core.specs.declared.state.State.{State as Stored}
+use Rattle.outbox_core.specs.declared.entry.Entry.{Entry as Read}
+use Rattle.outbox_core.specs.Rows.{code_of, number_of}
+
+-- a state
+abbrev pub view_state : Stored → State
+view_state Stored.Open = Open
+view_state (Stored.Confirmed number) = Confirmed number
+view_state Stored.Refused = Refused
+view_state Stored.Clashed = Clashed
+
+-- the id of an entry, and the rest
+abbrev pub view_entry : Read → ℕ × Entry
+view_entry e = (e.id, record { key = e.key; body = e.body.items; state = view_state e.state })
+
+-- what the columns of a row say of an entry
+pub record Shows (row : Row) (e : Read) : Type 0 where
+  pub id : column row 0 ≡ Int (pos e.id)
+  pub key : column row 1 ≡ Text e.key
+  pub body : column row 2 ≡ Blob e.body.items
+  pub code : column row 3 ≡ Int (pos (code_of (view_state e.state)))
+  pub number : column row 4 ≡ number_of (view_state e.state)
+
+-- ---- what a row tells, read the other way
+
+abbrev pub nat_in : Value → ℕ
+nat_in (Int (pos n)) = n
+nat_in _ = 0
+
+abbrev pub state_in : Value → Value → State
+state_in (Int code) number = if int_eq code (pos 1) then Confirmed (nat_in number) else (if int_eq code (pos 2) then Refused else (if int_eq code (pos 3) then Clashed else Open))
+state_in _ number = Open
+
+-- the id and the state that a row of id, state and number tells
+abbrev pub state_told : Row → ℕ × State
+state_told row = (nat_in (column row 0), state_in (column row 1) (column row 2))
+
+-- an id and a state
+abbrev pub view_pair : ℕ × Stored → ℕ × State
+view_pair (id, state) = (id, view_state state)
+
+-- the id and the state of an entry
+abbrev pub id_and_state : ℕ × Entry → ℕ × State
+id_and_state (id, e) = (id, e.state)

@@ -1,0 +1,56 @@
+-- The rows of the two tables.
+use Rattle.std.specs.Prelude.{◌≡◌, ℕ, pos, map, List, [], ◌∷◌, codes, None}
+use Rattle.sqlite.specs.declared.types.Value.{Value}
+use Rattle.sqlite.specs.declared.types.Value.TheVariants.{Null, Int, Text, Blob}
+use Rattle.sqlite.specs.Order.{Row}
+use Rattle.sqlite.specs.Tree.{Trees}
+use Rattle.sqlite.specs.Effect.{Database, IsDatabase}
+use Rattle.filing_model.specs.Outbox.{Entry, State, Open, Confirmed, Refused, Clashed}
+use Rattle.table_rows.specs.Rows.{Holds}
+use Rattle.outbox_core.specs.Schema.{IsDeclared, meta_table, entry_table}
+use Rattle.outbox_core.specs.Entries.{Contents, IsOutbox, numbered}
+
+-- a state as the table spells it
+abbrev pub code_of : State → ℕ
+code_of Open = 0
+code_of (Confirmed number) = 1
+code_of Refused = 2
+code_of Clashed = 3
+
+-- the number of a confirmed entry
+abbrev pub number_of : State → Value
+number_of (Confirmed number) = Int (pos number)
+number_of _ = Null
+
+-- the one row of `outbox_meta`: an outbox, in the form of these tables, of this filer
+abbrev pub meta_row : List ℕ → Row
+meta_row filer = Int (pos 1) ∷ Text (codes "outbox") ∷ Int (pos 1) ∷ Text filer ∷ []
+
+-- the row of an entry
+abbrev pub entry_row : ℕ × Entry → Row
+entry_row (id, e) = Int (pos id) ∷ Text e.key ∷ Blob e.body ∷ Int (pos (code_of e.state)) ∷ number_of e.state ∷ []
+
+-- its id and its state
+abbrev pub state_row : ℕ × Entry → Row
+state_row (id, e) = Int (pos id) ∷ Int (pos (code_of e.state)) ∷ number_of e.state ∷ []
+
+abbrev pub entry_rows : List Entry → List Row
+entry_rows entries = map entry_row (numbered entries)
+
+-- the two tables have these rows, each once and in any order, and no others
+pub record HasRows (it : Contents) (db : Database) : Type 0 where
+  pub declared : IsDeclared db.schema
+  pub meta_is : Holds db meta_table (meta_row it.filer ∷ [])
+  pub entries_are : Holds db entry_table (entry_rows it.entries)
+
+-- a database, as SQLite's files have one, that holds the outbox of these contents
+pub record IsOutboxOf (it : Contents) (db : Database) : Type 0 where
+  pub sound : IsDatabase db
+  pub rows : HasRows it db
+  pub list : IsOutbox it
+
+-- an open after a crash that left these trees finds these contents
+pub record Leaves (it : Contents) (trees : Trees) : Type 0 where
+  pub db : Database
+  pub is : trees ≡ db.trees
+  pub outbox : IsOutboxOf it db

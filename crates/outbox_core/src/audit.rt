@@ -1,0 +1,155 @@
+//! Whether the rows of a database are those of an outbox.
+
+ghost use Rattle.std.specs.Prelude.{◌≡◌, ◌<◌, ◌≤◌, ◌+◌, ◌^◌, ℕ, suc, drop, length, string_bytes, true, option_map};
+ghost use Rattle.key_string.specs.Key.{is_key, is_printable};
+ghost use Rattle.std.specs.List.{list_all};
+ghost use Rattle.sqlite.specs.Order.{column};
+ghost use Rattle.sqlite_value.specs.Value.{owned};
+ghost use Rattle.outbox_core.specs.Audit.{is_int, is_absent, is_key_text, is_body, is_number, is_state, is_outbox, filer_text, filer_in, is_sound, first_damaged};
+
+use http_wire::MAX_BODY_LEN;
+use key_string::read_filer;
+use sqlite::Row;
+use sqlite::types::ValueRef;
+
+const MAX_KEY_LEN: usize = 1024;
+
+/// The value of a column, and NULL past the end.
+fn value_at(row: &Row, at: usize) -> ValueRef<'_>
+    ensures { owned result ≡ column row.now at }
+{
+    row.get_ref(at).unwrap_or(ValueRef::Null)
+}
+
+fn is_int(value: ValueRef<'_>, wanted: u64) -> bool
+    requires { wanted < 2 ^ 63 }
+    ensures { result ≡ is_int wanted (owned value.entry) }
+{
+    match value {
+        ValueRef::Int(found) => found == wanted as i64,
+        _ => false,
+    }
+}
+
+fn is_printable(byte: &u8) -> bool
+    ensures { result ≡ is_printable byte.now }
+{
+    (32..=126).contains(byte)
+}
+
+fn are_printable(bytes: &[u8]) -> bool
+    ensures { result ≡ list_all is_printable bytes.now }
+{
+    bytes.iter().all(is_printable)
+}
+
+fn is_key(text: &[u8]) -> bool
+    ensures { result ≡ is_key text.now }
+{
+    !text.is_empty() && text.len() <= MAX_KEY_LEN && are_printable(text)
+}
+
+fn is_key_text(value: ValueRef<'_>) -> bool
+    ensures { result ≡ is_key_text (owned value.entry) }
+{
+    match value {
+        ValueRef::Text(text) => is_key(text),
+        _ => false,
+    }
+}
+
+fn is_body(value: ValueRef<'_>) -> bool
+    ensures { result ≡ is_body (owned value.entry) }
+{
+    match value {
+        ValueRef::Blob(body) => body.len() <= MAX_BODY_LEN,
+        _ => false,
+    }
+}
+
+fn is_number(value: ValueRef<'_>) -> bool
+    ensures { result ≡ is_number (owned value.entry) }
+{
+    match value {
+        ValueRef::Int(number) => 1 <= number,
+        _ => false,
+    }
+}
+
+fn is_absent(value: ValueRef<'_>) -> bool
+    ensures { result ≡ is_absent (owned value.entry) }
+{
+    match value {
+        ValueRef::Null => true,
+        _ => false,
+    }
+}
+
+fn is_state(code: ValueRef<'_>, number: ValueRef<'_>) -> bool
+    ensures { result ≡ is_state (owned code.entry) (owned number.entry) }
+{
+    if is_int(code, 1) {
+        is_number(number)
+    } else {
+        (is_int(code, 0) || is_int(code, 2) || is_int(code, 3)) && is_absent(number)
+    }
+}
+
+/// Whether the row, of the columns `id`, `idem`, `body`, `state` and `number`, is that of an entry of this id.
+fn is_sound(id: u64, row: &Row) -> bool
+    requires { id < 2 ^ 63 }
+    ensures { result ≡ is_sound id row.now }
+{
+    is_int(value_at(row, 0), id)
+        && is_key_text(value_at(row, 1))
+        && is_body(value_at(row, 2))
+        && is_state(value_at(row, 3), value_at(row, 4))
+}
+
+/// The value of `outbox_meta` that says what the database is.
+fn is_outbox(value: ValueRef<'_>) -> bool
+    ensures { result ≡ is_outbox (owned value.entry) }
+{
+    match value {
+        ValueRef::Text(text) => text == b"outbox".as_slice(),
+        _ => false,
+    }
+}
+
+fn filer_text(value: ValueRef<'_>) -> Option<&str>
+    ensures { option_map (λ filer. filer.now) result ≡ filer_text (owned value.entry) }
+{
+    match value {
+        ValueRef::Text(text) => read_filer(text),
+        _ => None,
+    }
+}
+
+/// The filer of the one row, of the columns `id`, `kind`, `form` and `filer`, that says that the database is an outbox
+/// in this form.
+pub(crate) fn filer_in(rows: &[Row]) -> Option<&str>
+    ensures { option_map (λ filer. filer.now) result ≡ filer_in rows.now }
+{
+    let [row] = rows else {
+        return None;
+    };
+    if is_int(value_at(row, 0), 1) && is_outbox(value_at(row, 1)) && is_int(value_at(row, 2), 1) {
+        filer_text(value_at(row, 3))
+    } else {
+        None
+    }
+}
+
+/// The first row that is not that of the entry of its count, which is from 1.
+pub(crate) fn first_damaged(rows: &[Row]) -> Option<u64>
+    ensures { result ≡ first_damaged 1 rows.now }
+{
+    let mut id = 0;
+    for row in rows {
+        id += 1;
+        if !is_sound(id, row) {
+            return Some(id);
+        }
+    }
+    None
+}

@@ -1,0 +1,180 @@
+//! What the calls on an outbox do to its entries, in two statements at most.
+
+ghost use Rattle.std.specs.Prelude.{◌≡◌, ◌≢◌, ◌+◌, ◌^◌, ◌<◌, ◌≤◌, length, find, map, option_map, None, Some, IsTrue, IfOk, IfErr, OnOk, OnErr, IsOk, IfSome, ◌⊎◌};
+ghost use Rattle.sqlite.specs.State.{HasCleanDisk, Survives};
+ghost use Rattle.sqlite.specs.Held.{state};
+ghost use Rattle.key_string.specs.Key.{IsKey};
+ghost use Rattle.http_wire.specs.Head.{max_body_len};
+ghost use Rattle.http_wire.specs.Replies.{reply_parts};
+ghost use Rattle.filing_model.specs.Outbox.{moved};
+ghost use Rattle.table_rows.specs.Standing.{Stands, Commits};
+ghost use Rattle.outbox_core.specs.Entries.{Contents, IsOutbox, opened, numbered, has_text, is_open, entry_at, with_entry, with_state};
+ghost use Rattle.outbox_core.specs.Rows.{IsOutboxOf, Leaves, entry_row};
+ghost use Rattle.outbox_core.specs.Reading.{view_entry, view_state, view_pair, id_and_state};
+
+use crate::entry::{Entry, read_states};
+use crate::fault::{PutFault, StoreFault, TakeFault};
+use crate::state::State;
+use crate::tables;
+use http_wire::Reply;
+use sqlite::{Alter, Connection, Error, Row};
+use std::alloc::Global;
+
+const MAX_ENTRIES: u64 = 1 << 62;
+
+/// Adds an entry after the `count` that are there.
+fn insert_next<S: Alter>(
+    conn: &mut Connection<S>,
+    count: u64,
+    key: &str,
+    body: &[u8],
+) -> Result<u64, PutFault>
+    ensures added { HasCleanDisk (state S.Store conn.new) → (it : Contents) → Stands (IsOutboxOf it) (state S.Store conn.old) → IsTrue (state S.Store conn.old).is_open
+        → count ≡ length it.entries → IsOutbox (with_entry it (opened key.now body.now))
+        → IfOk result (λ id. (id ≡ 1 + length it.entries) × Stands (IsOutboxOf (with_entry it (opened key.now body.now))) (state S.Store conn.new) × IsTrue (state S.Store conn.new).is_open) }
+    ensures kept { HasCleanDisk (state S.Store conn.new) → (it : Contents) → Stands (IsOutboxOf it) (state S.Store conn.old) → OnErr result (Stands (IsOutboxOf it) (state S.Store conn.new)) }
+    ensures causes { IfErr result (λ fault. (fault ≡ PutFault.Memory) ⊎ (fault ≡ PutFault.Store)) }
+    ensures few { IfOk result (λ id. id ≤ 2 ^ 62) }
+    ensures crash { Survives (state S.Store conn.old) (state S.Store conn.new) (Commits IsOutboxOf (state S.Store conn.old)
+        (λ it trees. count ≡ length it.entries → IsOutbox (with_entry it (opened key.now body.now)) → Leaves (with_entry it (opened key.now body.now)) trees)) }
+{
+    if count >= MAX_ENTRIES {
+        return Err(PutFault::Store);
+    }
+    match tables::insert_entry(conn, count + 1, key, body) {
+        Ok(_) => Ok(count + 1),
+        Err(error) => Err(PutFault::from(StoreFault::from(error))),
+    }
+}
+
+/// Adds an entry, unless its key is used.
+pub(crate) fn add_entry<S: Alter>(
+    conn: &mut Connection<S>,
+    count: u64,
+    key: &str,
+    body: &[u8],
+) -> Result<u64, PutFault>
+    requires key { IsKey key.now }
+    requires body { length body.now ≤ max_body_len }
+    ensures added { HasCleanDisk (state S.Store conn.new) → (it : Contents) → Stands (IsOutboxOf it) (state S.Store conn.old) → count ≡ length it.entries
+        → IfOk result (λ id. (id ≡ 1 + length it.entries) × Stands (IsOutboxOf (with_entry it (opened key.now body.now))) (state S.Store conn.new) × IsTrue (state S.Store conn.new).is_open) }
+    ensures unused { HasCleanDisk (state S.Store conn.new) → (it : Contents) → Stands (IsOutboxOf it) (state S.Store conn.old) → OnOk result (find (has_text key.now) (numbered it.entries) ≡ None) }
+    ensures used { HasCleanDisk (state S.Store conn.new) → (it : Contents) → Stands (IsOutboxOf it) (state S.Store conn.old)
+        → (id : _) → result ≡ Err (PutFault.KeyUsed id) → option_map (λ x. x.0) (find (has_text key.now) (numbered it.entries)) ≡ Some id }
+    ensures kept { HasCleanDisk (state S.Store conn.new) → (it : Contents) → Stands (IsOutboxOf it) (state S.Store conn.old) → OnErr result (Stands (IsOutboxOf it) (state S.Store conn.new)) }
+    ensures few { IfOk result (λ id. id ≤ 2 ^ 62) }
+    ensures any_size { result ≢ Err PutFault.TooLarge }
+    ensures crash { Survives (state S.Store conn.old) (state S.Store conn.new) (Commits IsOutboxOf (state S.Store conn.old)
+        (λ it trees. count ≡ length it.entries → Leaves (with_entry it (opened key.now body.now)) trees)) }
+{
+    match tables::id_of_key(conn, key) {
+        Ok(None) => insert_next(conn, count, key, body),
+        Ok(Some(id)) => Err(PutFault::KeyUsed { id }),
+        Err(error) => Err(PutFault::from(StoreFault::from(error))),
+    }
+}
+
+/// The entry that the row is, if there is one.
+fn read_found(alloc: Global, found: Result<Option<Row>, Error>) -> Result<Option<Entry>, StoreFault>
+    ensures read { (it : _) → IfOk found (λ row. row ≡ option_map entry_row it) → IfOk result (λ entry. option_map view_entry entry ≡ it) }
+    ensures from_ok { IsOk result → IsOk found }
+{
+    match found? {
+        Some(row) => Ok(Some(Entry::from_row(alloc, &row)?)),
+        None => Ok(None),
+    }
+}
+
+pub(crate) fn entry_of<S: Alter>(
+    conn: &mut Connection<S>,
+    alloc: Global,
+    id: u64,
+) -> Result<Option<Entry>, StoreFault>
+    requires { id < 2 ^ 63 }
+    ensures found { HasCleanDisk (state S.Store conn.new) → (it : Contents) → Stands (IsOutboxOf it) (state S.Store conn.old)
+        → IfOk result (λ entry. option_map view_entry entry ≡ option_map (λ e. (id, e)) (entry_at it.entries id)) }
+    ensures kept { HasCleanDisk (state S.Store conn.new) → (it : Contents) → Stands (IsOutboxOf it) (state S.Store conn.old) → Stands (IsOutboxOf it) (state S.Store conn.new) }
+    ensures open { HasCleanDisk (state S.Store conn.new) → (it : Contents) → Stands (IsOutboxOf it) (state S.Store conn.old) → OnOk result (IsTrue (state S.Store conn.new).is_open) }
+    ensures crash { Survives (state S.Store conn.old) (state S.Store conn.new) (Commits IsOutboxOf (state S.Store conn.old) (λ _ _. ⊥)) }
+{
+    read_found(alloc, tables::entry_with_id(conn, id))
+}
+
+pub(crate) fn open_entry<S: Alter>(
+    conn: &mut Connection<S>,
+    alloc: Global,
+) -> Result<Option<Entry>, StoreFault>
+    ensures found { HasCleanDisk (state S.Store conn.new) → (it : Contents) → Stands (IsOutboxOf it) (state S.Store conn.old)
+        → IfOk result (λ entry. option_map view_entry entry ≡ find is_open (numbered it.entries)) }
+    ensures kept { HasCleanDisk (state S.Store conn.new) → (it : Contents) → Stands (IsOutboxOf it) (state S.Store conn.old) → Stands (IsOutboxOf it) (state S.Store conn.new) }
+    ensures crash { Survives (state S.Store conn.old) (state S.Store conn.new) (Commits IsOutboxOf (state S.Store conn.old) (λ _ _. ⊥)) }
+{
+    read_found(alloc, tables::first_open_entry(conn))
+}
+
+/// The ids and the states of all entries.
+pub(crate) fn states_of<S: Alter>(
+    conn: &mut Connection<S>,
+    alloc: Global,
+) -> Result<Vec<(u64, State)>, StoreFault>
+    ensures found { HasCleanDisk (state S.Store conn.new) → (it : Contents) → Stands (IsOutboxOf it) (state S.Store conn.old)
+        → IfOk result (λ states. map view_pair states.items ≡ map id_and_state (numbered it.entries)) }
+    ensures kept { HasCleanDisk (state S.Store conn.new) → (it : Contents) → Stands (IsOutboxOf it) (state S.Store conn.old) → Stands (IsOutboxOf it) (state S.Store conn.new) }
+    ensures crash { Survives (state S.Store conn.old) (state S.Store conn.new) (Commits IsOutboxOf (state S.Store conn.old) (λ _ _. ⊥)) }
+{
+    match tables::state_rows(conn) {
+        Ok(rows) => read_states(alloc, rows.as_slice()),
+        Err(error) => Err(StoreFault::from(error)),
+    }
+}
+
+/// Moves the entry, which is in this state.
+fn move_entry<S: Alter>(
+    conn: &mut Connection<S>,
+    alloc: Global,
+    id: u64,
+    from: State,
+    reply: &Reply,
+) -> Result<State, TakeFault>
+    requires { id < 2 ^ 63 }
+    ensures moved { HasCleanDisk (state S.Store conn.new) → (it : Contents) → Stands (IsOutboxOf it) (state S.Store conn.old) → IsTrue (state S.Store conn.old).is_open
+        → option_map (λ e. e.state) (entry_at it.entries id) ≡ Some (view_state from)
+        → IfOk result (λ to. (view_state to ≡ moved (view_state from) (reply_parts reply.now)) × Stands (IsOutboxOf (with_state it id (view_state to))) (state S.Store conn.new) × IsTrue (state S.Store conn.new).is_open) }
+    ensures kept { HasCleanDisk (state S.Store conn.new) → (it : Contents) → Stands (IsOutboxOf it) (state S.Store conn.old) → OnErr result (Stands (IsOutboxOf it) (state S.Store conn.new)) }
+    ensures causes { IfErr result (λ fault. (fault ≡ TakeFault.Memory) ⊎ (fault ≡ TakeFault.Store)) }
+    ensures crash { Survives (state S.Store conn.old) (state S.Store conn.new) (Commits IsOutboxOf (state S.Store conn.old)
+        (λ it trees. option_map (λ e. e.state) (entry_at it.entries id) ≡ Some (view_state from) → Leaves (with_state it id (moved (view_state from) (reply_parts reply.now))) trees)) }
+{
+    let Ok(to) = from.moved(alloc, reply) else {
+        return Err(TakeFault::Memory);
+    };
+    if to == from {
+        return Ok(to);
+    }
+    match tables::set_state(conn, id, to) {
+        Ok(_) => Ok(to),
+        Err(error) => Err(TakeFault::from(StoreFault::from(error))),
+    }
+}
+
+pub(crate) fn take_entry<S: Alter>(
+    conn: &mut Connection<S>,
+    alloc: Global,
+    id: u64,
+    reply: &Reply,
+) -> Result<State, TakeFault>
+    requires { id < 2 ^ 63 }
+    ensures moved { HasCleanDisk (state S.Store conn.new) → (it : Contents) → Stands (IsOutboxOf it) (state S.Store conn.old)
+        → IfOk result (λ to. (Some (view_state to) ≡ option_map (λ e. moved e.state (reply_parts reply.now)) (entry_at it.entries id))
+        × Stands (IsOutboxOf (with_state it id (view_state to))) (state S.Store conn.new) × IsTrue (state S.Store conn.new).is_open) }
+    ensures no_entry { HasCleanDisk (state S.Store conn.new) → (it : Contents) → Stands (IsOutboxOf it) (state S.Store conn.old) → result ≡ Err TakeFault.NoEntry → entry_at it.entries id ≡ None }
+    ensures kept { HasCleanDisk (state S.Store conn.new) → (it : Contents) → Stands (IsOutboxOf it) (state S.Store conn.old) → OnErr result (Stands (IsOutboxOf it) (state S.Store conn.new)) }
+    ensures crash { Survives (state S.Store conn.old) (state S.Store conn.new) (Commits IsOutboxOf (state S.Store conn.old)
+        (λ it trees. IfSome (entry_at it.entries id) (λ e. Leaves (with_state it id (moved e.state (reply_parts reply.now))) trees))) }
+{
+    match entry_of(conn, alloc, id) {
+        Ok(Some(entry)) => move_entry(conn, alloc, id, entry.state, reply),
+        Ok(None) => Err(TakeFault::NoEntry),
+        Err(fault) => Err(TakeFault::from(fault)),
+    }
+}

@@ -1,0 +1,93 @@
+//! An entry, and how a row reads as one.
+
+ghost use Rattle.std.specs.Prelude.{◌≡◌, pos, map, IfOk, IfSome};
+ghost use Rattle.sqlite.specs.declared.types.Value.TheVariants.{Int};
+ghost use Rattle.sqlite.specs.Values.{or_null};
+ghost use Rattle.outbox_core.specs.Rows.{code_of, number_of};
+ghost use Rattle.outbox_core.specs.Reading.{view_state, view_pair, state_told};
+
+use crate::fault::StoreFault;
+use crate::state::State;
+use key_string::{KeyFault, KeyText};
+use sqlite::Row;
+use std::alloc::Global;
+
+/// A report that is to be sent under its key, and what is known of it.
+#[derive(Debug, Drop)]
+pub struct Entry {
+    /// Entries are numbered from 1 in the order in which they were put.
+    pub id: u64,
+    pub key: KeyText,
+    pub body: Vec<u8>,
+    pub state: State,
+}
+
+/// The state that two columns stand for.
+pub(crate) fn state_of(code: u32, number: Option<u64>) -> Option<State>
+    ensures code { IfSome result (λ state. code ≡ code_of (view_state state)) }
+    ensures number { IfSome result (λ state. or_null (λ n. Int (pos n)) number ≡ number_of (view_state state)) }
+{
+    match (code, number) {
+        (0, None) => Some(State::Open),
+        (1, Some(number)) => Some(State::Confirmed(number)),
+        (2, None) => Some(State::Refused),
+        (3, None) => Some(State::Clashed),
+        _ => None,
+    }
+}
+
+/// The key of a text that a table of ours holds.
+fn key_in(alloc: Global, text: &str) -> Result<KeyText, StoreFault>
+    ensures { IfOk result (λ key. key ≡ text.now) }
+{
+    match KeyText::new(alloc, text) {
+        Ok(key) => Ok(key),
+        Err(KeyFault::Memory) => Err(StoreFault::Memory),
+        Err(_) => Err(StoreFault::Store),
+    }
+}
+
+impl Entry {
+    ghost use Rattle.outbox_core.specs.Reading.{Shows};
+
+    /// Reads a row of the columns `id`, `idem`, `body`, `state` and `number`.
+    pub(crate) fn from_row(alloc: Global, row: &Row) -> Result<Entry, StoreFault>
+        ensures { IfOk result (Shows row.now) }
+    {
+        let id = row.get(0)?;
+        let text: String = row.get(1)?;
+        let body = row.get(2)?;
+        let code = row.get(3)?;
+        let number = row.get(4)?;
+        let key = key_in(alloc, text.as_str())?;
+        let state = state_of(code, number).ok_or(StoreFault::Store)?;
+        Ok(Entry {
+            id,
+            key,
+            body,
+            state,
+        })
+    }
+}
+
+/// The id and the state that a row of the columns `id`, `state` and `number` tells.
+fn read_state(row: &Row) -> Result<(u64, State), StoreFault>
+    ensures { IfOk result (λ told. view_pair told ≡ state_told row.now) }
+{
+    let id = row.get(0)?;
+    let code = row.get(1)?;
+    let number = row.get(2)?;
+    let state = state_of(code, number).ok_or(StoreFault::Store)?;
+    Ok((id, state))
+}
+
+/// The same of each row.
+pub(crate) fn read_states(alloc: Global, rows: &[Row]) -> Result<Vec<(u64, State)>, StoreFault>
+    ensures { IfOk result (λ states. map view_pair states.items ≡ map state_told rows.now) }
+{
+    let mut states = Vec::new(alloc);
+    for row in rows {
+        states.push(read_state(row)?)?;
+    }
+    Ok(states)
+}

@@ -1,0 +1,147 @@
+//! How the calls of an outbox are refused.
+
+use std::alloc::{AllocError, AllocFailed};
+use table_rows::Cause;
+
+/// Why an outbox was not made or not opened. The database is as it was, and its connection is given up.
+#[derive(Clone, Copy, Debug, PartialEq, Eq, thiserror::Error)]
+pub enum OutboxFault {
+    /// The text is no code of a filer.
+    #[error("the filer is no filer code")]
+    BadFiler,
+    /// A table, an index or a view has the name of one of our tables.
+    #[error("a table of the outbox's name is there")]
+    Taken,
+    /// The database is no outbox in the form that is read here.
+    #[error("the database is no outbox")]
+    NotOurs,
+    /// The entry of this row, counted from 1, is none that an outbox keeps; 0 where the entries cannot be read.
+    #[error("row {row} of the outbox is damaged")]
+    Damaged { row: u64 },
+    /// No memory was left.
+    #[error("out of memory")]
+    Memory,
+    /// The database refused for another cause.
+    #[error("the database failed")]
+    Disk,
+}
+
+/// Why a call on the rows failed. The entries are those of before.
+#[derive(Clone, Copy, Debug, PartialEq, Eq, thiserror::Error)]
+pub enum StoreFault {
+    /// No memory was left.
+    #[error("out of memory")]
+    Memory,
+    /// The database refused for another cause, or gave a value that no table of ours holds.
+    #[error("the database failed")]
+    Store,
+}
+
+/// Why no entry was put. The entries are those of before.
+#[derive(Clone, Copy, Debug, PartialEq, Eq, thiserror::Error)]
+pub enum PutFault {
+    /// The body has more than 1,048,576 bytes.
+    #[error("the body is too large")]
+    TooLarge,
+    /// The entry of this id has the key.
+    #[error("the key is that of entry {id}")]
+    KeyUsed { id: u64 },
+    /// No memory was left.
+    #[error("out of memory")]
+    Memory,
+    /// The database refused for another cause, or gave a value that no table of ours holds.
+    #[error("the database failed")]
+    Store,
+}
+
+/// Why no reply was taken. The entries are those of before.
+#[derive(Clone, Copy, Debug, PartialEq, Eq, thiserror::Error)]
+pub enum TakeFault {
+    /// No entry has the id.
+    #[error("no entry has this id")]
+    NoEntry,
+    /// No memory was left.
+    #[error("out of memory")]
+    Memory,
+    /// The database refused for another cause, or gave a value that no table of ours holds.
+    #[error("the database failed")]
+    Store,
+}
+
+impl From<sqlite::Error> for OutboxFault {
+    ghost use Rattle.std.specs.Prelude.{◌≡◌};
+    ghost use Rattle.outbox_core.specs.Faults.{outbox_fault};
+
+    ghost from_gives = { λ error fault. fault ≡ outbox_fault error };
+
+    fn from(error: sqlite::Error) -> OutboxFault {
+        match Cause::from(error) {
+            Cause::Memory => OutboxFault::Memory,
+            Cause::Disk | Cause::Other => OutboxFault::Disk,
+        }
+    }
+}
+
+impl From<AllocError> for OutboxFault {
+    ghost use Rattle.std.specs.Prelude.{◌≡◌};
+    ghost use Rattle.outbox_core.specs.declared.fault.OutboxFault.TheVariants.{Memory};
+
+    ghost from_gives = { λ _ fault. fault ≡ Memory };
+
+    fn from(_error: AllocError) -> OutboxFault {
+        OutboxFault::Memory
+    }
+}
+
+impl From<sqlite::Error> for StoreFault {
+    ghost use Rattle.std.specs.Prelude.{◌≡◌};
+    ghost use Rattle.outbox_core.specs.Faults.{store_fault};
+
+    ghost from_gives = { λ error fault. fault ≡ store_fault error };
+
+    fn from(error: sqlite::Error) -> StoreFault {
+        match Cause::from(error) {
+            Cause::Memory => StoreFault::Memory,
+            Cause::Disk | Cause::Other => StoreFault::Store,
+        }
+    }
+}
+
+impl<T: Drop> From<AllocFailed<T>> for StoreFault {
+    ghost use Rattle.std.specs.Prelude.{◌≡◌};
+    ghost use Rattle.outbox_core.specs.declared.fault.StoreFault.TheVariants.{Memory};
+
+    ghost from_gives = { λ _ fault. fault ≡ Memory };
+
+    fn from(_error: AllocFailed<T>) -> StoreFault {
+        StoreFault::Memory
+    }
+}
+
+impl From<StoreFault> for PutFault {
+    ghost use Rattle.std.specs.Prelude.{◌≡◌};
+    ghost use Rattle.outbox_core.specs.Faults.{putting};
+
+    ghost from_gives = { λ fault put. put ≡ putting fault };
+
+    fn from(fault: StoreFault) -> PutFault {
+        match fault {
+            StoreFault::Memory => PutFault::Memory,
+            StoreFault::Store => PutFault::Store,
+        }
+    }
+}
+
+impl From<StoreFault> for TakeFault {
+    ghost use Rattle.std.specs.Prelude.{◌≡◌};
+    ghost use Rattle.outbox_core.specs.Faults.{taking};
+
+    ghost from_gives = { λ fault take. take ≡ taking fault };
+
+    fn from(fault: StoreFault) -> TakeFault {
+        match fault {
+            StoreFault::Memory => TakeFault::Memory,
+            StoreFault::Store => TakeFault::Store,
+        }
+    }
+}

@@ -1,0 +1,118 @@
+//! What an opening finds in a database.
+
+ghost use Rattle.std.specs.Prelude.{◌≡◌, ◌≢◌, ◌≤◌, ◌^◌, ◌⊎◌, ◌∷◌, [], List, length, true, false, not, None, Some, Err, IsTrue, IsSome, IfOk, IfErr, OnOk, string_bytes};
+ghost use Rattle.std.specs.List.{AllByRecursion};
+ghost use Rattle.key_string.specs.Filer.{is_filer};
+ghost use Rattle.filing_model.specs.Outbox.{Entry as Item};
+ghost use Rattle.sqlite.specs.Held.{state};
+ghost use Rattle.sqlite.specs.Order.{Row as Stored};
+ghost use Rattle.sqlite.specs.State.{HasCleanDisk, IsLive, IsUnchanged, Shown};
+ghost use Rattle.table_rows.specs.Rows.{Holds};
+ghost use Rattle.table_rows.specs.Standing.{Stands};
+ghost use Rattle.outbox_core.specs.Schema.{IsDeclared, meta_table, entry_table};
+ghost use Rattle.outbox_core.specs.Entries.{contents_of};
+ghost use Rattle.outbox_core.specs.Rows.{IsOutboxOf, meta_row, entry_rows};
+ghost use Rattle.outbox_core.specs.Faults.{meta_fault, entry_fault};
+ghost use Rattle.outbox_core.specs.Audit.{meta_text, filer_in, IsKept, IsNoOutbox, IsDamagedAt, IsDamaged};
+
+use crate::audit::{filer_in, first_damaged};
+use crate::fault::OutboxFault;
+use crate::tables;
+use sqlite::{Alter, Connection, Error};
+use std::alloc::Global;
+use table_rows::Cause;
+
+fn meta_fault(error: Error) -> OutboxFault
+    ensures { result ≡ meta_fault error }
+{
+    match Cause::from(error) {
+        Cause::Memory => OutboxFault::Memory,
+        Cause::Disk => OutboxFault::Disk,
+        Cause::Other => OutboxFault::NotOurs,
+    }
+}
+
+fn entry_fault(error: Error) -> OutboxFault
+    ensures { result ≡ entry_fault error }
+{
+    match Cause::from(error) {
+        Cause::Memory => OutboxFault::Memory,
+        Cause::Disk => OutboxFault::Disk,
+        Cause::Other => OutboxFault::Damaged { row: 0 },
+    }
+}
+
+/// The filer of the outbox that the database is.
+fn filer_of<S: Alter>(conn: &mut Connection<S>, alloc: Global) -> Result<String, OutboxFault>
+    ensures found { HasCleanDisk (state S.Store conn.new) → IsDeclared (state S.Store conn.old).now.schema
+        → IfOk result (λ filer. Holds (state S.Store conn.old).now meta_table (meta_row (string_bytes filer) ∷ []) × (is_filer (string_bytes filer) ≡ true) × IsUnchanged (state S.Store conn.old) (state S.Store conn.new)) }
+    ensures read { HasCleanDisk (state S.Store conn.new) → OnOk result ((rows : List Stored) × Shown meta_text [] (state S.Store conn.old) (state S.Store conn.new) rows × IsSome (filer_in rows)) }
+    ensures not_ours { HasCleanDisk (state S.Store conn.new) → result ≡ Err OutboxFault.NotOurs → IsNoOutbox (state S.Store conn.old) (state S.Store conn.new) }
+    ensures others { IfErr result (λ fault. (fault ≡ OutboxFault.NotOurs) ⊎ ((fault ≡ OutboxFault.Memory) ⊎ (fault ≡ OutboxFault.Disk))) }
+    ensures mode { conn.old.in_transaction ≡ false → conn.new.in_transaction ≡ false }
+    ensures clean { HasCleanDisk (state S.Store conn.new) → HasCleanDisk (state S.Store conn.old) }
+{
+    match tables::meta_rows(conn) {
+        Ok(rows) => match filer_in(rows.as_slice()) {
+            Some(filer) => Ok(String::from_str(alloc, filer)?),
+            None => Err(OutboxFault::NotOurs),
+        },
+        Err(error) => Err(meta_fault(error)),
+    }
+}
+
+/// How many entries the outbox has that the database is.
+fn count_entries<S: Alter>(conn: &mut Connection<S>) -> Result<u64, OutboxFault>
+    ensures counted { HasCleanDisk (state S.Store conn.new) → IsDeclared (state S.Store conn.old).now.schema
+        → IfOk result (λ count. (entries : List Item) × Holds (state S.Store conn.old).now entry_table (entry_rows entries) × AllByRecursion IsKept entries × (count ≡ length entries) × IsUnchanged (state S.Store conn.old) (state S.Store conn.new)) }
+    ensures damaged { HasCleanDisk (state S.Store conn.new) → (row : _) → result ≡ Err (OutboxFault.Damaged row) → IsDamagedAt row (state S.Store conn.old) (state S.Store conn.new) }
+    ensures others { IfErr result (λ fault. ((row : _) × (fault ≡ OutboxFault.Damaged row)) ⊎ ((fault ≡ OutboxFault.Memory) ⊎ (fault ≡ OutboxFault.Disk))) }
+    ensures few { IfOk result (λ count. count ≤ 2 ^ 62) }
+    ensures mode { conn.old.in_transaction ≡ false → conn.new.in_transaction ≡ false }
+    ensures clean { HasCleanDisk (state S.Store conn.new) → HasCleanDisk (state S.Store conn.old) }
+{
+    match tables::all_rows(conn) {
+        Ok(rows) => match first_damaged(rows.as_slice()) {
+            None => Ok(rows.len() as u64),
+            Some(row) => Err(OutboxFault::Damaged { row }),
+        },
+        Err(error) => Err(entry_fault(error)),
+    }
+}
+
+/// Whether no transaction is under way.
+fn is_settled<S: Alter>(conn: &Connection<S>) -> bool
+    ensures value { result ≡ not conn.now.in_transaction }
+    ensures live { IsLive (state S.Store conn.now) }
+    ensures settled { IsTrue result → IsTrue (state S.Store conn.now).is_open → (state S.Store conn.now).now ≡ (state S.Store conn.now).committed }
+{
+    let _schema = conn.schema();
+    conn.is_autocommit()
+}
+
+/// What an opening finds.
+pub(crate) struct Found {
+    pub(crate) filer: String,
+    pub(crate) count: u64,
+}
+
+/// Finds the outbox that the database is.
+pub(crate) fn find<S: Alter>(conn: &mut Connection<S>, alloc: Global) -> Result<Found, OutboxFault>
+    requires autocommit { conn.old.in_transaction ≡ false }
+    ensures found { HasCleanDisk (state S.Store conn.new) → IsDeclared (state S.Store conn.old).now.schema
+        → IfOk result (λ found. (entries : List Item) × IsOutboxOf (contents_of (string_bytes found.filer) entries) (state S.Store conn.old).now
+        × Stands (IsOutboxOf (contents_of (string_bytes found.filer) entries)) (state S.Store conn.new) × (found.count ≡ length entries)) }
+    ensures not_ours { HasCleanDisk (state S.Store conn.new) → result ≡ Err OutboxFault.NotOurs → IsNoOutbox (state S.Store conn.old) (state S.Store conn.new) }
+    ensures damaged { HasCleanDisk (state S.Store conn.new) → (row : _) → result ≡ Err (OutboxFault.Damaged row) → IsDamaged S.Store row conn.old conn.new }
+    ensures others { IfErr result (λ fault. (fault ≢ OutboxFault.BadFiler) × (fault ≢ OutboxFault.Taken)) }
+    ensures few { IfOk result (λ found. found.count ≤ 2 ^ 62) }
+{
+    prove!(is_settled(conn));
+    match filer_of(conn, alloc) {
+        Ok(filer) => match count_entries(conn) {
+            Ok(count) => Ok(Found { filer, count }),
+            Err(fault) => Err(fault),
+        },
+        Err(fault) => Err(fault),
+    }
+}

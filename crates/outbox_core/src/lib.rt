@@ -1,0 +1,22 @@
+//! The outbox of a filer: the reports that are to be sent, and what is known of each. What may live here: the
+//! two tables of an outbox and the statements on them, how a reply moves an entry, and the calls on an outbox.
+//! Only `tables` knows SQL.
+#![tactic(auto)]
+
+mod audit;
+mod create;
+mod entries;
+mod entry;
+mod fault;
+mod finding;
+mod key;
+mod outbox;
+mod state;
+mod stop;
+mod tables;
+
+pub use entry::Entry;
+pub use fault::{OutboxFault, PutFault, StoreFault, TakeFault};
+pub use key::key_of;
+pub use outbox::Outbox;
+pub use state::State;

@@ -1,0 +1,315 @@
+//! The outbox of a filer.
+
+ghost use Rattle.std.specs.Prelude.{◌≡◌, ◌≢◌, List, ◌+◌, ◌^◌, ◌<◌, ◌≤◌, ◌↔◌, [], ◌∷◌, ◌++◌, length, find, map, option_map, false, None, Some, IsTrue, IfOk, IfErr, OnOk, OnErr, IfSome, true, Err};
+ghost use Rattle.sqlite.specs.State.{HasCleanDisk, Survives};
+ghost use Rattle.sqlite.specs.Held.{state};
+ghost use Rattle.sqlite.specs.Tree.{Trees};
+ghost use Rattle.key_string.specs.Filer.{is_filer};
+ghost use Rattle.http_wire.specs.Head.{max_body_len};
+ghost use Rattle.http_wire.specs.Replies.{reply_parts};
+ghost use Rattle.filing_model.specs.Outbox.{Entry as Item, moved};
+ghost use Rattle.table_rows.specs.Tables.{no_schema};
+ghost use Rattle.outbox_core.specs.Schema.{is_taken};
+ghost use Rattle.outbox_core.specs.Entries.{empty, opened, numbered, has_text, is_open, entry_at, set_state};
+ghost use Rattle.outbox_core.specs.Rows.{Leaves};
+ghost use Rattle.outbox_core.specs.Reading.{view_entry, view_state, view_pair, id_and_state};
+
+use crate::create::{is_taken, make};
+use crate::entries::{add_entry, entry_of, open_entry, states_of, take_entry};
+use crate::entry::Entry;
+use crate::fault::{OutboxFault, PutFault, StoreFault, TakeFault};
+use crate::finding::{Found, find};
+use crate::state::State;
+use http_wire::{MAX_BODY_LEN, Reply};
+use key_string::{KeyText, is_filer};
+use sqlite::{Alter, Connection};
+use std::alloc::Global;
+use std::marker::Model;
+
+/// The outbox of a filer, over a connection: each report that is to be sent under its key, and what is known of it.
+///
+/// What a clause says of entries holds where the disk is clean as the call ends: where it gave back what was written.
+/// After a call was refused as Store, each later call that can be refused so is, until the database is opened again.
+pub struct Outbox<S: Alter> {
+    pub(crate) alloc: Global,
+    pub(crate) conn: Connection<S>,
+    pub(crate) filer: String,
+    pub(crate) count: u64,
+    pub(crate) has_failed: bool,
+}
+
+impl<S: Alter> Model for Outbox<S> {
+    ghost use Rattle.outbox_core.specs.Box.{Box, box_code};
+    ghost use Rattle.std.specs.Prelude.{◌≤◌, ◌^◌, string_bytes};
+
+    ghost Value = { Box S };
+
+    ghost coded = { box_code S.code };
+
+    ghost view = { λ o. record { conn = o.conn; filer = string_bytes o.filer; count = o.count; has_failed = o.has_failed } };
+
+    ghost invariant = { λ o. o.count ≤ 2 ^ 62 };
+}
+
+impl<S: Alter + Drop> Drop for Outbox<S> {
+    fn drop(self) {
+        let Outbox {
+            alloc: _,
+            conn: _,
+            filer: _,
+            count: _,
+            has_failed: _,
+        } = self;
+    }
+}
+
+impl<S: Alter + Drop> Outbox<S> {
+    ghost use Rattle.outbox_core.specs.Box.{shows, HasEntries};
+
+    /// Makes the tables of an outbox of this filer that has no entry, in one transaction. A refusal gives the connection
+    /// up, and leaves the database as it was. The tables are those of an outbox where the database had none before.
+    pub fn create(alloc: Global, conn: Connection<S>, filer: &str) -> Result<Outbox<S>, OutboxFault>
+        requires autocommit { conn.in_transaction ≡ false }
+        requires unlimited { conn.step_limit ≡ None }
+        ensures made { IfOk result (λ outbox. HasCleanDisk (shows S.Store outbox) → (state S.Store conn).now.schema ≡ no_schema → HasEntries S.Store outbox []) }
+        ensures filer { IfOk result (λ outbox. (outbox.filer ≡ filer.now) × (outbox.has_failed ≡ false)) }
+
+        // BadFiler comes where the text is no filer code, and always there; Taken where it is one and one of the names is
+        // in use, and always there.
+        ensures bad_filer { (result ≡ Err OutboxFault.BadFiler) ↔ (is_filer filer.now ≡ false) }
+        ensures taken { (result ≡ Err OutboxFault.Taken) ↔ ((is_filer filer.now ≡ true) × IsTrue (is_taken (state S.Store conn).now.schema)) }
+        ensures no_other { IfErr result (λ fault. (fault ≢ OutboxFault.NotOurs) × ((row : _) → fault ≢ OutboxFault.Damaged row)) }
+
+        // A crash leaves what one before the call could leave, or the outbox with no entry, and after the call that alone.
+        ensures crash { IfOk result (λ outbox. Survives (state S.Store conn) (shows S.Store outbox) (λ trees. (state S.Store conn).now.schema ≡ no_schema → Leaves (empty filer.now) trees)) }
+        ensures durable { IfOk result (λ outbox. HasCleanDisk (shows S.Store outbox) → (state S.Store conn).now.schema ≡ no_schema
+            → IsTrue (shows S.Store outbox).is_open × ((trees : Trees) → (shows S.Store outbox).may_leave trees → Leaves (empty filer.now) trees)) }
+    {
+        if !is_filer(filer) {
+            return Err(OutboxFault::BadFiler);
+        }
+        if is_taken(conn.schema()) {
+            return Err(OutboxFault::Taken);
+        }
+        let name = String::from_str(alloc, filer)?;
+        let mut conn = conn;
+        match make(&mut conn, filer) {
+            Ok(()) => Ok(Outbox {
+                alloc,
+                conn,
+                filer: name,
+                count: 0,
+                has_failed: false,
+            }),
+            Err(error) => Err(OutboxFault::from(error)),
+        }
+    }
+}
+
+impl<S: Alter + Drop> Outbox<S> {
+    ghost use Rattle.sqlite.specs.Held.{Held};
+    ghost use Rattle.outbox_core.specs.Schema.{IsDeclared};
+    ghost use Rattle.outbox_core.specs.Rows.{IsOutboxOf};
+    ghost use Rattle.outbox_core.specs.Audit.{IsNoOutbox, IsDamaged};
+    ghost use Rattle.outbox_core.specs.Box.{shows, contents, HasEntries};
+
+    /// Opens the outbox that the database holds. A refusal gives the connection up, and leaves the database as it was. How
+    /// the tables are declared is not tested.
+    pub fn open(alloc: Global, conn: Connection<S>) -> Result<Outbox<S>, OutboxFault>
+        requires autocommit { conn.in_transaction ≡ false }
+        requires unlimited { conn.step_limit ≡ None }
+        ensures opened { IfOk result (λ outbox. HasCleanDisk (shows S.Store outbox) → IsDeclared (state S.Store conn).now.schema
+            → (entries : List Item) × IsOutboxOf (contents outbox entries) (state S.Store conn).now × HasEntries S.Store outbox entries) }
+        ensures able { IfOk result (λ outbox. outbox.has_failed ≡ false) }
+
+        // NotOurs and Damaged come by what was read up to then, where the disk gave back what was written.
+        ensures not_ours { result ≡ Err OutboxFault.NotOurs → (last : Held S) × (HasCleanDisk (state S.Store last) → IsNoOutbox (state S.Store conn) (state S.Store last)) }
+        ensures damaged { (row : _) → result ≡ Err (OutboxFault.Damaged row) → (last : Held S) × (HasCleanDisk (state S.Store last) → IsDamaged S.Store row conn last) }
+        ensures no_other { IfErr result (λ fault. (fault ≢ OutboxFault.BadFiler) × (fault ≢ OutboxFault.Taken)) }
+    {
+        let mut conn = conn;
+        match find(&mut conn, alloc) {
+            Ok(Found { filer, count }) => Ok(Outbox {
+                alloc,
+                conn,
+                filer,
+                count,
+                has_failed: false,
+            }),
+            Err(fault) => Err(fault),
+        }
+    }
+}
+
+impl<S: Alter> Outbox<S> {
+    ghost use Rattle.outbox_core.specs.Box.{shows, contents, HasEntries};
+
+    /// The code of the filer.
+    pub fn filer(&self) -> &str
+        ensures { result.now ≡ self.now.filer }
+    {
+        self.filer.as_str()
+    }
+
+    pub(crate) fn into_conn(self) -> Connection<S>
+        ensures { result ≡ self.conn }
+    {
+        let Outbox {
+            alloc: _,
+            conn,
+            filer: _,
+            count: _,
+            has_failed: _,
+        } = self;
+        conn
+    }
+
+    /// Puts a report in as an open entry and answers its id: 1, 2, 3, .. A refusal gives the key and the body up. With
+    /// 2^62 entries the answer is Store.
+    pub fn put(&mut self, key: KeyText, body: Vec<u8>) -> Result<u64, PutFault>
+        ensures added { HasCleanDisk (shows S.Store self.new) → (entries : List Item) → HasEntries S.Store self.old entries
+            → IfOk result (λ id. (id ≡ 1 + length entries) × HasEntries S.Store self.new (entries ++ opened key body.items ∷ [])) }
+        ensures unused { HasCleanDisk (shows S.Store self.new) → (entries : List Item) → HasEntries S.Store self.old entries → OnOk result (find (has_text key) (numbered entries) ≡ None) }
+        ensures used { HasCleanDisk (shows S.Store self.new) → (entries : List Item) → HasEntries S.Store self.old entries
+            → (id : _) → result ≡ Err (PutFault.KeyUsed id) → option_map (λ x. x.0) (find (has_text key) (numbered entries)) ≡ Some id }
+        ensures too_large { (result ≡ Err PutFault.TooLarge) ↔ ((self.old.has_failed ≡ false) × (max_body_len < length body.items)) }
+
+        // A refusal changes no entry.
+        ensures kept { HasCleanDisk (shows S.Store self.new) → (entries : List Item) → HasEntries S.Store self.old entries → OnErr result (HasEntries S.Store self.new entries) }
+        ensures stopped { IsTrue self.old.has_failed → (result ≡ Err PutFault.Store) × (self.new ≡ self.old) }
+        ensures stops { IsTrue self.new.has_failed ↔ (result ≡ Err PutFault.Store) }
+        ensures filer { self.new.filer ≡ self.old.filer }
+
+        // A crash leaves what one before the call could leave, or the entries with this one, and after Ok these alone.
+        ensures crash { Survives (shows S.Store self.old) (shows S.Store self.new) (λ trees. (entries : List Item) → HasEntries S.Store self.old entries → IsTrue (shows S.Store self.old).is_open
+            → Leaves (contents self.old (entries ++ opened key body.items ∷ [])) trees) }
+        ensures durable { HasCleanDisk (shows S.Store self.new) → (entries : List Item) → HasEntries S.Store self.old entries
+            → OnOk result (IsTrue (shows S.Store self.new).is_open × ((trees : Trees) → (shows S.Store self.new).may_leave trees → Leaves (contents self.new (entries ++ opened key body.items ∷ [])) trees)) }
+    {
+        if self.has_failed {
+            return Err(PutFault::Store);
+        }
+        if body.len() > MAX_BODY_LEN {
+            return Err(PutFault::TooLarge);
+        }
+        match add_entry(&mut self.conn, self.count, key.as_str(), body.as_slice()) {
+            Ok(id) => {
+                self.count = id;
+                Ok(id)
+            }
+            Err(fault) => {
+                self.has_failed = fault == PutFault::Store;
+                Err(fault)
+            }
+        }
+    }
+
+    /// The entry of this id, or `None` where there is none.
+    pub fn entry(&mut self, id: u64) -> Result<Option<Entry>, StoreFault>
+        ensures found { HasCleanDisk (shows S.Store self.new) → (entries : List Item) → HasEntries S.Store self.old entries
+            → IfOk result (λ entry. option_map view_entry entry ≡ option_map (λ e. (id, e)) (entry_at entries id)) }
+
+        // The entries are those of before, whatever the answer is, and a crash leaves what it could leave before.
+        ensures kept { HasCleanDisk (shows S.Store self.new) → (entries : List Item) → HasEntries S.Store self.old entries → HasEntries S.Store self.new entries }
+        ensures stopped { IsTrue self.old.has_failed → (result ≡ Err StoreFault.Store) × (self.new ≡ self.old) }
+        ensures stops { IsTrue self.new.has_failed ↔ (result ≡ Err StoreFault.Store) }
+        ensures filer { self.new.filer ≡ self.old.filer }
+        ensures crash { Survives (shows S.Store self.old) (shows S.Store self.new) (λ _. (entries : List Item) → HasEntries S.Store self.old entries → IsTrue (shows S.Store self.old).is_open → ⊥) }
+    {
+        if self.has_failed {
+            return Err(StoreFault::Store);
+        }
+        if id > self.count {
+            return Ok(None);
+        }
+        match entry_of(&mut self.conn, self.alloc, id) {
+            Ok(entry) => Ok(entry),
+            Err(fault) => {
+                self.has_failed = fault == StoreFault::Store;
+                Err(fault)
+            }
+        }
+    }
+
+    /// The open entry with the least id, or `None` where no entry is open.
+    pub fn next_open(&mut self) -> Result<Option<Entry>, StoreFault>
+        ensures found { HasCleanDisk (shows S.Store self.new) → (entries : List Item) → HasEntries S.Store self.old entries
+            → IfOk result (λ entry. option_map view_entry entry ≡ find is_open (numbered entries)) }
+
+        // The entries are those of before, whatever the answer is, and a crash leaves what it could leave before.
+        ensures kept { HasCleanDisk (shows S.Store self.new) → (entries : List Item) → HasEntries S.Store self.old entries → HasEntries S.Store self.new entries }
+        ensures stopped { IsTrue self.old.has_failed → (result ≡ Err StoreFault.Store) × (self.new ≡ self.old) }
+        ensures stops { IsTrue self.new.has_failed ↔ (result ≡ Err StoreFault.Store) }
+        ensures filer { self.new.filer ≡ self.old.filer }
+        ensures crash { Survives (shows S.Store self.old) (shows S.Store self.new) (λ _. (entries : List Item) → HasEntries S.Store self.old entries → IsTrue (shows S.Store self.old).is_open → ⊥) }
+    {
+        if self.has_failed {
+            return Err(StoreFault::Store);
+        }
+        match open_entry(&mut self.conn, self.alloc) {
+            Ok(entry) => Ok(entry),
+            Err(fault) => {
+                self.has_failed = fault == StoreFault::Store;
+                Err(fault)
+            }
+        }
+    }
+
+    /// The id and the state of each entry, in the order of the ids.
+    pub fn states(&mut self) -> Result<Vec<(u64, State)>, StoreFault>
+        ensures found { HasCleanDisk (shows S.Store self.new) → (entries : List Item) → HasEntries S.Store self.old entries
+            → IfOk result (λ states. map view_pair states.items ≡ map id_and_state (numbered entries)) }
+
+        // The entries are those of before, whatever the answer is, and a crash leaves what it could leave before.
+        ensures kept { HasCleanDisk (shows S.Store self.new) → (entries : List Item) → HasEntries S.Store self.old entries → HasEntries S.Store self.new entries }
+        ensures stopped { IsTrue self.old.has_failed → (result ≡ Err StoreFault.Store) × (self.new ≡ self.old) }
+        ensures stops { IsTrue self.new.has_failed ↔ (result ≡ Err StoreFault.Store) }
+        ensures filer { self.new.filer ≡ self.old.filer }
+        ensures crash { Survives (shows S.Store self.old) (shows S.Store self.new) (λ _. (entries : List Item) → HasEntries S.Store self.old entries → IsTrue (shows S.Store self.old).is_open → ⊥) }
+    {
+        if self.has_failed {
+            return Err(StoreFault::Store);
+        }
+        match states_of(&mut self.conn, self.alloc) {
+            Ok(states) => Ok(states),
+            Err(fault) => {
+                self.has_failed = fault == StoreFault::Store;
+                Err(fault)
+            }
+        }
+    }
+
+    /// Moves an entry by the status and the content of a reply, and answers its state. An entry that is not open
+    /// keeps its state, and no entry's key or body changes.
+    pub fn take(&mut self, id: u64, reply: &Reply) -> Result<State, TakeFault>
+        ensures moved { HasCleanDisk (shows S.Store self.new) → (entries : List Item) → HasEntries S.Store self.old entries
+            → IfOk result (λ to. (Some (view_state to) ≡ option_map (λ e. moved e.state (reply_parts reply.now)) (entry_at entries id)) × HasEntries S.Store self.new (set_state entries id (view_state to))) }
+        ensures no_entry { HasCleanDisk (shows S.Store self.new) → (entries : List Item) → HasEntries S.Store self.old entries → result ≡ Err TakeFault.NoEntry → entry_at entries id ≡ None }
+
+        // A refusal changes no entry.
+        ensures kept { HasCleanDisk (shows S.Store self.new) → (entries : List Item) → HasEntries S.Store self.old entries → OnErr result (HasEntries S.Store self.new entries) }
+        ensures stopped { IsTrue self.old.has_failed → (result ≡ Err TakeFault.Store) × (self.new ≡ self.old) }
+        ensures stops { IsTrue self.new.has_failed ↔ (result ≡ Err TakeFault.Store) }
+        ensures filer { self.new.filer ≡ self.old.filer }
+
+        // A crash leaves what one before the call could leave, or the entries after the move, and after Ok these alone.
+        ensures crash { Survives (shows S.Store self.old) (shows S.Store self.new) (λ trees. (entries : List Item) → HasEntries S.Store self.old entries → IsTrue (shows S.Store self.old).is_open
+            → IfSome (entry_at entries id) (λ e. Leaves (contents self.old (set_state entries id (moved e.state (reply_parts reply.now)))) trees)) }
+        ensures durable { HasCleanDisk (shows S.Store self.new) → (entries : List Item) → HasEntries S.Store self.old entries
+            → IfOk result (λ to. IsTrue (shows S.Store self.new).is_open × ((trees : Trees) → (shows S.Store self.new).may_leave trees → Leaves (contents self.new (set_state entries id (view_state to))) trees)) }
+    {
+        if self.has_failed {
+            return Err(TakeFault::Store);
+        }
+        if id > self.count {
+            return Err(TakeFault::NoEntry);
+        }
+        match take_entry(&mut self.conn, self.alloc, id, reply) {
+            Ok(state) => Ok(state),
+            Err(fault) => {
+                self.has_failed = fault == TakeFault::Store;
+                Err(fault)
+            }
+        }
+    }
+}

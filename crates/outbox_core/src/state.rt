@@ -1,0 +1,88 @@
+//! The states of an entry, and how a reply moves them.
+
+ghost use Rattle.std.specs.Prelude.{◌≡◌, ◌≢◌, ◌↔◌, ◌<◌, ◌≤◌, ◌^◌, Option, Some, None, IsTrue, IfOk, codes};
+ghost use Rattle.serde_json.specs.View.{view};
+ghost use Rattle.xbrl_report.specs.Findings.{tree};
+ghost use Rattle.http_wire.specs.Replies.{reply_parts};
+ghost use Rattle.filing_model.specs.Outbox.{says, confirmed_by, state_by, state_told, moved};
+ghost use Rattle.outbox_core.specs.Entries.{FitsNumber};
+ghost use Rattle.outbox_core.specs.Reading.{view_state};
+
+use http_wire::Reply;
+use serde_json::Value;
+use std::alloc::{AllocError, Global};
+
+/// What is known of an entry.
+#[derive(Clone, Copy, Debug, PartialEq, Eq)]
+pub enum State {
+    /// Nothing yet.
+    Open,
+    /// The register has it under this number, from 1 to 2^63 - 1.
+    Confirmed(u64),
+    /// Its report was refused.
+    Refused,
+    /// Its key stands for another body.
+    Clashed,
+}
+
+const NUMBER_LIMIT: u64 = 1 << 63;
+
+/// Whether the member `status` is this word.
+fn says(tree: &Value, word: &str) -> bool
+    ensures { result ≡ says word.now (view tree.now) }
+{
+    let status = tree.get("status").and_then(Value::as_str);
+    status.map_or(false, |text| text == word)
+}
+
+fn confirmed_by(number: Option<u64>) -> State
+    ensures value { view_state result ≡ confirmed_by number }
+    ensures fits { FitsNumber (view_state result) }
+{
+    match number {
+        Some(number) if 1 <= number && number < NUMBER_LIMIT => State::Confirmed(number),
+        _ => State::Open,
+    }
+}
+
+/// What the status and the JSON value of a content say.
+fn state_by(status: u16, tree: &Value) -> State
+    ensures value { view_state result ≡ state_by status (view tree.now) }
+    ensures fits { FitsNumber (view_state result) }
+{
+    if status == 201 && says(tree, "registered") {
+        confirmed_by(tree.get("number").and_then(Value::as_u64))
+    } else if (status == 422 || status == 400) && says(tree, "refused") {
+        State::Refused
+    } else if status == 422 && says(tree, "key-reused") {
+        State::Clashed
+    } else {
+        State::Open
+    }
+}
+
+/// What a reply says. Where its content is no JSON, it says nothing.
+fn state_told(alloc: Global, reply: &Reply) -> Result<State, AllocError>
+    ensures told { IfOk result (λ state. view_state state ≡ state_told reply.now.status (tree reply.now.content.items)) }
+    ensures fits { IfOk result (λ state. FitsNumber (view_state state)) }
+{
+    match Value::from_slice(alloc, reply.content.as_slice()) {
+        Ok(tree) => Ok(state_by(reply.status, &tree)),
+        Err(error) if error.is_memory() => Err(AllocError),
+        Err(_) => Ok(State::Open),
+    }
+}
+
+impl State {
+    /// Where a reply moves an entry. Any state but `Open` stays.
+    #[tactic(auto, unfolding(filing_model::specs::Outbox::moved))]
+    pub(crate) fn moved(self, alloc: Global, reply: &Reply) -> Result<State, AllocError>
+        ensures moved { IfOk result (λ state. view_state state ≡ moved (view_state self) (reply_parts reply.now)) }
+        ensures fits { IfOk result (λ state. state ≢ self → FitsNumber (view_state state)) }
+    {
+        match self {
+            State::Open => state_told(alloc, reply),
+            State::Confirmed(_) | State::Refused | State::Clashed => Ok(self),
+        }
+    }
+}

@@ -1,0 +1,181 @@
+//! The statements on the two tables. No other module knows SQL.
+
+ghost use Rattle.std.specs.Prelude.{◌≡◌, ◌+◌, ◌^◌, ◌<◌, pos, codes, OnErr, length, find, map, option_map, IsTrue, IfOk, IfErr, OnOk, IsSome, false, []};
+ghost use Rattle.sqlite.specs.Values.{or_null};
+ghost use Rattle.sqlite.specs.declared.types.Value.TheVariants.{Int};
+ghost use Rattle.sqlite.specs.State.{HasCleanDisk, Survives, Shown, FailsToQuery, IsUnchanged};
+ghost use Rattle.sqlite.specs.Held as held;
+ghost use Rattle.table_rows.specs.Rows.{Holds};
+ghost use Rattle.table_rows.specs.Standing.{Stands, Commits};
+ghost use Rattle.outbox_core.specs.Schema.{IsDeclared, meta_table, entry_table};
+ghost use Rattle.outbox_core.specs.Audit.{meta_text, entries_text};
+ghost use Rattle.outbox_core.specs.Entries.{Contents, IsOutbox, opened, numbered, has_id, has_text, is_open, entry_at, with_entry, with_state, FitsNumber};
+ghost use Rattle.outbox_core.specs.Rows.{IsOutboxOf, Leaves, code_of, number_of, entry_row, state_row};
+ghost use Rattle.outbox_core.specs.Reading.{view_state};
+
+use crate::state::State;
+use sqlite::{Alter, Connection, Error, Row, params};
+use table_rows::first_row;
+
+fn entry_with_key<S: Alter>(conn: &mut Connection<S>, key: &str) -> Result<Option<Row>, Error>
+    ensures found { HasCleanDisk (held.state S.Store conn.new) → (it : Contents) → Stands (IsOutboxOf it) (held.state S.Store conn.old)
+        → IfOk result (λ row. row ≡ option_map entry_row (find (has_text key.now) (numbered it.entries))) }
+    ensures kept { HasCleanDisk (held.state S.Store conn.new) → (it : Contents) → Stands (IsOutboxOf it) (held.state S.Store conn.old) → Stands (IsOutboxOf it) (held.state S.Store conn.new) }
+    ensures open { HasCleanDisk (held.state S.Store conn.new) → (it : Contents) → Stands (IsOutboxOf it) (held.state S.Store conn.old) → OnOk result (IsTrue (held.state S.Store conn.new).is_open) }
+    ensures crash { Survives (held.state S.Store conn.old) (held.state S.Store conn.new) (Commits IsOutboxOf (held.state S.Store conn.old) (λ _ _. ⊥)) }
+{
+    first_row(
+        conn,
+        "SELECT id, idem, body, state, number FROM entry WHERE idem = ?1 ORDER BY id",
+        params![key],
+    )
+}
+
+/// The id of the entry that has the key.
+pub(crate) fn id_of_key<S: Alter>(conn: &mut Connection<S>, key: &str) -> Result<Option<u64>, Error>
+    ensures found { HasCleanDisk (held.state S.Store conn.new) → (it : Contents) → Stands (IsOutboxOf it) (held.state S.Store conn.old)
+        → IfOk result (λ id. id ≡ option_map (λ x. x.0) (find (has_text key.now) (numbered it.entries))) }
+    ensures kept { HasCleanDisk (held.state S.Store conn.new) → (it : Contents) → Stands (IsOutboxOf it) (held.state S.Store conn.old) → Stands (IsOutboxOf it) (held.state S.Store conn.new) }
+    ensures open { HasCleanDisk (held.state S.Store conn.new) → (it : Contents) → Stands (IsOutboxOf it) (held.state S.Store conn.old) → OnOk result (IsTrue (held.state S.Store conn.new).is_open) }
+    ensures crash { Survives (held.state S.Store conn.old) (held.state S.Store conn.new) (Commits IsOutboxOf (held.state S.Store conn.old) (λ _ _. ⊥)) }
+{
+    let row = entry_with_key(conn, key)?;
+    match row {
+        Some(row) => Ok(Some(row.get(0)?)),
+        None => Ok(None),
+    }
+}
+
+/// The row of the entry that has the id.
+pub(crate) fn entry_with_id<S: Alter>(
+    conn: &mut Connection<S>,
+    id: u64,
+) -> Result<Option<Row>, Error>
+    requires { id < 2 ^ 63 }
+    ensures found { HasCleanDisk (held.state S.Store conn.new) → (it : Contents) → Stands (IsOutboxOf it) (held.state S.Store conn.old)
+        → IfOk result (λ row. row ≡ option_map entry_row (find (has_id id) (numbered it.entries))) }
+    ensures kept { HasCleanDisk (held.state S.Store conn.new) → (it : Contents) → Stands (IsOutboxOf it) (held.state S.Store conn.old) → Stands (IsOutboxOf it) (held.state S.Store conn.new) }
+    ensures open { HasCleanDisk (held.state S.Store conn.new) → (it : Contents) → Stands (IsOutboxOf it) (held.state S.Store conn.old) → OnOk result (IsTrue (held.state S.Store conn.new).is_open) }
+    ensures crash { Survives (held.state S.Store conn.old) (held.state S.Store conn.new) (Commits IsOutboxOf (held.state S.Store conn.old) (λ _ _. ⊥)) }
+{
+    first_row(
+        conn,
+        "SELECT id, idem, body, state, number FROM entry WHERE id = ?1 ORDER BY id",
+        params![id as i64],
+    )
+}
+
+/// The row of the open entry with the least id.
+pub(crate) fn first_open_entry<S: Alter>(conn: &mut Connection<S>) -> Result<Option<Row>, Error>
+    ensures found { HasCleanDisk (held.state S.Store conn.new) → (it : Contents) → Stands (IsOutboxOf it) (held.state S.Store conn.old)
+        → IfOk result (λ row. row ≡ option_map entry_row (find is_open (numbered it.entries))) }
+    ensures kept { HasCleanDisk (held.state S.Store conn.new) → (it : Contents) → Stands (IsOutboxOf it) (held.state S.Store conn.old) → Stands (IsOutboxOf it) (held.state S.Store conn.new) }
+    ensures open { HasCleanDisk (held.state S.Store conn.new) → (it : Contents) → Stands (IsOutboxOf it) (held.state S.Store conn.old) → OnOk result (IsTrue (held.state S.Store conn.new).is_open) }
+    ensures crash { Survives (held.state S.Store conn.old) (held.state S.Store conn.new) (Commits IsOutboxOf (held.state S.Store conn.old) (λ _ _. ⊥)) }
+{
+    first_row(
+        conn,
+        "SELECT id, idem, body, state, number FROM entry WHERE state = ?1 ORDER BY id",
+        params![0i64],
+    )
+}
+
+/// The id, the state and the number of each entry, in the order of the ids.
+pub(crate) fn state_rows<S: Alter>(conn: &mut Connection<S>) -> Result<Vec<Row>, Error>
+    ensures found { HasCleanDisk (held.state S.Store conn.new) → (it : Contents) → Stands (IsOutboxOf it) (held.state S.Store conn.old)
+        → IfOk result (λ rows. rows.items ≡ map state_row (numbered it.entries)) }
+    ensures kept { HasCleanDisk (held.state S.Store conn.new) → (it : Contents) → Stands (IsOutboxOf it) (held.state S.Store conn.old) → Stands (IsOutboxOf it) (held.state S.Store conn.new) }
+    ensures crash { Survives (held.state S.Store conn.old) (held.state S.Store conn.new) (Commits IsOutboxOf (held.state S.Store conn.old) (λ _ _. ⊥)) }
+{
+    conn.query_all("SELECT id, state, number FROM entry ORDER BY id", &[])
+}
+
+/// The rows of `outbox_meta`.
+pub(crate) fn meta_rows<S: Alter>(conn: &mut Connection<S>) -> Result<Vec<Row>, Error>
+    ensures shown { HasCleanDisk (held.state S.Store conn.new) → IfOk result (λ rows. Shown meta_text [] (held.state S.Store conn.old) (held.state S.Store conn.new) rows.items) }
+    ensures held { HasCleanDisk (held.state S.Store conn.new) → IsDeclared (held.state S.Store conn.old).now.schema
+        → IfOk result (λ rows. Holds (held.state S.Store conn.old).now meta_table rows.items × IsUnchanged (held.state S.Store conn.old) (held.state S.Store conn.new)) }
+    ensures failed { HasCleanDisk (held.state S.Store conn.new) → IfErr result (FailsToQuery meta_text [] (held.state S.Store conn.old) (held.state S.Store conn.new)) }
+    ensures mode { conn.old.in_transaction ≡ false → conn.new.in_transaction ≡ false }
+    ensures clean { HasCleanDisk (held.state S.Store conn.new) → HasCleanDisk (held.state S.Store conn.old) }
+{
+    conn.query_all("SELECT id, kind, form, filer FROM outbox_meta", &[])
+}
+
+/// The rows of all entries, in the order of the ids.
+pub(crate) fn all_rows<S: Alter>(conn: &mut Connection<S>) -> Result<Vec<Row>, Error>
+    ensures shown { HasCleanDisk (held.state S.Store conn.new) → IfOk result (λ rows. Shown entries_text [] (held.state S.Store conn.old) (held.state S.Store conn.new) rows.items) }
+    ensures held { HasCleanDisk (held.state S.Store conn.new) → IsDeclared (held.state S.Store conn.old).now.schema
+        → IfOk result (λ rows. Holds (held.state S.Store conn.old).now entry_table rows.items × IsUnchanged (held.state S.Store conn.old) (held.state S.Store conn.new)) }
+    ensures failed { HasCleanDisk (held.state S.Store conn.new) → IfErr result (FailsToQuery entries_text [] (held.state S.Store conn.old) (held.state S.Store conn.new)) }
+    ensures mode { conn.old.in_transaction ≡ false → conn.new.in_transaction ≡ false }
+    ensures clean { HasCleanDisk (held.state S.Store conn.new) → HasCleanDisk (held.state S.Store conn.old) }
+{
+    conn.query_all(
+        "SELECT id, idem, body, state, number FROM entry ORDER BY id",
+        &[],
+    )
+}
+
+/// Adds an open entry of this id, which is that after the last.
+pub(crate) fn insert_entry<S: Alter>(
+    conn: &mut Connection<S>,
+    id: u64,
+    key: &str,
+    body: &[u8],
+) -> Result<usize, Error>
+    requires { id < 2 ^ 63 }
+    ensures added { HasCleanDisk (held.state S.Store conn.new) → (it : Contents) → Stands (IsOutboxOf it) (held.state S.Store conn.old) → IsTrue (held.state S.Store conn.old).is_open
+        → id ≡ 1 + length it.entries → IsOutbox (with_entry it (opened key.now body.now))
+        → OnOk result (Stands (IsOutboxOf (with_entry it (opened key.now body.now))) (held.state S.Store conn.new) × IsTrue (held.state S.Store conn.new).is_open) }
+    ensures kept { HasCleanDisk (held.state S.Store conn.new) → (it : Contents) → Stands (IsOutboxOf it) (held.state S.Store conn.old) → OnErr result (Stands (IsOutboxOf it) (held.state S.Store conn.new)) }
+    ensures crash { Survives (held.state S.Store conn.old) (held.state S.Store conn.new) (Commits IsOutboxOf (held.state S.Store conn.old)
+        (λ it trees. id ≡ 1 + length it.entries → IsOutbox (with_entry it (opened key.now body.now)) → Leaves (with_entry it (opened key.now body.now)) trees)) }
+{
+    conn.execute(
+        "INSERT INTO entry (id, idem, body, state) VALUES (?1, ?2, ?3, 0)",
+        params![id as i64, key, body],
+    )
+}
+
+fn code_of(state: State) -> u32
+    ensures { result ≡ code_of (view_state state) }
+{
+    match state {
+        State::Open => 0,
+        State::Confirmed(_) => 1,
+        State::Refused => 2,
+        State::Clashed => 3,
+    }
+}
+
+fn number_of(state: State) -> Option<i64>
+    requires { FitsNumber (view_state state) }
+    ensures { or_null Int result ≡ number_of (view_state state) }
+{
+    match state {
+        State::Confirmed(number) => Some(number as i64),
+        _ => None,
+    }
+}
+
+/// Puts the entry of the id into the state.
+pub(crate) fn set_state<S: Alter>(
+    conn: &mut Connection<S>,
+    id: u64,
+    state: State,
+) -> Result<usize, Error>
+    requires id { id < 2 ^ 63 }
+    requires number { FitsNumber (view_state state) }
+    ensures moved { HasCleanDisk (held.state S.Store conn.new) → (it : Contents) → Stands (IsOutboxOf it) (held.state S.Store conn.old) → IsTrue (held.state S.Store conn.old).is_open
+        → IsSome (entry_at it.entries id)
+        → OnOk result (Stands (IsOutboxOf (with_state it id (view_state state))) (held.state S.Store conn.new) × IsTrue (held.state S.Store conn.new).is_open) }
+    ensures kept { HasCleanDisk (held.state S.Store conn.new) → (it : Contents) → Stands (IsOutboxOf it) (held.state S.Store conn.old) → OnErr result (Stands (IsOutboxOf it) (held.state S.Store conn.new)) }
+    ensures crash { Survives (held.state S.Store conn.old) (held.state S.Store conn.new) (Commits IsOutboxOf (held.state S.Store conn.old)
+        (λ it trees. IsSome (entry_at it.entries id) → Leaves (with_state it id (view_state state)) trees)) }
+{
+    conn.execute(
+        "UPDATE entry SET state = ?2, number = ?3 WHERE id = ?1",
+        params![id as i64, code_of(state), number_of(state)],
+    )
+}
