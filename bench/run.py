@@ -110,8 +110,7 @@ def main():
     times = [seconds(["serve", "4096"], one * count) for count in (REQUESTS, 10 * REQUESTS)]
     held.append(growth("10 times the requests under one key", *times, 11))
     times = [seconds(["serve", "4096"], given) for given in (connection, longer)]
-    # No bound is held here: the register is a list, and each request goes through its keys.
-    print(f"10 times the requests, each under its own key: {times[1] / times[0]:.1f} times the time")
+    held.append(growth("10 times the requests, each under its own key", *times, 11))
 
     for size in (100_000, 1_000_000):
         body = report(size)

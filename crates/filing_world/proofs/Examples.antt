@@ -13,7 +13,7 @@ use Rattle.xbrl_report.specs.Walk.{pairs, document_pairs, info_pairs, type_pairs
 use Rattle.filing_model.proofs.Contents.{ascii}
 use Rattle.serde_json.proofs.OnLiterals.{serde_json_on_literals}
 use Rattle.http_wire.specs.Reply.{phrase, status_line, length_line, render_head, render}
-use Rattle.http_wire.specs.Posting.{render_post, render_post_head}
+use Rattle.http_wire.specs.Posting.{render_post, render_post_head, post_line, key_line}
 use Rattle.filing_model.specs.Outbox.{bytes_of}
 use Rattle.filing_model.specs.Reply.{reply_of}
 use Rattle.filing_world.specs.Schedules.{IsGood, registered_bytes, clash_bytes, small}
@@ -50,5 +50,5 @@ good-small = record {
 }
 
 pub length-small : length (bytes_of small) ≡ 227
-unfolding render_post render_post_head length_line digits
+unfolding render_post render_post_head post_line key_line length_line digits
 length-small = refl
