@@ -1,5 +1,6 @@
 use Rattle.register_store.specs.Audit.{view_rest}
 use Rattle.register_store.proofs.AuditSteps.{none_yet, one_more}
+use Rattle.register_store.proofs.AuditRefutes.{refuted}
 use Rattle.register_store.proofs.audit.audit.Goals as goal
 
 pub loop-at-init : goal.loop-at-init
