@@ -7,7 +7,9 @@ use Rattle.filing_model.specs.Request.{Request, firsts, has_key}
 use Rattle.filing_model.specs.Register.{Kept, judged, kept, register}
 use Rattle.filing_model.proofs.Keeping.{kept_new, kept_grows}
 use Rattle.table_rows.specs.Rows.{counted_from}
-use Rattle.register_store.specs.Audit.{Others, Begins, IsSound, AreFirst, AreRowsOf, IsUnsoundAt, IsLeftOver, kept_in}
+use Rattle.register_store.specs.Audit.{Others, Begins, IsSound, AreFirst, AreRowsOf, IsUnsoundAt, IsLeftOver, IsVerdict, kept_in}
+use Rattle.register_store.specs.declared.audit.Verdict.{Verdict}
+use Rattle.register_store.specs.declared.audit.Verdict.TheVariants.{Sound, Damaged}
 use Rattle.register_store.specs.Columns.{request_in}
 use Rattle.register_store.specs.Register.{IsCompleted, kept_row, finding_rows, filing_rows, fact_rows, joined_from}
 use Rattle.register_store.proofs.MoreRequests.{kept_length}
@@ -117,3 +119,10 @@ refuted rows all row (inr left) G whole =
     let two = none_left _ left.rest.filing (ap (λ H. joined_from filing_rows 1 (kept H)) same ∙ sym whole.filing_is ∙ left.first.filing_is) in
     let three = none_left _ left.rest.fact (ap (λ H. joined_from fact_rows 1 (kept H)) same ∙ sym whole.fact_is ∙ left.first.fact_is) in
     omega (arith, left.left, one, two, three)
+
+-- rows that stand for requests are found to do so
+pub complete : (rows : List Row) (all : Others) (verdict : Verdict) → IsVerdict rows all verdict → (G : List Request) → AreRowsOf rows all G → verdict ≡ Sound (length (register G))
+complete rows all (Sound count) is G whole =
+    let same : is.0 ≡ G = sym (requests_first rows is.0 is.1.distinct is.1.kept_is) ∙ requests_first rows G whole.distinct whole.kept_is in
+    ap Sound (is.2 ∙ ap (λ H. length (register H)) same)
+complete rows all (Damaged row) damaged G whole = absurd (refuted rows all row damaged G whole)
