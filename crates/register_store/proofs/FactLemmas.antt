@@ -71,13 +71,13 @@ module _ (n : ℕ) where
   its_rows m [] h = refl
   its_rows m (f ∷ fs) h = ⊎_elim
       (λ (same : nat_eq f.number n ≡ true).
-          let is : f.number ≡ n = grind (arith, nat_tests, same) in
-          let low : n < m + 1 = omega (arith, is, both.0) in
-          filter-append (has_number n) (rows_of f) (flat_map rows_of fs)
-          ∙ ap₂ ◌++◌ (ap (λ k. filter (has_number n) (counted_from (fact_row k) 1 (facts f.request.body))) is ∙ all_its 1 (facts f.request.body)) (none_later (m + 1) fs low both.1)
-          ∙ append-nil _ ∙ rw same refl)
+      let is : f.number ≡ n = grind (arith, nat_tests, same) in
+      let low : n < m + 1 = omega (arith, is, both.0) in
+      filter-append (has_number n) (rows_of f) (flat_map rows_of fs)
+      ∙ ap₂ ◌++◌ (ap (λ k. filter (has_number n) (counted_from (fact_row k) 1 (facts f.request.body))) is ∙ all_its 1 (facts f.request.body)) (none_later (m + 1) fs low both.1)
+      ∙ append-nil _ ∙ rw same refl)
       (λ (apart : nat_eq f.number n ≡ false).
-          filter-append (has_number n) (rows_of f) (flat_map rows_of fs) ∙ ap₂ ◌++◌ (none_its f.number 1 (facts f.request.body) apart) (its_rows (m + 1) fs both.1) ∙ rw apart refl)
+      filter-append (has_number n) (rows_of f) (flat_map rows_of fs) ∙ ap₂ ◌++◌ (none_its f.number 1 (facts f.request.body) apart) (its_rows (m + 1) fs both.1) ∙ rw apart refl)
       (cases_Bool (nat_eq f.number n))
     where
       both : (f.number ≡ m) × Counted (m + 1) fs
@@ -89,10 +89,10 @@ module _ (n : ℕ) where
   is_there m (f ∷ fs) h low high = ⊎_elim
       (λ (same : nat_eq f.number n ≡ true). rw same refl)
       (λ (apart : nat_eq f.number n ≡ false).
-          let both = first_is m f fs h in
-          let other : m ≡ n → ⊥ = λ e. absurd (let here : nat_eq f.number n ≡ true = rw (both.0 ∙ e) (grind (arith, nat_tests)) in cc) in
-          let next : m + 1 ≤ n = omega (arith, low, other) in
-          rw apart (is_there (m + 1) fs both.1 next (omega arith)))
+      let both = first_is m f fs h in
+      let other : m ≡ n → ⊥ = λ e. absurd (let here : nat_eq f.number n ≡ true = rw (both.0 ∙ e) (grind (arith, nat_tests)) in cc) in
+      let next : m + 1 ≤ n = omega (arith, low, other) in
+      rw apart (is_there (m + 1) fs both.1 next (omega arith)))
       (cases_Bool (nat_eq f.number n))
 
   pub is_absent : (m : ℕ) (fs : List Filing) → Counted m fs → ((m ≤ n) → (n < m + length fs) → ⊥) → filing_numbered n fs ≡ None

@@ -32,26 +32,13 @@ use Rattle.filing_model.proofs.Lists.{filter-map, length-map}
 use Rattle.table_rows.specs.Rows.{counted_from}
 use Rattle.table_rows.specs.Reading.{RisesBy, ReadsRows}
 use Rattle.table_rows.specs.Standing.{Stands}
-use Rattle.table_rows.proofs.OrderLemmas.{counted_rise}
+use Rattle.table_rows.proofs.OrderLemmas.{counted_rise, same_text, same_number, and_true}
 use Rattle.register_store.specs.Schema.{kept_table, finding_table}
 use Rattle.register_store.specs.Register.{kept_row, finding_row, finding_rows, findings_of, joined_from}
 use Rattle.register_store.specs.Reads.{by_second}
 use Rattle.register_store.specs.Found.{has_texts, has_seq, unsorted, found_in, pair_in, found_row, finding_in, code_in, IsPlaced, IsReading, IsLookUp}
 use Rattle.register_store.specs.declared.found.Found.{Found}
 use Rattle.register_store.specs.Store.{IsRegisterOf}
-
-truth_of : (b : Bool) → is_true (from_truth (Some b)) ≡ b
-truth_of true = refl
-truth_of false = refl
-
--- two texts are equal in SQL where their bytes are
-same_text : (a b : List ℕ) → is_true (binary (Compare Eq Binary) (Text a) (Text b)) ≡ bytes_eq a b
-unfolding binary
-same_text a b = truth_of _ ∙ ap is_eq (value_cmp-Text a b) ∙ is_eq-slice_cmp a b
-
-and_true : (b : Bool) → (b && true) ≡ b
-and_true true = refl
-and_true false = refl
 
 -- ---- the row of a filer and key
 
@@ -171,13 +158,6 @@ pub key_found : (filer key : List ℕ) (F : List Request) (old new : State) (row
 key_found filer key F old new rows was h found reading = looked_up filer key F rows (key_read filer key F old new rows was h) found reading
 
 -- ---- the findings at a place
-
-same_number : (m n : ℕ) → is_true (binary (Compare Eq Binary) (Int (pos m)) (Int (pos n))) ≡ nat_eq m n
-unfolding binary
-same_number m n = truth_of _ ∙ ap is_eq (value_cmp-Int (pos m) (pos n)) ∙ by_numbers
-  where
-    by_numbers : is_eq (int_cmp (pos m) (pos n)) ≡ nat_eq m n
-    by_numbers = grind (arith, ints, nat_tests)
 
 module _ (seq : ℕ) where
   its_seq : (at pos' : ℕ) (f : Pair) → has_seq (pos seq) (finding_row at pos' f) ≡ nat_eq at seq

@@ -3,12 +3,12 @@ pub mod AuditLemmas
 pub mod AuditRefutes
 pub mod AuditSteps
 pub mod CellLemmas
-pub mod Counting
 pub mod CreateTexts
 pub mod FactLemmas
 pub mod FindLemmas
 pub mod FindReads
 pub mod FindTexts
+pub mod Floats
 pub mod Growing
 pub mod ListLemmas
 pub mod Making

@@ -11,13 +11,14 @@ use Rattle.xbrl_report.specs.declared.judging.Judged.TheVariants.{Valid, Refused
 use Rattle.filing_model.specs.Request.{Request, firsts, has_key}
 use Rattle.filing_model.specs.Register.{Outcome, Kept, filings, verdict, outcome_by, judged, kept, register}
 use Rattle.filing_model.proofs.Firsts.{firsts_new}
+use Rattle.filing_model.proofs.Lists.{length-map}
 use Rattle.filing_model.proofs.Keeping.{kept_new, requests_of_kept, filings-append}
 use Rattle.table_rows.specs.Rows.{counted_from}
+use Rattle.table_rows.proofs.StepLemmas.{counted_push}
 use Rattle.register_store.specs.Outcomes.{outcome_of, filings_by}
 use Rattle.register_store.specs.Register.{IsCompleted, StandsFor, kept_row, finding_rows, filing_rows, fact_rows, joined_from}
 use Rattle.register_store.specs.Changes.{AddsRows}
 use Rattle.register_store.specs.Store.{IsRegisterOf}
-use Rattle.register_store.proofs.Counting.{counted_push}
 
 joined_push : (rows : ℕ → Kept → List Row) (at : ℕ) (ks : List Kept) (k : Kept) → joined_from rows at (ks ++ k ∷ []) ≡ joined_from rows at ks ++ rows (at + length ks) k
 joined_push rows at [] k = append-nil (rows at k) ∙ ap (λ n. rows n k) (omega arith)
@@ -26,17 +27,13 @@ joined_push rows at (x ∷ ks) k =
     ∙ sym (append_assoc (rows at x) (joined_from rows (at + 1) ks) (rows (at + 1 + length ks) k))
     ∙ ap (λ n. (rows at x ++ joined_from rows (at + 1) ks) ++ rows n k) (omega arith)
 
-length_map : {X Y : Type 0} (f : X → Y) (xs : List X) → length (map f xs) ≡ length xs
-length_map f [] = refl
-length_map f (x ∷ xs) = ap suc (length_map f xs)
-
 all_push : (P : Request → Type 0) (F : List Request) (r : Request) → AllByRecursion P F → P r → AllByRecursion P (F ++ r ∷ [])
 all_push P [] r all one = (one, tt)
 all_push P (q ∷ F) r all one = (all.0, all_push P F r all.1 one)
 
 -- as many are kept as there are firsts
 pub kept_length : (F : List Request) → firsts F ≡ F → length (kept F) ≡ length F
-kept_length F once = sym (length_map (λ k. k.request) (kept F)) ∙ ap length (requests_of_kept F ∙ once)
+kept_length F once = sym (length-map (λ (k : Kept). k.request) (kept F)) ∙ ap length (requests_of_kept F ∙ once)
 
 -- what becomes of a request that was judged
 pub judged_as : (before : List Kept) (r : Request) (j : Judged) → IsJudgement r.filer r.body j → (judged before r).outcome ≡ outcome_of (suc (length (filings before))) j

@@ -62,7 +62,6 @@ module _ (filer : List ℕ) where
 
 -- ---- each filing is found by its number
 
-
 numbers_above : (m n : ℕ) (fs : List Filing) → m < n → map (λ (f : Filing). f.number) fs ≡ range_with_len n (length fs) → AllByRecursion (λ (f : Filing). m < f.number) fs
 numbers_above m n [] low h = tt
 numbers_above m n (f ∷ fs) low h =

@@ -16,14 +16,6 @@ use Rattle.register_store.specs.Changes.{AddsRows, Adds, AddsTo, AddsNothing}
 use Rattle.register_store.specs.Store.{StoreParts, shows, HasRequests, IsRegisterOf, Leaves}
 use Rattle.register_store.proofs.MoreRequests.{judged_as, registered_more, register_of_more}
 
--- a call that wrote nothing leaves the requests
-pub nothing_added : (F : List Request) (old new : State) → AddsNothing old new → new.in_transaction ≡ false → Stands (IsRegisterOf F) old → Stands (IsRegisterOf F) new
-nothing_added F old new none idle was = record {
-  autocommit = idle;
-  now = λ alive. let opened = none.was_open alive in subst (IsRegisterOf F) (sym (none.now alive ∙ was.committed opened)) (was.now opened);
-  committed = λ alive. none.committed alive ∙ sym (none.now alive);
-}
-
 -- while the store is open, a crash leaves the requests that stand
 pub leaves : (F : List Request) (s : State) → Stands (IsRegisterOf F) s → IsTrue s.is_open → (trees : Trees) → trees ≡ s.committed.trees → Leaves F trees
 leaves F s h alive trees last = record { db = s.now; is = last ∙ ap (λ (d : Database). d.trees) (h.committed alive); register = h.now alive }

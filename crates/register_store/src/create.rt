@@ -7,7 +7,7 @@ ghost use Rattle.sqlite.specs.Tree.{Trees};
 ghost use Rattle.sqlite.specs.State.{HasCleanDisk, KeepsCommit, Survives, ExecutesInside};
 ghost use Rattle.table_rows.specs.Tables.{no_schema};
 ghost use Rattle.register_store.specs.Register.{HasRows};
-ghost use Rattle.register_store.specs.Changes.{MakesTables};
+ghost use Rattle.register_store.specs.Changes.{MakesTables, AddsNothing};
 ghost use Rattle.register_store.specs.Store.{IsRegisterOf, Leaves};
 
 use sqlite::{Alter, Connection, Error, Transaction};
@@ -60,6 +60,7 @@ pub fn make<S: Alter>(conn: &mut Connection<S>) -> Result<(), Error>
     ensures made { HasCleanDisk (state S.Store conn.new) → (state S.Store conn.old).now.schema ≡ no_schema
         → OnOk result (IsTrue (state S.Store conn.new).is_open × IsRegisterOf [] (state S.Store conn.new).now × ((state S.Store conn.new).committed ≡ (state S.Store conn.new).now)) }
     ensures durable { HasCleanDisk (state S.Store conn.new) → OnOk result ((trees : Trees) → (state S.Store conn.new).may_leave trees → trees ≡ (state S.Store conn.new).now.trees) }
+    ensures neither { HasCleanDisk (state S.Store conn.new) → OnErr result (AddsNothing (state S.Store conn.old) (state S.Store conn.new)) }
     ensures crash { Survives (state S.Store conn.old) (state S.Store conn.new) (λ trees. (state S.Store conn.old).now.schema ≡ no_schema → Leaves [] trees) }
 {
     let mut tx = conn.transaction();

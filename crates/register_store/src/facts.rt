@@ -20,7 +20,7 @@ fn text_of(bytes: Vec<u8>) -> Result<String, StoreFault>
 }
 
 /// The text of a column of bytes.
-fn read_text(row: &Row, at: usize) -> Result<String, StoreFault>
+pub(crate) fn read_text(row: &Row, at: usize) -> Result<String, StoreFault>
     ensures { IfOk result (λ text. string_bytes text ≡ bytes_in (column row.now at)) }
 {
     text_of(row.get(at)?)

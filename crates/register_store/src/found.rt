@@ -17,6 +17,7 @@ ghost use Rattle.register_store.specs.Store.{IsRegisterOf};
 ghost use Rattle.register_store.specs.Outcomes.{kept_as};
 ghost use Rattle.register_store.specs.Found.{IsFound, IsLookUp, IsPlaced, IsReading, found_row, finding_in};
 
+use crate::facts::read_text;
 use crate::fault::StoreFault;
 use crate::outcome::{KeptRow, Outcome};
 use crate::rows::{rows_of_findings, rows_with_key};
@@ -43,16 +44,6 @@ fn read_found(row: &Row) -> Result<Found, StoreFault>
     Ok(Found { seq, body, number })
 }
 
-/// The text that bytes are.
-fn text_of(bytes: Vec<u8>) -> Result<String, StoreFault>
-    ensures { IfOk result (λ text. string_bytes text ≡ bytes.items) }
-{
-    match String::from_utf8(bytes) {
-        Ok(text) => Ok(text),
-        Err(_) => Err(StoreFault::Store),
-    }
-}
-
 /// The code of this number.
 fn code_of(number: i64) -> Result<Code, StoreFault>
     ensures { IfOk result (λ code. number ≡ pos (code_number code)) }
@@ -69,8 +60,7 @@ fn read_finding(row: &Row) -> Result<Finding, StoreFault>
 {
     let number: i64 = row.get(0)?;
     let code = code_of(number)?;
-    let bytes: Vec<u8> = row.get(1)?;
-    let place = text_of(bytes)?;
+    let place = read_text(row, 1)?;
     Ok(Finding { place, code })
 }
 
@@ -139,5 +129,58 @@ fn findings_at<S: Alter>(
     match rows_of_findings(conn, seq) {
         Ok(rows) => read_findings(alloc, &rows),
         Err(error) => Err(StoreFault::from(error)),
+    }
+}
+
+/// A kept row whole: with its number, or with its findings where it has none.
+fn complete<S: Alter>(
+    conn: &mut Connection<S>,
+    alloc: Global,
+    found: Found,
+) -> Result<KeptRow, StoreFault>
+    ensures found { HasCleanDisk (state S.Store conn.new) → (filer key : List ℕ) (F : List Request) → Stands (IsRegisterOf F) (state S.Store conn.old)
+        → (is : IsFound filer key F found) → IfOk result (λ row. kept_as filer key row ≡ is.k) }
+    ensures same { HasCleanDisk (state S.Store conn.new) → (F : List Request) → Stands (IsRegisterOf F) (state S.Store conn.old) → Stands (IsRegisterOf F) (state S.Store conn.new) }
+    ensures open { HasCleanDisk (state S.Store conn.new) → (F : List Request) → Stands (IsRegisterOf F) (state S.Store conn.old) → IsTrue (state S.Store conn.old).is_open → OnOk result (IsTrue (state S.Store conn.new).is_open) }
+    ensures mode { conn.old.in_transaction ≡ false → conn.new.in_transaction ≡ false }
+    ensures survives { Survives (state S.Store conn.old) (state S.Store conn.new) (λ _. IsDeclared (state S.Store conn.old).now.schema → ⊥) }
+{
+    let Found { seq, body, number } = found;
+    match number {
+        Some(number) => Ok(KeptRow {
+            body,
+            outcome: Outcome::Registered(number),
+        }),
+        None => match findings_at(conn, alloc, seq) {
+            Ok(findings) => Ok(KeptRow {
+                body,
+                outcome: Outcome::Refused(findings),
+            }),
+            Err(fault) => Err(fault),
+        },
+    }
+}
+
+/// What is kept of a filer and key, or `None` where they are new.
+pub fn find_kept<S: Alter>(
+    conn: &mut Connection<S>,
+    alloc: Global,
+    filer: &str,
+    key: &str,
+) -> Result<Option<KeptRow>, StoreFault>
+    ensures found { HasCleanDisk (state S.Store conn.new) → (F : List Request) → Stands (IsRegisterOf F) (state S.Store conn.old)
+        → (body : List ℕ) → IfOk result (λ row. option_map (kept_as filer.now key.now) row ≡ kept_for (kept F) (the_request filer.now key.now body)) }
+    ensures same { HasCleanDisk (state S.Store conn.new) → (F : List Request) → Stands (IsRegisterOf F) (state S.Store conn.old) → Stands (IsRegisterOf F) (state S.Store conn.new) }
+    ensures open { HasCleanDisk (state S.Store conn.new) → (F : List Request) → Stands (IsRegisterOf F) (state S.Store conn.old) → OnOk result (IsTrue (state S.Store conn.new).is_open) }
+    ensures mode { conn.old.in_transaction ≡ false → conn.new.in_transaction ≡ false }
+    ensures crash { Survives (state S.Store conn.old) (state S.Store conn.new) (λ _. (F : List Request) → Stands (IsRegisterOf F) (state S.Store conn.old) → IsTrue (state S.Store conn.old).is_open → ⊥) }
+{
+    match look_up(conn, filer, key) {
+        Ok(Some(found)) => match complete(conn, alloc, found) {
+            Ok(row) => Ok(Some(row)),
+            Err(fault) => Err(fault),
+        },
+        Ok(None) => Ok(None),
+        Err(fault) => Err(fault),
     }
 }

@@ -6,6 +6,7 @@
 mod audit;
 mod cells;
 mod completed;
+mod content;
 mod counts;
 mod create;
 mod facts;
@@ -22,6 +23,10 @@ mod store;
 mod write;
 
 pub use completed::{Completed, Registered};
+pub use content::findings_value;
 pub use fault::{CreateFault, StoreFault};
 pub use outcome::{KeptRow, NewRow, Outcome};
 pub use store::Store;
+
+#[cfg(test)]
+mod tests;

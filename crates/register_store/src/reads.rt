@@ -11,9 +11,7 @@ ghost use Rattle.register_store.specs.Reads.{Knows, every, whole, by_first, by_s
 use sqlite::{Alter, Connection, Error, Row, params};
 
 /// All kept rows, by `seq`.
-pub(crate) fn kept_rows<S: Alter>(
-    conn: &mut Connection<S>,
-) -> Result<Vec<Row>, Error>
+pub(crate) fn kept_rows<S: Alter>(conn: &mut Connection<S>) -> Result<Vec<Row>, Error>
     ensures read { HasCleanDisk (state S.Store conn.new) → Knows (state S.Store conn.old) → IfOk result (λ rows. ReadsRows kept_table every by_first whole rows.items (state S.Store conn.old) (state S.Store conn.new)) }
     ensures keeps { HasCleanDisk (state S.Store conn.new) → Knows (state S.Store conn.old) → Keeps (state S.Store conn.old) (state S.Store conn.new) }
     ensures mode { conn.old.in_transaction ≡ false → conn.new.in_transaction ≡ false }

@@ -205,10 +205,7 @@ pub fn rows_with_key<S: Alter>(
 }
 
 /// The columns `code` and `place` of the findings of the request at this place, in order.
-pub fn rows_of_findings<S: Alter>(
-    conn: &mut Connection<S>,
-    seq: i64,
-) -> Result<Vec<Row>, Error>
+pub fn rows_of_findings<S: Alter>(conn: &mut Connection<S>, seq: i64) -> Result<Vec<Row>, Error>
     ensures read { HasCleanDisk (state S.Store conn.new) → Knows (state S.Store conn.old) → IfOk result (λ rows. ReadsRows finding_table (has_seq seq) by_second pair_in rows.items (state S.Store conn.old) (state S.Store conn.new)) }
     ensures keeps { HasCleanDisk (state S.Store conn.new) → Knows (state S.Store conn.old) → Keeps (state S.Store conn.old) (state S.Store conn.new) }
     ensures mode { conn.old.in_transaction ≡ false → conn.new.in_transaction ≡ false }

@@ -1,6 +1,6 @@
 //! The store of a register: its connection, and how much it holds.
 
-ghost use Rattle.std.specs.Prelude.{◌≡◌, ◌≤◌, ◌<◌, ◌^◌, ◌↔◌, ℕ, true, false, List, [], ◌∷◌, ◌++◌, length, option_map, None, Ok, Err, IsTrue, IfOk, OnOk, OnErr};
+ghost use Rattle.std.specs.Prelude.{◌≡◌, ◌≤◌, ◌<◌, ◌^◌, ◌+◌, ◌↔◌, ℕ, true, false, List, [], ◌∷◌, ◌++◌, length, option_map, None, Ok, Err, IsTrue, IfOk, OnOk, OnErr};
 ghost use Rattle.key_string.specs.Filer.{is_filer};
 ghost use Rattle.http_wire.specs.Head.{max_body_len};
 ghost use Rattle.xbrl_report.specs.Judgement.{IsJudgement, HasFacts};
@@ -16,6 +16,7 @@ ghost use Rattle.register_store.specs.Schema.{is_taken};
 
 use crate::create::make;
 use crate::fault::{CreateFault, StoreFault};
+use crate::found::find_kept;
 use crate::names;
 use crate::outcome::{KeptRow, NewRow, Outcome};
 use crate::write::keep;
@@ -61,11 +62,13 @@ impl<S: Alter + Drop> Store<S> {
     ghost use Rattle.register_store.specs.Store.{shows, HasRequests, Leaves};
 
     /// Makes the tables of a register that has no request, in one transaction. A refusal gives the connection up, and
-    /// leaves the database as it was. The tables are those of a register where the database had none before.
+    /// leaves the database as it was. What is said of rows holds where the database had no table before.
     pub fn create(alloc: Global, mut conn: Connection<S>) -> Result<Store<S>, CreateFault>
         requires autocommit { conn.in_transaction ≡ false }
         requires unlimited { conn.step_limit ≡ None }
         ensures made { IfOk result (λ store. HasCleanDisk (shows S.Store store) → (state S.Store conn).now.schema ≡ no_schema → HasRequests S.Store store []) }
+
+        ensures counts { IfOk result (λ store. (store.kept ≡ 0) × (store.filings ≡ 0)) }
 
         // Taken comes where one of the names is in use, and always there.
         ensures taken { (result ≡ Err CreateFault.Taken) ↔ IsTrue (is_taken (state S.Store conn).now.schema) }
@@ -106,7 +109,7 @@ impl<S: Alter> Store<S> {
         ensures durable { HasCleanDisk (shows S.Store self.new) → (F : List Request) → HasRequests S.Store self.old F
             → OnOk result (IsTrue (shows S.Store self.new).is_open × ((trees : Trees) → (shows S.Store self.new).may_leave trees → Leaves F trees)) }
     {
-        Err(StoreFault::Store)
+        find_kept(&mut self.conn, self.alloc, filer, key.as_str())
     }
 
     /// Keeps a request, in one transaction, and answers its outcome: a valid report takes the next number, and another
@@ -124,6 +127,8 @@ impl<S: Alter> Store<S> {
 
         // A refusal changes nothing.
         ensures same { HasCleanDisk (shows S.Store self.new) → (F : List Request) → HasRequests S.Store self.old F → OnErr result (HasRequests S.Store self.new F) }
+        ensures count { OnOk result (self.new.kept ≡ self.old.kept + 1) }
+        ensures counts { OnErr result ((self.new.kept ≡ self.old.kept) × (self.new.filings ≡ self.old.filings)) }
 
         // A crash leaves what one before the call could leave, or the rows with this request, and after Ok these alone.
         ensures crash { Survives (shows S.Store self.old) (shows S.Store self.new) (λ trees. (F : List Request) → HasRequests S.Store self.old F → IsTrue (shows S.Store self.old).is_open

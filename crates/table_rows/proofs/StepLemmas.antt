@@ -1,5 +1,5 @@
 -- Statements inside one transaction, one after another.
-use Rattle.std.proofs.Common.{◌≡◌, ℕ, ◌+◌, ◌<◌, zero, suc, true, List, [], ◌∷◌, ◌++◌, map, take, length, get_or, inl, refl, sym, ap, subst, ◌∙◌, arith}
+use Rattle.std.proofs.Common.{◌≡◌, ℕ, ◌+◌, ◌<◌, zero, suc, true, List, [], ◌∷◌, ◌++◌, take, length, get_or, inl, refl, sym, ap, subst, ◌∙◌, arith}
 use Rattle.std.proofs.lemmas.List.{take_more}
 use Rattle.sqlite.specs.Order.{Row}
 use Rattle.sqlite.specs.Table.{Table}
@@ -28,26 +28,18 @@ nothing_left a b c p q = survives_then a b c (λ _. ⊥) (λ _. ⊥) (λ _. ⊥)
 pub nothing_yet : (a : State) → Survives a a (λ _. ⊥)
 nothing_yet a = record { clean = omega arith; shield = λ s. s; counts = omega arith; limit = refl; closes = λ clean opened. inl opened; crash = λ clean db left. inl left }
 
-counted_push : {X : Type 0} (row : ℕ → X → Row) (at : ℕ) (xs : List X) (x : X) → counted_from row at (xs ++ x ∷ []) ≡ counted_from row at xs ++ row (at + length xs) x ∷ []
+pub counted_push : {X : Type 0} (row : ℕ → X → Row) (at : ℕ) (xs : List X) (x : X) → counted_from row at (xs ++ x ∷ []) ≡ counted_from row at xs ++ row (at + length xs) x ∷ []
 counted_push row at [] x = ap (λ n. row n x ∷ []) (omega arith)
 counted_push row at (y ∷ xs) x = ap (λ l. row at y ∷ l) (counted_push row (at + 1) xs x ∙ ap (λ n. counted_from row (at + 1) xs ++ row n x ∷ []) (omega arith))
-
-map_push : {X Y : Type 0} (f : X → Y) (xs : List X) (x : X) → map f (xs ++ x ∷ []) ≡ map f xs ++ f x ∷ []
-map_push f [] x = refl
-map_push f (y ∷ xs) x = ap (λ l. f y ∷ l) (map_push f xs x)
-
-length_map : {X Y : Type 0} (f : X → Y) (xs : List X) → length (map f xs) ≡ length xs
-length_map f [] = refl
-length_map f (x ∷ xs) = ap suc (length_map f xs)
 
 length_take : {X : Type 0} (i : ℕ) (xs : List X) → i < length xs → length (take i xs) ≡ i
 length_take zero xs h = refl
 length_take (suc i) [] h = absurd (omega arith)
 length_take (suc i) (x ∷ xs) h = ap suc (length_take i xs (omega arith))
 
--- one more of the rows that are counted
-pub one_more : {X Y : Type 0} (row : ℕ → Y → Row) (f : X → Y) (xs : List X) (i : ℕ) (d : X) → i < length xs
-    → counted_from row 1 (map f (take (i + 1) xs)) ≡ counted_from row 1 (map f (take i xs)) ++ row (1 + i) (f (get_or xs i d)) ∷ []
-one_more row f xs i d h =
-    ap (λ l. counted_from row 1 (map f l)) (take_more xs i d h) ∙ ap (counted_from row 1) (map_push f (take i xs) (get_or xs i d)) ∙ counted_push row 1 (map f (take i xs)) (f (get_or xs i d))
-    ∙ ap (λ n. counted_from row 1 (map f (take i xs)) ++ row (1 + n) (f (get_or xs i d)) ∷ []) (length_map f (take i xs) ∙ length_take i xs h)
+-- the rows of the first elements, with that of the next
+pub counted_more : {X : Type 0} (row : ℕ → X → Row) (xs : List X) (i : ℕ) (d : X) → i < length xs
+    → counted_from row 1 (take (i + 1) xs) ≡ counted_from row 1 (take i xs) ++ row (1 + i) (get_or xs i d) ∷ []
+counted_more row xs i d h =
+    ap (counted_from row 1) (take_more xs i d h) ∙ counted_push row 1 (take i xs) (get_or xs i d)
+    ∙ ap (λ n. counted_from row 1 (take i xs) ++ row (1 + n) (get_or xs i d) ∷ []) (length_take i xs h)
