@@ -18,12 +18,12 @@ use Rattle.register_store.specs.Register.{IsCompleted, kept_row, finding_rows, f
 use Rattle.register_store.proofs.ListLemmas.{requests_said}
 use Rattle.register_store.proofs.MoreRequests.{kept_length, registered_more}
 
-joined_append : (rows : ℕ → Kept → List Row) (at : ℕ) (ks ms : List Kept) → joined_from rows at (ks ++ ms) ≡ joined_from rows at ks ++ joined_from rows (at + length ks) ms
+pub joined_append : (rows : ℕ → Kept → List Row) (at : ℕ) (ks ms : List Kept) → joined_from rows at (ks ++ ms) ≡ joined_from rows at ks ++ joined_from rows (at + length ks) ms
 joined_append rows at [] ms = ap (λ n. joined_from rows n ms) (omega arith)
 joined_append rows at (k ∷ ks) ms =
     ap (λ l. rows at k ++ l) (joined_append rows (at + 1) ks ms ∙ ap (λ n. joined_from rows (at + 1) ks ++ joined_from rows n ms) (omega arith)) ∙ sym (append_assoc (rows at k) (joined_from rows (at + 1) ks) _)
 
-counted_append : (at : ℕ) (ks ms : List Kept) → counted_from kept_row at (ks ++ ms) ≡ counted_from kept_row at ks ++ counted_from kept_row (at + length ks) ms
+pub counted_append : (at : ℕ) (ks ms : List Kept) → counted_from kept_row at (ks ++ ms) ≡ counted_from kept_row at ks ++ counted_from kept_row (at + length ks) ms
 counted_append at [] ms = ap (λ n. counted_from kept_row n ms) (omega arith)
 counted_append at (k ∷ ks) ms =
     ap (λ l. kept_row at k ∷ l) (counted_append (at + 1) ks ms ∙ ap (λ n. counted_from kept_row (at + 1) ks ++ counted_from kept_row n ms) (omega arith))
@@ -32,7 +32,7 @@ all_push : (P : Request → Type 0) (F : List Request) (r : Request) → AllByRe
 all_push P [] r all one = (one, tt)
 all_push P (q ∷ F) r all one = (all.0, all_push P F r all.1 one)
 
-all_at : (P : Request → Type 0) (F : List Request) (r : Request) (G : List Request) → AllByRecursion P (F ++ r ∷ G) → P r
+pub all_at : (P : Request → Type 0) (F : List Request) (r : Request) (G : List Request) → AllByRecursion P (F ++ r ∷ G) → P r
 all_at P [] r G all = all.0
 all_at P (q ∷ F) r G all = all_at P F r G all.1
 

@@ -1,5 +1,6 @@
 pub mod Adding
 pub mod AuditLemmas
+pub mod AuditRefutes
 pub mod AuditSteps
 pub mod CellLemmas
 pub mod CreateTexts

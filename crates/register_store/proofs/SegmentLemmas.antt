@@ -4,7 +4,7 @@ use Rattle.std.proofs.Math.Seq.{take-length}
 use Rattle.std.proofs.lemmas.List.{take_more, take-append-drop}
 use Rattle.sqlite.specs.Order.{Row}
 use Rattle.table_rows.specs.Rows.{counted_from}
-use Rattle.register_store.proofs.Counting.{counted_more}
+use Rattle.table_rows.proofs.StepLemmas.{counted_more}
 
 module _ {X : Type 0} (row : ℕ → X → Row) (rows : List Row) (xs : List X) where
   pub begins_more : (i : ℕ) (d : Row) (e : X) → i < length rows → i < length xs → take i rows ≡ counted_from row 1 (take i xs) → get_or rows i d ≡ row (i + 1) (get_or xs i e)

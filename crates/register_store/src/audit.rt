@@ -8,9 +8,9 @@ ghost use Rattle.sqlite.specs.Values.{or_null};
 ghost use Rattle.key_string.specs.Key.{IsKey};
 ghost use Rattle.xbrl_report.specs.ReportParts.{facts as facts_of};
 ghost use Rattle.xbrl_report.specs.Judgement.{IsJudgement, HasFacts};
-ghost use Rattle.filing_model.specs.Register.{Outcome};
-ghost use Rattle.filing_model.specs.Request.{has_key};
-ghost use Rattle.register_store.specs.Audit.{Others, Begins, IsSound, IsVerdict, view_rest, request_outcome, kept_in};
+ghost use Rattle.filing_model.specs.Register.{Outcome, register};
+ghost use Rattle.filing_model.specs.Request.{Request, has_key};
+ghost use Rattle.register_store.specs.Audit.{Others, AreRowsOf, Begins, IsSound, IsVerdict, view_rest, request_outcome, kept_in};
 ghost use Rattle.register_store.specs.Cells.{value_of};
 ghost use Rattle.register_store.specs.Columns.{text_in, bytes_in, request_in};
 ghost use Rattle.register_store.specs.Outcomes.{outcome_of, filings_by};
@@ -225,9 +225,8 @@ fn check_next<'a>(
     }
 }
 
-/// Audits the rows of `kept`, by `seq`, with those of the other tables, each in the order of its key. The error is want of
-/// memory.
-pub(crate) fn audit(
+/// Audits one kept row after the other. The error is want of memory.
+fn audit_in_order(
     alloc: Global,
     kept: &[Row],
     findings: &[Row],
@@ -259,4 +258,20 @@ pub(crate) fn audit(
     } else {
         Ok(Verdict::Damaged { row: 0 })
     }
+}
+
+/// Audits the rows of `kept`, by `seq`, with those of the other tables, each in the order of its key. The error is want of
+/// memory.
+pub(crate) fn audit(
+    alloc: Global,
+    kept: &[Row],
+    findings: &[Row],
+    filings: &[Row],
+    facts: &[Row],
+) -> Result<Verdict, AllocError>
+    ensures verdict { IfOk result (λ verdict. IsVerdict kept.now (record { finding = findings.now; filing = filings.now; fact = facts.now }) verdict) }
+    ensures complete { IfOk result (λ verdict. (F : List Request) → AreRowsOf kept.now (record { finding = findings.now; filing = filings.now; fact = facts.now }) F
+        → verdict ≡ Verdict.Sound (length (register F))) }
+{
+    audit_in_order(alloc, kept, findings, filings, facts)
 }
