@@ -11,10 +11,9 @@ pub mod MoreBytes
 pub mod PartLemmas
 pub mod PostHead
 pub mod PostLaws
-pub mod PostLines
 pub mod PostLemmas
+pub mod PostLines
 pub mod ReceivedLemmas
-pub mod Unique
 pub mod RefusedReply
 pub mod ReplyAgain
 pub mod ReplyHead
@@ -22,5 +21,6 @@ pub mod ReplyLemmas
 pub mod ReplyRead
 pub mod ResponseLemmas
 pub mod TakeLemmas
+pub mod Unique
 pub mod UniqueReply
 pub mod ValueLemmas

@@ -1,12 +1,11 @@
 //! Reading one reply (RFC 9110 and RFC 9112): interim responses are skipped, and the final one is read
 //! with its content.
-ghost use Rattle.std.specs.Prelude.{◌≡◌, ◌<◌, ◌≤◌, ℕ, length, IfOk, IfErr, OnOk, slice_range, nat_le, ◌&&◌, MatchResult};
-ghost use Rattle.http_wire.specs.Block.{IsBlockEnd, skipped_len};
+ghost use Rattle.std.specs.Prelude.{◌≡◌, ◌<◌, ◌≤◌, length, IfOk, IfErr, OnOk};
 ghost use Rattle.http_wire.specs.Device.{HasFailed};
 ghost use Rattle.http_wire.specs.Received.{held_bytes, read_count};
 ghost use Rattle.http_wire.specs.Replies.{reply_parts};
 ghost use Rattle.http_wire.specs.ReplyFaults.{HasGiven, IsReplyFailure};
-ghost use Rattle.http_wire.specs.ReplyReading.{IsResponseBlock, Takes, TakesHead, IsHeadFailure, IsContentFailure};
+ghost use Rattle.http_wire.specs.ReplyReading.{Takes, TakesHead, IsHeadFailure, IsContentFailure};
 ghost use Rattle.http_wire.specs.Response.{GivesReply, is_interim};
 
 use crate::block::{Block, skipped_len};
