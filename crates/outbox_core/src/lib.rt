@@ -20,3 +20,6 @@ pub use fault::{OutboxFault, PutFault, StoreFault, TakeFault};
 pub use key::key_of;
 pub use outbox::Outbox;
 pub use state::State;
+
+#[cfg(test)]
+mod tests;

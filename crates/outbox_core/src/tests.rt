@@ -1,0 +1,170 @@
+//! The calls on an outbox, from outside.
+
+ghost use Rattle.std.specs.Prelude.{◌≡◌, false, None, IfOk};
+
+use super::{Entry, Outbox, OutboxFault, PutFault, State, TakeFault, key_of};
+use http_wire::Reply;
+use key_string::KeyText;
+use sqlite::{Connection, MemStore};
+use std::alloc::Global;
+use std::test::Fail;
+use uuid::Uuid;
+
+const BODY: &[u8] = b"{\"facts\":{}}";
+
+/// A connection in no transaction and without a limit of steps.
+fn ready(conn: Connection<MemStore>) -> Result<Connection<MemStore>, Fail>
+    ensures { IfOk result (λ conn. (conn.in_transaction ≡ false) × (conn.step_limit ≡ None)) }
+{
+    let mut conn = conn;
+    conn.set_step_limit(None);
+    if !conn.is_autocommit() {
+        return Err("a transaction is under way".into());
+    }
+    Ok(conn)
+}
+
+fn new_outbox(alloc: Global) -> Result<Outbox<MemStore>, Fail> {
+    let conn = ready(Connection::open_in_memory(alloc)?)?;
+    Ok(Outbox::create(alloc, conn, "ACME")?)
+}
+
+fn with_entry(alloc: Global) -> Result<Outbox<MemStore>, Fail> {
+    let mut outbox = new_outbox(alloc)?;
+    outbox.put(KeyText::new(alloc, "k-1")?, BODY.to_vec(alloc)?)?;
+    Ok(outbox)
+}
+
+fn reply(alloc: Global, status: u16, content: &[u8]) -> Result<Reply, Fail> {
+    Ok(Reply {
+        status,
+        content: content.to_vec(alloc)?,
+    })
+}
+
+fn reopened(alloc: Global, outbox: Outbox<MemStore>) -> Result<Outbox<MemStore>, Fail> {
+    Ok(Outbox::open(alloc, ready(outbox.into_conn())?)?)
+}
+
+/// What an opening answers after a statement on the tables.
+fn fault_after(alloc: Global, sql: &str) -> Result<Option<OutboxFault>, Fail> {
+    let mut conn = with_entry(alloc)?.into_conn();
+    conn.execute(sql, &[])?;
+    Ok(Outbox::open(alloc, ready(conn)?).err())
+}
+
+#[test]
+fn a_used_key_and_a_large_body_are_refused(rt: HostRuntime) -> Result<(), Fail> {
+    let alloc = rt.alloc();
+    let mut outbox = new_outbox(alloc)?;
+    assert_eq!(rt; outbox.filer(), "ACME");
+    assert_eq!(rt;
+        outbox.put(KeyText::new(alloc, "k-1")?, BODY.to_vec(alloc)?)?,
+        1
+    );
+    let again = outbox.put(KeyText::new(alloc, "k-1")?, b"{}".to_vec(alloc)?);
+    assert_eq!(rt; again, Err(PutFault::KeyUsed { id: 1 }));
+    let large = vec![in alloc; 0u8; 1_048_577]?;
+    assert_eq!(rt;
+        outbox.put(KeyText::new(alloc, "k-2")?, large),
+        Err(PutFault::TooLarge)
+    );
+    assert_eq!(rt;
+        outbox.put(KeyText::new(alloc, "k-2")?, BODY.to_vec(alloc)?)?,
+        2
+    );
+    Ok(())
+}
+
+#[test]
+fn an_entry_is_confirmed_once(rt: HostRuntime) -> Result<(), Fail> {
+    let alloc = rt.alloc();
+    let mut outbox = with_entry(alloc)?;
+    let open: Entry = outbox.next_open()?.ok_or("no entry is open")?;
+    assert_eq!(rt; open.id, 1);
+    assert_eq!(rt; open.key.as_str(), "k-1");
+    assert_eq!(rt; open.body.as_slice(), BODY);
+    assert_eq!(rt;
+        outbox.entry(1)?.ok_or("there is no entry 1")?.state,
+        State::Open
+    );
+    let unavailable = reply(alloc, 503, b"{\"status\":\"unavailable\"}")?;
+    assert_eq!(rt; outbox.take(1, &unavailable)?, State::Open);
+    let registered = reply(alloc, 201, b"{\"number\":1,\"status\":\"registered\"}")?;
+    assert_eq!(rt; outbox.take(1, &registered)?, State::Confirmed(1));
+    let reused = reply(alloc, 422, b"{\"status\":\"key-reused\"}")?;
+    assert_eq!(rt; outbox.take(1, &reused)?, State::Confirmed(1));
+    assert_eq!(rt; outbox.take(2, &registered), Err(TakeFault::NoEntry));
+    assert!(rt; outbox.next_open()?.is_none());
+    assert_eq!(rt;
+        outbox.states()?.as_slice(),
+        [(1, State::Confirmed(1))].as_slice()
+    );
+    Ok(())
+}
+
+#[test]
+fn an_outbox_is_made_once_and_for_a_filer(rt: HostRuntime) -> Result<(), Fail> {
+    let alloc = rt.alloc();
+    let conn = ready(Connection::open_in_memory(alloc)?)?;
+    let fault = Outbox::create(alloc, conn, "a b").err();
+    assert_eq!(rt; fault, Some(OutboxFault::BadFiler));
+    let conn = ready(with_entry(alloc)?.into_conn())?;
+    let fault = Outbox::create(alloc, conn, "ACME").err();
+    assert_eq!(rt; fault, Some(OutboxFault::Taken));
+    Ok(())
+}
+
+#[test]
+fn an_opening_finds_the_entries(rt: HostRuntime) -> Result<(), Fail> {
+    let alloc = rt.alloc();
+    let mut outbox = with_entry(alloc)?;
+    let refused = reply(alloc, 422, b"{\"findings\":[],\"status\":\"refused\"}")?;
+    outbox.take(1, &refused)?;
+    let mut outbox = reopened(alloc, outbox)?;
+    assert_eq!(rt; outbox.filer(), "ACME");
+    assert_eq!(rt;
+        outbox.states()?.as_slice(),
+        [(1, State::Refused)].as_slice()
+    );
+    assert_eq!(rt;
+        outbox.put(KeyText::new(alloc, "k-2")?, BODY.to_vec(alloc)?)?,
+        2
+    );
+    Ok(())
+}
+
+#[test]
+fn damage_is_told(rt: HostRuntime) -> Result<(), Fail> {
+    let alloc = rt.alloc();
+    let first = Some(OutboxFault::Damaged { row: 1 });
+    assert_eq!(rt; fault_after(alloc, "UPDATE entry SET state = 7")?, first);
+    assert_eq!(rt; fault_after(alloc, "UPDATE entry SET number = 5")?, first);
+    assert_eq!(rt; fault_after(alloc, "UPDATE entry SET state = 1")?, first);
+    assert_eq!(rt; fault_after(alloc, "UPDATE entry SET id = 2")?, first);
+    assert_eq!(rt; fault_after(alloc, "UPDATE entry SET idem = ''")?, first);
+    let unreadable = Some(OutboxFault::Damaged { row: 0 });
+    assert_eq!(rt; fault_after(alloc, "DROP TABLE entry")?, unreadable);
+    let other = Some(OutboxFault::NotOurs);
+    assert_eq!(rt;
+        fault_after(alloc, "UPDATE outbox_meta SET filer = ''")?,
+        other
+    );
+    assert_eq!(rt;
+        fault_after(alloc, "UPDATE outbox_meta SET form = 2")?,
+        other
+    );
+    assert_eq!(rt; fault_after(alloc, "DROP TABLE outbox_meta")?, other);
+    assert_eq!(rt;
+        fault_after(alloc, "UPDATE entry SET state = 1, number = 5")?,
+        None
+    );
+    Ok(())
+}
+
+#[test]
+fn a_uuid_is_a_key(rt: HostRuntime) -> Result<(), Fail> {
+    let key = key_of(rt.alloc(), Uuid::nil())?;
+    assert_eq!(rt; key.as_str(), "00000000-0000-0000-0000-000000000000");
+    Ok(())
+}
