@@ -5,18 +5,19 @@ ghost use Rattle.std.specs.Prelude.{◌≡◌, false, map, IfOk};
 ghost use Rattle.http_wire.specs.Replies.{reply_parts};
 ghost use Rattle.serde_json.specs.View.{view};
 ghost use Rattle.serde_json.specs.Written.{compact_text, has_float};
-ghost use Rattle.filing_model.specs.Reply.{reply_of, list_reply, word_reply, answer_data, answer_status, refused_status, finding_data, findings_data, listing_data, listings_data, list_data, word_data};
+ghost use Rattle.filing_model.specs.Reply.{reply_of, list_reply, word_reply, answer_data, answer_status, refused_status, listing_data, listings_data, list_data, word_data};
 ghost use Rattle.filing_model.specs.Views.{view_answer, view_row};
 
 use filing_model::plain::{Answer, FilingRow};
 use http_wire::Reply;
+use register_store::findings_value;
 use serde_json::{Value, json};
 use std::alloc::{AllocError, Global};
-use xbrl_report::{Code, Finding, Findings};
+use xbrl_report::{Code, Findings};
 
 /// The reply to an answer, as compact JSON: 201 with the number, 400 with the finding that the body is
 /// no JSON text, 422 with other findings, or 422 where the key was reused. A repeat gets the same.
-#[tactic(auto, using(crate::proofs::Floats::answer_data_no_float), unfolding(filing_model::specs::Reply::reply_of))]
+#[tactic(auto, using(register_store::proofs::Floats::answer_data_no_float), unfolding(filing_model::specs::Reply::reply_of))]
 pub fn reply_of(alloc: Global, answer: &Answer) -> Result<Reply, AllocError>
     ensures { IfOk result (λ r. reply_parts r ≡ reply_of (view_answer answer.now)) }
 {
@@ -87,22 +88,6 @@ fn answer_value(alloc: Global, answer: &Answer) -> Result<Value, AllocError>
         }
         Answer::KeyReused => json!(in alloc; {"status": "key-reused"}),
     }
-}
-
-fn findings_value(alloc: Global, findings: &[Finding]) -> Result<Value, AllocError>
-    ensures { IfOk result (λ v. view v ≡ findings_data findings.now) }
-{
-    let mut values = Vec::new(alloc);
-    for finding in findings {
-        values.push(finding_value(alloc, finding)?)?;
-    }
-    Ok(Value::Array(values))
-}
-
-fn finding_value(alloc: Global, finding: &Finding) -> Result<Value, AllocError>
-    ensures { IfOk result (λ v. view v ≡ finding_data finding.now) }
-{
-    json!(in alloc; {"code": finding.code.text(), "place": finding.place.as_str()})
 }
 
 fn rows_value(alloc: Global, rows: &[FilingRow]) -> Result<Value, AllocError>
