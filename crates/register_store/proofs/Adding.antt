@@ -1,17 +1,15 @@
 -- A kept request is added by its statements in turn.
-use Rattle.std.proofs.Common.{◌≡◌, ℕ, List, [], ◌∷◌, ◌++◌, append-nil, Some, None, sym, subst, ◌∙◌}
-use Rattle.sqlite.specs.declared.types.Value.TheVariants.{Int}
+use Rattle.std.proofs.Common.{◌≡◌, ℕ, List, [], ◌∷◌, append-nil, sym, subst, ◌∙◌}
 use Rattle.sqlite.specs.Order.{Row}
 use Rattle.sqlite.specs.Effect.{Database}
 use Rattle.sqlite.specs.State.{State}
-use Rattle.xbrl_report.specs.FactRecord.{FactRecord}
 use Rattle.xbrl_report.specs.Pair.{Pair}
 use Rattle.xbrl_report.specs.ReportParts.{facts}
 use Rattle.filing_model.specs.Request.{Request}
-use Rattle.filing_model.specs.Register.{Outcome, Kept}
+use Rattle.filing_model.specs.Register.{Outcome}
 use Rattle.table_rows.specs.Rows.{counted_from}
 use Rattle.table_rows.proofs.GainLemmas.{still_declared}
-use Rattle.register_store.specs.Schema.{register_tables, IsDeclared, kept_table, finding_table, filing_table, fact_table}
+use Rattle.register_store.specs.Schema.{register_tables, kept_table, finding_table, filing_table, fact_table}
 use Rattle.register_store.specs.Register.{HasRows, kept_row, finding_row, filing_rows, fact_row}
 use Rattle.register_store.specs.Changes.{GainsRows, AddsInside}
 use Rattle.register_store.proofs.Growing.{kept_grows, finding_grows, filing_grows, fact_grows}

@@ -1,6 +1,5 @@
 -- The texts that make the tables of a register, and what they make.
 use Rattle.std.proofs.Common.{◌≡◌, List, [], ◌∷◌, codes, ℕ, refl}
-use Rattle.sqlite.specs.Table.{Table}
 use Rattle.sqlite_schema.specs.declared.schema.Index.{Index}
 use Rattle.sqlite.specs.Schema.{Schema}
 use Rattle.sqlite.specs.Change.{created}

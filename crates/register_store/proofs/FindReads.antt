@@ -1,5 +1,5 @@
 -- What each look-up reads.
-use Rattle.std.proofs.Common.{◌≡◌, ℕ, ℤ, List, [], ◌∷◌, refl}
+use Rattle.std.proofs.Common.{ℕ, ℤ, List, [], ◌∷◌, refl}
 use Rattle.sqlite.specs.declared.types.Value.TheVariants.{Int, Text}
 use Rattle.sqlite.specs.Order.{Row}
 use Rattle.sqlite.specs.Term.{col}

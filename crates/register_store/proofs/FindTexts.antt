@@ -1,5 +1,5 @@
 -- What the texts of the look-ups mean under the declared tables.
-use Rattle.std.proofs.Common.{◌≡◌, ℕ, List, [], ◌∷◌, codes, refl, sym, subst}
+use Rattle.std.proofs.Common.{ℕ, List, [], ◌∷◌, codes, refl, sym, subst}
 use Rattle.sqlite_schema.specs.declared.schema.Index.{Index}
 use Rattle.sqlite_schema.specs.declared.schema.View.{View}
 use Rattle.sqlite.specs.Table.{Table}

@@ -1,5 +1,5 @@
 -- What the calls of a store keep.
-use Rattle.std.proofs.Common.{◌≡◌, ℕ, ◌+◌, suc, false, List, [], ◌∷◌, ◌++◌, length, length-append, IsTrue, sym, ap, subst, ◌∙◌, arith}
+use Rattle.std.proofs.Common.{◌≡◌, ◌+◌, suc, false, List, [], ◌∷◌, ◌++◌, length, length-append, IsTrue, sym, ap, subst, ◌∙◌, arith}
 use Rattle.sqlite.specs.Store.{Ghosts}
 use Rattle.sqlite.specs.Tree.{Trees}
 use Rattle.sqlite.specs.Effect.{Database}
@@ -12,7 +12,7 @@ use Rattle.filing_model.specs.Register.{Outcome, Kept, judged, kept, register}
 use Rattle.table_rows.specs.Standing.{Stands}
 use Rattle.register_store.specs.Outcomes.{outcome_of, filings_by}
 use Rattle.register_store.specs.Register.{IsCompleted}
-use Rattle.register_store.specs.Changes.{AddsRows, Adds, AddsTo, AddsNothing}
+use Rattle.register_store.specs.Changes.{AddsRows, Adds, AddsTo}
 use Rattle.register_store.specs.Store.{StoreParts, shows, HasRequests, IsRegisterOf, Leaves}
 use Rattle.register_store.proofs.MoreRequests.{judged_as, registered_more, register_of_more}
 

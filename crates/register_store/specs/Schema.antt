@@ -1,5 +1,5 @@
 -- How the tables of a register are declared.
-use Rattle.std.specs.Prelude.{◌≡◌, Bool, ◌||◌, List, [], ◌∷◌, ℕ, codes}
+use Rattle.std.specs.Prelude.{Bool, ◌||◌, List, [], ◌∷◌, ℕ, codes}
 use Rattle.std.specs.List.{list_any}
 use Rattle.sqlite_value.specs.Keys.{plain}
 use Rattle.sqlite.specs.Table.{Table}

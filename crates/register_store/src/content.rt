@@ -1,6 +1,6 @@
 //! The content of the reply that an outcome gets, to the byte. Its form is an own rule.
 
-ghost use Rattle.std.specs.Prelude.{◌≡◌, false, Bool, IfOk};
+ghost use Rattle.std.specs.Prelude.{◌≡◌, Bool, IfOk};
 ghost use Rattle.serde_json.specs.View.{view};
 ghost use Rattle.filing_model.specs.Answer.{answer_by};
 ghost use Rattle.filing_model.specs.Reply.{reply_of, answer_data, finding_data, findings_data};

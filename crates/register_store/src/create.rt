@@ -2,11 +2,9 @@
 
 ghost use Rattle.std.specs.Prelude.{◌≡◌, ℕ, false, [], Ok, IsTrue, OnOk, OnErr};
 ghost use Rattle.sqlite.specs.Held.{state};
-ghost use Rattle.sqlite.specs.Effect.{IsDatabase};
 ghost use Rattle.sqlite.specs.Tree.{Trees};
 ghost use Rattle.sqlite.specs.State.{HasCleanDisk, KeepsCommit, Survives, ExecutesInside};
 ghost use Rattle.table_rows.specs.Tables.{no_schema};
-ghost use Rattle.register_store.specs.Register.{HasRows};
 ghost use Rattle.register_store.specs.Changes.{MakesTables, AddsNothing};
 ghost use Rattle.register_store.specs.Store.{IsRegisterOf, Leaves};
 

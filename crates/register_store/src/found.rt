@@ -1,10 +1,8 @@
 //! What is kept of a filer and key: its row, and the findings where it was refused.
 
-ghost use Rattle.std.specs.Prelude.{◌≡◌, ℕ, ℤ, pos, false, List, map, option_map, string_bytes, IsTrue, IfOk, OnOk, MatchOption};
-ghost use Rattle.sqlite.specs.Order.{Row as Cells};
+ghost use Rattle.std.specs.Prelude.{◌≡◌, ℕ, pos, false, List, map, option_map, IsTrue, IfOk, OnOk};
 ghost use Rattle.sqlite.specs.Held.{state};
 ghost use Rattle.sqlite.specs.State.{HasCleanDisk, Survives};
-ghost use Rattle.xbrl_report.specs.Pair.{Pair};
 ghost use Rattle.filing_model.specs.Request.{Request};
 ghost use Rattle.filing_model.specs.Register.{Kept, kept};
 ghost use Rattle.filing_model.specs.Answer.{kept_for};
