@@ -80,17 +80,19 @@ module _ (rows : List Row) (all rest : Others) (F G : List Request) (i : ℕ) (b
   pub sound_there : (t : Others) × IsSound (take i rows) (suc (length F)) (suc (length (register F))) row rest t
   unfolding tail
   sound_there =
-      let is = kept_is_judged F row in
-      (tail, record {
-        completed = all_at IsCompleted F r later (subst (AllByRecursion IsCompleted) requests whole.completed);
-        fresh = subst (λ H. has_key H r ≡ false) (sym (requests_first (take i rows) F first.distinct first.kept_is)) fresh;
-        row_is = row_is ∙ ap (kept_row (suc (length F))) (sym is);
-        begins = record {
-          finding = left_of finding_rows all.finding rest.finding whole.finding_is first.finding_is ∙ ap (λ x. finding_rows (suc (length F)) x ++ tail.finding) (sym is);
-          filing = left_of filing_rows all.filing rest.filing whole.filing_is first.filing_is ∙ ap (λ x. filing_rows (suc (length F)) x ++ tail.filing) (sym is);
-          fact = left_of fact_rows all.fact rest.fact whole.fact_is first.fact_is ∙ ap (λ x. fact_rows (suc (length F)) x ++ tail.fact) (sym is);
-        };
-      })
+      let is = kept_is_judged F row in (
+        tail,
+        record {
+          completed = all_at IsCompleted F r later (subst (AllByRecursion IsCompleted) requests whole.completed);
+          fresh = subst (λ H. has_key H r ≡ false) (sym (requests_first (take i rows) F first.distinct first.kept_is)) fresh;
+          row_is = row_is ∙ ap (kept_row (suc (length F))) (sym is);
+          begins = record {
+            finding = left_of finding_rows all.finding rest.finding whole.finding_is first.finding_is ∙ ap (λ x. finding_rows (suc (length F)) x ++ tail.finding) (sym is);
+            filing = left_of filing_rows all.filing rest.filing whole.filing_is first.filing_is ∙ ap (λ x. filing_rows (suc (length F)) x ++ tail.filing) (sym is);
+            fact = left_of fact_rows all.fact rest.fact whole.fact_is first.fact_is ∙ ap (λ x. fact_rows (suc (length F)) x ++ tail.fact) (sym is);
+          };
+        },
+      )
 
 none_left : (front left : List Row) → front ≡ front ++ left → length left ≡ 0
 none_left front left is = let long = ap length is ∙ length-append front left in omega (arith, long)

@@ -88,16 +88,16 @@ pub apart_from : (F G : List Request) (r : Request) → firsts F ≡ F → first
 unfolding firsts
 apart_from F G r once all = ⊎_elim
     (λ (h : has_key F r ≡ true).
-        let p : Request → Bool = λ s. not (has_key F s) in
-        let later = filter (λ s. not (same_key r s)) (firsts G) in
-        let both : F ++ filter p (firsts (r ∷ G)) ≡ F ++ r ∷ G = ap (λ l. l ++ filter p (firsts (r ∷ G))) (sym once) ∙ sym (firsts-append F (r ∷ G)) ∙ all in
-        let rest : filter p (firsts (r ∷ G)) ≡ r ∷ G = append_cancel_left F _ _ both in
-        let dropped : filter p later ≡ r ∷ G = rw (ap not h) at rest in
-        let long = ap length dropped in
-        let one = filter_short p later in
-        let two = filter_short (λ s. not (same_key r s)) (firsts G) in
-        let three = firsts_short G in
-        absurd (omega (arith, long, one, two, three)))
+    let p : Request → Bool = λ s. not (has_key F s) in
+    let later = filter (λ s. not (same_key r s)) (firsts G) in
+    let both : F ++ filter p (firsts (r ∷ G)) ≡ F ++ r ∷ G = ap (λ l. l ++ filter p (firsts (r ∷ G))) (sym once) ∙ sym (firsts-append F (r ∷ G)) ∙ all in
+    let rest : filter p (firsts (r ∷ G)) ≡ r ∷ G = append_cancel_left F _ _ both in
+    let dropped : filter p later ≡ r ∷ G = rw (ap not h) at rest in
+    let long = ap length dropped in
+    let one = filter_short p later in
+    let two = filter_short (λ s. not (same_key r s)) (firsts G) in
+    let three = firsts_short G in
+    absurd (omega (arith, long, one, two, three)))
     (λ (h : has_key F r ≡ false). h)
     (cases_Bool (has_key F r))
 

@@ -123,12 +123,7 @@ fn is_kept_row(row: &Row, seq: u64, number: Option<u64>) -> bool
 }
 
 /// What is left behind the rows of a refused request, if they are there.
-fn after_refused<'a>(
-    row: &Row,
-    seq: u64,
-    findings: &[Finding],
-    rest: Rest<'a>,
-) -> Option<Rest<'a>>
+fn after_refused<'a>(row: &Row, seq: u64, findings: &[Finding], rest: Rest<'a>) -> Option<Rest<'a>>
     requires { seq < 2 ^ 63 }
     ensures { MatchOption result
         ((tail : Others) → row.now ≡ kept_row seq (request_outcome row.now (Outcome.Refused findings.now)) → Begins seq (request_outcome row.now (Outcome.Refused findings.now)) (view_rest rest.entry) tail → ⊥)

@@ -26,9 +26,12 @@ returns c =
     let told = ap₂ (λ f k. list_any (λ row. bytes_eq (request_in row).filer f && bytes_eq (request_in row).key k) earlier) filer c.text_at-key.ensures in
     let same : c.is_repeated.result ≡ has_key (map request_in earlier) (request_in c.args.row.now) = c.is_repeated.ensures ∙ told ∙ sym (repeats earlier (request_in c.args.row.now)) in
     let no : c.is_repeated.result ≡ false = c.if-is_repeated.false in
-    let low : length c.bytes_at.result.now ≤ max_body_len = omega (arith, c.if-bytes_at-gt-MAX_BODY_LEN.false) in
-    (text, record {
-      filer = subst (λ f. is_filer f ≡ true) c.text_at.ensures c.in-Some.ensures.1;
-      key = subst IsKey c.text_at-key.ensures (c.is_key.ensures.0 c.if-not-is_key.false);
-      body = subst (λ b. length b ≤ max_body_len) c.bytes_at.ensures low;
-    }, sym same ∙ no)
+    let low : length c.bytes_at.result.now ≤ max_body_len = omega (arith, c.if-bytes_at-gt-MAX_BODY_LEN.false) in (
+      text,
+      record {
+        filer = subst (λ f. is_filer f ≡ true) c.text_at.ensures c.in-Some.ensures.1;
+        key = subst IsKey c.text_at-key.ensures (c.is_key.ensures.0 c.if-not-is_key.false);
+        body = subst (λ b. length b ≤ max_body_len) c.bytes_at.ensures low;
+      },
+      sym same ∙ no,
+    )
