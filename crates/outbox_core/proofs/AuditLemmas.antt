@@ -1,5 +1,5 @@
 -- The audit of the rows that an opening finds.
-use Rattle.std.proofs.Common.{◌≡◌, ◌<◌, ◌≤◌, ◌^◌, ℕ, zero, suc, pos, negsuc, ℤ, Bool, true, false, cond, List, [], ◌∷◌, map, length, drop, get_or, nat_le, nat_lt, bytes_eq, Option, Some, None, IsSome, refl, sym, ap, ap₂, subst, ◌∙◌, arith, true≢false}
+use Rattle.std.proofs.Common.{◌≡◌, ◌<◌, ◌≤◌, ◌^◌, ℕ, suc, pos, negsuc, Bool, true, false, cond, List, [], ◌∷◌, map, length, drop, get_or, nat_le, nat_lt, Option, Some, None, IsSome, refl, sym, ap, ap₂, subst, ◌∙◌, arith, true≢false}
 use Rattle.std.specs.Prelude.{◌&&◌, ◌||◌}
 use Rattle.std.specs.List.{AllByRecursion}
 use Rattle.std.proofs.Math.Seq.{drop-cons}
@@ -15,7 +15,7 @@ use Rattle.sqlite.specs.Table.{Table}
 use Rattle.sqlite.specs.Effect.{Database}
 use Rattle.sqlite_keyed.proofs.KeyedLemmas.{same_int}
 use Rattle.sqlite_keyed.proofs.ListLemmas.{all-map}
-use Rattle.key_string.specs.Key.{IsKey, is_key}
+use Rattle.key_string.specs.Key.{IsKey}
 use Rattle.key_string.specs.Filer.{is_filer}
 use Rattle.key_string.proofs.Fields.{is_key-IsKey}
 use Rattle.http_wire.specs.Head.{max_body_len}

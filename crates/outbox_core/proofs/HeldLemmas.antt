@@ -1,12 +1,11 @@
 -- What reading a whole table tells of it.
-use Rattle.std.proofs.Common.{◌≡◌, ℕ, Bool, true, List, [], ◌∷◌, map, filter, refl, sym, ap, subst, ◌∙◌, IsPermutation, IsTrue}
-use Rattle.std.specs.List.{list_all}
+use Rattle.std.proofs.Common.{◌≡◌, ℕ, true, List, [], ◌∷◌, map, refl, ap, subst, ◌∙◌, IsPermutation}
 use Rattle.std.proofs.lemmas.List.Sorted.{IsPermutation-refl, IsPermutation-sym}
 use Rattle.sqlite.specs.Order.{Row, column}
 use Rattle.sqlite.specs.Table.{Table}
 use Rattle.sqlite.specs.Tree.{Trees}
 use Rattle.sqlite.specs.Program.{overlay}
-use Rattle.sqlite.specs.Query.{Query, Output, output}
+use Rattle.sqlite.specs.Query.{Output, output}
 use Rattle.sqlite.specs.State.{State, Shown, IsUnchanged}
 use Rattle.sqlite.specs.Term.{Term}
 use Rattle.sqlite.proofs.Callers.{reads_as}
@@ -14,11 +13,10 @@ use Rattle.sqlite_sql.specs.Query.{IsSureAnswer}
 use Rattle.sqlite_value.specs.declared.keys.Key.{Key}
 use Rattle.sqlite_keyed.proofs.ListLemmas.{filter_all, all_of, map_same, map-map}
 use Rattle.table_rows.specs.Rows.{shown, Holds}
-use Rattle.table_rows.proofs.QueryLemmas.{Asks}
 use Rattle.table_rows.proofs.SelectLemmas.{one_table, selects, leaves}
 use Rattle.outbox_core.specs.Schema.{IsDeclared, meta_table, entry_table}
 use Rattle.outbox_core.specs.Audit.{meta_text, entries_text}
-use Rattle.outbox_core.proofs.Texts.{meta_terms, meta_query, meta_asks, entry_columns, entry_query, entries_asks, by_id}
+use Rattle.outbox_core.proofs.Texts.{meta_terms, meta_asks, entry_columns, entries_asks, by_id}
 
 -- all rows, with all columns
 whole : (table : Table) (tree : ℕ) (columns : List Term) (order : List (Term × Key)) (show : Row → Output) (trees : Trees) (rows : List Row)

@@ -1,11 +1,11 @@
 -- The hyphenated form of a UUID is a key.
-use Rattle.std.proofs.Common.{◌≡◌, ◌<◌, ◌+◌, ◌-◌, ◌/◌, ◌%◌, ℕ, zero, suc, Bool, true, false, not, cond, List, [], ◌∷◌, ◌++◌, length, length-append, nat_lt, nat_le, arith, refl, sym, ap, subst, ◌∙◌, true≢false, Option, Some, None}
+use Rattle.std.proofs.Common.{◌≡◌, ◌<◌, ◌+◌, ◌-◌, ◌/◌, ◌%◌, ℕ, zero, suc, Bool, true, false, not, cond, List, [], ◌∷◌, length, length-append, nat_lt, nat_le, arith, refl, sym, ap, ◌∙◌, true≢false, None}
 use Rattle.std.specs.List.{list_all, position, prefix_len}
 use Rattle.std.specs.Prelude.{◌==◌, ◌&&◌, slice_index}
 use Rattle.std.proofs.lemmas.Bool.Decides.{nat_tests}
 use Rattle.sqlite_keyed.proofs.ListLemmas.{list_all_push}
 use Rattle.uuid.specs.Text.{by_index, hyphenated_text, hex_digit, nibble, digit_place, is_hyphen_place, hyphen, lower}
-use Rattle.key_string.specs.Key.{IsKey, IsTextFault, is_key, is_printable}
+use Rattle.key_string.specs.Key.{IsKey, IsTextFault, is_printable}
 use Rattle.key_string.specs.declared.fault.KeyFault.{KeyFault}
 use Rattle.key_string.specs.declared.fault.KeyFault.TheVariants.{NotString, Empty, TooLong, NotPrintable, Memory}
 use Rattle.key_string.proofs.Fields.{is_key-IsKey, IsKey-is_key}

@@ -1,5 +1,5 @@
 -- What the look-ups on entries select.
-use Rattle.std.proofs.Common.{◌≡◌, ◌<◌, ℕ, pos, Bool, true, false, List, [], ◌∷◌, map, filter, find, slice_get, Option, Some, None, Result, Ok, Err, option_map, IsTrue, IfOk, IfErr, OnOk, refl, sym, ap, subst, ◌∙◌, is_eq, int_cmp, int_eq, nat_eq, bytes_eq, Less, IsPermutation, arith}
+use Rattle.std.proofs.Common.{◌≡◌, ◌<◌, ℕ, pos, Bool, true, false, List, [], ◌∷◌, map, filter, find, slice_get, Option, Result, Ok, Err, option_map, IsTrue, IfOk, IfErr, OnOk, refl, sym, ap, subst, ◌∙◌, is_eq, int_eq, nat_eq, bytes_eq, Less, IsPermutation, arith}
 use Rattle.std.specs.List.{list_all}
 use Rattle.std.specs.Bool.{one_answer}
 use Rattle.std.proofs.lemmas.Int.{ints}
@@ -29,15 +29,15 @@ use Rattle.sqlite_keyed.proofs.KeyedLemmas.{Less-from_lt, same_int}
 use Rattle.sqlite_keyed.proofs.ListLemmas.{map-map, filter-map, filter_same, filter_all, all_of, ascending-filter, ascending-map, ascending_weaker, slice_get-filter}
 use Rattle.sqlite_typed.specs.Tests.{bytes_cmp}
 use Rattle.sqlite_typed.proofs.TestLemmas.{at_ints, at_texts, last_term, last_key, same_bytes, bytes_eq_refl}
-use Rattle.filing_model.specs.Outbox.{Entry, State as Place, Open, Confirmed, Refused, Clashed}
-use Rattle.table_rows.specs.Rows.{shown, Holds, row_or_none}
+use Rattle.filing_model.specs.Outbox.{Entry, Open, Confirmed, Refused, Clashed}
+use Rattle.table_rows.specs.Rows.{shown, row_or_none}
 use Rattle.table_rows.specs.Standing.{Stands}
 use Rattle.table_rows.proofs.SelectLemmas.{one_table, selects_in_order}
-use Rattle.table_rows.proofs.QueryLemmas.{Asks, Tells, first_told, first_same, first_stands, shown_stands, failed_stands}
+use Rattle.table_rows.proofs.QueryLemmas.{Asks, first_told, first_same, first_stands, shown_stands, failed_stands}
 use Rattle.outbox_core.specs.Schema.{entry_table, IsDeclared}
 use Rattle.outbox_core.specs.Entries.{Contents, numbered, has_id, has_text, is_open, is_open_state}
 use Rattle.outbox_core.specs.Rows.{IsOutboxOf, code_of, entry_row, entry_rows, state_row}
-use Rattle.outbox_core.proofs.Texts.{equals, entry_columns, by_id, entry_query, state_terms, states_query}
+use Rattle.outbox_core.proofs.Texts.{entry_columns, by_id, entry_query, state_terms, states_query}
 use Rattle.outbox_core.proofs.EntryLemmas.{rises}
 
 -- ---- the tests of WHERE, on a row as it is shown

@@ -22,7 +22,7 @@ use Rattle.sqlite.specs.State.{State, mode_of, CommitsBy, Executes}
 use Rattle.sqlite.specs.Values.{bound_value}
 use Rattle.sqlite.proofs.Callers.{statement_of, one_step, one_permutation}
 use Rattle.sqlite_sql.specs.Query.{IsSureAnswer}
-use Rattle.sqlite_trees.specs.Tree.{rowid, put_row, has_rowid}
+use Rattle.sqlite_trees.specs.Tree.{put_row, has_rowid}
 use Rattle.sqlite_value.specs.Order.{value_cmp}
 use Rattle.sqlite_value.proofs.OrderLemmas.{value_cmp-Int}
 use Rattle.sqlite_rules.specs.Calls.{ids_of}

@@ -1,5 +1,5 @@
 -- What a write makes of an outbox.
-use Rattle.std.proofs.Common.{◌≡◌, ◌≢◌, inl, inr, ℕ, Bool, true, false, not, List, [], ◌∷◌, Option, None, Ok, Result, IsTrue, refl, sym, ap, subst, subst₂, ◌∙◌, arith, append-nil, true≢false}
+use Rattle.std.proofs.Common.{◌≡◌, inl, inr, ℕ, Bool, true, false, not, List, [], ◌∷◌, Option, None, Ok, Result, IsTrue, refl, sym, ap, subst, subst₂, ◌∙◌, arith, append-nil, true≢false}
 use Rattle.std.specs.Prelude.{flat_map, ◌&&◌}
 use Rattle.std.specs.List.{AllByRecursion, filter_map}
 use Rattle.sqlite.specs.Order.{Row}
@@ -16,7 +16,6 @@ use Rattle.sqlite_schema.specs.declared.schema.Reference.{Reference}
 use Rattle.sqlite_rules.specs.Action.{Work}
 use Rattle.sqlite_resolve.specs.declared.compiled.Compiled.{Compiled}
 use Rattle.sqlite_resolve.specs.declared.error.CompileError.{CompileError}
-use Rattle.table_rows.specs.Rows.{shown}
 use Rattle.table_rows.specs.Standing.{Stands}
 use Rattle.table_rows.proofs.WriteLemmas.{EndsNone}
 use Rattle.outbox_core.specs.Schema.{IsDeclared}

@@ -2,7 +2,7 @@
 use Rattle.std.specs.Prelude.{◌≡◌, ℕ, zero, suc, ◌≤◌, ◌<◌, ◌^◌, ◌==◌, Bool, true, false, List, [], ◌∷◌, ◌++◌, slice_get, bytes_eq, Option, None}
 use Rattle.std.specs.List.{AllByRecursion}
 use Rattle.key_string.specs.Filer.{is_filer}
-use Rattle.filing_model.specs.Outbox.{Entry, State, Open, Confirmed, Refused, Clashed, IsSendable, request_of}
+use Rattle.filing_model.specs.Outbox.{Entry, State, Open, Confirmed, IsSendable, request_of}
 
 -- what a filer has to send
 pub record Contents : Type 0 where

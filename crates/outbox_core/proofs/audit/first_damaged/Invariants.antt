@@ -1,4 +1,4 @@
-use Rattle.std.proofs.Common.{◌≡◌, ◌≤◌, suc, drop, length}
+use Rattle.std.proofs.Common.{◌≡◌, suc, drop}
 use Rattle.outbox_core.specs.Audit.{first_damaged}
 use Rattle.outbox_core.proofs.audit.first_damaged.Given as goal
 

@@ -1,4 +1,4 @@
-use Rattle.std.proofs.Common.{◌≡◌, map, ◌∙◌, ap}
+use Rattle.std.proofs.Common.{map, ◌∙◌, ap}
 use Rattle.table_rows.proofs.ResultLemmas.{if_ok}
 use Rattle.outbox_core.specs.Entries.{numbered}
 use Rattle.outbox_core.specs.Reading.{state_told}

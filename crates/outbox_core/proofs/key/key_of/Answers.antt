@@ -1,6 +1,5 @@
 use Rattle.std.proofs.Common.{◌≡◌, ◌∙◌, ap, rules}
 use Rattle.uuid.specs.Text.{hyphenated_text, lower}
-use Rattle.key_string.specs.Key.{IsKey}
 use Rattle.key_string.specs.declared.fault.KeyFault.TheVariants.{Memory}
 use Rattle.outbox_core.proofs.KeyLemmas.{is_made_key, only_memory}
 use Rattle.outbox_core.proofs.key.key_of.Goals as goal

@@ -1,5 +1,4 @@
 use Rattle.std.proofs.Common.{◌∙◌, ap, sym}
-use Rattle.std.proofs.lemmas.Bool.{false≢true}
 use Rattle.filing_model.specs.Outbox.{state_told}
 use Rattle.xbrl_report.proofs.Trees.{tree-Some, tree-None}
 use Rattle.outbox_core.proofs.state.state_told.Goals as goal
