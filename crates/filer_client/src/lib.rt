@@ -9,3 +9,6 @@ mod request;
 pub use client::{exchange, hand_over};
 pub use fault::ExchangeFault;
 pub use request::{ToSend, open_request, request_bytes};
+
+#[cfg(test)]
+mod tests;
