@@ -5,7 +5,7 @@ use outbox_core::{Outbox, State, TakeFault};
 use sqlite::{Connection, MemStore};
 use std::alloc::Global;
 use std::test::Fail;
-use streams::{Giving, Taking};
+use streams::{Giving, Taking, front};
 
 mod streams;
 
@@ -36,13 +36,13 @@ fn request(alloc: Global) -> Result<String, Fail> {
 fn exchanged(
     alloc: Global,
     outbox: &mut Outbox<MemStore>,
-    input: &str,
+    input: &[u8],
     id: u64,
 ) -> Result<(Result<State, ExchangeFault>, String), Fail> {
     let mut output: Vec<u8> = Vec::new(alloc);
     let answer = exchange(
         alloc,
-        &mut Device::new(input.as_bytes()),
+        &mut Device::new(input),
         &mut Device::new(&mut output),
         outbox,
         id,
@@ -58,7 +58,7 @@ fn state_of(outbox: &mut Outbox<MemStore>, id: u64) -> Result<Option<State>, Fai
 fn a_whole_reply_confirms(rt: HostRuntime) -> Result<(), Fail> {
     let mut outbox = outbox(rt.alloc())?;
     assert_eq!(rt; (REPORT.len(), REGISTERED.len()), (393, 129));
-    let (answer, output) = exchanged(rt.alloc(), &mut outbox, REGISTERED, 1)?;
+    let (answer, output) = exchanged(rt.alloc(), &mut outbox, REGISTERED.as_bytes(), 1)?;
     assert_eq!(rt; answer, Ok(State::Confirmed(1)));
     assert_eq!(rt; output.len(), 537);
     assert_eq!(rt; output, request(rt.alloc())?);
@@ -69,7 +69,7 @@ fn a_whole_reply_confirms(rt: HostRuntime) -> Result<(), Fail> {
 #[test]
 fn a_cut_reply_changes_nothing(rt: HostRuntime) -> Result<(), Fail> {
     let mut outbox = outbox(rt.alloc())?;
-    let (answer, output) = exchanged(rt.alloc(), &mut outbox, &REGISTERED[..20], 1)?;
+    let (answer, output) = exchanged(rt.alloc(), &mut outbox, front(REGISTERED.as_bytes(), 20), 1)?;
     assert_eq!(rt; answer, Err(ExchangeFault::Reply(ReplyFault::Cut)));
     assert_eq!(rt; output.len(), 537);
     assert_eq!(rt; state_of(&mut outbox, 1)?, Some(State::Open));
@@ -79,8 +79,8 @@ fn a_cut_reply_changes_nothing(rt: HostRuntime) -> Result<(), Fail> {
 #[test]
 fn an_entry_that_is_settled_is_not_sent(rt: HostRuntime) -> Result<(), Fail> {
     let mut outbox = outbox(rt.alloc())?;
-    let (first, _) = exchanged(rt.alloc(), &mut outbox, REGISTERED, 1)?;
-    let (answer, output) = exchanged(rt.alloc(), &mut outbox, "", 1)?;
+    let (first, _) = exchanged(rt.alloc(), &mut outbox, REGISTERED.as_bytes(), 1)?;
+    let (answer, output) = exchanged(rt.alloc(), &mut outbox, b"", 1)?;
     assert_eq!(rt; first, answer);
     assert_eq!(rt; answer, Ok(State::Confirmed(1)));
     assert_eq!(rt; output.len(), 0);
@@ -91,7 +91,7 @@ fn an_entry_that_is_settled_is_not_sent(rt: HostRuntime) -> Result<(), Fail> {
 fn no_entry(rt: HostRuntime) -> Result<(), Fail> {
     let mut outbox = outbox(rt.alloc())?;
     let fault = ExchangeFault::Take(TakeFault::NoEntry);
-    let (answer, output) = exchanged(rt.alloc(), &mut outbox, REGISTERED, 2)?;
+    let (answer, output) = exchanged(rt.alloc(), &mut outbox, REGISTERED.as_bytes(), 2)?;
     assert_eq!(rt; answer, Err(fault));
     assert_eq!(rt; output.len(), 0);
     let mut reader = Device::new(REGISTERED.as_bytes());
@@ -148,10 +148,10 @@ fn each_write_fails_once(rt: HostRuntime) -> Result<(), Fail> {
         );
         let sent = 100 * calls;
         assert_eq!(rt; answer, Err(ExchangeFault::Write { sent }));
-        assert_eq!(rt; output.as_slice(), &expected.as_bytes()[..sent]);
+        assert_eq!(rt; output.as_slice(), front(expected.as_bytes(), sent));
         assert_eq!(rt; state_of(&mut outbox, 1)?, Some(State::Open));
     }
-    let (answer, _) = exchanged(rt.alloc(), &mut outbox, REGISTERED, 1)?;
+    let (answer, _) = exchanged(rt.alloc(), &mut outbox, REGISTERED.as_bytes(), 1)?;
     assert_eq!(rt; answer, Ok(State::Confirmed(1)));
     Ok(())
 }

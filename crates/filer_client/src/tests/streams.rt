@@ -2,6 +2,11 @@
 
 use std::io::{self, Read, Write};
 
+/// The first bytes, at most so many.
+pub(super) fn front(bytes: &[u8], most: usize) -> &[u8] {
+    &bytes[..most.min(bytes.len())]
+}
+
 /// Gives at most so many bytes a read. One call may fail, before which so many don't.
 #[derive(Drop)]
 pub(super) struct Giving<'a> {
