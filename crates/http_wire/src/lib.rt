@@ -37,7 +37,7 @@ pub use posting::append_request;
 pub use refusal::{ConnFault, Next, Refusal, ReplyFault};
 pub use reply::{Reply, append_reply, phrase};
 pub use reply_reader::read_reply;
-pub use write::write_reply;
+pub use write::{write_all, write_reply};
 
 #[cfg(test)]
 mod tests;

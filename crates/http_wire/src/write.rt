@@ -1,5 +1,5 @@
-//! Replies, written whole.
-ghost use Rattle.std.specs.Prelude.{◌≡◌, IsSome, IfErr, OnOk};
+//! Texts and replies, written whole.
+ghost use Rattle.std.specs.Prelude.{◌≡◌, ◌≤◌, take, length, IsSome, IfErr, OnOk};
 ghost use Rattle.std.specs.Io.KnownBytes.{Appends};
 ghost use Rattle.http_wire.specs.Device.{HasFailed};
 ghost use Rattle.http_wire.specs.Replies.{reply_parts};
@@ -11,6 +11,18 @@ use crate::refusal::ConnFault;
 use crate::reply::{Reply, append_reply};
 use crate::send::send;
 use std::alloc::Global;
+
+/// Writes the whole text, in as many writes as it takes. An `Err` has the number of bytes that were
+/// written before the writer failed.
+pub fn write_all<W: Sink>(writer: &mut W, text: &[u8]) -> Result<(), usize>
+    ensures ok { OnOk result (Appends (W.written writer.old) (W.written writer.new) text.now) }
+    ensures err { IfErr result (λ sent. Appends (W.written writer.old) (W.written writer.new) (take sent text.now)) }
+    ensures sent { IfErr result (λ sent. sent ≤ length text.now) }
+    ensures fine { OnOk result (W.write_failures writer.new ≡ W.write_failures writer.old) }
+    ensures failed { IfErr result (λ _. HasFailed (W.write_failures writer.old) (W.write_failures writer.new)) }
+{
+    send(writer, text)
+}
 
 /// Writes the bytes of a reply. Where there is no memory for them, nothing is written.
 pub fn write_reply<W: Sink>(

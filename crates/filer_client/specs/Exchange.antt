@@ -1,0 +1,77 @@
+-- What an exchange writes and reads, and what it makes of an entry.
+use Rattle.std.specs.Prelude.{◌≡◌, ◌≢◌, ◌⊎◌, ◌≤◌, ℕ, List, [], length, take, Option, Some, None, option_map}
+use Rattle.std.specs.Io.KnownBytes.{Appends}
+use Rattle.http_wire.specs.Reply.{ReplyParts}
+use Rattle.http_wire.specs.ReplyFaults.{HasGiven, IsReplyFailure}
+use Rattle.http_wire.specs.Response.{GivesReply}
+use Rattle.filing_model.specs.Outbox.{Entry, State, Open, bytes_of, request_of, moved}
+use Rattle.outbox_core.specs.declared.fault.TakeFault.TheVariants.{NoEntry, Memory, Store}
+use Rattle.outbox_core.specs.Entries.{entry_at}
+use Rattle.outbox_core.specs.Reading.{view_state}
+use Rattle.filer_client.specs.declared.fault.ExchangeFault.{ExchangeFault}
+use Rattle.filer_client.specs.declared.fault.ExchangeFault.TheVariants.{Write, Reply, Take}
+use Rattle.filer_client.specs.declared.request.ToSend.{ToSend}
+use Rattle.filer_client.specs.declared.request.ToSend.TheVariants.{Request, Settled}
+
+-- ---- what is to be sent
+
+-- the bytes of the request of the entry of an id
+abbrev pub request_at : List ℕ → List Entry → ℕ → Option (List ℕ)
+request_at filer entries id = option_map (λ e. bytes_of (request_of filer e)) (entry_at entries id)
+
+-- the entry of this id is open, and these are the bytes of its request
+pub record IsOpenRequest (filer : List ℕ) (entries : List Entry) (id : ℕ) (text : List ℕ) : Type 0 where
+  pub entry : Entry
+  pub at : entry_at entries id ≡ Some entry
+  pub is_open : entry.state ≡ Open
+  pub bytes : text ≡ bytes_of (request_of filer entry)
+
+-- the entry of this id is in this state, which is not open
+pub record IsSettled (entries : List Entry) (id : ℕ) (state : State) : Type 0 where
+  pub entry : Entry
+  pub at : entry_at entries id ≡ Some entry
+  pub state_is : entry.state ≡ state
+  pub settled : state ≢ Open
+
+-- what the entry of this id has to send
+abbrev pub IsToSend : List ℕ → List Entry → ℕ → ToSend → Type 0
+IsToSend filer entries id (Request text) = IsOpenRequest filer entries id text.items
+IsToSend filer entries id (Settled state) = IsSettled entries id (view_state state)
+
+-- ---- what was read
+
+-- the bytes that the reader gave give a reply of which this holds
+abbrev pub Hears : Option (List ℕ) → Option (List ℕ) → (ReplyParts → Type 0) → Type 0
+Hears before after P = (reply : ReplyParts) × HasGiven before after (λ bytes. GivesReply bytes reply) × P reply
+
+-- where a reply moves the entry of an id
+abbrev pub moved_at : List Entry → ℕ → ReplyParts → Option State
+moved_at entries id reply = option_map (λ e. moved e.state reply) (entry_at entries id)
+
+-- ---- the whole exchange, over what was written and what is left to read, before and after
+
+-- An entry that is not open is told as it is: nothing is written or read. Of an open one the whole request is written, and it moves by
+-- the reply that is read.
+abbrev pub IsExchanged : List ℕ → List Entry → ℕ → Option (List ℕ) → Option (List ℕ) → Option (List ℕ) → Option (List ℕ) → State → Type 0
+IsExchanged filer entries id written written' left left' to =
+    (IsSettled entries id to × Appends written written' [] × (left' ≡ left))
+    ⊎ ((text : List ℕ) × IsOpenRequest filer entries id text × Appends written written' text × Hears left left' (λ reply. to ≡ moved Open reply))
+
+-- the whole request of an open entry was written
+abbrev pub WritesRequest : List ℕ → List Entry → ℕ → Option (List ℕ) → Option (List ℕ) → Type 0
+WritesRequest filer entries id written written' = (text : List ℕ) × IsOpenRequest filer entries id text × Appends written written' text
+
+-- What was written where it failed: the first `sent` bytes of an open entry's request; all of it; nothing, where there is no entry; or else
+-- all of it or nothing.
+abbrev pub WritesBefore : List ℕ → List Entry → ℕ → Option (List ℕ) → Option (List ℕ) → ExchangeFault → Type 0
+WritesBefore filer entries id written written' (Write sent) = (text : List ℕ) × IsOpenRequest filer entries id text × (sent ≤ length text) × Appends written written' (take sent text)
+WritesBefore filer entries id written written' (Reply fault) = WritesRequest filer entries id written written'
+WritesBefore filer entries id written written' (Take NoEntry) = (entry_at entries id ≡ None) × Appends written written' []
+WritesBefore filer entries id written written' (Take Memory) = Appends written written' [] ⊎ WritesRequest filer entries id written written'
+WritesBefore filer entries id written written' (Take Store) = Appends written written' [] ⊎ WritesRequest filer entries id written written'
+
+-- Why it failed, as far as the reader and the writer tell.
+abbrev pub IsFault : Option (List ℕ) → Option (List ℕ) → Type 0 → Type 0 → ExchangeFault → Type 0
+IsFault left left' read_failed write_failed (Write sent) = write_failed
+IsFault left left' read_failed write_failed (Reply fault) = IsReplyFailure left left' read_failed fault
+IsFault left left' read_failed write_failed (Take fault) = Unit {0}

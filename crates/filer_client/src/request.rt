@@ -1,0 +1,104 @@
+//! The request of an entry.
+
+ghost use Rattle.std.specs.Prelude.{◌≡◌, ◌≢◌, List, Some, None, option_map, IsTrue, IfOk, Err};
+ghost use Rattle.sqlite.specs.State.{HasCleanDisk};
+ghost use Rattle.filing_model.specs.Outbox.{Entry as Item, bytes_of, request_of};
+ghost use Rattle.outbox_core.specs.Box.{shows, HasEntries};
+ghost use Rattle.outbox_core.specs.Entries.{entry_at};
+ghost use Rattle.outbox_core.specs.Reading.{view_entry};
+ghost use Rattle.filer_client.specs.Exchange.{request_at, IsToSend};
+
+use http_wire::{MAX_BODY_LEN, append_request};
+use key_string::is_filer;
+use outbox_core::{Entry, Outbox, State, StoreFault, TakeFault};
+use sqlite::Alter;
+use std::alloc::Global;
+
+/// What an entry has to send.
+#[derive(Drop)]
+pub enum ToSend {
+    /// The bytes of its request.
+    Request(Vec<u8>),
+    /// Nothing, since it is in this state, which is not open.
+    Settled(State),
+}
+
+/// The bytes of the request of an entry, whatever its state: a POST of its body under its key to the
+/// path of the filer. `NoEntry` comes where no entry has the id.
+pub fn request_bytes<S: Alter>(
+    alloc: Global,
+    outbox: &mut Outbox<S>,
+    id: u64,
+) -> Result<Vec<u8>, TakeFault>
+    ensures built { HasCleanDisk (shows S.Store outbox.new) → (entries : List Item) → HasEntries S.Store outbox.old entries
+        → IfOk result (λ text. Some text.items ≡ request_at outbox.old.filer entries id) }
+    ensures no_entry { HasCleanDisk (shows S.Store outbox.new) → (entries : List Item) → HasEntries S.Store outbox.old entries → result ≡ Err TakeFault.NoEntry → entry_at entries id ≡ None }
+
+    // The entries are those of before, whatever the answer is.
+    ensures kept { HasCleanDisk (shows S.Store outbox.new) → (entries : List Item) → HasEntries S.Store outbox.old entries → HasEntries S.Store outbox.new entries }
+    ensures stopped { IsTrue outbox.old.has_failed → (result ≡ Err TakeFault.Store) × (outbox.new ≡ outbox.old) }
+    ensures stops { IsTrue outbox.new.has_failed → result ≡ Err TakeFault.Store }
+    ensures filer { outbox.new.filer ≡ outbox.old.filer }
+    ensures clean { HasCleanDisk (shows S.Store outbox.new) → HasCleanDisk (shows S.Store outbox.old) }
+{
+    let entry = find_entry(outbox, id)?;
+    request_of(alloc, outbox.filer(), &entry)
+}
+
+/// What an entry has to send: the bytes of its request where it is open, and nothing where it is
+/// not. `NoEntry` comes where no entry has the id.
+pub fn open_request<S: Alter>(
+    alloc: Global,
+    outbox: &mut Outbox<S>,
+    id: u64,
+) -> Result<ToSend, TakeFault>
+    ensures found { HasCleanDisk (shows S.Store outbox.new) → (entries : List Item) → HasEntries S.Store outbox.old entries → IfOk result (IsToSend outbox.old.filer entries id) }
+    ensures no_entry { HasCleanDisk (shows S.Store outbox.new) → (entries : List Item) → HasEntries S.Store outbox.old entries → result ≡ Err TakeFault.NoEntry → entry_at entries id ≡ None }
+
+    // The entries are those of before, whatever the answer is.
+    ensures kept { HasCleanDisk (shows S.Store outbox.new) → (entries : List Item) → HasEntries S.Store outbox.old entries → HasEntries S.Store outbox.new entries }
+    ensures stopped { IsTrue outbox.old.has_failed → (result ≡ Err TakeFault.Store) × (outbox.new ≡ outbox.old) }
+    ensures stops { IsTrue outbox.new.has_failed → result ≡ Err TakeFault.Store }
+    ensures filer { outbox.new.filer ≡ outbox.old.filer }
+    ensures clean { HasCleanDisk (shows S.Store outbox.new) → HasCleanDisk (shows S.Store outbox.old) }
+{
+    let entry = find_entry(outbox, id)?;
+    match entry.state {
+        State::Open => Ok(ToSend::Request(request_of(alloc, outbox.filer(), &entry)?)),
+        settled => Ok(ToSend::Settled(settled)),
+    }
+}
+
+/// The entry of this id.
+fn find_entry<S: Alter>(outbox: &mut Outbox<S>, id: u64) -> Result<Entry, TakeFault>
+    ensures found { HasCleanDisk (shows S.Store outbox.new) → (entries : List Item) → HasEntries S.Store outbox.old entries
+        → IfOk result (λ entry. Some (view_entry entry) ≡ option_map (λ e. (id, e)) (entry_at entries id)) }
+    ensures no_entry { HasCleanDisk (shows S.Store outbox.new) → (entries : List Item) → HasEntries S.Store outbox.old entries → result ≡ Err TakeFault.NoEntry → entry_at entries id ≡ None }
+    ensures kept { HasCleanDisk (shows S.Store outbox.new) → (entries : List Item) → HasEntries S.Store outbox.old entries → HasEntries S.Store outbox.new entries }
+    ensures stopped { IsTrue outbox.old.has_failed → (result ≡ Err TakeFault.Store) × (outbox.new ≡ outbox.old) }
+    ensures stops { IsTrue outbox.new.has_failed → result ≡ Err TakeFault.Store }
+    ensures filer { outbox.new.filer ≡ outbox.old.filer }
+    ensures clean { HasCleanDisk (shows S.Store outbox.new) → HasCleanDisk (shows S.Store outbox.old) }
+{
+    match outbox.entry(id) {
+        Ok(Some(entry)) => Ok(entry),
+        Ok(None) => Err(TakeFault::NoEntry),
+        Err(fault) => Err(TakeFault::from(fault)),
+    }
+}
+
+/// The bytes of the request of this entry of this filer. `Store` comes where they are none that an
+/// outbox holds: a text that is no filer code, or a body of more than 1,048,576 bytes.
+fn request_of(alloc: Global, filer: &str, entry: &Entry) -> Result<Vec<u8>, TakeFault>
+    ensures bytes { IfOk result (λ text. text.items ≡ bytes_of (request_of filer.now (view_entry entry.now).1)) }
+    ensures entry { result ≢ Err TakeFault.NoEntry }
+{
+    if !is_filer(filer) || entry.body.len() > MAX_BODY_LEN {
+        return Err(TakeFault::Store);
+    }
+    let mut text = Vec::new(alloc);
+    match append_request(filer, &entry.key, entry.body.as_slice(), &mut text) {
+        Ok(()) => Ok(text),
+        Err(_) => Err(TakeFault::Memory),
+    }
+}
