@@ -51,7 +51,11 @@ fn filing(rt: &HostRuntime, filer: &str, key: &str, body: &str) -> Result<String
 }
 
 /// What is written for the bytes of one connection.
-fn written(rt: &HostRuntime, intake: &mut Intake<MemStore>, input: &str) -> Result<(String, Served), Fail> {
+fn written(
+    rt: &HostRuntime,
+    intake: &mut Intake<MemStore>,
+    input: &str,
+) -> Result<(String, Served), Fail> {
     written_for(rt, intake, input.as_bytes())
 }
 

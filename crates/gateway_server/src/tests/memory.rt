@@ -8,7 +8,11 @@ const HEAD: &str =
     "POST /filings/ACME HTTP/1.1\r\nHost: localhost\r\nIdempotency-Key: \"k-1\"\r\nContent-Length: 393\r\n\r\n";
 
 /// Serves one filing with no allocation of its own.
-fn serve_filing(rt: &HostRuntime, intake: &mut Intake<MemStore>, room: &mut [u8]) -> (usize, Ended) {
+fn serve_filing(
+    rt: &HostRuntime,
+    intake: &mut Intake<MemStore>,
+    room: &mut [u8],
+) -> (usize, Ended) {
     let written = Cell::new(0);
     let head = Piece {
         bytes: HEAD.as_bytes(),

@@ -12,10 +12,13 @@ returns-clause-answers g c = λ clean before h.
     let decided = c.decide-decided.ensures.decided clean before h in
     let from = g.W.Sink.written c.args.writer.now in
     let to = g.W.Sink.written c.write_decided.new.writer in
-    let asked : Route = view_route c.args.asked c.args.message.now.body.now in
-    (decided.0, decided.1, Answers-decided (limit_of c.args.intake.now) before decided.0 (view_message c.args.message.now)
-    (bare c.is_head.result asked) c.decide-decided.result c.args.marks.now.items c.push_reserved.new.self.items from to c.write_decided.result
-    (c.requires.asked ∙ ap (λ b. bare b asked) (sym c.is_head.ensures))
-    decided.2
-    c.push_reserved.ensures.items
-    (λ parts is. subst (λ (b : Bool). WritesText from to (render parts b) c.write_decided.result) c.closes.ensures (c.write_decided.ensures.written parts is)))
+    let asked : Route = view_route c.args.asked c.args.message.now.body.now in (
+      decided.0,
+      decided.1,
+      Answers-decided (limit_of c.args.intake.now) before decided.0 (view_message c.args.message.now)
+          (bare c.is_head.result asked) c.decide-decided.result c.args.marks.now.items c.push_reserved.new.self.items from to c.write_decided.result
+          (c.requires.asked ∙ ap (λ b. bare b asked) (sym c.is_head.ensures))
+          decided.2
+          c.push_reserved.ensures.items
+          (λ parts is. subst (λ (b : Bool). WritesText from to (render parts b) c.write_decided.result) c.closes.ensures (c.write_decided.ensures.written parts is)),
+    )

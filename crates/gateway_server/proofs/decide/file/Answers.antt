@@ -15,15 +15,18 @@ use Rattle.gateway_server.proofs.decide.file.Goals as goal
 pub returns-in-Ok-clause-decided : goal.returns-in-Ok-clause-decided
 returns-in-Ok-clause-decided g c = λ clean before h.
     let r : Request = the_request c.args.filer.now c.args.key.now c.args.body.now in
-    let told = c.in-Ok.ensures.answer clean before h in
-    (firsts (before ++ r ∷ []), told.1, record {
-      fit = ⊎_elim
-          (λ (known : has_key before r ≡ true). inl known)
-          (λ (new : has_key before r ≡ false). inr (omega (arith, c.in-Ok.ensures.room clean before h new, firsts_short before)))
-          (cases_Bool (has_key before r));
-      kept = refl;
-      reply = subst (λ (x : Answer). IfOk c.reply_of.result (λ reply. reply_parts reply ≡ reply_of x)) told.0 c.reply_of.ensures;
-    })
+    let told = c.in-Ok.ensures.answer clean before h in (
+      firsts (before ++ r ∷ []),
+      told.1,
+      record {
+        fit = ⊎_elim
+            (λ (known : has_key before r ≡ true). inl known)
+            (λ (new : has_key before r ≡ false). inr (omega (arith, c.in-Ok.ensures.room clean before h new, firsts_short before)))
+            (cases_Bool (has_key before r));
+        kept = refl;
+        reply = subst (λ (x : Answer). IfOk c.reply_of.result (λ reply. reply_parts reply ≡ reply_of x)) told.0 c.reply_of.ensures;
+      },
+    )
 
 pub returns-in-Ok-clause-phrase : goal.returns-in-Ok-clause-phrase
 returns-in-Ok-clause-phrase g c = phrase-parts AllocError c.reply_of.result (reply_of (view_answer c.in-Ok.answer)) (phrase-reply_of (view_answer c.in-Ok.answer)) c.reply_of.ensures

@@ -14,12 +14,15 @@ use Rattle.gateway_server.proofs.decide.list.Goals as goal
 pub returns-in-Ok-clause-decided : goal.returns-in-Ok-clause-decided
 returns-in-Ok-clause-decided g c = λ clean before h.
     let rows : List Listing = listings c.args.filer.now (register before) in
-    let same : map view_row c.deref.result.now ≡ rows = ap (map view_row) c.deref.ensures.value ∙ c.in-Ok.ensures.rows clean before h in
-    (before, c.in-Ok.ensures.kept clean before h, record {
-      fit = tt;
-      kept = refl;
-      reply = subst (λ (ls : List Listing). IfOk c.list_reply.result (λ r. reply_parts r ≡ list_reply ls)) same c.list_reply.ensures;
-    })
+    let same : map view_row c.deref.result.now ≡ rows = ap (map view_row) c.deref.ensures.value ∙ c.in-Ok.ensures.rows clean before h in (
+      before,
+      c.in-Ok.ensures.kept clean before h,
+      record {
+        fit = tt;
+        kept = refl;
+        reply = subst (λ (ls : List Listing). IfOk c.list_reply.result (λ r. reply_parts r ≡ list_reply ls)) same c.list_reply.ensures;
+      },
+    )
 
 pub returns-in-Ok-clause-phrase : goal.returns-in-Ok-clause-phrase
 returns-in-Ok-clause-phrase g c = phrase-parts AllocError c.list_reply.result (list_reply (map view_row c.deref.result.now)) (phrase-list_reply (map view_row c.deref.result.now)) c.list_reply.ensures

@@ -19,45 +19,54 @@ answer-requires g c =
 
 pub returns-in-Ok-clause-serves : goal.returns-in-Ok-clause-serves
 returns-in-Ok-clause-serves g c = λ clean now kept.
-    let answered = c.in-Ok.ensures.answers clean now kept in
-    (answered.0, answered.1, λ before left left' written h.
-    let m : Message = view_message c.message-message.result in
-    let from = g.W.Sink.written c.args.writer.now in
-    let to = g.W.Sink.written c.answer.new.writer in
-    let old = c.args.marks.now.items in
-    let new = c.answer.new.marks.items in
-    let same : m ≡ h.lends.request = sym (lent_is c.args.inbox.now h.lends m c.message-message.ensures) in
-    Serves-closed (limit_of c.args.intake.now) before now left left' written from c.args.inbox.now old h
-    answered.0 new to
-    (subst (λ (r : Message). closes r.head ≡ true) same (sym c.closes.ensures ∙ c.if-closes.true))
-    (subst (λ (r : Message). IsAnswered (limit_of c.args.intake.now) now answered.0 (Read r) old new from to) same answered.2))
+    let answered = c.in-Ok.ensures.answers clean now kept in (
+      answered.0,
+      answered.1,
+      λ before left left' written h.
+          let m : Message = view_message c.message-message.result in
+          let from = g.W.Sink.written c.args.writer.now in
+          let to = g.W.Sink.written c.answer.new.writer in
+          let old = c.args.marks.now.items in
+          let new = c.answer.new.marks.items in
+          let same : m ≡ h.lends.request = sym (lent_is c.args.inbox.now h.lends m c.message-message.ensures) in
+          Serves-closed (limit_of c.args.intake.now) before now left left' written from c.args.inbox.now old h
+          answered.0 new to
+          (subst (λ (r : Message). closes r.head ≡ true) same (sym c.closes.ensures ∙ c.if-closes.true))
+          (subst (λ (r : Message). IsAnswered (limit_of c.args.intake.now) now answered.0 (Read r) old new from to) same answered.2),
+    )
 
 pub returns-in-Ok-2-clause-serves : goal.returns-in-Ok-2-clause-serves
 returns-in-Ok-2-clause-serves g c = λ clean now kept.
-    let answered = c.in-Ok-2.ensures.answers clean now kept in
-    (answered.0, answered.1, λ before left left' written h.
-    let m : Message = view_message c.message-message.result in
-    let from = g.W.Sink.written c.args.writer.now in
-    let to = g.W.Sink.written c.answer.new.writer in
-    let old = c.args.marks.now.items in
-    let new = c.answer.new.marks.items in
-    let same : m ≡ h.lends.request = sym (lent_is c.args.inbox.now h.lends m c.message-message.ensures) in
-    GoesOn-answered (limit_of c.args.intake.now) before now left left' written from c.args.inbox.now old h
-    answered.0 new to
-    (subst (λ (r : Message). closes r.head ≡ false) same (sym c.closes.ensures ∙ c.if-closes.false))
-    (subst (λ (r : Message). IsAnswered (limit_of c.args.intake.now) now answered.0 (Read r) old new from to) same answered.2))
+    let answered = c.in-Ok-2.ensures.answers clean now kept in (
+      answered.0,
+      answered.1,
+      λ before left left' written h.
+          let m : Message = view_message c.message-message.result in
+          let from = g.W.Sink.written c.args.writer.now in
+          let to = g.W.Sink.written c.answer.new.writer in
+          let old = c.args.marks.now.items in
+          let new = c.answer.new.marks.items in
+          let same : m ≡ h.lends.request = sym (lent_is c.args.inbox.now h.lends m c.message-message.ensures) in
+          GoesOn-answered (limit_of c.args.intake.now) before now left left' written from c.args.inbox.now old h
+          answered.0 new to
+          (subst (λ (r : Message). closes r.head ≡ false) same (sym c.closes.ensures ∙ c.if-closes.false))
+          (subst (λ (r : Message). IsAnswered (limit_of c.args.intake.now) now answered.0 (Read r) old new from to) same answered.2),
+    )
 
 pub returns-in-Err-clause-serves : goal.returns-in-Err-clause-serves
 returns-in-Err-clause-serves g c = λ clean now kept.
-    let answered = c.in-Err.ensures.answers clean now kept in
-    (answered.0, answered.1, λ before left left' written h.
-    let m : Message = view_message c.message-message.result in
-    let from = g.W.Sink.written c.args.writer.now in
-    let to = g.W.Sink.written c.answer.new.writer in
-    let old = c.args.marks.now.items in
-    let new = c.answer.new.marks.items in
-    let same : m ≡ h.lends.request = sym (lent_is c.args.inbox.now h.lends m c.message-message.ensures) in
-    Serves-unanswered (limit_of c.args.intake.now) before now left left' written from c.args.inbox.now old h
-    answered.0 new to c.in-Err.fault
-    (is_no_limit (HasFailed (g.W.Sink.write_failures c.args.writer.now) (g.W.Sink.write_failures c.answer.new.writer)) c.in-Err.fault c.in-Err.ensures.fault)
-    (subst (λ (r : Message). IsUntouched now answered.0 old new from to ⊎ IsPartly (limit_of c.args.intake.now) now answered.0 (Read r) old new from to) same answered.2))
+    let answered = c.in-Err.ensures.answers clean now kept in (
+      answered.0,
+      answered.1,
+      λ before left left' written h.
+          let m : Message = view_message c.message-message.result in
+          let from = g.W.Sink.written c.args.writer.now in
+          let to = g.W.Sink.written c.answer.new.writer in
+          let old = c.args.marks.now.items in
+          let new = c.answer.new.marks.items in
+          let same : m ≡ h.lends.request = sym (lent_is c.args.inbox.now h.lends m c.message-message.ensures) in
+          Serves-unanswered (limit_of c.args.intake.now) before now left left' written from c.args.inbox.now old h
+          answered.0 new to c.in-Err.fault
+          (is_no_limit (HasFailed (g.W.Sink.write_failures c.args.writer.now) (g.W.Sink.write_failures c.answer.new.writer)) c.in-Err.fault c.in-Err.ensures.fault)
+          (subst (λ (r : Message). IsUntouched now answered.0 old new from to ⊎ IsPartly (limit_of c.args.intake.now) now answered.0 (Read r) old new from to) same answered.2),
+    )
