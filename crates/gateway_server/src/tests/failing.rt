@@ -24,7 +24,7 @@ fn served(
     room: &mut [u8],
     read_calls: Option<usize>,
     write_calls: Option<usize>,
-) -> (usize, Ended) {
+) -> Result<(usize, Ended), Fail> {
     let mut intake = Intake::in_memory(rt.alloc(), LIMIT)?;
     let written = Cell::new(0);
     let served = serve(
@@ -42,7 +42,7 @@ fn served(
         }),
         &mut intake,
     );
-    (written.get(), served.ended)
+    Ok((written.get(), served.ended))
 }
 
 #[test]
@@ -51,7 +51,7 @@ fn each_read_fails_once(rt: HostRuntime) -> Result<(), Fail> {
     let mut fine = None;
     for calls in 0..100 {
         let mut room = [0u8; 1024];
-        let (count, ended) = served(&rt, &input, &mut room, Some(calls), None);
+        let (count, ended) = served(&rt, &input, &mut room, Some(calls), None)?;
         assert!(rt; count <= output.len());
         assert_eq!(rt; front(&room, count), front(output.as_bytes(), count));
         if ended == Ended::InputEnded {
@@ -72,7 +72,7 @@ fn each_write_fails_once(rt: HostRuntime) -> Result<(), Fail> {
     let mut fine = None;
     for calls in 0..100 {
         let mut room = [0u8; 1024];
-        let (count, ended) = served(&rt, &input, &mut room, None, Some(calls));
+        let (count, ended) = served(&rt, &input, &mut room, None, Some(calls))?;
         assert!(rt; count <= output.len());
         assert_eq!(rt; front(&room, count), front(output.as_bytes(), count));
         if ended == Ended::InputEnded {
