@@ -109,8 +109,9 @@ def main():
     one = request(b"k-1", small)
     times = [seconds(["serve", "4096"], one * count) for count in (REQUESTS, 10 * REQUESTS)]
     held.append(growth("10 times the requests under one key", *times, 11))
-    times = [seconds(["serve", "4096"], given) for given in (connection, longer)]
-    held.append(growth("10 times the requests, each under its own key", *times, 11))
+    times = [seconds(["serve", "4096"], pipelined(count, small)) for count in (100, REQUESTS, 10 * REQUESTS)]
+    held.append(growth("10 times the requests (100 to 1,000), each under its own key", *times[:2], 11))
+    print(f"10 times as many again: {times[2] / times[1]:.1f} times the time")
 
     for size in (100_000, 1_000_000):
         body = report(size)
