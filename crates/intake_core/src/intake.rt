@@ -1,6 +1,6 @@
 //! The intake: its register, and the answer to the next request.
 
-ghost use Rattle.std.specs.Prelude.{◌≡◌, ◌<◌, ◌≤◌, ◌^◌, ◌+◌, ◌++◌, ◌∷◌, ◌↔◌, ◌⊎◌, [], ℕ, List, length, map, true, false, Err, Some, IfOk, IfErr, IfSome, OnOk, OnErr, ◌≢◌};
+ghost use Rattle.std.specs.Prelude.{◌≡◌, ◌<◌, ◌≤◌, ◌^◌, ◌+◌, ◌++◌, ◌∷◌, ◌↔◌, ◌⊎◌, [], ℕ, List, length, map, true, false, Err, Some, IsTrue, IfOk, IfErr, IfSome, OnOk, OnErr, ◌≢◌};
 ghost use Rattle.key_string.specs.Filer.{is_filer};
 ghost use Rattle.http_wire.specs.Head.{max_body_len};
 ghost use Rattle.filing_model.specs.Request.{Request, firsts, has_key};
@@ -8,9 +8,10 @@ ghost use Rattle.filing_model.specs.Register.{kept, judged, register};
 ghost use Rattle.filing_model.specs.Listing.{listings};
 ghost use Rattle.filing_model.specs.Answer.{answer, answer_from, kept_for};
 ghost use Rattle.filing_model.specs.Views.{view_answer, view_row, the_request};
-ghost use Rattle.sqlite.specs.State.{HasCleanDisk};
+ghost use Rattle.sqlite.specs.Tree.{Trees};
+ghost use Rattle.sqlite.specs.State.{HasCleanDisk, Survives};
 ghost use Rattle.register_store.specs.Outcomes.{view_outcome, kept_as};
-ghost use Rattle.register_store.specs.Store.{HasRequests};
+ghost use Rattle.register_store.specs.Store.{HasRequests, Leaves};
 ghost use Rattle.register_store.specs.Store as register_store;
 ghost use Rattle.intake_core.specs.declared.intake.Unavailable.TheVariants.{Down, Full, Memory, Store as StoreFailed};
 
@@ -84,7 +85,7 @@ impl<S: Alter + Drop> Drop for Intake<S> {
 }
 
 impl<S: Alter> Intake<S> {
-    ghost use Rattle.intake_core.specs.Held.{store_of, limit_of, has_stopped, Holds, IsClean};
+    ghost use Rattle.intake_core.specs.Held.{store_of, shows, limit_of, has_stopped, Holds, IsClean};
 
     /// An intake over this register, which keeps at most `limit` keys.
     pub fn new(alloc: Global, store: Store<S>, limit: u64) -> Intake<S>
@@ -137,6 +138,12 @@ impl<S: Alter> Intake<S> {
         ensures room { IsClean self.new → (requests : List Request) → Holds self.old requests
             → OnOk result (has_key requests (the_request filer.now key.now body.now) ≡ false → length requests < limit_of self.old) }
 
+        // A crash leaves what one before the call could leave, or the requests with this one, and after an answer these alone.
+        ensures crash { Survives (shows self.old) (shows self.new) (λ trees. (requests : List Request) → Holds self.old requests → IsTrue (shows self.old).is_open
+            → Leaves (firsts (requests ++ the_request filer.now key.now body.now ∷ [])) trees) }
+        ensures durable { IsClean self.new → (requests : List Request) → Holds self.old requests → IsTrue (shows self.old).is_open
+            → OnOk result (IsTrue (shows self.new).is_open × ((trees : Trees) → (shows self.new).may_leave trees → Leaves (firsts (requests ++ the_request filer.now key.now body.now ∷ [])) trees)) }
+
         // After a refusal of the database there is no other answer than that.
         ensures down { has_stopped self.old ≡ true → (result ≡ Err Down) × (self.new ≡ self.old) }
         ensures stops { (has_stopped self.new ≡ true) ↔ ((has_stopped self.old ≡ true) ⊎ (result ≡ Err StoreFailed)) }
@@ -155,7 +162,7 @@ impl<S: Alter> Intake<S> {
 }
 
 impl<S: Alter> Intake<S> {
-    ghost use Rattle.intake_core.specs.Held.{limit_of, has_stopped, Holds, IsClean};
+    ghost use Rattle.intake_core.specs.Held.{shows, limit_of, has_stopped, Holds, IsClean};
 
     /// The filings of a filer, ascending by number. Full never comes here.
     pub fn list(&mut self, filer: &str) -> Result<Vec<FilingRow>, Unavailable>
@@ -165,6 +172,10 @@ impl<S: Alter> Intake<S> {
         ensures kept { IsClean self.new → (requests : List Request) → Holds self.old requests → Holds self.new requests }
         ensures clean { IsClean self.new → IsClean self.old }
         ensures limit { limit_of self.new ≡ limit_of self.old }
+
+        // A crash leaves what it could leave before.
+        ensures crash { Survives (shows self.old) (shows self.new) (λ _. (requests : List Request) → Holds self.old requests → IsTrue (shows self.old).is_open → ⊥) }
+        ensures durable { IsClean self.new → (requests : List Request) → Holds self.old requests → OnOk result (IsTrue (shows self.new).is_open × ((trees : Trees) → (shows self.new).may_leave trees → Leaves requests trees)) }
 
         // After a refusal of the database there is no other answer than that.
         ensures down { has_stopped self.old ≡ true → (result ≡ Err Down) × (self.new ≡ self.old) }
@@ -189,6 +200,10 @@ impl<S: Alter> Intake<S> {
         ensures clean { IsClean self.new → IsClean self.old }
         ensures limit { limit_of self.new ≡ limit_of self.old }
 
+        // A crash leaves what it could leave before.
+        ensures crash { Survives (shows self.old) (shows self.new) (λ _. (requests : List Request) → Holds self.old requests → IsTrue (shows self.old).is_open → ⊥) }
+        ensures durable { IsClean self.new → (requests : List Request) → Holds self.old requests → OnOk result (IsTrue (shows self.new).is_open × ((trees : Trees) → (shows self.new).may_leave trees → Leaves requests trees)) }
+
         // After a refusal of the database there is no other answer than that.
         ensures down { has_stopped self.old ≡ true → (result ≡ Err Down) × (self.new ≡ self.old) }
         ensures stops { (has_stopped self.new ≡ true) ↔ ((has_stopped self.old ≡ true) ⊎ (result ≡ Err StoreFailed)) }
@@ -206,7 +221,7 @@ impl<S: Alter> Intake<S> {
 
 impl<S: Alter> Intake<S> {
     ghost use Rattle.intake_core.specs.Cache.{IsKeptIn};
-    ghost use Rattle.intake_core.specs.Held.{store_of, limit_of, has_stopped, Holds, IsClean};
+    ghost use Rattle.intake_core.specs.Held.{store_of, shows, limit_of, has_stopped, Holds, IsClean};
 
     /// The answer to a request that the cache remembers. The cache is made here, where there is memory for it.
     fn recall(&mut self, filer: &str, key: &KeyText, body: &[u8]) -> Option<Answer>
@@ -248,6 +263,9 @@ impl<S: Alter> Intake<S> {
         ensures room { IsClean self.new → (requests : List Request) → Holds self.old requests
             → OnOk result (has_key requests (the_request filer.now key.now body.now) ≡ false → length requests < limit_of self.old) }
         ensures running { result ≢ Err Down }
+        ensures crash { Survives (shows self.old) (shows self.new) (λ trees. (requests : List Request) → Holds self.old requests → IsTrue (shows self.old).is_open
+            → Leaves (firsts (requests ++ the_request filer.now key.now body.now ∷ [])) trees) }
+        ensures open { IsClean self.new → (requests : List Request) → Holds self.old requests → OnOk result (IsTrue (shows self.new).is_open) }
     {
         match self.store.find(filer, key)? {
             Some(row) => Ok(self.repeat(filer, key, body, row)),
@@ -281,6 +299,9 @@ impl<S: Alter> Intake<S> {
         ensures full { (requests : List Request) → Holds self.old requests → (k : ℕ) → result ≡ Err (Full k) → (limit_of self.old ≤ k) × (k ≡ length requests) }
         ensures room { (requests : List Request) → Holds self.old requests → OnOk result (length requests < limit_of self.old) }
         ensures running { result ≢ Err Down }
+        ensures crash { Survives (shows self.old) (shows self.new) (λ trees. (requests : List Request) → Holds self.old requests → IsTrue (shows self.old).is_open
+            → has_key requests (the_request filer.now key.now body.now) ≡ false → Leaves (requests ++ the_request filer.now key.now body.now ∷ []) trees) }
+        ensures open { IsClean self.new → (requests : List Request) → Holds self.old requests → has_key requests (the_request filer.now key.now body.now) ≡ false → OnOk result (IsTrue (shows self.new).is_open) }
     {
         let kept = self.store.kept_count()?;
         if kept >= self.limit {

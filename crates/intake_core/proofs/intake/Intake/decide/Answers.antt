@@ -1,6 +1,7 @@
 use Rattle.std.proofs.Common.{◌≡◌, ◌++◌, ◌∷◌, [], List, Some, None, true, false, true≢false, IfOk, refl, sym, ap, ◌∙◌, subst}
 use Rattle.std.proofs.lemmas.Result.{IfOk-weaker}
 use Rattle.sqlite.specs.State.{HasCleanDisk}
+use Rattle.sqlite.proofs.StateLemmas.{survives_then, survives_weaker}
 use Rattle.filing_model.specs.Request.{Request}
 use Rattle.filing_model.specs.Register.{kept}
 use Rattle.filing_model.specs.Answer.{kept_for}
@@ -8,8 +9,8 @@ use Rattle.filing_model.specs.Views.{the_request}
 use Rattle.filing_model.proofs.Answers.{answer_kept}
 use Rattle.filing_model.proofs.Keeping.{kept_has_key}
 use Rattle.register_store.specs.Outcomes.{kept_as}
-use Rattle.register_store.specs.Store.{shows}
-use Rattle.intake_core.proofs.Deciding.{has_key-none, Holds-asked, Holds-repeat, Holds-new}
+use Rattle.register_store.specs.Store.{shows, Leaves}
+use Rattle.intake_core.proofs.Deciding.{has_key-none, firsts-more, Holds-asked, Holds-repeat, Holds-new}
 use Rattle.intake_core.proofs.intake.Intake.decide.Goals as goal
 
 pub returns-in-Some-clause-answer : goal.returns-in-Some-clause-answer
@@ -47,3 +48,28 @@ returns-in-None-clause-full g c = λ clean requests h k e.
     let asked = Holds-asked requests c.args.self.now _ h refl (c.in_ok-row.ensures.same cleaned requests h.rows) in
     let full = c.keep.ensures.full requests asked k e in
     (fresh, full.0, full.1)
+
+pub returns-in-None-clause-crash : goal.returns-in-None-clause-crash
+returns-in-None-clause-crash g c =
+    let r : Request = the_request c.args.filer.now c.args.key.now c.args.body.now in
+    survives_then (shows g.S.Store c.args.self.now.store) (shows g.S.Store c.find.new.self) (shows g.S.Store c.keep.new.self.store) _ _ _
+        (λ clean trees none requests h alive. absurd (none requests h.rows alive))
+        (λ clean trees left requests h alive.
+            let cleaned = c.keep.ensures.clean clean in
+            let fresh = has_key-none requests r (sym (rw c.in-None.is at (c.in_ok-row.ensures.found cleaned requests h.rows c.args.body.now))) in
+            let asked = Holds-asked requests c.args.self.now _ h refl (c.in_ok-row.ensures.same cleaned requests h.rows) in
+            let still = (c.in_ok-row.ensures.durable cleaned requests h.rows).0 in
+            subst (λ (rs : List Request). Leaves rs trees) (sym (firsts-more requests r h.firsts' fresh)) (left requests asked still fresh))
+        c.find.ensures.crash c.keep.ensures.crash
+
+pub returns-in-None-clause-open : goal.returns-in-None-clause-open
+returns-in-None-clause-open g c = λ clean requests h.
+    let r : Request = the_request c.args.filer.now c.args.key.now c.args.body.now in
+    let cleaned = c.keep.ensures.clean clean in
+    let fresh = has_key-none requests r (sym (rw c.in-None.is at (c.in_ok-row.ensures.found cleaned requests h.rows c.args.body.now))) in
+    let asked = Holds-asked requests c.args.self.now _ h refl (c.in_ok-row.ensures.same cleaned requests h.rows) in
+    c.keep.ensures.open clean requests asked fresh
+
+pub returns-in-Some-clause-crash : goal.returns-in-Some-clause-crash
+returns-in-Some-clause-crash g c =
+    rw c.repeat.ensures.rest.0 (survives_weaker (shows g.S.Store c.args.self.now.store) (shows g.S.Store c.find.new.self) _ _ (λ clean trees none requests h alive. absurd (none requests h.rows alive)) c.find.ensures.crash)

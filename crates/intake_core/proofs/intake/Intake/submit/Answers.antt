@@ -1,6 +1,12 @@
-use Rattle.std.proofs.Common.{◌≡◌, ◌≤◌, ℕ, subst}
-use Rattle.filing_model.specs.Request.{Request}
+use Rattle.std.proofs.Common.{◌≡◌, ◌≤◌, ◌++◌, ◌∷◌, [], ℕ, List, IsTrue, sym, ◌∙◌, subst}
+use Rattle.sqlite.specs.State.{Survives}
+use Rattle.sqlite.proofs.StateLemmas.{survives_weaker}
+use Rattle.filing_model.specs.Request.{Request, firsts}
 use Rattle.filing_model.specs.Views.{the_request}
+use Rattle.filing_model.proofs.Firsts.{firsts_repeat}
+use Rattle.register_store.specs.Store.{shows, Leaves}
+use Rattle.register_store.proofs.StoreLemmas.{leaves}
+use Rattle.intake_core.specs.Held.{Holds}
 use Rattle.intake_core.proofs.Deciding.{Holds-repeat}
 use Rattle.intake_core.proofs.intake.Intake.submit.Goals as goal
 
@@ -14,3 +20,22 @@ pub returns-clause-full : goal.returns-clause-full
 returns-clause-full g c = λ clean requests h k e.
     let full = c.decide-result.ensures.full clean requests (c.recall.ensures.same requests h) k e in
     (full.0, subst (λ (limit : ℕ). limit ≤ k) c.recall.ensures.rest.1 full.1, full.2)
+
+-- no call was made, and what was committed last is all that a crash leaves
+pub returns-in-Some-clause-durable : goal.returns-in-Some-clause-durable
+returns-in-Some-clause-durable g c = λ clean requests h alive.
+    let r : Request = the_request c.args.filer.now c.args.key.now c.args.body.now in
+    let known = c.in-Some.ensures.answer requests h in
+    let held : Holds c.recall.new.self requests = c.recall.ensures.same requests h in
+    let still : IsTrue (shows g.S.Store c.recall.new.self.store).is_open = subst (λ s. IsTrue (shows g.S.Store s).is_open) (sym c.recall.ensures.rest.0) alive in (
+      still,
+      λ trees left. subst (λ (rs : List Request). Leaves rs trees) (sym (firsts_repeat requests r known.1 ∙ h.firsts'))
+          (leaves requests (shows g.S.Store c.recall.new.self.store) held.rows.stands still trees (g.met.S.Store.settled c.recall.new.self.store.conn.store trees still left)),
+    )
+
+pub returns-clause-crash : goal.returns-clause-crash
+returns-clause-crash g c =
+    let r : Request = the_request c.args.filer.now c.args.key.now c.args.body.now in
+    let new = shows g.S.Store c.decide-result.new.self.store in
+    subst (λ s. Survives (shows g.S.Store s) new (λ trees. (requests : List Request) → Holds c.args.self.now requests → IsTrue (shows g.S.Store s).is_open → Leaves (firsts (requests ++ r ∷ [])) trees)) c.recall.ensures.rest.0
+        (survives_weaker (shows g.S.Store c.recall.new.self.store) new _ _ (λ _ trees left requests h alive. left requests (c.recall.ensures.same requests h) alive) c.decide-result.ensures.crash)
