@@ -12,4 +12,6 @@ pub use intake::{Intake, Unavailable};
 pub use reply::{list_reply, reply_of, word_reply};
 
 #[cfg(test)]
+mod stops;
+#[cfg(test)]
 mod tests;

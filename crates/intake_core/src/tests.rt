@@ -1,19 +1,19 @@
 use super::*;
 use filing_model::plain::{Kept, answer_of, keep};
 use key_string::{KeyText, is_filer};
-use sqlite::MemStore;
+use sqlite::Alter;
 use std::alloc::{AllocError, Global};
 use std::process::Abort;
 use std::test::Fail;
 
-const VALID: &[u8] =
+pub const VALID: &[u8] =
     b"{\"documentInfo\":{\"documentType\":\"https://xbrl.org/2021/xbrl-json\",\"taxonomy\":[\"t\"]}}";
 
 /// Submits a request whose filer code and body are within their limits.
-fn submit(
+pub fn submit<S: Alter>(
     rt: &impl Abort,
     alloc: Global,
-    intake: &mut Intake<MemStore>,
+    intake: &mut Intake<S>,
     filer: &str,
     key: &str,
     body: &[u8],

@@ -53,14 +53,14 @@ pub returns-in-None-clause-crash : goal.returns-in-None-clause-crash
 returns-in-None-clause-crash g c =
     let r : Request = the_request c.args.filer.now c.args.key.now c.args.body.now in
     survives_then (shows g.S.Store c.args.self.now.store) (shows g.S.Store c.find.new.self) (shows g.S.Store c.keep.new.self.store) _ _ _
-        (λ clean trees none requests h alive. absurd (none requests h.rows alive))
-        (λ clean trees left requests h alive.
-            let cleaned = c.keep.ensures.clean clean in
-            let fresh = has_key-none requests r (sym (rw c.in-None.is at (c.in_ok-row.ensures.found cleaned requests h.rows c.args.body.now))) in
-            let asked = Holds-asked requests c.args.self.now _ h refl (c.in_ok-row.ensures.same cleaned requests h.rows) in
-            let still = (c.in_ok-row.ensures.durable cleaned requests h.rows).0 in
-            subst (λ (rs : List Request). Leaves rs trees) (sym (firsts-more requests r h.firsts' fresh)) (left requests asked still fresh))
-        c.find.ensures.crash c.keep.ensures.crash
+    (λ clean trees none requests h alive. absurd (none requests h.rows alive))
+    (λ clean trees left requests h alive.
+    let cleaned = c.keep.ensures.clean clean in
+    let fresh = has_key-none requests r (sym (rw c.in-None.is at (c.in_ok-row.ensures.found cleaned requests h.rows c.args.body.now))) in
+    let asked = Holds-asked requests c.args.self.now _ h refl (c.in_ok-row.ensures.same cleaned requests h.rows) in
+    let still = (c.in_ok-row.ensures.durable cleaned requests h.rows).0 in
+    subst (λ (rs : List Request). Leaves rs trees) (sym (firsts-more requests r h.firsts' fresh)) (left requests asked still fresh))
+    c.find.ensures.crash c.keep.ensures.crash
 
 pub returns-in-None-clause-open : goal.returns-in-None-clause-open
 returns-in-None-clause-open g c = λ clean requests h.

@@ -38,4 +38,4 @@ returns-clause-crash g c =
     let r : Request = the_request c.args.filer.now c.args.key.now c.args.body.now in
     let new = shows g.S.Store c.decide-result.new.self.store in
     subst (λ s. Survives (shows g.S.Store s) new (λ trees. (requests : List Request) → Holds c.args.self.now requests → IsTrue (shows g.S.Store s).is_open → Leaves (firsts (requests ++ r ∷ [])) trees)) c.recall.ensures.rest.0
-        (survives_weaker (shows g.S.Store c.recall.new.self.store) new _ _ (λ _ trees left requests h alive. left requests (c.recall.ensures.same requests h) alive) c.decide-result.ensures.crash)
+    (survives_weaker (shows g.S.Store c.recall.new.self.store) new _ _ (λ _ trees left requests h alive. left requests (c.recall.ensures.same requests h) alive) c.decide-result.ensures.crash)
