@@ -3,8 +3,10 @@
 #![tactic(auto)]
 
 mod pieces;
+mod register;
 mod work;
 
+use register::{Times, in_file, in_memory, measure};
 use std::env;
 use std::io::{self, Read};
 use std::process::ExitCode;
@@ -14,12 +16,22 @@ fn main(rt: HostRuntime) -> anyhow::Result<ExitCode> {
     let alloc = rt.alloc();
     let words: Vec<String> = env::args(&rt)?.skip(1).collect(alloc)?;
     let Some(work) = Work::of_words(&words) else {
-        println!(rt; "bench: serve N | judge | parse | heads N")?;
+        println!(rt; "bench: serve N | judge | parse | heads N | register N [FILE]")?;
         return Ok(ExitCode::from(2));
     };
+    if let Work::Register { count, file } = work {
+        let times = measured(&rt, count, file)?;
+        println!(rt;
+            "{} ns to add, {} ns to find",
+            times.add.as_micros(),
+            times.find.as_micros()
+        )?;
+        return Ok(ExitCode::SUCCESS);
+    }
     let mut input = Vec::new(alloc);
     rt.reader().read_to_end(&mut input)?;
     match work {
+        Work::Register { .. } => (),
         Work::Serve { most } => {
             let totals = serve_pieces(alloc, &input, most)?;
             println!(rt; "{} bytes, {} marks", totals.bytes, totals.marks)?;
@@ -39,4 +51,17 @@ fn main(rt: HostRuntime) -> anyhow::Result<ExitCode> {
         )?,
     }
     Ok(ExitCode::SUCCESS)
+}
+
+/// The times of a thousand calls on a register of so many requests, in memory or in a new file.
+fn measured(rt: &HostRuntime, count: u64, file: Option<&str>) -> anyhow::Result<Times> {
+    match file {
+        None => measure(rt, &mut in_memory(rt.alloc())?, count),
+        Some(path) => {
+            let mut store = in_file(rt, path)?;
+            let times = measure(rt, &mut store, count)?;
+            drop(store.into_files()?);
+            Ok(times)
+        }
+    }
 }

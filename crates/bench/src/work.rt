@@ -19,7 +19,9 @@ const FILER: &str = "ACME";
 
 /// What the words of the command line ask for.
 #[derive(Clone, Copy)]
-pub enum Work {
+pub enum Work<'a> {
+    /// Keep so many requests in a register in memory, or in this new file, and time the calls on it.
+    Register { count: u64, file: Option<&'a str> },
     /// Serve the input as one connection, at most so many bytes a read.
     Serve { most: usize },
     /// Judge the input as a report.
@@ -30,10 +32,19 @@ pub enum Work {
     Heads { body: usize },
 }
 
-impl Work {
+impl<'a> Work<'a> {
     /// The work of these words.
-    pub fn of_words(words: &[String]) -> Option<Work> {
+    pub fn of_words(words: &'a [String]) -> Option<Work<'a>> {
         match words {
+            [word, count, files @ ..] if word.as_str() == "register" && files.len() <= 1 => {
+                match count.parse() {
+                    Ok(count) => Some(Work::Register {
+                        count,
+                        file: files.first().map(|file| file.as_str()),
+                    }),
+                    Err(_) => None,
+                }
+            }
             [word] if word.as_str() == "judge" => Some(Work::Judge),
             [word] if word.as_str() == "parse" => Some(Work::Parse),
             [word, most] if word.as_str() == "serve" => match most.parse() {
