@@ -4,12 +4,15 @@ that it makes, prints how much it does in a second of processor time, and holds 
 to its bounds: status 1 where a bound is passed.
 
 The time of a run is that of the process and its children (user and system), less that of a run on an
-empty input, which is the start of the program. Each figure is the best of three runs.
+empty input, which is the start of the program. Each figure is the best of three runs. The calls on a register
+of many requests are timed by the program itself, by the clock, so they want a machine with nothing else to do.
 """
 import os
+import re
 import resource
 import subprocess
 import sys
+import tempfile
 
 TOP = os.path.dirname(os.path.dirname(os.path.abspath(__file__)))
 BENCH = os.path.join(TOP, "crates", "bench", "out", "bench")
@@ -89,6 +92,32 @@ def growth(what, smaller, larger, most):
     return times <= most
 
 
+def register_times(count, path=None):
+    """The least times of some runs on a register of so many requests, by what was done, in nanoseconds."""
+    found = []
+    for _ in range(RUNS):
+        with tempfile.TemporaryDirectory() as folder:
+            words = ["register", str(count)] + ([os.path.join(folder, "register.db")] if path else [])
+            lines = subprocess.run([BENCH, *words], stdout=subprocess.PIPE, text=True, check=True).stdout.split("\n")
+        times = [re.fullmatch(r"(\d+) (ns|us) to (\w+)", line) for line in lines if line]
+        found.append({it[3]: int(it[1]) * (1000 if it[2] == "us" else 1) for it in times})
+    return {what: min(it[what] for it in found) for what in found[0]}
+
+
+def register_growth():
+    """Whether the calls on a register in a file grow as they may with the requests that it keeps."""
+    held = []
+    for in_file in (False, True):
+        times = {count: register_times(count, in_file) for count in (1_000, 10_000, 100_000)}
+        for count, it in times.items():
+            said = ", ".join(f"{time / 1000:.1f} us to {what}" for what, time in it.items())
+            print(f"{count} kept requests in {'a file' if in_file else 'memory'}: {said}")
+    for what in ("add", "find"):
+        held.append(growth(f"in a file, 100 times the requests, to {what} one", times[1_000][what], times[100_000][what], 2))
+    held.append(growth("10 times the requests (10,000 to 100,000), to open", times[10_000]["open"], times[100_000]["open"], 12))
+    return held
+
+
 def main():
     if not os.path.exists(BENCH):
         sys.exit("build the program first: rt run in crates/bench")
@@ -127,6 +156,7 @@ def main():
         held.append(growth(f"10 times the {what}", fewer, larger, 12))
     spent = seconds(["judge"], wide(), b"1 findings\n")
     print(f"one fact with 50,000 wrong dimensions: {spent:.3f} s")
+    held += register_growth()
     if not all(held):
         sys.exit("a bound is passed")
 

@@ -6,7 +6,7 @@ mod pieces;
 mod register;
 mod work;
 
-use register::{Times, in_file, in_memory, measure};
+use register::{Times, in_file, in_memory, measure, time_to_open};
 use std::env;
 use std::io::{self, Read};
 use std::process::ExitCode;
@@ -20,12 +20,7 @@ fn main(rt: HostRuntime) -> anyhow::Result<ExitCode> {
         return Ok(ExitCode::from(2));
     };
     if let Work::Register { count, file } = work {
-        let times = measured(&rt, count, file)?;
-        println!(rt;
-            "{} ns to add, {} ns to find",
-            times.add.as_micros(),
-            times.find.as_micros()
-        )?;
+        measure_register(&rt, count, file)?;
         return Ok(ExitCode::SUCCESS);
     }
     let mut input = Vec::new(alloc);
@@ -53,15 +48,22 @@ fn main(rt: HostRuntime) -> anyhow::Result<ExitCode> {
     Ok(ExitCode::SUCCESS)
 }
 
-/// The times of a thousand calls on a register of so many requests, in memory or in a new file.
-fn measured(rt: &HostRuntime, count: u64, file: Option<&str>) -> anyhow::Result<Times> {
-    match file {
-        None => measure(rt, &mut in_memory(rt.alloc())?, count),
-        Some(path) => {
-            let mut store = in_file(rt, path)?;
-            let times = measure(rt, &mut store, count)?;
-            drop(store.into_files()?);
-            Ok(times)
-        }
-    }
+/// Times the calls on a register of so many requests, in memory or in a new file, and says what they come to.
+fn measure_register(rt: &HostRuntime, count: u64, file: Option<&str>) -> anyhow::Result<()> {
+    let Some(path) = file else {
+        let times = measure(rt, &mut in_memory(rt.alloc())?, count)?;
+        return print(rt, &times);
+    };
+    let mut store = in_file(rt, path)?;
+    let times = measure(rt, &mut store, count)?;
+    drop(store.into_files()?);
+    print(rt, &times)?;
+    println!(rt; "{} us to open", time_to_open(rt, path)?.as_micros())?;
+    Ok(())
+}
+
+fn print(rt: &HostRuntime, times: &Times) -> anyhow::Result<()> {
+    println!(rt; "{} ns to add", times.of_one_added())?;
+    println!(rt; "{} ns to find", times.of_one_found())?;
+    Ok(())
 }

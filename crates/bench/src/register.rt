@@ -14,14 +14,27 @@ const FILER: &str = "ACME";
 const BODY: &[u8] =
     b"{\"documentInfo\":{\"documentType\":\"https://xbrl.org/2021/xbrl-json\",\"taxonomy\":[\"t\"]}}";
 
-/// How many calls are timed together.
-const TIMED: u64 = 1000;
+/// How many requests are added together, and how many are looked up.
+const ADDED: u64 = 1_000;
+const FOUND: u64 = 10_000;
 
-/// The times of `TIMED` calls.
+/// The times of these calls, in all.
 #[derive(Clone, Copy)]
 pub struct Times {
-    pub add: Duration,
-    pub find: Duration,
+    add: Duration,
+    find: Duration,
+}
+
+impl Times {
+    /// The nanoseconds to add one.
+    pub fn of_one_added(&self) -> u128 {
+        self.add.as_nanos() / u128::from(ADDED)
+    }
+
+    /// The nanoseconds to find one.
+    pub fn of_one_found(&self) -> u128 {
+        self.find.as_nanos() / u128::from(FOUND)
+    }
 }
 
 /// A new register in memory.
@@ -36,7 +49,7 @@ pub fn in_file(rt: &HostRuntime, path: &str) -> anyhow::Result<Store<FileStore<F
     Ok(Store::create(rt.alloc(), conn)?)
 }
 
-/// Keeps requests until there are so many, and times the next and the look-ups of as many among all.
+/// Keeps requests until there are so many, and times some more, and look-ups all over them.
 pub fn measure<S: Alter + Drop>(
     rt: &HostRuntime,
     store: &mut Store<S>,
@@ -47,16 +60,26 @@ pub fn measure<S: Alter + Drop>(
         keep(alloc, store, number)?;
     }
     let start = Instant::now(rt)?;
-    for number in count..count.saturating_add(TIMED) {
+    for number in count..count.saturating_add(ADDED) {
         keep(alloc, store, number)?;
     }
     let add = start.elapsed(rt)?;
     let start = Instant::now(rt)?;
-    for at in 0..TIMED {
-        find(alloc, store, at.saturating_mul(count / TIMED))?;
+    for at in 0..FOUND {
+        find(alloc, store, at.saturating_mul(7919) % count.max(1))?;
     }
     let find = start.elapsed(rt)?;
     Ok(Times { add, find })
+}
+
+/// Opens the register in this file, and gives the time of that.
+pub fn time_to_open(rt: &HostRuntime, path: &str) -> anyhow::Result<Duration> {
+    let start = Instant::now(rt)?;
+    let conn = Connection::open(rt, path)?;
+    let store = Store::open(rt.alloc(), conn)?;
+    let time = start.elapsed(rt)?;
+    drop(store.into_files()?);
+    Ok(time)
 }
 
 /// The key of the request of this number.
