@@ -1,5 +1,5 @@
 -- What a cache remembers is kept, and gives the answer to a repeat.
-use Rattle.std.proofs.Common.{◌≡◌, ℕ, Bool, true, false, List, [], ◌∷◌, Option, Some, None, ◌++◌, Result, Ok, Err, IfOk, IfSome, OnOk, OnErr, refl, sym, ap, ◌∙◌, subst, inl, inr, Contains, string_bytes}
+use Rattle.std.proofs.Common.{◌≡◌, ℕ, Bool, true, List, Some, ◌++◌, Result, Ok, Err, IfOk, IfSome, OnOk, OnErr, sym, ◌∙◌, subst, inl, inr, Contains}
 use Rattle.std.specs.Result.{result_ok}
 use Rattle.filing_model.specs.Request.{Request, has_key}
 use Rattle.filing_model.specs.Register.{Kept, kept}

@@ -1,14 +1,14 @@
 -- What an intake holds after a new request, and after a repeat.
-use Rattle.std.proofs.Common.{◌≡◌, ℕ, true, false, true≢false, List, [], ◌∷◌, ◌++◌, Option, Some, None, Result, Ok, Err, IfOk, refl, sym, ap, ◌∙◌, subst, ⊎_elim}
+use Rattle.std.proofs.Common.{◌≡◌, true, false, List, [], ◌∷◌, ◌++◌, Option, Some, None, Result, Ok, Err, IfOk, refl, sym, ap, ◌∙◌, subst, ⊎_elim}
 use Rattle.std.proofs.lemmas.Bool.{cases_Bool}
 use Rattle.std.proofs.lemmas.List.Folds.{find-append}
 use Rattle.std.specs.Result.{result_ok}
 use Rattle.sqlite.specs.Store.{Ghosts}
 use Rattle.filing_model.specs.Request.{Request, same_key, firsts, has_key}
 use Rattle.filing_model.specs.Register.{Kept, judged, kept, Outcome}
-use Rattle.filing_model.specs.Answer.{answer, kept_for}
+use Rattle.filing_model.specs.Answer.{kept_for}
 use Rattle.filing_model.proofs.Firsts.{firsts_new, firsts_repeat, same_key-refl}
-use Rattle.filing_model.proofs.Keeping.{kept_new, kept_none, kept_found, kept_has_key}
+use Rattle.filing_model.proofs.Keeping.{kept_new, kept_none, kept_found}
 use Rattle.register_store.specs.Store.{HasRequests}
 use Rattle.intake_core.specs.declared.cache.Cache.{Cache}
 use Rattle.intake_core.specs.declared.intake.Intake.{Intake}

@@ -1,6 +1,6 @@
 //! An intake over a register in memory.
 
-ghost use Rattle.std.specs.Prelude.{◌≡◌, ◌≤◌, ◌^◌, [], false, IfOk};
+ghost use Rattle.std.specs.Prelude.{◌≡◌, ◌≢◌, ◌≤◌, ◌^◌, [], false, Err, IfOk};
 ghost use Rattle.intake_core.specs.Held.{limit_of, has_stopped, Holds};
 
 use crate::intake::Intake;
@@ -15,6 +15,7 @@ impl Intake<MemStore> {
         ensures limit { IfOk result (λ intake. limit_of intake ≡ limit) }
         ensures empty { IfOk result (λ intake. Holds intake []) }
         ensures up { IfOk result (λ intake. has_stopped intake ≡ false) }
+        ensures free { result ≢ Err CreateFault.Taken }
     {
         match Connection::open_in_memory(alloc) {
             Ok(conn) => Ok(Intake::new(alloc, Store::create(alloc, conn)?, limit)),

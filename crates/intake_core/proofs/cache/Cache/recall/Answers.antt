@@ -1,5 +1,3 @@
-use Rattle.std.proofs.Common.{subst}
-use Rattle.std.specs.Prelude.{Contains}
 use Rattle.lru.proofs.CallerLemmas.{Contains-promoted}
 use Rattle.intake_core.proofs.cache.Cache.recall.Goals as goal
 

@@ -1,6 +1,5 @@
-use Rattle.std.proofs.Common.{◌≡◌, sym, ◌∙◌, subst, string_eq}
-use Rattle.filing_model.specs.Register.{Kept}
-use Rattle.intake_core.specs.Cache.{kept_of, IsKeptIn}
+use Rattle.std.proofs.Common.{sym, subst, string_eq}
+use Rattle.intake_core.specs.Cache.{IsKeptIn}
 use Rattle.intake_core.proofs.CacheLemmas.{AreKeptIn-put}
 use Rattle.intake_core.proofs.cache.Cache.remember.Goals as goal
 

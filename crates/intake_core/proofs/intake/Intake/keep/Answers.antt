@@ -1,11 +1,11 @@
-use Rattle.std.proofs.Common.{◌≡◌, ◌++◌, ◌∷◌, [], false, List, refl, sym, ap, ◌∙◌, subst}
+use Rattle.std.proofs.Common.{◌++◌, ◌∷◌, [], false, refl, sym, ap, ◌∙◌, subst}
 use Rattle.sqlite.specs.State.{HasCleanDisk}
 use Rattle.filing_model.specs.Request.{Request}
 use Rattle.filing_model.specs.Answer.{answer_by}
 use Rattle.filing_model.specs.Views.{the_request}
 use Rattle.filing_model.proofs.Answers.{answer_new}
 use Rattle.register_store.specs.Outcomes.{view_outcome}
-use Rattle.register_store.specs.Store.{StoreParts, shows}
+use Rattle.register_store.specs.Store.{shows}
 use Rattle.intake_core.proofs.Deciding.{IsKeptIn-new, Holds-more}
 use Rattle.intake_core.proofs.intake.Intake.keep.Goals as goal
 

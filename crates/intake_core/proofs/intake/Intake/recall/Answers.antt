@@ -1,4 +1,3 @@
-use Rattle.std.proofs.Common.{sym}
 use Rattle.intake_core.proofs.Deciding.{RemembersIfAny-new}
 use Rattle.intake_core.proofs.intake.Intake.recall.Goals as goal
 
