@@ -1,25 +1,18 @@
 -- A row that is held against what judging its request gives.
 use Rattle.std.proofs.Common.{◌≡◌, ◌<◌, ℕ, ◌+◌, false, List, [], ◌∷◌, length, map, Option, Some, None, MatchOption, refl, sym, ap, subst, ◌∙◌, arith}
-use Rattle.std.specs.Prelude.{bytes_eq, ◌&&◌}
-use Rattle.std.specs.List.{list_any}
 use Rattle.sqlite.specs.Order.{Row}
 use Rattle.xbrl_report.specs.Findings.{findings}
 use Rattle.xbrl_report.specs.Pair.{Pair}
 use Rattle.xbrl_report.specs.Judgement.{IsJudgement}
 use Rattle.xbrl_report.specs.declared.judging.Judged.{Judged}
 use Rattle.xbrl_report.specs.declared.judging.Judged.TheVariants.{Valid, Refused}
-use Rattle.filing_model.specs.Request.{Request, has_key, same_key}
+use Rattle.filing_model.specs.Request.{has_key}
 use Rattle.filing_model.specs.Register.{Outcome, outcome_by}
-use Rattle.filing_model.proofs.Lists.{list_any-map}
 use Rattle.register_store.specs.declared.audit.Rest.{Rest}
 use Rattle.register_store.specs.Audit.{Others, Begins, IsSound, view_rest, request_outcome, kept_in}
 use Rattle.register_store.specs.Columns.{request_in}
 use Rattle.register_store.specs.Outcomes.{outcome_of, filings_by}
 use Rattle.register_store.specs.Register.{IsCompleted, kept_row}
-
--- the filer and key of the earlier rows
-pub repeats : (earlier : List Row) (r : Request) → has_key (map request_in earlier) r ≡ list_any (λ row. bytes_eq (request_in row).filer r.filer && bytes_eq (request_in row).key r.key) earlier
-repeats earlier r = list_any-map request_in (λ s. same_key s r) earlier
 
 -- what becomes of a request that was judged so
 pub outcome_is : (number : ℕ) (filer body : List ℕ) (j : Judged) → IsJudgement filer body j → outcome_by (findings filer body) number ≡ outcome_of number j

@@ -20,6 +20,7 @@ pub mod OurGains
 pub mod ReadLemmas
 pub mod ReadTexts
 pub mod RisingLemmas
+pub mod SeenLemmas
 pub mod SegmentLemmas
 pub mod StepsOfLists
 pub mod StoreLemmas

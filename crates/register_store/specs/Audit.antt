@@ -1,5 +1,5 @@
 -- What an audit asks of the rows of a register.
-use Rattle.std.specs.Prelude.{◌≡◌, ◌⊎◌, ◌<◌, ◌+◌, ℕ, suc, false, List, [], ◌++◌, length, map, take, get_or}
+use Rattle.std.specs.Prelude.{◌≡◌, ◌⊎◌, ◌<◌, ◌+◌, ℕ, suc, Bool, false, List, [], ◌++◌, length, map, take, get_or}
 use Rattle.std.specs.List.{AllByRecursion}
 use Rattle.sqlite.specs.Order.{Row}
 use Rattle.xbrl_report.specs.Findings.{findings as found_in}
@@ -35,6 +35,10 @@ request_outcome row outcome = record { request = request_in row; outcome = outco
 -- the request of the row, judged, where the next filing has this number
 abbrev pub kept_in : Row → ℕ → Kept
 kept_in row number = request_outcome row (outcome_by (found_in (request_in row).filer (request_in row).body) number)
+
+-- one of the earlier rows has the filer and key of the row at this place, counted from 0
+abbrev pub is_repeated_at : List Row → ℕ → Bool
+is_repeated_at rows at = has_key (map request_in (take at rows)) (request_in (get_or rows at []))
 
 -- the row is sound after these: its request is one that may be completed, its filer and key are new, and its place, its outcome and its
 -- rows in the other tables are what judging it gives
