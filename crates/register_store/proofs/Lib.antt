@@ -14,6 +14,7 @@ pub mod Growing
 pub mod ListLemmas
 pub mod Making
 pub mod MoreRequests
+pub mod NextLemmas
 pub mod NumberLemmas
 pub mod OpenLemmas
 pub mod OurGains

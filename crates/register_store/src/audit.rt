@@ -9,7 +9,7 @@ ghost use Rattle.xbrl_report.specs.ReportParts.{facts as facts_of};
 ghost use Rattle.xbrl_report.specs.Judgement.{IsJudgement, HasFacts};
 ghost use Rattle.filing_model.specs.Register.{Outcome, register};
 ghost use Rattle.filing_model.specs.Request.{Request, has_key};
-ghost use Rattle.register_store.specs.Audit.{Others, AreRowsOf, Begins, IsSound, IsVerdict, is_repeated_at, view_rest, request_outcome, kept_in};
+ghost use Rattle.register_store.specs.Audit.{Others, AreRowsOf, Begins, IsSound, IsVerdict, is_repeated_at, begins_with, has_more, view_rest, request_outcome, kept_in};
 ghost use Rattle.register_store.specs.Cells.{value_of};
 ghost use Rattle.register_store.specs.Columns.{text_in, bytes_in, request_in};
 ghost use Rattle.register_store.specs.Outcomes.{outcome_of, filings_by};
@@ -176,6 +176,34 @@ fn after_judged<'a>(row: &Row, seq: u64, judged: &Judged, rest: Rest<'a>) -> Opt
     }
 }
 
+/// Whether the first of the rows has this number in the column.
+fn begins_with(rows: &[Row], at: usize, number: u64) -> bool
+    requires { number < 2 ^ 63 }
+    ensures { result ≡ begins_with at number rows.now }
+{
+    match rows {
+        [row, ..] => match row.get_ref(at) {
+            Ok(ValueRef::Int(found)) => found == number as i64,
+            _ => false,
+        },
+        [] => false,
+    }
+}
+
+/// Whether what is left begins with another row of the request at this place, which was judged so.
+fn has_more(seq: u64, judged: &Judged, number: u64, rest: Rest<'_>) -> bool
+    requires seq { seq < 2 ^ 63 }
+    requires number { number < 2 ^ 63 }
+    ensures { result ≡ has_more seq (outcome_of number judged.now) (view_rest rest.entry) }
+{
+    begins_with(rest.findings, 0, seq)
+        || begins_with(rest.filings, 1, seq)
+        || match judged {
+            Judged::Valid(_) => begins_with(rest.facts, 0, number),
+            Judged::Refused(_) => false,
+        }
+}
+
 /// The filer of a row whose request may be completed.
 fn filer_of<'a>(row: &'a Row) -> Option<&'a str>
     ensures { MatchOption result (IsCompleted (request_in row.now) → ⊥) (λ filer. (filer.now ≡ (request_in row.now).filer) × IsCompleted (request_in row.now)) }
@@ -217,7 +245,16 @@ fn check_next<'a>(
         return Ok(None);
     };
     match judge(alloc, filer, bytes_at(row, 3)) {
-        Ok(judged) => Ok(after_judged(row, seq, &judged, rest)),
+        Ok(judged) => match after_judged(row, seq, &judged, rest) {
+            Some(tail) => {
+                if has_more(seq, &judged, rest.number, tail) {
+                    Ok(None)
+                } else {
+                    Ok(Some(tail))
+                }
+            }
+            None => Ok(None),
+        },
         Err(error) => Err(error),
     }
 }
