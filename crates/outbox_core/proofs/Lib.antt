@@ -11,3 +11,5 @@ pub mod KeyLemmas
 pub mod AuditLemmas
 pub mod HeldLemmas
 pub mod DistinctLemmas
+pub mod SoundLemmas
+pub mod UniqueLemmas

@@ -11,3 +11,4 @@ pub mod SchemaLemmas
 pub mod StandLemmas
 pub mod WriteLemmas
 pub mod ResultLemmas
+pub mod FailLemmas
