@@ -10,6 +10,8 @@ use std::alloc::Global;
 use std::test::Fail;
 use uuid::Uuid;
 
+mod stops;
+
 const BODY: &[u8] = b"{\"facts\":{}}";
 
 /// A connection in no transaction and without a limit of steps.
