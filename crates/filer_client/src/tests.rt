@@ -230,6 +230,42 @@ fn each_read_fails_once(rt: HostRuntime) -> Result<(), Fail> {
     Ok(())
 }
 
+/// Whether the fault is want of memory, of the call or of the bytes that it writes to.
+fn wants_memory(fault: ExchangeFault) -> bool {
+    matches!(
+        fault,
+        ExchangeFault::Write { .. }
+            | ExchangeFault::Reply(ReplyFault::Memory)
+            | ExchangeFault::Take(TakeFault::Memory)
+    )
+}
+
+/// Each call is made again that was refused for want of memory. Run it with each allocation refused too, one in a run.
+#[test]
+fn refused_memory_changes_nothing(rt: HostRuntime) -> Result<(), Fail> {
+    let alloc = rt.alloc();
+    let mut made = match outbox(alloc) {
+        Err(_) => outbox(alloc)?,
+        Ok(made) => made,
+    };
+    let bytes = match request_bytes(alloc, &mut made, 1) {
+        Err(fault) => {
+            assert_eq!(rt; fault, TakeFault::Memory);
+            request_bytes(alloc, &mut made, 1)?
+        }
+        Ok(bytes) => bytes,
+    };
+    assert_eq!(rt; bytes.len(), 537);
+    let (mut answer, _) = exchanged(alloc, &mut made, REGISTERED.as_bytes(), 1)?;
+    if let Err(fault) = answer {
+        assert!(rt; wants_memory(fault));
+        assert_eq!(rt; state_of(&mut made, 1)?, Some(State::Open));
+        answer = exchanged(alloc, &mut made, REGISTERED.as_bytes(), 1)?.0;
+    }
+    assert_eq!(rt; answer, Ok(State::Confirmed(1)));
+    Ok(())
+}
+
 #[test]
 fn texts_of_faults(rt: HostRuntime) -> Result<(), Fail> {
     let cases = [
