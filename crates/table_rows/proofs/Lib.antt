@@ -12,3 +12,4 @@ pub mod StandLemmas
 pub mod WriteLemmas
 pub mod ResultLemmas
 pub mod FailLemmas
+pub mod UpdateLemmas
