@@ -2,6 +2,7 @@
 
 ghost use Rattle.std.specs.Prelude.{◌≡◌, List, Some, None, IsTrue, IfOk, IfErr, IfSome, OnOk, OnErr, Err};
 ghost use Rattle.sqlite.specs.State.{HasCleanDisk, Survives};
+ghost use Rattle.sqlite.specs.Tree.{Trees};
 ghost use Rattle.http_wire.specs.Device.{HasFailed};
 ghost use Rattle.filing_model.specs.Outbox.{Entry as Item, moved};
 ghost use Rattle.outbox_core.specs.Box.{shows, contents, HasEntries};
@@ -34,9 +35,12 @@ pub fn hand_over<R: Source, S: Alter>(
     ensures stopped { IsTrue outbox.old.has_failed → OnOk result ⊥ × (outbox.new ≡ outbox.old) }
     ensures filer { outbox.new.filer ≡ outbox.old.filer }
 
-    // A crash leaves what one before the call could leave, or the entries after the move by the reply that was read.
+    // A crash leaves what one before the call could leave, or the entries after the move by the reply that was read, and
+    // after Ok these alone.
     ensures crash { Survives (shows S.Store outbox.old) (shows S.Store outbox.new) (λ trees. (entries : List Item) → HasEntries S.Store outbox.old entries → IsTrue (shows S.Store outbox.old).is_open
         → Hears (R.left reader.old) (R.left reader.new) (λ reply. IfSome (entry_at entries id) (λ e. Leaves (contents outbox.old (set_state entries id (moved e.state reply))) trees))) }
+    ensures durable { HasCleanDisk (shows S.Store outbox.new) → (entries : List Item) → HasEntries S.Store outbox.old entries
+        → IfOk result (λ to. IsTrue (shows S.Store outbox.new).is_open × ((trees : Trees) → (shows S.Store outbox.new).may_leave trees → Leaves (contents outbox.new (set_state entries id (view_state to))) trees)) }
 {
     let reply = read_reply(alloc, reader)?;
     Ok(outbox.take(id, &reply)?)
@@ -63,6 +67,13 @@ pub fn exchange<R: Source, W: Sink, S: Alter>(
     ensures stopped { IsTrue outbox.old.has_failed → (result ≡ Err (ExchangeFault.Take TakeFault.Store)) × (outbox.new ≡ outbox.old) × (reader.new ≡ reader.old) × (writer.new ≡ writer.old) }
     ensures filer { outbox.new.filer ≡ outbox.old.filer }
     ensures clean { HasCleanDisk (shows S.Store outbox.new) → HasCleanDisk (shows S.Store outbox.old) }
+
+    // A crash leaves what one before the call could leave, or the entries after the move by the reply that was read, and
+    // after Ok these alone.
+    ensures crash { Survives (shows S.Store outbox.old) (shows S.Store outbox.new) (λ trees. (entries : List Item) → HasEntries S.Store outbox.old entries → IsTrue (shows S.Store outbox.old).is_open
+        → Hears (R.left reader.old) (R.left reader.new) (λ reply. IfSome (entry_at entries id) (λ e. Leaves (contents outbox.old (set_state entries id (moved e.state reply))) trees))) }
+    ensures durable { HasCleanDisk (shows S.Store outbox.new) → (entries : List Item) → HasEntries S.Store outbox.old entries
+        → IfOk result (λ to. IsTrue (shows S.Store outbox.new).is_open × ((trees : Trees) → (shows S.Store outbox.new).may_leave trees → Leaves (contents outbox.new (set_state entries id (view_state to))) trees)) }
 {
     match open_request(alloc, outbox, id)? {
         ToSend::Request(text) => {

@@ -1,11 +1,13 @@
 //! The request of an entry.
 
-ghost use Rattle.std.specs.Prelude.{◌≡◌, ◌≢◌, List, Some, None, option_map, IsTrue, IfOk, Err};
-ghost use Rattle.sqlite.specs.State.{HasCleanDisk};
+ghost use Rattle.std.specs.Prelude.{◌≡◌, ◌≢◌, List, Some, None, option_map, IsTrue, IfOk, OnOk, Err};
+ghost use Rattle.sqlite.specs.State.{HasCleanDisk, Survives};
+ghost use Rattle.sqlite.specs.Tree.{Trees};
 ghost use Rattle.filing_model.specs.Outbox.{Entry as Item, bytes_of, request_of};
-ghost use Rattle.outbox_core.specs.Box.{shows, HasEntries};
+ghost use Rattle.outbox_core.specs.Box.{shows, contents, HasEntries};
 ghost use Rattle.outbox_core.specs.Entries.{entry_at};
 ghost use Rattle.outbox_core.specs.Reading.{view_entry};
+ghost use Rattle.outbox_core.specs.Rows.{Leaves};
 ghost use Rattle.filer_client.specs.Exchange.{request_at, IsToSend};
 
 use http_wire::{MAX_BODY_LEN, append_request};
@@ -34,12 +36,15 @@ pub fn request_bytes<S: Alter>(
         → IfOk result (λ text. Some text.items ≡ request_at outbox.old.filer entries id) }
     ensures no_entry { HasCleanDisk (shows S.Store outbox.new) → (entries : List Item) → HasEntries S.Store outbox.old entries → result ≡ Err TakeFault.NoEntry → entry_at entries id ≡ None }
 
-    // The entries are those of before, whatever the answer is.
+    // The entries are those of before, whatever the answer is, and a crash leaves what it could leave before; after Ok these alone.
     ensures kept { HasCleanDisk (shows S.Store outbox.new) → (entries : List Item) → HasEntries S.Store outbox.old entries → HasEntries S.Store outbox.new entries }
     ensures stopped { IsTrue outbox.old.has_failed → (result ≡ Err TakeFault.Store) × (outbox.new ≡ outbox.old) }
     ensures stops { IsTrue outbox.new.has_failed → result ≡ Err TakeFault.Store }
     ensures filer { outbox.new.filer ≡ outbox.old.filer }
     ensures clean { HasCleanDisk (shows S.Store outbox.new) → HasCleanDisk (shows S.Store outbox.old) }
+    ensures crash { Survives (shows S.Store outbox.old) (shows S.Store outbox.new) (λ _. (entries : List Item) → HasEntries S.Store outbox.old entries → IsTrue (shows S.Store outbox.old).is_open → ⊥) }
+    ensures durable { HasCleanDisk (shows S.Store outbox.new) → (entries : List Item) → HasEntries S.Store outbox.old entries
+        → OnOk result (IsTrue (shows S.Store outbox.new).is_open × ((trees : Trees) → (shows S.Store outbox.new).may_leave trees → Leaves (contents outbox.new entries) trees)) }
 {
     let entry = find_entry(outbox, id)?;
     request_of(alloc, outbox.filer(), &entry)
@@ -55,12 +60,15 @@ pub fn open_request<S: Alter>(
     ensures found { HasCleanDisk (shows S.Store outbox.new) → (entries : List Item) → HasEntries S.Store outbox.old entries → IfOk result (IsToSend outbox.old.filer entries id) }
     ensures no_entry { HasCleanDisk (shows S.Store outbox.new) → (entries : List Item) → HasEntries S.Store outbox.old entries → result ≡ Err TakeFault.NoEntry → entry_at entries id ≡ None }
 
-    // The entries are those of before, whatever the answer is.
+    // The entries are those of before, whatever the answer is, and a crash leaves what it could leave before; after Ok these alone.
     ensures kept { HasCleanDisk (shows S.Store outbox.new) → (entries : List Item) → HasEntries S.Store outbox.old entries → HasEntries S.Store outbox.new entries }
     ensures stopped { IsTrue outbox.old.has_failed → (result ≡ Err TakeFault.Store) × (outbox.new ≡ outbox.old) }
     ensures stops { IsTrue outbox.new.has_failed → result ≡ Err TakeFault.Store }
     ensures filer { outbox.new.filer ≡ outbox.old.filer }
     ensures clean { HasCleanDisk (shows S.Store outbox.new) → HasCleanDisk (shows S.Store outbox.old) }
+    ensures crash { Survives (shows S.Store outbox.old) (shows S.Store outbox.new) (λ _. (entries : List Item) → HasEntries S.Store outbox.old entries → IsTrue (shows S.Store outbox.old).is_open → ⊥) }
+    ensures durable { HasCleanDisk (shows S.Store outbox.new) → (entries : List Item) → HasEntries S.Store outbox.old entries
+        → OnOk result (IsTrue (shows S.Store outbox.new).is_open × ((trees : Trees) → (shows S.Store outbox.new).may_leave trees → Leaves (contents outbox.new entries) trees)) }
 {
     let entry = find_entry(outbox, id)?;
     match entry.state {
@@ -79,6 +87,9 @@ fn find_entry<S: Alter>(outbox: &mut Outbox<S>, id: u64) -> Result<Entry, TakeFa
     ensures stops { IsTrue outbox.new.has_failed → result ≡ Err TakeFault.Store }
     ensures filer { outbox.new.filer ≡ outbox.old.filer }
     ensures clean { HasCleanDisk (shows S.Store outbox.new) → HasCleanDisk (shows S.Store outbox.old) }
+    ensures crash { Survives (shows S.Store outbox.old) (shows S.Store outbox.new) (λ _. (entries : List Item) → HasEntries S.Store outbox.old entries → IsTrue (shows S.Store outbox.old).is_open → ⊥) }
+    ensures durable { HasCleanDisk (shows S.Store outbox.new) → (entries : List Item) → HasEntries S.Store outbox.old entries
+        → OnOk result (IsTrue (shows S.Store outbox.new).is_open × ((trees : Trees) → (shows S.Store outbox.new).may_leave trees → Leaves (contents outbox.new entries) trees)) }
 {
     match outbox.entry(id) {
         Ok(Some(entry)) => Ok(entry),

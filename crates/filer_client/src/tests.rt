@@ -18,6 +18,14 @@ const HEAD: &str =
 const REGISTERED: &str =
     "HTTP/1.1 201 Created\r\nContent-Type: application/json\r\nContent-Length: 34\r\nConnection: close\r\n\r\n{\"number\":1,\"status\":\"registered\"}";
 
+/// The same reply where the connection stays open.
+const KEPT_OPEN: &str =
+    "HTTP/1.1 201 Created\r\nContent-Type: application/json\r\nContent-Length: 34\r\n\r\n{\"number\":1,\"status\":\"registered\"}";
+
+/// The least report.
+const LEAST: &str =
+    "{\"documentInfo\":{\"documentType\":\"https://xbrl.org/2021/xbrl-json\",\"taxonomy\":[\"t\"]}}";
+
 /// The outbox of a filer with one entry, which is open.
 fn outbox(alloc: Global) -> Result<Outbox<MemStore>, Fail> {
     let mut outbox = Outbox::create(alloc, Connection::open_in_memory(alloc)?, "ACME")?;
@@ -73,6 +81,38 @@ fn a_cut_reply_changes_nothing(rt: HostRuntime) -> Result<(), Fail> {
     assert_eq!(rt; answer, Err(ExchangeFault::Reply(ReplyFault::Cut)));
     assert_eq!(rt; output.len(), 537);
     assert_eq!(rt; state_of(&mut outbox, 1)?, Some(State::Open));
+    Ok(())
+}
+
+#[test]
+fn each_front_of_a_reply_is_cut(rt: HostRuntime) -> Result<(), Fail> {
+    let mut outbox = outbox(rt.alloc())?;
+    let reply = KEPT_OPEN.as_bytes();
+    assert_eq!(rt; reply.len(), 110);
+    for most in 0..110 {
+        let mut reader = Device::new(front(reply, most));
+        let answer = hand_over(rt.alloc(), &mut reader, &mut outbox, 1);
+        assert_eq!(rt;
+            answer,
+            Err(ExchangeFault::Reply(ReplyFault::Cut)),
+            "at {most}"
+        );
+        assert_eq!(rt; state_of(&mut outbox, 1)?, Some(State::Open));
+    }
+    let mut reader = Device::new(reply);
+    let answer = hand_over(rt.alloc(), &mut reader, &mut outbox, 1);
+    assert_eq!(rt; answer, Ok(State::Confirmed(1)));
+    Ok(())
+}
+
+#[test]
+fn the_request_of_the_least_report(rt: HostRuntime) -> Result<(), Fail> {
+    let mut outbox = outbox(rt.alloc())?;
+    let mut body = Vec::new(rt.alloc());
+    body.extend_from_slice(LEAST.as_bytes())?;
+    assert_eq!(rt; body.len(), 84);
+    assert_eq!(rt; outbox.put(KeyText::new(rt.alloc(), "k-2")?, body)?, 2);
+    assert_eq!(rt; request_bytes(rt.alloc(), &mut outbox, 2)?.len(), 227);
     Ok(())
 }
 
@@ -187,6 +227,42 @@ fn each_read_fails_once(rt: HostRuntime) -> Result<(), Fail> {
         hand_over(rt.alloc(), &mut reader, &mut outbox, 1)?,
         State::Confirmed(1)
     );
+    Ok(())
+}
+
+/// Whether the fault is want of memory, of the call or of the bytes that it writes to.
+fn wants_memory(fault: ExchangeFault) -> bool {
+    matches!(
+        fault,
+        ExchangeFault::Write { .. }
+            | ExchangeFault::Reply(ReplyFault::Memory)
+            | ExchangeFault::Take(TakeFault::Memory)
+    )
+}
+
+/// Each call is made again that was refused for want of memory. Run it with each allocation refused too, one in a run.
+#[test]
+fn refused_memory_changes_nothing(rt: HostRuntime) -> Result<(), Fail> {
+    let alloc = rt.alloc();
+    let mut made = match outbox(alloc) {
+        Err(_) => outbox(alloc)?,
+        Ok(made) => made,
+    };
+    let bytes = match request_bytes(alloc, &mut made, 1) {
+        Err(fault) => {
+            assert_eq!(rt; fault, TakeFault::Memory);
+            request_bytes(alloc, &mut made, 1)?
+        }
+        Ok(bytes) => bytes,
+    };
+    assert_eq!(rt; bytes.len(), 537);
+    let (mut answer, _) = exchanged(alloc, &mut made, REGISTERED.as_bytes(), 1)?;
+    if let Err(fault) = answer {
+        assert!(rt; wants_memory(fault));
+        assert_eq!(rt; state_of(&mut made, 1)?, Some(State::Open));
+        answer = exchanged(alloc, &mut made, REGISTERED.as_bytes(), 1)?.0;
+    }
+    assert_eq!(rt; answer, Ok(State::Confirmed(1)));
     Ok(())
 }
 

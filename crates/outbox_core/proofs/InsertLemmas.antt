@@ -1,5 +1,5 @@
 -- What the INSERT of an entry makes of an outbox.
-use Rattle.std.proofs.Common.{◌≡◌, ◌≢◌, ℕ, ◌+◌, pos, List, [], ◌∷◌, ◌++◌, length, map, None, Ok, Err, Result, IsTrue, refl, sym, ap, subst, ◌∙◌, OnOk}
+use Rattle.std.proofs.Common.{arith, ◌≡◌, ◌≢◌, ℕ, ◌+◌, pos, List, [], ◌∷◌, ◌++◌, length, map, None, Ok, Err, Result, IsTrue, refl, sym, ap, subst, ◌∙◌, OnOk}
 use Rattle.std.specs.List.{AllByRecursion}
 use Rattle.sqlite.specs.declared.types.Value.TheVariants.{Null, Int, Text, Blob}
 use Rattle.sqlite.specs.declared.error.Error.{Error}
@@ -21,15 +21,14 @@ use Rattle.table_rows.specs.Tables.{schema_with}
 use Rattle.table_rows.specs.Rows.{shown, Holds}
 use Rattle.table_rows.specs.Standing.{Stands}
 use Rattle.table_rows.proofs.PartLemmas.{went, same_value}
-use Rattle.table_rows.proofs.InsertLemmas.{Inserted}
+use Rattle.table_rows.proofs.InsertLemmas.{inserted}
 use Rattle.table_rows.proofs.GainLemmas.{cast_int, cast_null, gained, holds_more, same_rows}
-use Rattle.table_rows.proofs.WriteLemmas.{EndsNone}
+use Rattle.table_rows.proofs.WriteLemmas.{LeadsTo, EndsNone, written_stands, crash_leaves}
 use Rattle.outbox_core.specs.Schema.{outbox_tables, meta_table, entry_table, IsDeclared}
 use Rattle.outbox_core.specs.Entries.{Contents, IsOutbox, numbered, opened, with_entry}
 use Rattle.outbox_core.specs.Rows.{IsOutboxOf, Leaves, entry_row, entry_rows, meta_row}
-use Rattle.outbox_core.proofs.Texts.{insert_text, insert_command, insert_is, insert_plain}
+use Rattle.outbox_core.proofs.Texts.{insert_text, insert_terms, insert_command, insert_is, insert_plain}
 use Rattle.outbox_core.proofs.EntryLemmas.{numbered_push}
-use Rattle.outbox_core.proofs.WriteLemmas.{LeadsTo, written_stands, crash_leaves, no_works, free_if, zero_one, still_declared}
 
 abbrev pub insert_params : ℕ → List ℕ → List ℕ → Row
 insert_params id key body = Int (pos id) ∷ Text key ∷ Blob body ∷ []
@@ -54,43 +53,18 @@ module _ (s : State) (it : Contents) (was : IsOutboxOf it s.now) (key body : Lis
   abbrev b : Schema
   b = schema_with outbox_tables d.begins.tables d.begins.indexes d.begins.views
 
-  inserted : (text : List ℕ) (tally : Tally) (after : Database) → Does s.step_limit (mode_of s) (insert_params id key body) s.now text None insert_command (Ok (tally, after)) → IsDatabase after
-      → Inserted b entry_table (source id key body) s.now after
-  inserted text tally after does sound =
-      let db = s.now.trees in
-      let done = went (subst (λ k. Does s.step_limit (mode_of s) (insert_params id key body) (record s.now { schema = k }) text None insert_command (Ok (tally, after))) d.begins.is does) in
-      let now = ap (λ (p : Tally × Database). p.1) (same_value (went (went done.2).2).2) in
-      let given = went done.1 in
-      let written = went (went given.2).2 in
-      let counted = went written.2 in
-      let trees : done.0.trees ≡ written.0 = ap (λ (it : Written). it.trees) (same_value counted.2) ∙ same_value counted.1 in
-      let free = subst (λ (k : Schema). AllByRecursion (λ (t : Table). t.references ≡ []) k.tables) d.begins.is d.free in
-      let stepped = one_step b (mode_of s).keys db written.0 (edit_of db entry_table [] Chosen 0 given.0) (no_works _ b.tables free) written.1 in
-      let applied : Applies b (mode_of s).keys db (edit_of db entry_table [] Chosen 0 (source id key body ∷ [])) written.0 =
-      subst (λ all. Applies b (mode_of s).keys db (edit_of db entry_table [] Chosen 0 all) written.0) given.1.1 stepped in
-      let after_is : after.trees ≡ written.0 = ap (λ (d : Database). d.trees) now ∙ trees in
-      record {
-        row = with_rowid Chosen (db 1) (cast_row entry_table (source id key body));
-        row_is = refl;
-        schema_is = ap (λ (d : Database). d.schema) now;
-        sound = sound;
-        fresh = free_if _ applied.fresh;
-        rows = ap (λ (t : Trees). t 1) after_is ∙ applied.rows;
-        others = subst (λ (trees : Trees). AllByRecursion (λ t. t.tree ≢ 1 → trees t.tree ≡ db t.tree) b.tables) (sym after_is) applied.tables;
-      }
-
   row_shown : (row : Row) → row ≡ with_rowid Chosen (s.now.trees 1) (cast_row entry_table (source id key body)) → shown entry_table row ≡ entry_row (id, opened key body)
   row_shown row is = rw (is, cast_int (pos id), cast_int (pos 0), cast_null) refl
 
-  added : LeadsTo s (statement_of insert_text (understood s.now.schema insert_text)) (insert_params id key body) insert_command (with_entry it (opened key body))
+  added : LeadsTo s (statement_of insert_text (understood s.now.schema insert_text)) (insert_params id key body) insert_command (IsOutboxOf (with_entry it (opened key body)))
   added tally after does sound =
-      let i = inserted (statement_of insert_text (understood s.now.schema insert_text)) tally after does sound in
+      let i = inserted b 1 _ _ _ _ _ _ _ refl insert_terms 6 (λ _. refl) (insert_params id key body) s (statement_of insert_text (understood s.now.schema insert_text)) tally after d.begins.is does sound in
       let gain = gained outbox_tables entry_table (source id key body) (entry_row (id, opened key body)) s.now after d.begins i row_shown in
       record {
         sound = sound;
         rows = record {
-          declared = still_declared s.now.schema after.schema gain.schema_is d;
-          meta_is = same_rows meta_table (meta_row it.filer ∷ []) s.now after (gain.others.0 zero_one) was.rows.meta_is;
+          declared = subst IsDeclared (sym gain.schema_is) d;
+          meta_is = same_rows meta_table (meta_row it.filer ∷ []) s.now after (gain.others.0 (λ same. omega (arith, same))) was.rows.meta_is;
           entries_are = subst (Holds after entry_table) (rows_push it.entries key body) (holds_more outbox_tables entry_table (entry_rows it.entries) (entry_row (id, opened key body) ∷ []) s.now after was.rows.entries_are gain);
         };
         list = fits;
@@ -105,8 +79,10 @@ module _ (old new : State) (it : Contents) (was : Stands (IsOutboxOf it) old) (a
 
   pub insert_stands : (r : Result ℕ Error) → Executes insert_text (insert_params (1 + length it.entries) key body) old new r → OnOk r (Stands (IsOutboxOf (with_entry it (opened key body))) new × IsTrue new.is_open)
   insert_stands (Ok count) h =
-      written_stands insert_text _ insert_command old new it _ was (insert_is old.now.schema declared) (insert_plain old.now.schema declared) (added old it (was.now alive) key body fits) count (λ text w. w) h
+      written_stands (IsOutboxOf it) _ insert_text _ insert_command old new was (insert_is old.now.schema declared) (insert_plain old.now.schema declared) (added old it (was.now alive) key body fits) count (λ text w. w) h
   insert_stands (Err e) h = tt
 
   pub insert_leaves : (trees : Trees) → CommitsBy insert_text (insert_params (1 + length it.entries) key body) old trees → Leaves (with_entry it (opened key body)) trees
-  insert_leaves = crash_leaves insert_text _ insert_command old new it _ was (insert_is old.now.schema declared) (insert_plain old.now.schema declared) (added old it (was.now alive) key body fits) insert_only
+  insert_leaves trees h =
+      let made = crash_leaves (IsOutboxOf it) _ insert_text _ insert_command old new was (insert_is old.now.schema declared) (insert_plain old.now.schema declared) (added old it (was.now alive) key body fits) insert_only trees h in
+      record { db = made.0; is = made.2; outbox = made.1 }

@@ -1,7 +1,6 @@
 pub mod Texts
 pub mod EntryLemmas
 pub mod SelectLemmas
-pub mod WriteLemmas
 pub mod InsertLemmas
 pub mod UpdateLemmas
 pub mod ReadLemmas
@@ -11,3 +10,5 @@ pub mod KeyLemmas
 pub mod AuditLemmas
 pub mod HeldLemmas
 pub mod DistinctLemmas
+pub mod SoundLemmas
+pub mod UniqueLemmas

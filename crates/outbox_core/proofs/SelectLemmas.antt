@@ -108,6 +108,11 @@ pub states_selected : (es : List Entry) (trees : Trees) (rows : List Row) → Is
 states_selected es trees rows held answer =
     selected [] state_terms state_columns (λ r. true) (λ x. true) (λ x. refl) es trees [] rows held (λ r. refl) (λ r. refl) answer ∙ ap (map state_row) (every es)
 
+-- the rows of all
+pub entries_selected : (es : List Entry) (trees : Trees) (rows : List Row) → IsPermutation (entry_rows es) (map (shown entry_table) (trees 1)) → IsSureAnswer (entry_query []) (overlay trees []) [] rows → rows ≡ entry_rows es
+entries_selected es trees rows held answer =
+    selected [] entry_columns whole (λ r. true) (λ x. true) (λ x. refl) es trees [] rows held (λ r. refl) (λ r. refl) answer ∙ ap (map entry_row) (every es)
+
 -- ---- the first of them
 
 module _ (sql : List ℕ) (test : List Term) (asks : (schema : Schema) → IsDeclared schema → Asks schema sql (entry_query test)) (params : Row) (old new : State) (it : Contents) (was : Stands (IsOutboxOf it) old) where

@@ -1,5 +1,5 @@
 -- What the texts of the statements mean under the declared tables.
-use Rattle.std.proofs.Common.{◌≡◌, ℕ, pos, List, [], ◌∷◌, codes, false, refl, subst, sym}
+use Rattle.std.proofs.Common.{◌≡◌, ℕ, pos, List, [], ◌∷◌, codes, false, refl, subst, sym, le_refl}
 use Rattle.sqlite_tied.specs.Compute.{everything}
 use Rattle.sqlite.specs.declared.types.Value.TheVariants.{Null, Int}
 use Rattle.sqlite.specs.Table.{Table}
@@ -20,6 +20,7 @@ use Rattle.sqlite.proofs.Callers.{IsPlain, command_of}
 use Rattle.table_rows.specs.Tables.{schema_with}
 use Rattle.table_rows.proofs.SelectLemmas.{one_table}
 use Rattle.table_rows.proofs.QueryLemmas.{Asks}
+use Rattle.table_rows.proofs.FailLemmas.{IsWhole}
 use Rattle.outbox_core.specs.Schema.{outbox_tables, IsDeclared}
 use Rattle.outbox_core.specs.Audit.{meta_text, entries_text}
 
@@ -115,6 +116,14 @@ module _ (tables : List Table) (indexes : List Index) (views : List View) where
   unfolding understood everything
   asks_entries = record { names = names; is = refl; plain = (refl, refl); listing = refl }
 
+  whole_meta : IsWhole schema meta_text meta_query
+  unfolding understood everything
+  whole_meta = record { tail = le_refl _; unnamed = refl; typed = refl }
+
+  whole_entries : IsWhole schema entries_text (entry_query [])
+  unfolding understood everything
+  whole_entries = record { tail = le_refl _; unnamed = refl; typed = refl }
+
   does_insert : command_of (understood schema insert_text) ≡ insert_command
   unfolding understood everything
   does_insert = refl
@@ -152,6 +161,12 @@ module _ (schema : Schema) (d : IsDeclared schema) where
 
   pub entries_asks : Asks schema entries_text (entry_query [])
   entries_asks = subst (λ s. Asks s entries_text (entry_query [])) (sym d.begins.is) (asks_entries d.begins.tables d.begins.indexes d.begins.views)
+
+  pub meta_whole : IsWhole schema meta_text meta_query
+  meta_whole = subst (λ s. IsWhole s meta_text meta_query) (sym d.begins.is) (whole_meta d.begins.tables d.begins.indexes d.begins.views)
+
+  pub entries_whole : IsWhole schema entries_text (entry_query [])
+  entries_whole = subst (λ s. IsWhole s entries_text (entry_query [])) (sym d.begins.is) (whole_entries d.begins.tables d.begins.indexes d.begins.views)
 
   pub insert_is : command_of (understood schema insert_text) ≡ insert_command
   insert_is = subst (λ s. command_of (understood s insert_text) ≡ insert_command) (sym d.begins.is) (does_insert d.begins.tables d.begins.indexes d.begins.views)

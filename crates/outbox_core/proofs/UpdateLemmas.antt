@@ -36,13 +36,13 @@ use Rattle.table_rows.proofs.PartLemmas.{went, same_value}
 use Rattle.table_rows.proofs.InsertLemmas.{put_fresh}
 use Rattle.table_rows.proofs.GainLemmas.{cast_int, cast_null, same_rows}
 use Rattle.table_rows.proofs.SelectLemmas.{selects}
-use Rattle.table_rows.proofs.WriteLemmas.{EndsNone}
+use Rattle.table_rows.proofs.WriteLemmas.{LeadsTo, EndsNone, written_stands, crash_leaves}
+use Rattle.table_rows.proofs.UpdateLemmas.{other_rows, updated}
 use Rattle.outbox_core.specs.Schema.{outbox_tables, meta_table, entry_table, IsDeclared}
 use Rattle.outbox_core.specs.Entries.{Contents, IsOutbox, numbered, numbered_from, has_id, entry_at, with_state, put_state}
 use Rattle.outbox_core.specs.Rows.{IsOutboxOf, Leaves, code_of, number_of, entry_row, entry_rows, meta_row}
 use Rattle.outbox_core.proofs.Texts.{equals, changed_columns, update_text, update_command, update_query, update_is, update_plain}
 use Rattle.outbox_core.proofs.SelectLemmas.{matches, id_matches, same_ids, passing}
-use Rattle.outbox_core.proofs.WriteLemmas.{LeadsTo, written_stands, crash_leaves, no_works, free_if, zero_one, still_declared}
 
 abbrev pub update_params : ℕ → Place → Row
 update_params id state = Int (pos id) ∷ Int (pos (code_of state)) ∷ number_of state ∷ []
@@ -107,11 +107,15 @@ other_row id x = ap not (rw (value_cmp-Int (pos x.0) (pos id)) (same_ids x.0 id)
 abbrev change : Place → Row → Output
 change state w = ([], column w 0 ∷ column w 0 ∷ Null ∷ column w 1 ∷ column w 2 ∷ Int (pos (code_of state)) ∷ number_of state ∷ [])
 
+-- without the rowid
+abbrev became : Entry → Place → Row
+became e state = Null ∷ Text e.key ∷ Blob e.body ∷ Int (pos (code_of state)) ∷ number_of state ∷ []
+
 abbrev changed_row : ℕ → Entry → Place → Row
-changed_row id e state = Int (pos id) ∷ Int (pos id) ∷ Null ∷ Text e.key ∷ Blob e.body ∷ Int (pos (code_of state)) ∷ number_of state ∷ []
+changed_row id e state = Int (pos id) ∷ Int (pos id) ∷ became e state
 
 abbrev stored_row : ℕ → Entry → Place → Row
-stored_row id e state = Int (pos id) ∷ Null ∷ Text e.key ∷ Blob e.body ∷ Int (pos (code_of state)) ∷ number_of state ∷ []
+stored_row id e state = Int (pos id) ∷ became e state
 
 module _ (es : List Entry) (trees : Trees) (held : IsPermutation (entry_rows es) (map (shown entry_table) (trees 1))) (k : ℕ) (e : Entry) (found : slice_get es k ≡ Some e) (state : Place) where
   abbrev at : ℕ
@@ -124,7 +128,7 @@ module _ (es : List Entry) (trees : Trees) (held : IsPermutation (entry_rows es)
       one_permutation (changed_row at e state) rows (subst (λ l. IsPermutation l rows) mine moved)
 
   left : List Row
-  left = filter (λ (r : Row). not (has_rowid (pos at) r)) (trees 1)
+  left = other_rows at (trees 1)
 
   left_shown : IsPermutation (map entry_row (filter (apart_from at) (numbered es))) (map (shown entry_table) left)
   unfolding left
@@ -149,35 +153,23 @@ module _ (s : State) (it : Contents) (was : IsOutboxOf it s.now) (k : ℕ) (e : 
   abbrev b : Schema
   b = schema_with outbox_tables d.begins.tables d.begins.indexes d.begins.views
 
-  updated : LeadsTo s (statement_of update_text (understood s.now.schema update_text)) (update_params id state) update_command (with_state it (suc k) state)
+  put : LeadsTo s (statement_of update_text (understood s.now.schema update_text)) (update_params id state) update_command (IsOutboxOf (with_state it (suc k) state))
   unfolding left
-  updated tally after does sound =
+  put tally after does sound =
       let db = s.now.trees in
       let text = statement_of update_text (understood s.now.schema update_text) in
-      let done = went (subst (λ l. Does s.step_limit (mode_of s) (update_params id state) (record s.now { schema = l }) text None update_command (Ok (tally, after))) d.begins.is does) in
-      let now = ap (λ (p : Tally × Database). p.1) (same_value (went (went done.2).2).2) in
-      let given = went done.1 in
-      let written = went given.2 in
-      let trees : done.0.trees ≡ written.0 = ap (λ (w : Written). w.trees) (same_value written.2) in
       let free = subst (λ (l : Schema). AllByRecursion (λ (t : Table). t.references ≡ []) l.tables) d.begins.is d.free in
-      let stepped = one_step b (mode_of s).keys db written.0 (edit_of db entry_table (ids_of given.0) Given 1 given.0) (no_works _ b.tables free) written.1 in
-      let rows = one_row it.entries db was.rows.entries_are k e found state given.0 given.1.answer in
-      let step : Applies b (mode_of s).keys db (edit_of db entry_table (ids_of (changed_row id e state ∷ [])) Given 1 (changed_row id e state ∷ [])) written.0 =
-      subst (λ all. Applies b (mode_of s).keys db (edit_of db entry_table (ids_of all) Given 1 all) written.0) rows stepped in
-      let cast_is : cast_row entry_table (Int (pos id) ∷ Null ∷ Text e.key ∷ Blob e.body ∷ Int (pos (code_of state)) ∷ number_of state ∷ []) ≡ stored_row id e state =
-      rw (cast_int (pos id), cast_int (pos (code_of state)), cast_null, cast_number state) refl in
-      let taken : is_taken (left it.entries db was.rows.entries_are k e found state) (stored_row id e state) ≡ false =
-      subst (λ r. is_taken (left it.entries db was.rows.entries_are k e found state) r ≡ false) cast_is (free_if _ step.fresh) in
-      let put : written.0 1 ≡ put_row (stored_row id e state) (left it.entries db was.rows.entries_are k e found state) =
-      step.rows ∙ ap (λ r. put_row r (left it.entries db was.rows.entries_are k e found state)) cast_is in
-      let after_is : after.trees ≡ written.0 = ap (λ (d : Database). d.trees) now ∙ trees in
-      let meta : after.trees 0 ≡ db 0 = ap (λ (t : Trees). t 0) after_is ∙ step.tables.0 zero_one in
+      let u = updated b 1 entry_table refl free update_query (update_params id state) s text tally after d.begins.is does id (became e state) (one_row it.entries db was.rows.entries_are k e found state) in
+      let cast_is : cast_row entry_table (Int (pos id) ∷ became e state) ≡ stored_row id e state = rw (cast_int (pos id), cast_int (pos (code_of state)), cast_null, cast_number state) refl in
+      let fresh = subst (λ r. is_taken (left it.entries db was.rows.entries_are k e found state) r ≡ false) cast_is u.fresh in
+      let rows : after.trees 1 ≡ put_row (stored_row id e state) (left it.entries db was.rows.entries_are k e found state) =
+      u.rows ∙ ap (λ r. put_row r (left it.entries db was.rows.entries_are k e found state)) cast_is in
       record {
         sound = sound;
         rows = record {
-          declared = still_declared s.now.schema after.schema (ap (λ (d : Database). d.schema) now ∙ sym d.begins.is) d;
-          meta_is = same_rows meta_table (meta_row it.filer ∷ []) s.now after meta was.rows.meta_is;
-          entries_are = subst (λ l. IsPermutation (entry_rows (put_state it.entries k state)) (map (shown entry_table) l)) (sym (ap (λ (t : Trees). t 1) after_is ∙ put)) (rows_changed it.entries db was.rows.entries_are k e found state taken);
+          declared = subst IsDeclared (sym (u.schema_is ∙ sym d.begins.is)) d;
+          meta_is = same_rows meta_table (meta_row it.filer ∷ []) s.now after (u.others.0 (λ same. omega (arith, same))) was.rows.meta_is;
+          entries_are = subst (λ l. IsPermutation (entry_rows (put_state it.entries k state)) (map (shown entry_table) l)) (sym rows) (rows_changed it.entries db was.rows.entries_are k e found state fresh);
         };
         list = fits;
       }
@@ -199,7 +191,7 @@ module _ (old new : State) (it : Contents) (was : Stands (IsOutboxOf it) old) (a
       go None at some = absurd cc
       go (Some e) at some =
           let next : suc k ≡ 1 + k = omega arith in
-          written_stands update_text (update_params (1 + k) state) update_command old new it _ was (update_is old.now.schema declared) (update_plain old.now.schema declared) (updated old it (was.now alive) k e at state fits) count (λ text w. w)
+          written_stands (IsOutboxOf it) _ update_text (update_params (1 + k) state) update_command old new was (update_is old.now.schema declared) (update_plain old.now.schema declared) (put old it (was.now alive) k e at state fits) count (λ text w. w)
           (subst (λ n. Executes update_text (update_params n state) old new (Ok count)) next h)
 
   pub update_leaves : (id : ℕ) → IsSome (entry_at it.entries id) → IsOutbox (with_state it id state) → (trees : Trees) → CommitsBy update_text (update_params id state) old trees → Leaves (with_state it id state) trees
@@ -210,5 +202,6 @@ module _ (old new : State) (it : Contents) (was : Stands (IsOutboxOf it) old) (a
       go None at some = absurd cc
       go (Some e) at some =
           let next : suc k ≡ 1 + k = omega arith in
-          crash_leaves update_text (update_params (1 + k) state) update_command old new it _ was (update_is old.now.schema declared) (update_plain old.now.schema declared) (updated old it (was.now alive) k e at state fits) update_only trees
-          (subst (λ n. CommitsBy update_text (update_params n state) old trees) next h)
+          let made = crash_leaves (IsOutboxOf it) _ update_text (update_params (1 + k) state) update_command old new was (update_is old.now.schema declared) (update_plain old.now.schema declared) (put old it (was.now alive) k e at state fits) update_only trees
+          (subst (λ n. CommitsBy update_text (update_params n state) old trees) next h) in
+          record { db = made.0; is = made.2; outbox = made.1 }

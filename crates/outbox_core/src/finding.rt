@@ -6,11 +6,11 @@ ghost use Rattle.key_string.specs.Filer.{is_filer};
 ghost use Rattle.filing_model.specs.Outbox.{Entry as Item};
 ghost use Rattle.sqlite.specs.Held.{state};
 ghost use Rattle.sqlite.specs.Order.{Row as Stored};
-ghost use Rattle.sqlite.specs.State.{HasCleanDisk, IsLive, IsUnchanged, Shown};
+ghost use Rattle.sqlite.specs.State.{HasCleanDisk, IsLive, IsUnchanged, Shown, Survives};
 ghost use Rattle.table_rows.specs.Rows.{Holds};
 ghost use Rattle.table_rows.specs.Standing.{Stands};
 ghost use Rattle.outbox_core.specs.Schema.{IsDeclared, meta_table, entry_table};
-ghost use Rattle.outbox_core.specs.Entries.{contents_of};
+ghost use Rattle.outbox_core.specs.Entries.{Contents, contents_of};
 ghost use Rattle.outbox_core.specs.Rows.{IsOutboxOf, meta_row, entry_rows};
 ghost use Rattle.outbox_core.specs.Faults.{meta_fault, entry_fault};
 ghost use Rattle.outbox_core.specs.Audit.{meta_text, filer_in, IsKept, IsNoOutbox, IsDamagedAt, IsDamaged};
@@ -49,6 +49,9 @@ fn filer_of<S: Alter>(conn: &mut Connection<S>, alloc: Global) -> Result<String,
     ensures read { HasCleanDisk (state S.Store conn.new) → OnOk result ((rows : List Stored) × Shown meta_text [] (state S.Store conn.old) (state S.Store conn.new) rows × IsSome (filer_in rows)) }
     ensures not_ours { HasCleanDisk (state S.Store conn.new) → result ≡ Err OutboxFault.NotOurs → IsNoOutbox (state S.Store conn.old) (state S.Store conn.new) }
     ensures others { IfErr result (λ fault. (fault ≡ OutboxFault.NotOurs) ⊎ ((fault ≡ OutboxFault.Memory) ⊎ (fault ≡ OutboxFault.Disk))) }
+    ensures ours { HasCleanDisk (state S.Store conn.new) → (it : Contents) → IsOutboxOf it (state S.Store conn.old).now → (state S.Store conn.old).step_limit ≡ None
+        → IfErr result (λ fault. (fault ≡ OutboxFault.Memory) ⊎ (fault ≡ OutboxFault.Disk)) }
+    ensures crash { Survives (state S.Store conn.old) (state S.Store conn.new) (λ _. IsDeclared (state S.Store conn.old).now.schema → ⊥) }
     ensures mode { conn.old.in_transaction ≡ false → conn.new.in_transaction ≡ false }
     ensures clean { HasCleanDisk (state S.Store conn.new) → HasCleanDisk (state S.Store conn.old) }
 {
@@ -68,6 +71,9 @@ fn count_entries<S: Alter>(conn: &mut Connection<S>) -> Result<u64, OutboxFault>
     ensures damaged { HasCleanDisk (state S.Store conn.new) → (row : _) → result ≡ Err (OutboxFault.Damaged row) → IsDamagedAt row (state S.Store conn.old) (state S.Store conn.new) }
     ensures others { IfErr result (λ fault. ((row : _) × (fault ≡ OutboxFault.Damaged row)) ⊎ ((fault ≡ OutboxFault.Memory) ⊎ (fault ≡ OutboxFault.Disk))) }
     ensures few { IfOk result (λ count. count ≤ 2 ^ 62) }
+    ensures whole { HasCleanDisk (state S.Store conn.new) → (it : Contents) → IsOutboxOf it (state S.Store conn.old).now → (state S.Store conn.old).step_limit ≡ None
+        → IfErr result (λ fault. (fault ≡ OutboxFault.Memory) ⊎ (fault ≡ OutboxFault.Disk)) }
+    ensures crash { Survives (state S.Store conn.old) (state S.Store conn.new) (λ _. IsDeclared (state S.Store conn.old).now.schema → ⊥) }
     ensures mode { conn.old.in_transaction ≡ false → conn.new.in_transaction ≡ false }
     ensures clean { HasCleanDisk (state S.Store conn.new) → HasCleanDisk (state S.Store conn.old) }
 {
@@ -105,6 +111,10 @@ pub(crate) fn find<S: Alter>(conn: &mut Connection<S>, alloc: Global) -> Result<
     ensures not_ours { HasCleanDisk (state S.Store conn.new) → result ≡ Err OutboxFault.NotOurs → IsNoOutbox (state S.Store conn.old) (state S.Store conn.new) }
     ensures damaged { HasCleanDisk (state S.Store conn.new) → (row : _) → result ≡ Err (OutboxFault.Damaged row) → IsDamaged S.Store row conn.old conn.new }
     ensures others { IfErr result (λ fault. (fault ≢ OutboxFault.BadFiler) × (fault ≢ OutboxFault.Taken)) }
+    ensures sound { HasCleanDisk (state S.Store conn.new) → (it : Contents) → IsOutboxOf it (state S.Store conn.old).now → (state S.Store conn.old).step_limit ≡ None
+        → IfErr result (λ fault. (fault ≡ OutboxFault.Memory) ⊎ (fault ≡ OutboxFault.Disk)) }
+    ensures open { HasCleanDisk (state S.Store conn.new) → IsDeclared (state S.Store conn.old).now.schema → OnOk result (IsTrue (state S.Store conn.new).is_open) }
+    ensures crash { Survives (state S.Store conn.old) (state S.Store conn.new) (λ _. IsDeclared (state S.Store conn.old).now.schema → ⊥) }
     ensures few { IfOk result (λ found. found.count ≤ 2 ^ 62) }
 {
     prove!(is_settled(conn));

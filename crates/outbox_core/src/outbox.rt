@@ -1,6 +1,6 @@
 //! The outbox of a filer.
 
-ghost use Rattle.std.specs.Prelude.{◌≡◌, ◌≢◌, List, ◌+◌, ◌^◌, ◌<◌, ◌≤◌, ◌↔◌, [], ◌∷◌, ◌++◌, length, find, map, option_map, false, None, Some, IsTrue, IfOk, IfErr, OnOk, OnErr, IfSome, true, Err};
+ghost use Rattle.std.specs.Prelude.{◌≡◌, ◌≢◌, List, ◌+◌, ◌^◌, ◌<◌, ◌≤◌, ◌↔◌, [], ◌∷◌, ◌++◌, length, find, map, option_map, false, None, Some, IsTrue, IfOk, IfErr, OnOk, OnErr, IfSome, IsSome, true, Err};
 ghost use Rattle.sqlite.specs.State.{HasCleanDisk, Survives};
 ghost use Rattle.sqlite.specs.Held.{state};
 ghost use Rattle.sqlite.specs.Tree.{Trees};
@@ -109,6 +109,8 @@ impl<S: Alter + Drop> Outbox<S> {
 impl<S: Alter + Drop> Outbox<S> {
     ghost use Rattle.sqlite.specs.Held.{Held};
     ghost use Rattle.outbox_core.specs.Schema.{IsDeclared};
+    ghost use Rattle.std.specs.Prelude.{◌⊎◌};
+    ghost use Rattle.outbox_core.specs.Entries.{Contents};
     ghost use Rattle.outbox_core.specs.Rows.{IsOutboxOf};
     ghost use Rattle.outbox_core.specs.Audit.{IsNoOutbox, IsDamaged};
     ghost use Rattle.outbox_core.specs.Box.{shows, contents, HasEntries};
@@ -121,6 +123,16 @@ impl<S: Alter + Drop> Outbox<S> {
         ensures opened { IfOk result (λ outbox. HasCleanDisk (shows S.Store outbox) → IsDeclared (state S.Store conn).now.schema
             → (entries : List Item) × IsOutboxOf (contents outbox entries) (state S.Store conn).now × HasEntries S.Store outbox entries) }
         ensures able { IfOk result (λ outbox. outbox.has_failed ≡ false) }
+
+        // Where the database is an outbox, it is that one that is opened, and after the call a crash leaves it alone.
+        ensures same { IfOk result (λ outbox. HasCleanDisk (shows S.Store outbox) → (it : Contents) → IsOutboxOf it (state S.Store conn).now → (outbox.filer ≡ it.filer) × HasEntries S.Store outbox it.entries) }
+        ensures durable { IfOk result (λ outbox. HasCleanDisk (shows S.Store outbox) → (it : Contents) → IsOutboxOf it (state S.Store conn).now
+            → IsTrue (shows S.Store outbox).is_open × ((trees : Trees) → (shows S.Store outbox).may_leave trees → Leaves it trees)) }
+        ensures crash { IfOk result (λ outbox. Survives (state S.Store conn) (shows S.Store outbox) (λ _. IsDeclared (state S.Store conn).now.schema → ⊥)) }
+
+        // Such a database is refused for want of memory or by the disk alone. A refusal writes nothing.
+        ensures refused { IfErr result (λ fault. (last : Held S) × Survives (state S.Store conn) (state S.Store last) (λ _. IsDeclared (state S.Store conn).now.schema → ⊥)
+            × (HasCleanDisk (state S.Store last) → (it : Contents) → IsOutboxOf it (state S.Store conn).now → (fault ≡ OutboxFault.Memory) ⊎ (fault ≡ OutboxFault.Disk))) }
 
         // NotOurs and Damaged come by what was read up to then, where the disk gave back what was written.
         ensures not_ours { result ≡ Err OutboxFault.NotOurs → (last : Held S) × (HasCleanDisk (state S.Store last) → IsNoOutbox (state S.Store conn) (state S.Store last)) }
@@ -215,6 +227,10 @@ impl<S: Alter> Outbox<S> {
         ensures stops { IsTrue self.new.has_failed ↔ (result ≡ Err StoreFault.Store) }
         ensures filer { self.new.filer ≡ self.old.filer }
         ensures crash { Survives (shows S.Store self.old) (shows S.Store self.new) (λ _. (entries : List Item) → HasEntries S.Store self.old entries → IsTrue (shows S.Store self.old).is_open → ⊥) }
+
+        // Where an entry is answered, a crash leaves these entries alone.
+        ensures durable { HasCleanDisk (shows S.Store self.new) → (entries : List Item) → HasEntries S.Store self.old entries
+            → IfOk result (λ entry. IsSome entry → IsTrue (shows S.Store self.new).is_open × ((trees : Trees) → (shows S.Store self.new).may_leave trees → Leaves (contents self.new entries) trees)) }
     {
         if self.has_failed {
             return Err(StoreFault::Store);

@@ -98,6 +98,7 @@ pub(crate) fn meta_rows<S: Alter>(conn: &mut Connection<S>) -> Result<Vec<Row>, 
     ensures failed { HasCleanDisk (held.state S.Store conn.new) → IfErr result (FailsToQuery meta_text [] (held.state S.Store conn.old) (held.state S.Store conn.new)) }
     ensures mode { conn.old.in_transaction ≡ false → conn.new.in_transaction ≡ false }
     ensures clean { HasCleanDisk (held.state S.Store conn.new) → HasCleanDisk (held.state S.Store conn.old) }
+    ensures crash { Survives (held.state S.Store conn.old) (held.state S.Store conn.new) (λ _. IsDeclared (held.state S.Store conn.old).now.schema → ⊥) }
 {
     conn.query_all("SELECT id, kind, form, filer FROM outbox_meta", &[])
 }
@@ -110,6 +111,7 @@ pub(crate) fn all_rows<S: Alter>(conn: &mut Connection<S>) -> Result<Vec<Row>, E
     ensures failed { HasCleanDisk (held.state S.Store conn.new) → IfErr result (FailsToQuery entries_text [] (held.state S.Store conn.old) (held.state S.Store conn.new)) }
     ensures mode { conn.old.in_transaction ≡ false → conn.new.in_transaction ≡ false }
     ensures clean { HasCleanDisk (held.state S.Store conn.new) → HasCleanDisk (held.state S.Store conn.old) }
+    ensures crash { Survives (held.state S.Store conn.old) (held.state S.Store conn.new) (λ _. IsDeclared (held.state S.Store conn.old).now.schema → ⊥) }
 {
     conn.query_all(
         "SELECT id, idem, body, state, number FROM entry ORDER BY id",

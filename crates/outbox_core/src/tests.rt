@@ -2,13 +2,15 @@
 
 ghost use Rattle.std.specs.Prelude.{◌≡◌, false, None, IfOk};
 
-use super::{Entry, Outbox, OutboxFault, PutFault, State, TakeFault, key_of};
+use super::{Outbox, OutboxFault, PutFault, State};
 use http_wire::Reply;
 use key_string::KeyText;
 use sqlite::{Connection, MemStore};
 use std::alloc::Global;
 use std::test::Fail;
-use uuid::Uuid;
+
+mod memory;
+mod stops;
 
 const BODY: &[u8] = b"{\"facts\":{}}";
 
@@ -77,33 +79,6 @@ fn a_used_key_and_a_large_body_are_refused(rt: HostRuntime) -> Result<(), Fail> 
 }
 
 #[test]
-fn an_entry_is_confirmed_once(rt: HostRuntime) -> Result<(), Fail> {
-    let alloc = rt.alloc();
-    let mut outbox = with_entry(alloc)?;
-    let open: Entry = outbox.next_open()?.ok_or("no entry is open")?;
-    assert_eq!(rt; open.id, 1);
-    assert_eq!(rt; open.key.as_str(), "k-1");
-    assert_eq!(rt; open.body.as_slice(), BODY);
-    assert_eq!(rt;
-        outbox.entry(1)?.ok_or("there is no entry 1")?.state,
-        State::Open
-    );
-    let unavailable = reply(alloc, 503, b"{\"status\":\"unavailable\"}")?;
-    assert_eq!(rt; outbox.take(1, &unavailable)?, State::Open);
-    let registered = reply(alloc, 201, b"{\"number\":1,\"status\":\"registered\"}")?;
-    assert_eq!(rt; outbox.take(1, &registered)?, State::Confirmed(1));
-    let reused = reply(alloc, 422, b"{\"status\":\"key-reused\"}")?;
-    assert_eq!(rt; outbox.take(1, &reused)?, State::Confirmed(1));
-    assert_eq!(rt; outbox.take(2, &registered), Err(TakeFault::NoEntry));
-    assert!(rt; outbox.next_open()?.is_none());
-    assert_eq!(rt;
-        outbox.states()?.as_slice(),
-        [(1, State::Confirmed(1))].as_slice()
-    );
-    Ok(())
-}
-
-#[test]
 fn an_outbox_is_made_once_and_for_a_filer(rt: HostRuntime) -> Result<(), Fail> {
     let alloc = rt.alloc();
     let conn = ready(Connection::open_in_memory(alloc)?)?;
@@ -159,12 +134,5 @@ fn damage_is_told(rt: HostRuntime) -> Result<(), Fail> {
         fault_after(alloc, "UPDATE entry SET state = 1, number = 5")?,
         None
     );
-    Ok(())
-}
-
-#[test]
-fn a_uuid_is_a_key(rt: HostRuntime) -> Result<(), Fail> {
-    let key = key_of(rt.alloc(), Uuid::nil())?;
-    assert_eq!(rt; key.as_str(), "00000000-0000-0000-0000-000000000000");
     Ok(())
 }

@@ -37,7 +37,7 @@ or_parts : (a b : Bool) → (a || b) ≡ false → (a ≡ false) × (b ≡ false
 or_parts true b h = absurd (true≢false h)
 or_parts false b h = (refl, h)
 
-free_if : (taken : Bool) → (not taken && true) ≡ true → taken ≡ false
+pub free_if : (taken : Bool) → (not taken && true) ≡ true → taken ≡ false
 free_if true h = absurd (true≢false (sym h))
 free_if false h = refl
 
@@ -93,31 +93,35 @@ module _ (schema : Schema) (at : ℕ) (name : List ℕ) (tree : ℕ) (columns : 
   abbrev command : Command
   command = Insert at (Values terms width)
 
-  pub inserts : (sql : List ℕ) (params : Row) (old new : State) (count : ℕ) → old.now.schema ≡ schema → command_of (understood schema sql) ≡ command → IsPlain (understood schema sql)
-      → Executes sql params old new (Ok count) → Inserted schema it (eval_all terms ((params ++ []) ∷ [])) old.now new.now
-  inserts sql params old new count has is plain h =
-      let db = old.now.trees in
-      let w = runs_as sql params old new schema has command is plain count h in
-      let text = statement_of sql (understood schema sql) in
-      let changed = subst (λ s. Does old.step_limit (mode_of old) params (record old.now { schema = s }) text None command (Ok (w.tally, new.now))) has w.changed in
-      let task : Table → Task = λ t. record { limit = old.step_limit; keys = (mode_of old).keys; schema = schema; table = t; params = params } in
-      let done = went (subst (λ o. AtPlace (λ t. OnRows (task t) (mode_of old) None command db) o (Ok (w.tally, new.now))) found changed) in
+  pub inserted : (params : Row) (s : State) (text : List ℕ) (tally : Tally) (after : Database) → s.now.schema ≡ schema → Does s.step_limit (mode_of s) params s.now text None command (Ok (tally, after))
+      → IsDatabase after → Inserted schema it (eval_all terms ((params ++ []) ∷ [])) s.now after
+  inserted params s text tally after has does sound =
+      let db = s.now.trees in
+      let changed = subst (λ k. Does s.step_limit (mode_of s) params (record s.now { schema = k }) text None command (Ok (tally, after))) has does in
+      let task : Table → Task = λ t. record { limit = s.step_limit; keys = (mode_of s).keys; schema = schema; table = t; params = params } in
+      let done = went (subst (λ o. AtPlace (λ t. OnRows (task t) (mode_of s) None command db) o (Ok (tally, after))) found changed) in
       let now = ap (λ (p : Tally × Database). p.1) (same_value (went (went done.2).2).2) in
       let given = went done.1 in
       let written = went (went given.2).2 in
       let counted = went written.2 in
       let trees : done.0.trees ≡ written.0 = ap (λ (it : Written). it.trees) (same_value counted.2) ∙ same_value counted.1 in
       let sources : given.0 ≡ eval_all terms ((params ++ []) ∷ []) ∷ [] = given.1.1 ∙ single (params ++ []) in
-      let stepped = one_step schema (mode_of old).keys db written.0 (edit_of db it [] Chosen 0 given.0) (no_works schema (mode_of old).keys tree _) written.1 in
-      let applied : Applies schema (mode_of old).keys db (edit_of db it [] Chosen 0 (eval_all terms ((params ++ []) ∷ []) ∷ [])) written.0 =
-      subst (λ all. Applies schema (mode_of old).keys db (edit_of db it [] Chosen 0 all) written.0) sources stepped in
-      let after : new.now.trees ≡ written.0 = ap (λ (d : Database). d.trees) now ∙ trees in
+      let stepped = one_step schema (mode_of s).keys db written.0 (edit_of db it [] Chosen 0 given.0) (no_works schema (mode_of s).keys tree _) written.1 in
+      let applied : Applies schema (mode_of s).keys db (edit_of db it [] Chosen 0 (eval_all terms ((params ++ []) ∷ []) ∷ [])) written.0 =
+      subst (λ all. Applies schema (mode_of s).keys db (edit_of db it [] Chosen 0 all) written.0) sources stepped in
+      let trees_are : after.trees ≡ written.0 = ap (λ (d : Database). d.trees) now ∙ trees in
       record {
         row = with_rowid Chosen (db tree) (cast_row it (eval_all terms ((params ++ []) ∷ [])));
         row_is = refl;
         schema_is = ap (λ (d : Database). d.schema) now;
-        sound = w.sound;
+        sound = sound;
         fresh = free_if _ applied.fresh;
-        rows = ap (λ (t : Trees). t tree) after ∙ applied.rows;
-        others = subst (λ (trees : Trees). AllByRecursion (λ t. t.tree ≢ tree → trees t.tree ≡ db t.tree) schema.tables) (sym after) applied.tables;
+        rows = ap (λ (t : Trees). t tree) trees_are ∙ applied.rows;
+        others = subst (λ (trees : Trees). AllByRecursion (λ t. t.tree ≢ tree → trees t.tree ≡ db t.tree) schema.tables) (sym trees_are) applied.tables;
       }
+
+  pub inserts : (sql : List ℕ) (params : Row) (old new : State) (count : ℕ) → old.now.schema ≡ schema → command_of (understood schema sql) ≡ command → IsPlain (understood schema sql)
+      → Executes sql params old new (Ok count) → Inserted schema it (eval_all terms ((params ++ []) ∷ [])) old.now new.now
+  inserts sql params old new count has is plain h =
+      let w = runs_as sql params old new schema has command is plain count h in
+      inserted params old (statement_of sql (understood schema sql)) w.tally new.now has w.changed w.sound

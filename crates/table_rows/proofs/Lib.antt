@@ -11,3 +11,5 @@ pub mod SchemaLemmas
 pub mod StandLemmas
 pub mod WriteLemmas
 pub mod ResultLemmas
+pub mod FailLemmas
+pub mod UpdateLemmas

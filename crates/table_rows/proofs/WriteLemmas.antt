@@ -1,13 +1,12 @@
 -- What a write outside a transaction makes of a database that stands.
-use Rattle.std.proofs.Common.{◌≡◌, inl, inr, ℕ, false, List, append-nil, None, Ok, Err, Result, IsTrue, sym, ap, subst, subst₂, ◌∙◌, OnErr}
+use Rattle.std.proofs.Common.{◌≡◌, inl, inr, ℕ, false, List, append-nil, None, Ok, Err, Result, IsTrue, refl, sym, ap, subst, subst₂, ◌∙◌, OnErr}
 use Rattle.std.proofs.lemmas.Bool.{cases_Bool}
 use Rattle.sqlite.specs.Order.{Row}
 use Rattle.sqlite.specs.Tree.{Trees}
-use Rattle.sqlite.specs.Schema.{Schema}
 use Rattle.sqlite.specs.Command.{Command}
 use Rattle.sqlite.specs.Command.TheVariants.{Commit, Release}
 use Rattle.sqlite.specs.Does.{Tally, Does}
-use Rattle.sqlite.specs.Effect.{Database}
+use Rattle.sqlite.specs.Effect.{Database, IsDatabase}
 use Rattle.sqlite.specs.Listing.{understood}
 use Rattle.sqlite.specs.State.{State, mode_of, Runs, Writes, CommitsBy, Executes, ExecutesIn, IsNotRun, shows_rows}
 use Rattle.sqlite.specs.declared.error.Error.{Error}
@@ -19,31 +18,29 @@ use Rattle.table_rows.proofs.StandLemmas.{run_keeps, stands_on}
 
 -- what the command makes of this database is one like that
 abbrev pub LeadsTo : State → List ℕ → Row → Command → (Database → Type 0) → Type 0
-LeadsTo s text params command After = (tally : Tally) (after : Database) → Does s.step_limit (mode_of s) params s.now text None command (Ok (tally, after)) → After after
+LeadsTo s text params command After =
+    (tally : Tally) (after : Database) → Does s.step_limit (mode_of s) params s.now text None command (Ok (tally, after)) → IsDatabase after → After after
 
 -- the command ends no transaction
 abbrev pub EndsNone : Command → Type 0
 EndsNone command = (k : Command) → k ≡ command → (k ≡ Commit → ⊥) × ((name : List ℕ) → k ≡ Release name → ⊥)
 
-module _ (Is After : Database → Type 0) (sql : List ℕ) (params : Row) (schema : Schema) (command : Command) (is : command_of (understood schema sql) ≡ command) (plain : IsPlain (understood schema sql))
-    (old new : State) (has : old.now.schema ≡ schema) (was : Stands Is old) (leads : LeadsTo old (statement_of sql (understood schema sql)) params command After) where
+module _ (Is After : Database → Type 0) (sql : List ℕ) (params : Row) (command : Command) (old new : State) (was : Stands Is old) (is : command_of (understood old.now.schema sql) ≡ command)
+    (plain : IsPlain (understood old.now.schema sql)) (leads : LeadsTo old (statement_of sql (understood old.now.schema sql)) params command After) where
   pub written_stands : (count : ℕ) → ((text : List ℕ) → Runs old new None command text params count → Writes old new None command text params count) → Executes sql params old new (Ok count)
       → Stands After new × IsTrue new.is_open
   written_stands count writes h =
-      let w = writes _ (runs_as sql params old new schema has command is plain count h) in
-      let stored = leads w.tally new.now w.changed in (
+      let w = writes _ (runs_as sql params old new old.now.schema refl command is plain count h) in
+      let stored = leads w.tally new.now w.changed w.sound in (
         record { autocommit = w.shown.mode ∙ was.autocommit; now = λ _. stored; committed = λ _. w.shown.committed_is ∙ rw was.autocommit },
         w.shown.is_open,
       )
-
-  known_text : (c : Compiled) → understood old.now.schema sql ≡ Ok c → ◌≡◌ {A = Result Compiled CompileError} (Ok c) (understood schema sql)
-  known_text c it = sym it ∙ ap (λ s. understood s sql) has
 
   -- a crash in the course of it leaves what it makes
   pub crash_leaves : EndsNone command → (trees : Trees) → CommitsBy sql params old trees → (after : Database) × After after × (trees ≡ after.trees)
   unfolding CommitsBy
   crash_leaves other trees h =
-      let same = known_text h.0 h.1.is in
+      let same : ◌≡◌ {A = Result Compiled CompileError} (Ok h.0) (understood old.now.schema sql) = sym h.1.is in
       let bare = subst IsPlain (sym same) plain in
       let kind : h.0.command ≡ command = ap command_of same ∙ is in
       let may = rw (bare.0, bare.1, append-nil params) at h.2 in
@@ -52,7 +49,7 @@ module _ (Is After : Database → Type 0) (sql : List ℕ) (params : Row) (schem
         | inr writes ↦ (
             let text = ap (statement_of sql) same in
             let does = subst₂ (λ t k. Does old.step_limit (mode_of old) params old.now t None k (Ok (writes.1, writes.2))) text kind writes.3 in
-            (writes.2, leads writes.1 writes.2 does, writes.5))
+            (writes.2, leads writes.1 writes.2 does writes.4, writes.5))
       ]
 
 module _ (sql : List ℕ) (params : Row) (old new : State) where

@@ -1,4 +1,4 @@
-use Rattle.std.proofs.Common.{◌≡◌, [], ◌∷◌, true, Some, option_map, sym, ap, subst, ◌∙◌}
+use Rattle.std.proofs.Common.{◌≡◌, [], ◌∷◌, true, None, Some, option_map, sym, ap, subst, ◌∙◌}
 use Rattle.sqlite.specs.Held.{state}
 use Rattle.key_string.specs.Filer.{is_filer}
 use Rattle.table_rows.specs.Rows.{Holds}
@@ -6,6 +6,8 @@ use Rattle.outbox_core.specs.Schema.{meta_table}
 use Rattle.outbox_core.specs.Rows.{meta_row}
 use Rattle.outbox_core.specs.Audit.{filer_in}
 use Rattle.outbox_core.proofs.AuditLemmas.{filer_found, is_some}
+use Rattle.table_rows.specs.Causes.{cause_of}
+use Rattle.outbox_core.proofs.SoundLemmas.{filer_is, meta_readable, unread}
 use Rattle.outbox_core.proofs.finding.filer_of.Goals as goal
 
 pub returns-in-Some-clause-found : goal.returns-in-Some-clause-found
@@ -21,3 +23,14 @@ pub returns-in-Some-clause-read : goal.returns-in-Some-clause-read
 returns-in-Some-clause-read g c clean =
     let some : filer_in c.in-Ok.rows.items ≡ Some c.in-Some.filer.now = rw c.as_slice.ensures.value at (sym c.filer_in.ensures ∙ ap (option_map (λ f. f.now)) c.in-Some.is) in
     (c.in-Ok.rows.items, c.in-Ok.ensures.shown clean, is_some _ _ some)
+
+pub returns-in-Ok-clause-ours : goal.returns-in-Ok-clause-ours
+returns-in-Ok-clause-ours g c clean it is unlimited =
+    let none : filer_in c.in-Ok.rows.items ≡ None = rw c.as_slice.ensures.value at (sym c.filer_in.ensures ∙ ap (option_map (λ f. f.now)) c.in-None.is) in
+    let some = filer_is (state g.S.Store c.args.conn.now) (state g.S.Store c.meta_rows.new.conn) it is c.in-Ok.rows.items (c.in-Ok.ensures.shown clean) in
+    absurd (let both = sym none ∙ some in cc)
+
+pub returns-clause-ours : goal.returns-clause-ours
+returns-clause-ours g c clean it is unlimited =
+    let readable = meta_readable (state g.S.Store c.args.conn.now) (state g.S.Store c.meta_rows.new.conn) it is unlimited c.in-Err.error (c.in-Err.ensures.failed clean) in
+    rw c.meta_fault.ensures (unread (cause_of c.in-Err.error) readable)

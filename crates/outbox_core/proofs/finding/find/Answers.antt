@@ -2,6 +2,7 @@ use Rattle.std.proofs.Common.{◌≡◌, inl, not, Err, IsTrue, sym, ap, subst, 
 use Rattle.sqlite.specs.Held.{state}
 use Rattle.sqlite.specs.Effect.{Database, IsDatabase}
 use Rattle.sqlite.specs.State.{HasCleanDisk}
+use Rattle.sqlite.proofs.StateLemmas.{survives_then}
 use Rattle.table_rows.specs.Rows.{Holds}
 use Rattle.table_rows.specs.Standing.{Stands}
 use Rattle.table_rows.proofs.StandLemmas.{stands_on}
@@ -40,3 +41,19 @@ returns-in-Err-count_entries-clause-damaged g c clean row is =
     let early : HasCleanDisk (state g.S.Store c.filer_of.new.conn) = c.in-Err-count_entries.ensures.clean clean in
     let same : c.in-Err-count_entries.fault ≡ Damaged row = cc in
     (c.filer_of.new.conn, c.in-Ok.ensures.read early, c.in-Err-count_entries.ensures.damaged clean row (ap Err same))
+
+pub returns-in-Ok-count_entries-clause-crash : goal.returns-in-Ok-count_entries-clause-crash
+returns-in-Ok-count_entries-clause-crash g c =
+    let old = state g.S.Store c.args.conn.now in
+    let mid = state g.S.Store c.filer_of.new.conn in
+    survives_then old mid (state g.S.Store c.count_entries.new.conn) _ _ _ (λ clean trees none. none)
+    (λ clean trees none declared. none (subst (λ (d : Database). IsDeclared d.schema) (sym (c.in-Ok.ensures.found (c.count_entries.ensures.clean clean) declared).2.0.now_is) declared))
+    c.filer_of.ensures.crash c.count_entries.ensures.crash
+
+pub returns-in-Err-count_entries-clause-crash : goal.returns-in-Err-count_entries-clause-crash
+returns-in-Err-count_entries-clause-crash g c =
+    let old = state g.S.Store c.args.conn.now in
+    let mid = state g.S.Store c.filer_of.new.conn in
+    survives_then old mid (state g.S.Store c.count_entries.new.conn) _ _ _ (λ clean trees none. none)
+    (λ clean trees none declared. none (subst (λ (d : Database). IsDeclared d.schema) (sym (c.in-Ok.ensures.found (c.count_entries.ensures.clean clean) declared).2.0.now_is) declared))
+    c.filer_of.ensures.crash c.count_entries.ensures.crash

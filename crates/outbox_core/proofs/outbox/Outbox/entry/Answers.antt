@@ -1,5 +1,6 @@
 use Rattle.sqlite.specs.Held.{state}
 use Rattle.sqlite.proofs.StateLemmas.{survives_weaker}
+use Rattle.outbox_core.proofs.ListLemmas.{leaves_last}
 use Rattle.outbox_core.proofs.outbox.Outbox.entry.Goals as goal
 
 pub returns-in-Ok-clause-found : goal.returns-in-Ok-clause-found
@@ -15,6 +16,12 @@ returns-in-Ok-clause-kept g c clean entries was =
 pub returns-in-Ok-clause-crash : goal.returns-in-Ok-clause-crash
 returns-in-Ok-clause-crash g c =
     rw (← c.self.view_is) (survives_weaker (state g.S.Store c.self.inside.conn) (state g.S.Store c.entry_of.new.conn) _ _ (λ _ trees none entries had alive. none _ had.stands alive) c.entry_of.ensures.crash)
+
+pub returns-in-Ok-clause-durable : goal.returns-in-Ok-clause-durable
+returns-in-Ok-clause-durable g c clean entries was some =
+    let had = rw (← c.self.view_is) at was in
+    let alive = c.in-Ok.ensures.open clean _ had.stands in
+    (alive, λ trees may. leaves_last (state g.S.Store c.entry_of.new.conn) _ (c.in-Ok.ensures.kept clean _ had.stands) alive trees (g.met.S.Store.settled c.entry_of.new.conn.store trees alive may))
 
 pub returns-in-Err-clause-kept : goal.returns-in-Err-clause-kept
 returns-in-Err-clause-kept g c clean entries was =

@@ -1,4 +1,11 @@
-use Rattle.std.proofs.Common.{◌≡◌, Err, ap}
+use Rattle.std.proofs.Common.{◌≡◌, Err, List, length, ap, subst, ◌∙◌, string_bytes}
+use Rattle.sqlite.specs.Held.{state}
+use Rattle.filing_model.specs.Outbox.{Entry}
+use Rattle.table_rows.specs.Standing.{Stands}
+use Rattle.outbox_core.specs.Entries.{Contents, contents_of}
+use Rattle.outbox_core.specs.Rows.{IsOutboxOf}
+use Rattle.outbox_core.proofs.ListLemmas.{leaves_last}
+use Rattle.outbox_core.proofs.UniqueLemmas.{one_outbox}
 use Rattle.outbox_core.specs.declared.fault.OutboxFault.TheVariants.{NotOurs, Damaged}
 use Rattle.outbox_core.proofs.outbox.Outbox.open.Goals as goal
 
@@ -16,3 +23,27 @@ pub returns-in-Err-clause-damaged : goal.returns-in-Err-clause-damaged
 returns-in-Err-clause-damaged g c row is =
     let same : c.in-Err.fault ≡ Damaged row = cc in
     (c.find.new.conn, λ clean. c.in-Err.ensures.damaged clean row (ap Err same))
+
+pub returns-in-Ok-clause-same : goal.returns-in-Ok-clause-same
+returns-in-Ok-clause-same g c clean it is =
+    let found = c.in-Ok.ensures.found clean is.rows.declared in
+    let one = one_outbox (contents_of (string_bytes c.in-Ok.field-0.filer) found.0) it (state g.S.Store c.args.conn).now found.1 is in
+    let new = state g.S.Store c.find.new.conn in
+    let entries = ap (λ (i : Contents). i.entries) one in (
+      ap (λ (i : Contents). i.filer) one,
+      record {
+        stands = subst (λ es. Stands (IsOutboxOf (contents_of (string_bytes c.in-Ok.field-0.filer) es)) new) entries found.2;
+        count = found.3 ∙ ap (λ (es : List Entry). length es) entries;
+      },
+    )
+
+pub returns-in-Ok-clause-durable : goal.returns-in-Ok-clause-durable
+returns-in-Ok-clause-durable g c clean it is =
+    let found = c.in-Ok.ensures.found clean is.rows.declared in
+    let one = one_outbox (contents_of (string_bytes c.in-Ok.field-0.filer) found.0) it (state g.S.Store c.args.conn).now found.1 is in
+    let new = state g.S.Store c.find.new.conn in
+    let alive = c.in-Ok.ensures.open clean is.rows.declared in
+    (alive, λ trees may. leaves_last new it (subst (λ i. Stands (IsOutboxOf i) new) one found.2) alive trees (g.met.S.Store.settled c.find.new.conn.store trees alive may))
+
+pub returns-in-Err-clause-refused : goal.returns-in-Err-clause-refused
+returns-in-Err-clause-refused g c = (c.find.new.conn, c.find.ensures.crash, λ clean it is. c.in-Err.ensures.sound clean it is c.requires.unlimited)

@@ -1,0 +1,61 @@
+-- A database is one outbox at most.
+use Rattle.std.proofs.Common.{◌≡◌, ◌<◌, ℕ, suc, pos, Bool, true, false, not, List, [], ◌∷◌, map, filter, nat_eq, refl, sym, ap, ap₂, subst₂, ◌∙◌, arith, IsPermutation}
+use Rattle.std.specs.List.{AllByRecursion}
+use Rattle.std.proofs.lemmas.Bool.Decides.{nat_tests, Decides-int_eq}
+use Rattle.std.proofs.lemmas.List.Sorted.{IsPermutation-sym, IsPermutation-trans, length_permutation}
+use Rattle.sqlite.specs.Order.{Row, column}
+use Rattle.sqlite.specs.Effect.{Database}
+use Rattle.sqlite.proofs.Callers.{one_permutation}
+use Rattle.sqlite_keyed.proofs.ListLemmas.{all_weaker, filter_all, filter_none, IsPermutation-filter}
+use Rattle.filing_model.specs.Outbox.{Entry}
+use Rattle.outbox_core.specs.Entries.{Contents, numbered_from}
+use Rattle.outbox_core.specs.Rows.{IsOutboxOf, meta_row, entry_row, code_of, number_of}
+use Rattle.outbox_core.specs.Audit.{is_int}
+use Rattle.outbox_core.proofs.SelectLemmas.{same_ids}
+use Rattle.outbox_core.proofs.ReadLemmas.{one_state}
+
+abbrev rows_from : ℕ → List Entry → List Row
+rows_from n es = map entry_row (numbered_from n es)
+
+abbrev has_id_column : ℕ → Row → Bool
+has_id_column n w = is_int n (column w 0)
+
+later_apart : (n m : ℕ) (es : List Entry) → n < m → AllByRecursion (λ w. has_id_column n w ≡ false) (rows_from m es)
+later_apart n m [] low = tt
+later_apart n m (e ∷ es) low = let apart : nat_eq m n ≡ false = grind (arith, nat_tests) in (same_ids m n ∙ apart, later_apart n (suc m) es (omega arith))
+
+-- the row of the first entry, and the others
+first_row : (n : ℕ) (e : Entry) (es : List Entry) → filter (has_id_column n) (rows_from n (e ∷ es)) ≡ entry_row (n, e) ∷ []
+first_row n e es = rw ((Decides-int_eq (pos n) (pos n)).1 refl, filter_none (has_id_column n) (rows_from (suc n) es) (later_apart n (suc n) es (omega arith))) refl
+
+other_rows : (n : ℕ) (e : Entry) (es : List Entry) → filter (λ w. not (has_id_column n w)) (rows_from n (e ∷ es)) ≡ rows_from (suc n) es
+other_rows n e es =
+    rw ((Decides-int_eq (pos n) (pos n)).1 refl) (filter_all (λ w. not (has_id_column n w)) (rows_from (suc n) es)
+    (all_weaker _ (λ w. not (has_id_column n w) ≡ true) (λ w apart. ap not apart) (rows_from (suc n) es) (later_apart n (suc n) es (omega arith))))
+
+same_row : (n : ℕ) (e f : Entry) → entry_row (n, f) ∷ [] ≡ entry_row (n, e) ∷ [] → e ≡ f
+same_row n e f h =
+    let key : e.key ≡ f.key = cc in
+    let body : e.body ≡ f.body = cc in
+    let codes : code_of e.state ≡ code_of f.state = cc in
+    let numbers : number_of e.state ≡ number_of f.state = cc in
+    let state = one_state e.state f.state codes numbers in
+    λ i. record { key = key i; body = body i; state = state i }
+
+same_entries : (n : ℕ) (es fs : List Entry) → IsPermutation (rows_from n es) (rows_from n fs) → es ≡ fs
+same_entries n [] [] h = refl
+same_entries n [] (f ∷ fs) h = absurd (omega (arith, length_permutation _ _ h))
+same_entries n (e ∷ es) [] h = absurd (omega (arith, length_permutation _ _ h))
+same_entries n (e ∷ es) (f ∷ fs) h =
+    let first = subst₂ (λ xs ys. IsPermutation xs ys) (first_row n e es) (first_row n f fs) (IsPermutation-filter (has_id_column n) _ _ h) in
+    let rest = subst₂ (λ xs ys. IsPermutation xs ys) (other_rows n e es) (other_rows n f fs) (IsPermutation-filter (λ w. not (has_id_column n w)) _ _ h) in
+    ap₂ (λ x xs. x ∷ xs) (same_row n e f (one_permutation _ _ first)) (same_entries (suc n) es fs rest)
+
+same_filer : (f g : List ℕ) → meta_row g ∷ [] ≡ meta_row f ∷ [] → f ≡ g
+same_filer f g h = cc
+
+pub one_outbox : (a b : Contents) (db : Database) → IsOutboxOf a db → IsOutboxOf b db → a ≡ b
+one_outbox a b db p q =
+    let filer = same_filer a.filer b.filer (one_permutation _ _ (IsPermutation-trans _ _ _ p.rows.meta_is (IsPermutation-sym _ _ q.rows.meta_is))) in
+    let entries = same_entries 1 a.entries b.entries (IsPermutation-trans _ _ _ p.rows.entries_are (IsPermutation-sym _ _ q.rows.entries_are)) in
+    λ i. record { filer = filer i; entries = entries i }
