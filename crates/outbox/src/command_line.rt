@@ -24,7 +24,9 @@ pub enum Task<'a> {
         entry: Option<u64>,
     },
     /// Show the state of each entry.
-    Status { database: &'a str },
+    Status {
+        database: &'a str,
+    },
 }
 
 /// A required option with one value, which may begin with a hyphen, as a filer's code or a key may.

@@ -4,7 +4,10 @@
 
 mod command_line;
 mod fault;
+mod line;
 mod perform;
+#[cfg(test)]
+mod tests;
 
 use fault::Fault;
 use perform::perform;

@@ -3,6 +3,7 @@
 use crate::command_line;
 use crate::command_line::Task;
 use crate::fault::Fault;
+use crate::line::EntryLine;
 use clap::error::ErrorKind;
 use command_input::{make_database, open_database, read_up_to};
 use filer_client::exchange;
@@ -12,36 +13,19 @@ use outbox_core::{Entry, Outbox, State, key_of};
 use rand::make_rng;
 use rand::rngs::StdRng;
 use sqlite::{File, FileStore};
-use std::fmt;
-use std::fs;
 use std::io::Write;
 use std::net::TcpStream;
+use std::{fmt, fs};
 use uuid::Uuid;
 
 type FileOutbox = Outbox<FileStore<File>>;
 
-/// The line of an entry.
-#[derive(Clone, Copy)]
-struct EntryLine {
-    id: u64,
-    state: State,
-}
-
-impl fmt::Display for EntryLine {
-    fn fmt<W: fmt::Write>(&self, f: &mut fmt::Formatter<W>) -> fmt::Result {
-        let id = self.id;
-        match self.state {
-            State::Open => writeln!(f, "entry {id} open"),
-            State::Confirmed(number) => writeln!(f, "entry {id} confirmed {number}"),
-            State::Refused => writeln!(f, "entry {id} refused"),
-            State::Clashed => writeln!(f, "entry {id} clashed"),
-        }
-    }
-}
-
 /// Writes a text whole.
 fn show<'a, O: Write>(output: &mut O, text: &str) -> Result<(), Fault<'a>> {
-    match output.write_all(text.as_bytes()).and_then(|()| output.flush()) {
+    match output
+        .write_all(text.as_bytes())
+        .and_then(|()| output.flush())
+    {
         Ok(()) => Ok(()),
         Err(_) => Err(Fault::Output),
     }
@@ -103,8 +87,9 @@ fn key<'a>(rt: &HostRuntime, text: Option<&str>) -> Result<KeyText, Fault<'a>> {
 /// The bytes of a report's file.
 fn body<'a>(rt: &HostRuntime, name: &'a str) -> Result<Vec<u8>, Fault<'a>> {
     let file = fs::File::open(rt, name).map_err(|error| Fault::Open { name, error })?;
-    let body = read_up_to(rt.alloc(), &mut Device::new(file), MAX_BODY_LEN + 1)
-        .map_err(|fault| Fault::Read { name, fault })?;
+    let body = read_up_to(rt.alloc(), &mut Device::new(file), MAX_BODY_LEN + 1).map_err(
+        |fault| Fault::Read { name, fault },
+    )?;
     if body.len() > MAX_BODY_LEN {
         return Err(Fault::TooLarge { name });
     }
@@ -164,8 +149,10 @@ fn exchange_on<'a>(
 }
 
 fn connect<'a>(rt: &HostRuntime, port: u16) -> Result<TcpStream, Fault<'a>> {
-    let stream = TcpStream::connect(rt, ("127.0.0.1", port))
-        .map_err(|error| Fault::Connect { port, error })?;
+    let stream = TcpStream::connect(rt, ("127.0.0.1", port)).map_err(|error| Fault::Connect {
+        port,
+        error,
+    })?;
     stream
         .set_nodelay(true)
         .map_err(|error| Fault::Connect { port, error })?;
@@ -218,11 +205,7 @@ fn lines(rt: &HostRuntime, states: &[(u64, State)]) -> Result<String, fmt::Error
     Ok(text)
 }
 
-fn status<'a, O: Write>(
-    rt: &HostRuntime,
-    name: &'a str,
-    output: &mut O,
-) -> Result<(), Fault<'a>> {
+fn status<'a, O: Write>(rt: &HostRuntime, name: &'a str, output: &mut O) -> Result<(), Fault<'a>> {
     let mut outbox = open(rt, name)?;
     let states = outbox.states();
     close(outbox, name)?;
