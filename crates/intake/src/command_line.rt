@@ -12,7 +12,9 @@ const MOST_CONNECTIONS: i64 = (1 << 32) - 1;
 #[derive(Clone, Copy, Debug, PartialEq, Eq)]
 pub enum Task<'a> {
     /// Serve standard input on a register in memory.
-    Run { limit: u64 },
+    Run {
+        limit: u64,
+    },
     /// Serve so many connections of a port on the register of a file, which is made where it is new.
     Serve {
         database: &'a str,
@@ -27,9 +29,14 @@ pub enum Task<'a> {
         filer: &'a str,
     },
     /// Show the facts of a filing.
-    Show { database: &'a str, number: u64 },
+    Show {
+        database: &'a str,
+        number: u64,
+    },
     /// Say whether the register is sound.
-    Check { database: &'a str },
+    Check {
+        database: &'a str,
+    },
 }
 
 /// A required option with one value, which may begin with a hyphen, as a filer's code may.

@@ -7,6 +7,8 @@ mod command_line;
 mod fault;
 mod perform;
 mod register;
+#[cfg(test)]
+mod tests;
 
 use fault::Fault;
 use perform::perform;
