@@ -4,10 +4,14 @@
 
 mod answer;
 mod decide;
+mod line;
+#[cfg(test)]
+mod loopback;
 mod route;
 mod serving;
 #[cfg(test)]
 mod tests;
 
 pub use filing_model::{Ended, Mark};
+pub use line::fact_line;
 pub use serving::{Served, serve};

@@ -7,6 +7,7 @@ use std::test::Fail;
 use streams::front;
 
 mod cut;
+mod facts;
 mod failing;
 mod limits;
 mod memory;

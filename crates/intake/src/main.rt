@@ -1,24 +1,36 @@
-//! The program `intake`: answers the HTTP requests of one connection, from standard input to
-//! standard output. What may live here: the command line, the streams and the status.
+//! The program `intake`: answers the HTTP requests of filers, from standard input or a port, and
+//! shows what its register holds. What may live here: the command line, the files, the port and the
+//! status.
 #![tactic(auto)]
 
+mod command_line;
+mod fault;
 mod perform;
+mod register;
 #[cfg(test)]
 mod tests;
 
-use perform::{perform, refuse_words};
+use fault::Fault;
+use perform::perform;
 use std::env;
+use std::io::ErrorKind;
 use std::process::ExitCode;
 
 fn main(rt: HostRuntime) -> ExitCode {
-    let has_words = match env::args(&rt) {
-        Ok(words) => words.count() > 1,
-        Err(_) => true,
+    let words = env::args(&rt).and_then(|words| Ok(words.collect(rt.alloc())?));
+    let words: Vec<String> = match words {
+        Ok(words) => words,
+        Err(error) if error.kind() == ErrorKind::InvalidData => {
+            return ExitCode::from(Fault::NotText.tell(&mut rt.stderr()));
+        }
+        Err(_) => return ExitCode::from(Fault::Memory.tell(&mut rt.stderr())),
     };
-    let status = if has_words {
-        refuse_words(&mut rt.stderr())
-    } else {
-        perform(rt.alloc(), rt.reader(), rt.stdout(), &mut rt.stderr())
-    };
+    let status = perform(
+        &rt,
+        words.as_slice(),
+        &mut rt.reader(),
+        &mut rt.stdout(),
+        &mut rt.stderr(),
+    );
     ExitCode::from(status)
 }

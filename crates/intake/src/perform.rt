@@ -1,56 +1,297 @@
-//! What the program does with its streams, and the status that it ends with.
+//! Performs a task, and says how the program ends.
 
-use gateway_server::{Ended, serve};
+ghost use Rattle.std.specs.Prelude.{◌≤◌, ◌^◌, IfOk};
+
+use crate::command_line;
+use crate::command_line::{DEFAULT_LIMIT, Task};
+use crate::fault::Fault;
+use crate::register::{FileRegister, close, create, open};
+use clap::error::ErrorKind;
+use gateway_server::{Ended, fact_line, serve};
 use http_wire::Device;
-use intake_core::Intake;
-use std::alloc::Global;
-use std::io::{Read, Write};
+use intake_core::{FilingRow, Intake, list_reply};
+use key_string::is_filer;
+use sqlite::{File, FileStore};
+use std::alloc::{AllocError, Global};
+use std::io::{self, Read, Write};
+use std::net::{TcpListener, TcpStream};
+use xbrl_report::Fact;
 
-/// How many keys are kept at most.
-const LIMIT: u64 = 1_000_000;
-
-/// The status after a connection that was served to its end.
+/// The status where the task was done.
 const DONE: u8 = 0;
 
-/// The status for a command line that is not understood.
-const BAD_COMMAND_LINE: u8 = 2;
+/// The greatest limit.
+const MOST_KEPT: u64 = 1 << 62;
 
-/// The status after a fault of memory, reading or writing.
-const FAULT: u8 = 3;
+/// The limit, where it is no greater than the greatest.
+fn limit_within<'a>(limit: u64) -> Result<u64, Fault<'a>>
+    ensures { IfOk result (λ limit. limit ≤ 2 ^ 62) }
+{
+    if limit <= MOST_KEPT {
+        Ok(limit)
+    } else {
+        Err(Fault::Limit)
+    }
+}
 
-/// Serves one connection on a register in memory, which begins empty. A fault's text goes to
-/// `errors`.
-pub fn perform<R: Read + Drop, W: Write + Drop, E: Write>(
+/// Writes a text whole.
+fn show<'a, O: Write>(output: &mut O, text: &[u8]) -> Result<(), Fault<'a>> {
+    match output.write_all(text).and_then(|()| output.flush()) {
+        Ok(()) => Ok(()),
+        Err(_) => Err(Fault::Output),
+    }
+}
+
+/// Serves one connection on a register in memory, which begins empty.
+fn run<'a, R: Read, O: Write>(
     alloc: Global,
-    input: R,
-    output: W,
-    errors: &mut E,
-) -> u8 {
-    let mut intake = match Intake::in_memory(alloc, LIMIT) {
+    limit: u64,
+    input: &mut R,
+    output: &mut O,
+) -> Result<(), Fault<'a>> {
+    let limit = limit_within(limit)?;
+    let mut intake = match Intake::in_memory(alloc, limit) {
         Ok(intake) => intake,
-        Err(fault) => {
-            // Nothing is left to be done where this text can't be written either.
-            let _ = writeln!(errors, "intake: {fault}");
-            return FAULT;
-        }
+        Err(fault) => return Err(Fault::InMemory(fault)),
     };
     let mut reader = Device::new(input);
     let mut writer = Device::new(output);
     match serve(alloc, &mut reader, &mut writer, &mut intake).ended {
-        Ended::Closed | Ended::InputEnded => DONE,
-        Ended::Fault(fault) => {
-            // Nothing is left to be done where this text can't be written either.
-            let _ = writeln!(errors, "intake: {fault}");
-            FAULT
-        }
+        Ended::Closed | Ended::InputEnded => Ok(()),
+        Ended::Fault(fault) => Err(Fault::Connection(fault)),
     }
 }
 
-/// Says that the program takes no words.
-pub fn refuse_words<E: Write>(errors: &mut E) -> u8 {
-    let _ = writeln!(
-        errors,
-        "intake: no words are taken; the connection is read from standard input"
-    );
-    BAD_COMMAND_LINE
+/// Serves one connection of the port, and says how it ended.
+fn serve_stream(alloc: Global, stream: &TcpStream, intake: &mut Intake<FileStore<File>>) -> Ended {
+    // Replies are written whole, and without this each may wait for the peer to tell of the one before.
+    let _ = stream.set_nodelay(true);
+    let mut reader = Device::new(stream);
+    let mut writer = Device::new(stream);
+    serve(alloc, &mut reader, &mut writer, intake).ended
+}
+
+/// Serves so many connections, one after the other. One that ends in a fault, or that its peer gave up
+/// before, counts as served.
+fn serve_connections<E: Write>(
+    alloc: Global,
+    listener: &TcpListener,
+    connections: u32,
+    intake: &mut Intake<FileStore<File>>,
+    errors: &mut E,
+) -> io::Result<()> {
+    for served in 0..connections {
+        match listener.accept() {
+            Ok((stream, _)) => {
+                if let Ended::Fault(fault) = serve_stream(alloc, &stream, intake) {
+                    let connection = served + 1;
+                    Fault::Served { connection, fault }.tell(errors);
+                }
+            }
+            Err(error) if error.kind() == io::ErrorKind::ConnectionAborted => {}
+            Err(error) => return Err(error),
+        }
+    }
+    Ok(())
+}
+
+/// Listens on the port, and serves so many connections.
+fn serve_port<'a, E: Write>(
+    rt: &HostRuntime,
+    port: u16,
+    connections: u32,
+    intake: &mut Intake<FileStore<File>>,
+    errors: &mut E,
+) -> Result<(), Fault<'a>> {
+    let served = match TcpListener::bind(rt, ("127.0.0.1", port)) {
+        Ok(listener) => serve_connections(rt.alloc(), &listener, connections, intake, errors),
+        Err(error) => Err(error),
+    };
+    served.map_err(|error| Fault::Network { port, error })
+}
+
+/// Serves so many connections of the port on this register, and closes it.
+fn serve_register<'a, E: Write>(
+    rt: &HostRuntime,
+    name: &'a str,
+    register: FileRegister,
+    limit: u64,
+    port: u16,
+    connections: u32,
+    errors: &mut E,
+) -> Result<(), Fault<'a>>
+    requires { limit ≤ 2 ^ 62 }
+{
+    let mut intake = Intake::new(rt.alloc(), register, limit);
+    let served = serve_port(rt, port, connections, &mut intake, errors);
+    let closed = close(intake.into_store(), name);
+    served?;
+    closed
+}
+
+/// The content of the reply that lists these filings, as a line.
+fn list_line(alloc: Global, rows: &[FilingRow]) -> Result<Vec<u8>, AllocError> {
+    let mut text = list_reply(alloc, rows)?.content;
+    text.push(b'\n')?;
+    Ok(text)
+}
+
+/// Prints the filings of a filer, as the reply to a GET lists them.
+fn list<'a, O: Write>(
+    rt: &HostRuntime,
+    name: &'a str,
+    filer: &str,
+    output: &mut O,
+) -> Result<(), Fault<'a>> {
+    if !is_filer(filer) {
+        return Err(Fault::Filer);
+    }
+    let mut intake = Intake::new(rt.alloc(), open(rt, name)?, DEFAULT_LIMIT);
+    let rows = intake.list(filer);
+    close(intake.into_store(), name)?;
+    let rows = rows.map_err(|fault| Fault::List { name, fault })?;
+    let text = list_line(rt.alloc(), rows.as_slice())?;
+    show(output, text.as_slice())
+}
+
+/// A line for each fact.
+fn fact_lines(alloc: Global, facts: &[Fact]) -> Result<String, AllocError> {
+    let mut text = String::new(alloc);
+    for fact in facts {
+        text.push_str(fact_line(alloc, fact)?.as_str())?;
+        text.push('\n')?;
+    }
+    Ok(text)
+}
+
+/// Prints the facts of a filing.
+fn show_filing<'a, O: Write>(
+    rt: &HostRuntime,
+    name: &'a str,
+    number: u64,
+    output: &mut O,
+) -> Result<(), Fault<'a>> {
+    let mut register = open(rt, name)?;
+    let facts = register.facts(number);
+    close(register, name)?;
+    match facts {
+        Ok(Some(facts)) => {
+            let text = fact_lines(rt.alloc(), facts.as_slice())?;
+            show(output, text.as_bytes())
+        }
+        Ok(None) => Err(Fault::NoFiling { name, number }),
+        Err(fault) => Err(Fault::Store { name, fault }),
+    }
+}
+
+/// How many keys and filings the register has, once it is open and so sound.
+fn counts<'a>(register: FileRegister, name: &'a str) -> Result<(u64, u64), Fault<'a>> {
+    let kept = register.kept_count();
+    let filings = register.filing_count();
+    close(register, name)?;
+    match (kept, filings) {
+        (Ok(kept), Ok(filings)) => Ok((kept, filings)),
+        (Err(fault), _) | (_, Err(fault)) => Err(Fault::Store { name, fault }),
+    }
+}
+
+/// Prints whether the register is sound. Where it is not, the text goes to the output too, and the
+/// status is that of the fault.
+fn check<'a, O: Write>(rt: &HostRuntime, name: &'a str, output: &mut O) -> Result<u8, Fault<'a>> {
+    match open(rt, name) {
+        Ok(register) => {
+            let (kept, filings) = counts(register, name)?;
+            let text = format!(in rt.alloc(); "sound: {kept} kept, {filings} filings\n")?;
+            show(output, text.as_bytes())?;
+            Ok(DONE)
+        }
+        Err(fault) => match fault.verdict() {
+            Some(verdict) => {
+                let text = format!(in rt.alloc(); "{verdict}\n")?;
+                show(output, text.as_bytes())?;
+                Ok(fault.status())
+            }
+            None => Err(fault),
+        },
+    }
+}
+
+/// Serves connections of a port on the register of a file.
+fn serve_file<'a, E: Write>(
+    rt: &HostRuntime,
+    name: &'a str,
+    port: u16,
+    connections: u32,
+    limit: u64,
+    new: bool,
+    errors: &mut E,
+) -> Result<(), Fault<'a>> {
+    let limit = limit_within(limit)?;
+    let register = if new {
+        create(rt, name)?
+    } else {
+        open(rt, name)?
+    };
+    serve_register(rt, name, register, limit, port, connections, errors)
+}
+
+/// Performs a task, and answers the status.
+fn perform_task<'a, R: Read, O: Write, E: Write>(
+    rt: &HostRuntime,
+    task: Task<'a>,
+    input: &mut R,
+    output: &mut O,
+    errors: &mut E,
+) -> Result<u8, Fault<'a>> {
+    match task {
+        Task::Run { limit } => run(rt.alloc(), limit, input, output)?,
+        Task::Serve {
+            database,
+            port,
+            connections,
+            limit,
+            new,
+        } => serve_file(rt, database, port, connections, limit, new, errors)?,
+        Task::List { database, filer } => list(rt, database, filer, output)?,
+        Task::Show { database, number } => show_filing(rt, database, number, output)?,
+        Task::Check { database } => return check(rt, database, output),
+    }
+    Ok(DONE)
+}
+
+/// Shows what the reader of the command line says: help and the version are what was asked for, and
+/// all else is a fault of the words or of memory.
+fn tell_words<O: Write, E: Write>(error: &clap::Error, output: &mut O, errors: &mut E) -> u8 {
+    if error.kind() == ErrorKind::OutOfMemory {
+        return Fault::Memory.tell(errors);
+    }
+    if error.use_stderr() {
+        // Nothing is left to be done where this text can't be written either.
+        let _ = write!(errors, "{error}");
+        return Fault::NoTask.status();
+    }
+    match write!(output, "{error}").and_then(|()| output.flush()) {
+        Ok(()) => DONE,
+        Err(_) => Fault::Output.tell(errors),
+    }
+}
+
+/// Performs what these words ask for, the program's name first, and answers the status. A fault's
+/// text goes to `errors`.
+pub fn perform<R: Read, O: Write, E: Write>(
+    rt: &HostRuntime,
+    words: &[String],
+    input: &mut R,
+    output: &mut O,
+    errors: &mut E,
+) -> u8 {
+    let done = match command_line::read(rt.alloc(), words) {
+        Ok(Some(task)) => perform_task(rt, task, input, output, errors),
+        Ok(None) => Err(Fault::NoTask),
+        Err(error) => return tell_words(&error, output, errors),
+    };
+    match done {
+        Ok(status) => status,
+        Err(fault) => fault.tell(errors),
+    }
 }

@@ -1,0 +1,123 @@
+//! Reading bytes up to a length.
+
+ghost use Rattle.std.specs.Prelude.{◌≡◌, ◌++◌, ◌+◌, ◌<◌, ◌≤◌, drop, slice_range, vec_len, IfOk, IfErr, OnOk, Ok, Err};
+ghost use Rattle.std.specs.Io.KnownBytes.{Consumes, IsAtEnd};
+ghost use Rattle.http_wire.specs.Device.{HasFailed};
+ghost use Rattle.command_input.specs.declared.bytes.ReadFault.TheVariants.{Read, ReadLimit, Memory};
+
+use http_wire::Source;
+use std::alloc::{AllocError, Global};
+use thiserror::Error;
+
+/// How many reads are made of one input at most. Own rule.
+pub const MAX_READS: u32 = 4_194_304;
+
+/// The most bytes that are asked for at a time.
+const CHUNK: usize = 16_384;
+
+/// Why an input was not read up to its end or the length.
+#[derive(Clone, Copy, Debug, PartialEq, Eq, Error)]
+pub enum ReadFault {
+    /// The reader failed.
+    #[error("it cannot be read")]
+    Read,
+    /// More than 4,194,304 reads were needed.
+    #[error("it takes too many reads")]
+    ReadLimit,
+    /// No memory was left.
+    #[error("out of memory")]
+    Memory,
+}
+
+impl From<AllocError> for ReadFault {
+    ghost from_gives = { λ _ fault. fault ≡ Memory };
+
+    fn from(_error: AllocError) -> ReadFault {
+        ReadFault::Memory
+    }
+}
+
+/// The bytes of a reader up to its end, or the first `most` of them. At most 4,194,304 reads are made,
+/// each of one byte at least, so `ReadLimit` comes only where `most` is above that.
+pub fn read_up_to<R: Source>(
+    alloc: Global,
+    reader: &mut R,
+    most: usize,
+) -> Result<Vec<u8>, ReadFault>
+    ensures given { IfOk result (λ bytes. Consumes (R.left reader.old) (R.left reader.new) bytes.items) }
+    ensures bound { IfOk result (λ bytes. vec_len bytes ≤ most) }
+    ensures whole { IfOk result (λ bytes. vec_len bytes < most → IsAtEnd (R.left reader.new)) }
+    ensures fine { OnOk result (R.read_failures reader.new ≡ R.read_failures reader.old) }
+    ensures failed { result ≡ Err Read → HasFailed (R.read_failures reader.old) (R.read_failures reader.new) }
+    ensures limited { result ≡ Err ReadLimit → MAX_READS < most }
+{
+    let mut bytes = Vec::new(alloc);
+    let mut room = room(alloc)?;
+    let mut reads = 0;
+    while bytes.len() < most {
+        if reads >= MAX_READS {
+            return Err(ReadFault::ReadLimit);
+        }
+        if read_more(reader, &mut room, &mut bytes, most)? == 0 {
+            return Ok(bytes);
+        }
+        reads += 1;
+    }
+    Ok(bytes)
+}
+
+/// Room for one read.
+fn room(alloc: Global) -> Result<Vec<u8>, AllocError>
+    ensures { IfOk result (λ room. 0 < vec_len room) }
+{
+    let mut room = Vec::new(alloc);
+    room.resize(CHUNK, 0)?;
+    Ok(room)
+}
+
+/// Makes one read, and appends what it gave, up to `most` bytes in all. The answer is the count of
+/// these bytes, which is 0 only at the end of the input.
+fn read_more<R: Source>(
+    reader: &mut R,
+    room: &mut Vec<u8>,
+    bytes: &mut Vec<u8>,
+    most: usize,
+) -> Result<usize, ReadFault>
+    requires room { 0 < vec_len room.old }
+    requires less { vec_len bytes.old < most }
+    ensures room { vec_len room.new ≡ vec_len room.old }
+    ensures bound { vec_len bytes.new ≤ most }
+    ensures count { IfOk result (λ count. vec_len bytes.new ≡ vec_len bytes.old + count) }
+    ensures kept { bytes.new.items ≡ bytes.old.items ++ drop (vec_len bytes.old) bytes.new.items }
+    ensures given { OnOk result (Consumes (R.left reader.old) (R.left reader.new) (drop (vec_len bytes.old) bytes.new.items)) }
+    ensures end { result ≡ Ok 0 → IsAtEnd (R.left reader.new) }
+    ensures fine { OnOk result (R.read_failures reader.new ≡ R.read_failures reader.old) }
+    ensures failed { result ≡ Err Read → HasFailed (R.read_failures reader.old) (R.read_failures reader.new) }
+    ensures unlimited { result ≡ Err ReadLimit → ⊥ }
+{
+    let wanted = room.len().min(most - bytes.len());
+    let count = read_into(reader, room, wanted)?;
+    bytes.extend_from_slice(&room[0..count])?;
+    Ok(count)
+}
+
+/// Makes one read into the first `wanted` bytes of the room.
+fn read_into<R: Source>(
+    reader: &mut R,
+    room: &mut Vec<u8>,
+    wanted: usize,
+) -> Result<usize, ReadFault>
+    requires some { 0 < wanted }
+    requires within { wanted ≤ vec_len room.old }
+    ensures len { vec_len room.new ≡ vec_len room.old }
+    ensures bound { IfOk result (λ count. count ≤ wanted) }
+    ensures given { IfOk result (λ count. Consumes (R.left reader.old) (R.left reader.new) (slice_range room.new.items 0 count)) }
+    ensures end { result ≡ Ok 0 → IsAtEnd (R.left reader.new) }
+    ensures fine { OnOk result (R.read_failures reader.new ≡ R.read_failures reader.old) }
+    ensures fault { IfErr result (λ fault. (fault ≡ Read) × HasFailed (R.read_failures reader.old) (R.read_failures reader.new)) }
+{
+    match reader.read(&mut room[0..wanted]) {
+        Ok(count) => Ok(count),
+        Err(_) => Err(ReadFault::Read),
+    }
+}
