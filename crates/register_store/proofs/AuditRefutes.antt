@@ -1,5 +1,5 @@
 -- Rows that an audit finds damaged stand for no requests.
-use Rattle.std.proofs.Common.{◌≡◌, ◌⊎◌, inl, inr, ◌<◌, ◌≤◌, ℕ, ◌+◌, zero, suc, List, [], ◌∷◌, ◌++◌, append_assoc, length, length-append, map, take, drop, get_or, refl, sym, ap, ap₂, subst, ◌∙◌, arith, false}
+use Rattle.std.proofs.Common.{◌≡◌, ◌⊎◌, inl, inr, ◌<◌, ℕ, ◌+◌, zero, suc, List, [], ◌∷◌, ◌++◌, append_assoc, length, length-append, map, take, drop, get_or, refl, sym, ap, subst, ◌∙◌, arith, false}
 use Rattle.std.specs.List.{AllByRecursion}
 use Rattle.std.proofs.lemmas.List.{take_more, take-append-drop, map-append, append_cancel_left}
 use Rattle.sqlite.specs.Order.{Row}
@@ -7,7 +7,7 @@ use Rattle.filing_model.specs.Request.{Request, firsts, has_key}
 use Rattle.filing_model.specs.Register.{Kept, judged, kept, register}
 use Rattle.filing_model.proofs.Keeping.{kept_new, kept_grows}
 use Rattle.table_rows.specs.Rows.{counted_from}
-use Rattle.register_store.specs.Audit.{Others, Begins, IsSound, AreFirst, AreRowsOf, IsUnsoundAt, IsLeftOver, IsVerdict, kept_in}
+use Rattle.register_store.specs.Audit.{Others, IsSound, AreFirst, AreRowsOf, IsUnsoundAt, IsLeftOver, IsVerdict}
 use Rattle.register_store.specs.declared.audit.Verdict.{Verdict}
 use Rattle.register_store.specs.declared.audit.Verdict.TheVariants.{Sound, Damaged}
 use Rattle.register_store.specs.Columns.{request_in}

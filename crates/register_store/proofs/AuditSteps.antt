@@ -1,17 +1,17 @@
 -- An audit from row to row.
-use Rattle.std.proofs.Common.{◌≡◌, ◌≢◌, ◌⊎◌, inl, inr, ◌<◌, ◌≤◌, ℕ, ◌+◌, zero, suc, Bool, true, false, not, List, [], ◌∷◌, ◌++◌, append-nil, append_assoc, length, length-append, map, take, drop, get_or, refl, sym, ap, ap₂, subst, subst₂, ◌∙◌, arith, ⊎_elim}
+use Rattle.std.proofs.Common.{◌≡◌, ◌<◌, ◌≤◌, ℕ, ◌+◌, suc, Bool, true, false, not, List, [], ◌∷◌, ◌++◌, append-nil, append_assoc, length, length-append, map, take, get_or, refl, sym, ap, ap₂, subst, subst₂, ◌∙◌, arith, ⊎_elim}
 use Rattle.std.specs.Prelude.{filter}
 use Rattle.std.specs.List.{AllByRecursion}
 use Rattle.std.proofs.lemmas.Bool.{cases_Bool}
-use Rattle.std.proofs.lemmas.List.{take_more, take-append-drop, map-append, append_cancel_left}
+use Rattle.std.proofs.lemmas.List.{take_more, append_cancel_left}
 use Rattle.sqlite.specs.Order.{Row}
 use Rattle.filing_model.specs.Request.{Request, firsts, has_key, same_key}
 use Rattle.filing_model.specs.Register.{Outcome, Kept, filings, kept_after, verdict, judged, kept, register}
 use Rattle.filing_model.specs.Register.Outcome.{Registered, Refused}
 use Rattle.filing_model.proofs.Firsts.{firsts_new, firsts-append, firsts_short}
-use Rattle.filing_model.proofs.Keeping.{kept_new, kept_grows, requests_of_kept}
+use Rattle.filing_model.proofs.Keeping.{kept_new, requests_of_kept}
 use Rattle.table_rows.specs.Rows.{counted_from}
-use Rattle.register_store.specs.Audit.{Others, Begins, IsSound, AreFirst, AreRowsOf, IsUnsoundAt, IsLeftOver, kept_in}
+use Rattle.register_store.specs.Audit.{Others, IsSound, AreFirst, kept_in}
 use Rattle.register_store.specs.Columns.{request_in}
 use Rattle.register_store.specs.Outcomes.{filings_by}
 use Rattle.register_store.specs.Register.{IsCompleted, kept_row, finding_rows, filing_rows, fact_rows, joined_from}

@@ -1,6 +1,6 @@
 -- What the rows of facts say of the filings that they stand for.
-use Rattle.std.proofs.Common.{◌≡◌, ℕ, ◌+◌, ◌<◌, ◌≤◌, suc, pos, ℤ, Bool, true, false, cond, List, [], ◌∷◌, ◌++◌, map, filter, length, Option, Some, None, IsSome, IsTrue, refl, sym, ap, ap₂, subst, ◌∙◌, nat_eq, arith, append-nil, ⊎_elim}
-use Rattle.std.specs.Prelude.{flat_map, find, option_map, unwrap_or}
+use Rattle.std.proofs.Common.{◌≡◌, ℕ, ◌+◌, ◌<◌, ◌≤◌, suc, ℤ, true, false, List, [], ◌∷◌, ◌++◌, map, filter, length, Option, Some, None, IsSome, refl, sym, ap, ap₂, subst, ◌∙◌, nat_eq, arith, append-nil, ⊎_elim}
+use Rattle.std.specs.Prelude.{flat_map, option_map, unwrap_or}
 use Rattle.std.specs.List.{range_with_len}
 use Rattle.std.proofs.lemmas.Bool.{cases_Bool}
 use Rattle.std.proofs.lemmas.Bool.Decides.{nat_tests}
@@ -12,14 +12,14 @@ use Rattle.sqlite.specs.State.{State}
 use Rattle.xbrl_report.specs.FactRecord.{FactRecord}
 use Rattle.xbrl_report.specs.ReportParts.{facts}
 use Rattle.filing_model.specs.Request.{Request}
-use Rattle.filing_model.specs.Register.{Outcome, Kept, Filing, filing_of, filings, kept, register}
+use Rattle.filing_model.specs.Register.{Outcome, Kept, Filing, filings, kept, register}
 use Rattle.filing_model.specs.Register.Outcome.{Registered, Refused}
 use Rattle.filing_model.proofs.Keeping.{register_numbered}
 use Rattle.table_rows.specs.Rows.{counted_from}
 use Rattle.table_rows.specs.Reading.{RisesBy, ReadsRows}
 use Rattle.table_rows.specs.Standing.{Stands}
 use Rattle.table_rows.proofs.OrderLemmas.{counted_rise, same_number, and_true}
-use Rattle.register_store.specs.Columns.{bytes_in, maybe_bytes_in, integer_in, fact_in}
+use Rattle.register_store.specs.Columns.{maybe_bytes_in, integer_in, fact_in}
 use Rattle.register_store.specs.Numbered.{filing_numbered, facts_numbered}
 use Rattle.register_store.specs.Reads.{has_number, by_second, place_alone, said}
 use Rattle.register_store.specs.Register.{fact_row, fact_rows, joined_from}

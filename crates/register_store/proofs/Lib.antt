@@ -5,6 +5,7 @@ pub mod AuditSteps
 pub mod CellLemmas
 pub mod CreateTexts
 pub mod FactLemmas
+pub mod FailLemmas
 pub mod FindLemmas
 pub mod FindReads
 pub mod FindTexts
@@ -14,9 +15,11 @@ pub mod ListLemmas
 pub mod Making
 pub mod MoreRequests
 pub mod NumberLemmas
+pub mod OpenLemmas
 pub mod OurGains
 pub mod ReadLemmas
 pub mod ReadTexts
+pub mod RisingLemmas
 pub mod SegmentLemmas
 pub mod StepsOfLists
 pub mod StoreLemmas

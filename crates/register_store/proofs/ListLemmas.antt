@@ -1,12 +1,9 @@
 -- What the rows that are read say of the requests that they stand for.
-use Rattle.std.proofs.Common.{◌≡◌, ℕ, ◌+◌, pos, Bool, true, false, List, [], ◌∷◌, ◌++◌, map, filter, length, Option, Some, None, IsTrue, refl, sym, ap, subst, ◌∙◌, map-id}
+use Rattle.std.proofs.Common.{◌≡◌, ℕ, ◌+◌, List, [], ◌∷◌, map, filter, refl, sym, ap, subst, ◌∙◌}
 use Rattle.std.specs.Prelude.{filter_map}
 use Rattle.sqlite.specs.Order.{Row}
-use Rattle.sqlite.specs.Effect.{Database}
-use Rattle.sqlite.specs.State.{State, Survives}
-use Rattle.sqlite.specs.Tree.{Trees}
-use Rattle.sqlite.proofs.StateLemmas.{survives_weaker}
-use Rattle.filing_model.specs.Request.{Request, firsts}
+use Rattle.sqlite.specs.State.{State}
+use Rattle.filing_model.specs.Request.{Request}
 use Rattle.filing_model.specs.Register.{Outcome, Kept, filing_of, filings, kept, register}
 use Rattle.filing_model.specs.Register.Outcome.{Registered, Refused}
 use Rattle.filing_model.proofs.Keeping.{requests_of_kept}
@@ -17,8 +14,8 @@ use Rattle.table_rows.proofs.StandLemmas.{stands_on}
 use Rattle.table_rows.proofs.OrderLemmas.{counted_rise}
 use Rattle.register_store.specs.Columns.{request_in, filing_in}
 use Rattle.register_store.specs.Reads.{Knows, every, whole, by_first}
-use Rattle.register_store.specs.Register.{StandsFor, kept_row}
-use Rattle.register_store.specs.Schema.{IsDeclared, kept_table}
+use Rattle.register_store.specs.Register.{kept_row}
+use Rattle.register_store.specs.Schema.{kept_table}
 use Rattle.register_store.specs.Store.{IsRegisterOf}
 
 pub knows : (F : List Request) (s : State) → Stands (IsRegisterOf F) s → Knows s
@@ -28,11 +25,11 @@ knows F s was alive = (was.now alive).rows.rows.declared
 pub stays : (F : List Request) (old new : State) → Stands (IsRegisterOf F) old → (Knows old → Keeps old new) → Stands (IsRegisterOf F) new
 stays F old new was keeps = stands_on (IsRegisterOf F) old new (keeps (knows F old was)) was
 
-filter_every : (rows : List Row) → filter every rows ≡ rows
+pub filter_every : (rows : List Row) → filter every rows ≡ rows
 filter_every [] = refl
 filter_every (r ∷ rows) = ap (λ l. r ∷ l) (filter_every rows)
 
-map_whole : (rows : List Row) → map whole rows ≡ rows
+pub map_whole : (rows : List Row) → map whole rows ≡ rows
 map_whole [] = refl
 map_whole (r ∷ rows) = ap (λ l. r ∷ l) (map_whole rows)
 

@@ -1,6 +1,6 @@
 -- What the numbers of a filer's kept rows say of its filings.
-use Rattle.std.proofs.Common.{◌≡◌, ℕ, ◌+◌, ◌<◌, suc, Bool, true, false, cond, List, [], ◌∷◌, ◌++◌, map, filter, length, Option, Some, None, refl, sym, ap, ap₂, subst, ◌∙◌, nat_eq, arith, ⊎_elim}
-use Rattle.std.specs.Prelude.{filter_map, find, unwrap_or, option_map, bytes_eq, option_and_then}
+use Rattle.std.proofs.Common.{◌≡◌, ℕ, ◌+◌, ◌<◌, suc, Bool, true, false, cond, List, [], ◌∷◌, map, filter, length, Option, Some, refl, ap, ap₂, ◌∙◌, nat_eq, arith, ⊎_elim}
+use Rattle.std.specs.Prelude.{filter_map, unwrap_or, option_map, bytes_eq, option_and_then}
 use Rattle.std.specs.List.{range_with_len, AllByRecursion}
 use Rattle.std.proofs.lemmas.Bool.{cases_Bool}
 use Rattle.std.proofs.lemmas.Bool.Decides.{nat_tests}
@@ -12,9 +12,9 @@ use Rattle.xbrl_report.specs.Findings.{tree}
 use Rattle.xbrl_report.specs.Tree.{entries_of, value_at}
 use Rattle.xbrl_report.specs.Paths as path
 use Rattle.xbrl_report.specs.ReportParts.{facts, fact_count}
-use Rattle.filing_model.specs.Listing.{Listing, listing, listings}
+use Rattle.filing_model.specs.Listing.{listing, listings}
 use Rattle.filing_model.specs.Request.{Request}
-use Rattle.filing_model.specs.Register.{Outcome, Kept, Filing, filing_of, filings, kept, register}
+use Rattle.filing_model.specs.Register.{Outcome, Kept, Filing, filings, kept, register}
 use Rattle.filing_model.specs.Register.Outcome.{Registered, Refused}
 use Rattle.filing_model.proofs.Keeping.{register_numbered}
 use Rattle.table_rows.specs.Rows.{counted_from}
@@ -22,7 +22,7 @@ use Rattle.table_rows.specs.Reading.{ReadsRows}
 use Rattle.table_rows.specs.Standing.{Stands}
 use Rattle.table_rows.proofs.OrderLemmas.{counted_rise, same_text, and_true}
 use Rattle.register_store.specs.Columns.{number_in}
-use Rattle.register_store.specs.Numbered.{filing_numbered, facts_numbered, counted_under, numbers_under}
+use Rattle.register_store.specs.Numbered.{filing_numbered, counted_under, numbers_under}
 use Rattle.register_store.specs.Reads.{has_filer, by_first, number_alone}
 use Rattle.register_store.specs.Register.{kept_row}
 use Rattle.register_store.specs.Schema.{kept_table}

@@ -1,5 +1,5 @@
 -- What the texts of the SELECTs mean under the declared tables.
-use Rattle.std.proofs.Common.{◌≡◌, ℕ, List, [], ◌∷◌, codes, refl, sym, subst}
+use Rattle.std.proofs.Common.{ℕ, List, [], ◌∷◌, codes, refl, sym, subst}
 use Rattle.sqlite_schema.specs.declared.schema.Index.{Index}
 use Rattle.sqlite_schema.specs.declared.schema.View.{View}
 use Rattle.sqlite.specs.Table.{Table}
@@ -15,22 +15,8 @@ use Rattle.table_rows.specs.Tables.{schema_with}
 use Rattle.table_rows.proofs.SelectLemmas.{one_table}
 use Rattle.table_rows.proofs.ReadingLemmas.{by_each}
 use Rattle.table_rows.proofs.QueryLemmas.{Asks}
+use Rattle.register_store.specs.Opening.{all_meta, all_kept, all_findings, all_filings, all_facts}
 use Rattle.register_store.specs.Schema.{register_tables, IsDeclared}
-
-abbrev pub all_meta : List ℕ
-all_meta = codes "SELECT id, kind, form FROM intake_meta ORDER BY id"
-
-abbrev pub all_kept : List ℕ
-all_kept = codes "SELECT seq, filer, idem, body, number FROM kept ORDER BY seq"
-
-abbrev pub all_findings : List ℕ
-all_findings = codes "SELECT seq, pos, code, place FROM finding ORDER BY seq, pos"
-
-abbrev pub all_filings : List ℕ
-all_filings = codes "SELECT number, seq FROM filing ORDER BY number"
-
-abbrev pub all_facts : List ℕ
-all_facts = codes "SELECT number, pos, id, concept, dimensions, value, decimals FROM fact ORDER BY number, pos"
 
 abbrev pub filer_numbers : List ℕ
 filer_numbers = codes "SELECT number FROM kept WHERE filer = ?1 ORDER BY seq"

@@ -1,8 +1,6 @@
 -- Values that rows are held against.
-use Rattle.std.specs.Prelude.{ℕ, List, map}
 use Rattle.sqlite.specs.declared.types.Value.{Value}
 use Rattle.sqlite.specs.declared.types.Value.TheVariants as value
-use Rattle.sqlite.specs.Order.{Row}
 use Rattle.register_store.specs.declared.cells.Cell.{Cell}
 use Rattle.register_store.specs.declared.cells.Cell.TheVariants.{Null, Int, Text, Blob}
 

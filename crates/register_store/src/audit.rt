@@ -228,7 +228,8 @@ fn audit_in_order(
     filings: &[Row],
     facts: &[Row],
 ) -> Result<Verdict, AllocError>
-    ensures { IfOk result (λ verdict. IsVerdict kept.now (record { finding = findings.now; filing = filings.now; fact = facts.now }) verdict) }
+    ensures verdict { IfOk result (λ verdict. IsVerdict kept.now (record { finding = findings.now; filing = filings.now; fact = facts.now }) verdict) }
+    ensures few { IfOk result (λ verdict. (filings : ℕ) → verdict ≡ Verdict.Sound filings → (filings ≤ length kept.now) × (length kept.now ≤ 2 ^ 62)) }
 {
     if kept.len() as u64 > MAX_KEPT {
         return Err(AllocError);
@@ -267,6 +268,7 @@ pub(crate) fn audit(
     ensures verdict { IfOk result (λ verdict. IsVerdict kept.now (record { finding = findings.now; filing = filings.now; fact = facts.now }) verdict) }
     ensures complete { IfOk result (λ verdict. (F : List Request) → AreRowsOf kept.now (record { finding = findings.now; filing = filings.now; fact = facts.now }) F
         → verdict ≡ Verdict.Sound (length (register F))) }
+    ensures few { IfOk result (λ verdict. (filings : ℕ) → verdict ≡ Verdict.Sound filings → (filings ≤ length kept.now) × (length kept.now ≤ 2 ^ 62)) }
 {
     audit_in_order(alloc, kept, findings, filings, facts)
 }

@@ -28,6 +28,24 @@ pub enum CreateFault {
     Disk,
 }
 
+/// Why a register was not opened. The database is as it was, and its connection is given up.
+#[derive(Clone, Copy, Debug, PartialEq, Eq, thiserror::Error)]
+pub enum OpenFault {
+    /// The database is no register in the form that is read here.
+    #[error("not a register")]
+    NotOurs,
+    /// The rows are those of no register: the kept row at this place, counted from 1, is the first that is not sound; at 0 rows of
+    /// the other tables are left over, or a table cannot be read.
+    #[error("damaged at row {row}")]
+    Damaged { row: u64 },
+    /// No memory was left.
+    #[error("out of memory")]
+    Memory,
+    /// The database refused for another cause.
+    #[error("the database failed")]
+    Disk,
+}
+
 impl From<sqlite::Error> for StoreFault {
     ghost use Rattle.std.specs.Prelude.{◌≡◌};
     ghost use Rattle.register_store.specs.Faults.{store_fault};

@@ -15,6 +15,7 @@ mod files;
 mod found;
 mod lists;
 mod names;
+mod opening;
 mod outcome;
 mod reads;
 mod rows;
@@ -24,7 +25,7 @@ mod write;
 
 pub use completed::{Completed, Registered};
 pub use content::findings_value;
-pub use fault::{CreateFault, StoreFault};
+pub use fault::{CreateFault, OpenFault, StoreFault};
 pub use outcome::{KeptRow, NewRow, Outcome};
 pub use store::Store;
 

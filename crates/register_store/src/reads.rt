@@ -1,17 +1,20 @@
 //! The SELECTs on a register's tables. Each reads one table, in the order of its key.
 
-ghost use Rattle.std.specs.Prelude.{◌≡◌, ◌<◌, ◌^◌, false, IfOk};
+ghost use Rattle.std.specs.Prelude.{◌≡◌, ◌<◌, ◌^◌, false, [], IfOk, IfErr};
 ghost use Rattle.sqlite.specs.Held.{state};
-ghost use Rattle.sqlite.specs.State.{HasCleanDisk, Survives};
+ghost use Rattle.sqlite.specs.State.{HasCleanDisk, FailsToQuery, Shown, Survives};
 ghost use Rattle.table_rows.specs.Reading.{ReadsRows};
 ghost use Rattle.table_rows.specs.Standing.{Keeps};
 ghost use Rattle.register_store.specs.Schema.{IsDeclared, kept_table, fact_table};
+ghost use Rattle.register_store.specs.Opening.{all_meta, all_kept, all_findings, all_filings, all_facts};
 ghost use Rattle.register_store.specs.Reads.{Knows, every, whole, by_first, by_second, has_filer, has_number, number_alone, place_alone, said};
 
 use sqlite::{Alter, Connection, Error, Row, params};
 
 /// All kept rows, by `seq`.
 pub(crate) fn kept_rows<S: Alter>(conn: &mut Connection<S>) -> Result<Vec<Row>, Error>
+    ensures shown { HasCleanDisk (state S.Store conn.new) → IfOk result (λ rows. Shown all_kept [] (state S.Store conn.old) (state S.Store conn.new) rows.items) }
+    ensures failed { HasCleanDisk (state S.Store conn.new) → IfErr result (FailsToQuery all_kept [] (state S.Store conn.old) (state S.Store conn.new)) }
     ensures read { HasCleanDisk (state S.Store conn.new) → Knows (state S.Store conn.old) → IfOk result (λ rows. ReadsRows kept_table every by_first whole rows.items (state S.Store conn.old) (state S.Store conn.new)) }
     ensures keeps { HasCleanDisk (state S.Store conn.new) → Knows (state S.Store conn.old) → Keeps (state S.Store conn.old) (state S.Store conn.new) }
     ensures mode { conn.old.in_transaction ≡ false → conn.new.in_transaction ≡ false }
@@ -70,5 +73,51 @@ pub(crate) fn facts_of_filing<S: Alter>(
     conn.query_all(
         "SELECT id, concept, dimensions, value, decimals FROM fact WHERE number = ?1 ORDER BY pos",
         params![number as i64],
+    )
+}
+
+/// The rows of `intake_meta`, by `id`.
+pub(crate) fn meta_rows<S: Alter>(conn: &mut Connection<S>) -> Result<Vec<Row>, Error>
+    ensures shown { HasCleanDisk (state S.Store conn.new) → IfOk result (λ rows. Shown all_meta [] (state S.Store conn.old) (state S.Store conn.new) rows.items) }
+    ensures failed { HasCleanDisk (state S.Store conn.new) → IfErr result (FailsToQuery all_meta [] (state S.Store conn.old) (state S.Store conn.new)) }
+    ensures mode { conn.old.in_transaction ≡ false → conn.new.in_transaction ≡ false }
+    ensures survives { Survives (state S.Store conn.old) (state S.Store conn.new) (λ _. IsDeclared (state S.Store conn.old).now.schema → ⊥) }
+{
+    conn.query_all("SELECT id, kind, form FROM intake_meta ORDER BY id", &[])
+}
+
+/// All findings, by `seq` and `pos`.
+pub(crate) fn finding_rows<S: Alter>(conn: &mut Connection<S>) -> Result<Vec<Row>, Error>
+    ensures shown { HasCleanDisk (state S.Store conn.new) → IfOk result (λ rows. Shown all_findings [] (state S.Store conn.old) (state S.Store conn.new) rows.items) }
+    ensures failed { HasCleanDisk (state S.Store conn.new) → IfErr result (FailsToQuery all_findings [] (state S.Store conn.old) (state S.Store conn.new)) }
+    ensures mode { conn.old.in_transaction ≡ false → conn.new.in_transaction ≡ false }
+    ensures survives { Survives (state S.Store conn.old) (state S.Store conn.new) (λ _. IsDeclared (state S.Store conn.old).now.schema → ⊥) }
+{
+    conn.query_all(
+        "SELECT seq, pos, code, place FROM finding ORDER BY seq, pos",
+        &[],
+    )
+}
+
+/// All filings, by `number`.
+pub(crate) fn filing_rows<S: Alter>(conn: &mut Connection<S>) -> Result<Vec<Row>, Error>
+    ensures shown { HasCleanDisk (state S.Store conn.new) → IfOk result (λ rows. Shown all_filings [] (state S.Store conn.old) (state S.Store conn.new) rows.items) }
+    ensures failed { HasCleanDisk (state S.Store conn.new) → IfErr result (FailsToQuery all_filings [] (state S.Store conn.old) (state S.Store conn.new)) }
+    ensures mode { conn.old.in_transaction ≡ false → conn.new.in_transaction ≡ false }
+    ensures survives { Survives (state S.Store conn.old) (state S.Store conn.new) (λ _. IsDeclared (state S.Store conn.old).now.schema → ⊥) }
+{
+    conn.query_all("SELECT number, seq FROM filing ORDER BY number", &[])
+}
+
+/// All facts, by `number` and `pos`.
+pub(crate) fn fact_rows<S: Alter>(conn: &mut Connection<S>) -> Result<Vec<Row>, Error>
+    ensures shown { HasCleanDisk (state S.Store conn.new) → IfOk result (λ rows. Shown all_facts [] (state S.Store conn.old) (state S.Store conn.new) rows.items) }
+    ensures failed { HasCleanDisk (state S.Store conn.new) → IfErr result (FailsToQuery all_facts [] (state S.Store conn.old) (state S.Store conn.new)) }
+    ensures mode { conn.old.in_transaction ≡ false → conn.new.in_transaction ≡ false }
+    ensures survives { Survives (state S.Store conn.old) (state S.Store conn.new) (λ _. IsDeclared (state S.Store conn.old).now.schema → ⊥) }
+{
+    conn.query_all(
+        "SELECT number, pos, id, concept, dimensions, value, decimals FROM fact ORDER BY number, pos",
+        &[],
     )
 }

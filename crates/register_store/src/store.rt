@@ -1,6 +1,6 @@
 //! The store of a register: its connection, and how much it holds.
 
-ghost use Rattle.std.specs.Prelude.{◌≡◌, ◌≤◌, ◌<◌, ◌^◌, ◌+◌, ◌↔◌, ℕ, true, false, List, [], ◌∷◌, ◌++◌, length, option_map, None, Ok, Err, IsTrue, IfOk, OnOk, OnErr};
+ghost use Rattle.std.specs.Prelude.{◌≡◌, ◌≤◌, ◌<◌, ◌^◌, ◌+◌, ◌↔◌, ◌⊎◌, ℕ, true, false, List, [], ◌∷◌, ◌++◌, length, option_map, None, Ok, Err, IsTrue, IfOk, IfErr, OnOk, OnErr};
 ghost use Rattle.key_string.specs.Filer.{is_filer};
 ghost use Rattle.http_wire.specs.Head.{max_body_len};
 ghost use Rattle.xbrl_report.specs.Judgement.{IsJudgement, HasFacts};
@@ -10,14 +10,15 @@ ghost use Rattle.filing_model.specs.Answer.{kept_for};
 ghost use Rattle.filing_model.specs.Views.{the_request};
 ghost use Rattle.sqlite.specs.Held.{state};
 ghost use Rattle.sqlite.specs.Tree.{Trees};
-ghost use Rattle.sqlite.specs.State.{HasCleanDisk, Survives};
+ghost use Rattle.sqlite.specs.State.{HasCleanDisk, IsUnchanged, Survives};
 ghost use Rattle.table_rows.specs.Tables.{no_schema};
 ghost use Rattle.register_store.specs.Schema.{is_taken};
 
 use crate::create::make;
-use crate::fault::{CreateFault, StoreFault};
+use crate::fault::{CreateFault, OpenFault, StoreFault};
 use crate::found::find_kept;
 use crate::names;
+use crate::opening::{Counts, find};
 use crate::outcome::{KeptRow, NewRow, Outcome};
 use crate::write::keep;
 use key_string::KeyText;
@@ -89,6 +90,47 @@ impl<S: Alter + Drop> Store<S> {
                 filings: 0,
             }),
             Err(error) => Err(CreateFault::from(error)),
+        }
+    }
+}
+
+impl<S: Alter + Drop> Store<S> {
+    ghost use Rattle.sqlite.specs.Held.{Held};
+    ghost use Rattle.register_store.specs.Opening.{IsRefused};
+    ghost use Rattle.register_store.specs.Schema.{IsDeclared};
+    ghost use Rattle.register_store.specs.Store.{shows, HasRequests, IsRegisterOf, Leaves};
+
+    /// Opens the register that the database holds. A refusal gives the connection up. Nothing is written, whatever the
+    /// answer is. How the tables are declared is not tested.
+    pub fn open(alloc: Global, conn: Connection<S>) -> Result<Store<S>, OpenFault>
+        requires autocommit { conn.in_transaction ≡ false }
+        requires unlimited { conn.step_limit ≡ None }
+
+        // The store has the requests that the rows stand for, and there is one such list at most.
+        ensures opened { IfOk result (λ store. HasCleanDisk (shows S.Store store) → IsDeclared (state S.Store conn).now.schema
+            → (F : List Request) × IsRegisterOf F (state S.Store conn).now × HasRequests S.Store store F) }
+        ensures only { IfOk result (λ store. HasCleanDisk (shows S.Store store) → (F : List Request) → IsRegisterOf F (state S.Store conn).now → HasRequests S.Store store F) }
+        ensures same { IfOk result (λ store. HasCleanDisk (shows S.Store store) → IsDeclared (state S.Store conn).now.schema → IsUnchanged (state S.Store conn) (shows S.Store store)) }
+
+        // A refusal says why, of the connection as it was given up; where the rows stand for requests, it is by memory or disk.
+        ensures refused { IfErr result (λ fault. (last : Held S) × Survives (state S.Store conn) (state S.Store last) (λ _. IsDeclared (state S.Store conn).now.schema → ⊥)
+            × (HasCleanDisk (state S.Store last) → IsRefused S.Store fault conn last)
+            × (HasCleanDisk (state S.Store last) → (F : List Request) → IsRegisterOf F (state S.Store conn).now → (fault ≡ OpenFault.Memory) ⊎ (fault ≡ OpenFault.Disk))) }
+
+        // A crash leaves what it could leave before, and after the call these requests alone.
+        ensures crash { IfOk result (λ store. Survives (state S.Store conn) (shows S.Store store) (λ _. IsDeclared (state S.Store conn).now.schema → ⊥)) }
+        ensures durable { IfOk result (λ store. HasCleanDisk (shows S.Store store) → (F : List Request) → IsRegisterOf F (state S.Store conn).now
+            → IsTrue (shows S.Store store).is_open × ((trees : Trees) → (shows S.Store store).may_leave trees → Leaves F trees)) }
+    {
+        let mut conn = conn;
+        match find(&mut conn, alloc) {
+            Ok(Counts { kept, filings }) => Ok(Store {
+                alloc,
+                conn,
+                kept,
+                filings,
+            }),
+            Err(fault) => Err(fault),
         }
     }
 }

@@ -1,4 +1,4 @@
-use Rattle.std.proofs.Common.{◌≡◌, ◌≤◌, ◌<◌, ◌^◌, ◌+◌, suc, List, take, length}
+use Rattle.std.proofs.Common.{◌≡◌, ◌≤◌, suc, List, take, length}
 use Rattle.filing_model.specs.Request.{Request}
 use Rattle.filing_model.specs.Register.{register}
 use Rattle.register_store.specs.Audit.{AreFirst, view_rest}

@@ -1,4 +1,4 @@
-use Rattle.std.proofs.Common.{◌≡◌, subst₂}
+use Rattle.std.proofs.Common.{subst₂}
 use Rattle.xbrl_report.specs.Judgement.{IsJudgement}
 use Rattle.register_store.specs.Audit.{view_rest}
 use Rattle.register_store.proofs.AuditLemmas.{sound_if}

@@ -1,5 +1,4 @@
-use Rattle.std.proofs.Common.{◌≡◌, Some, None, sym, ◌∙◌, ap, ◌++◌, ◌∷◌, [], rules, take}
-use Rattle.std.specs.Prelude.{filter_map}
+use Rattle.std.proofs.Common.{sym, ◌∙◌, ap, ◌++◌, ◌∷◌, []}
 use Rattle.register_store.specs.Columns.{filing_in}
 use Rattle.register_store.proofs.StepsOfLists.{some_more, none_more}
 use Rattle.register_store.proofs.completed.read_filings.Goals.{in-Some+in_ok-push, in_default}

@@ -1,4 +1,4 @@
-use Rattle.std.proofs.Common.{◌≡◌, Some, None, sym, ◌∙◌, ap, ◌++◌, ◌∷◌, []}
+use Rattle.std.proofs.Common.{sym, ◌∙◌, ap, ◌++◌, ◌∷◌, []}
 use Rattle.sqlite.specs.Order.{column}
 use Rattle.register_store.specs.Columns.{number_in}
 use Rattle.register_store.proofs.StepsOfLists.{some_more, none_more}

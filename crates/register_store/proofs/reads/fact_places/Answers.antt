@@ -1,7 +1,6 @@
-use Rattle.std.proofs.Common.{◌≡◌, rules, [], ◌∷◌, pos, arith, w64}
+use Rattle.std.proofs.Common.{pos, arith, w64}
 use Rattle.std.proofs.lemmas.Result.{IfOk-weaker}
 use Rattle.std.proofs.lemmas.Int.{to_z-of_z}
-use Rattle.sqlite.specs.declared.types.Value.TheVariants.{Int, Text}
 use Rattle.sqlite.specs.Held.{state}
 use Rattle.register_store.proofs.ReadTexts.{fact_places, asks_places}
 use Rattle.register_store.proofs.ReadLemmas.{keeps, commits_none, reads_places}

@@ -1,8 +1,7 @@
-use Rattle.std.proofs.Common.{◌≡◌, rules, [], ◌∷◌, pos}
 use Rattle.std.proofs.lemmas.Result.{IfOk-weaker}
-use Rattle.sqlite.specs.declared.types.Value.TheVariants.{Int, Text}
 use Rattle.sqlite.specs.Held.{state}
-use Rattle.register_store.proofs.ReadTexts.{all_kept, asks_kept}
+use Rattle.register_store.specs.Opening.{all_kept}
+use Rattle.register_store.proofs.ReadTexts.{asks_kept}
 use Rattle.register_store.proofs.ReadLemmas.{keeps, commits_none, reads_kept}
 use Rattle.register_store.proofs.reads.kept_rows.Goals as goal
 

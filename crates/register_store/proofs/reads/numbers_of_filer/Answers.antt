@@ -1,6 +1,4 @@
-use Rattle.std.proofs.Common.{◌≡◌, rules, [], ◌∷◌, pos}
 use Rattle.std.proofs.lemmas.Result.{IfOk-weaker}
-use Rattle.sqlite.specs.declared.types.Value.TheVariants.{Int, Text}
 use Rattle.sqlite.specs.Held.{state}
 use Rattle.register_store.proofs.ReadTexts.{filer_numbers, asks_numbers}
 use Rattle.register_store.proofs.ReadLemmas.{keeps, commits_none, reads_numbers}

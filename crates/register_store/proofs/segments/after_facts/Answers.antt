@@ -1,6 +1,6 @@
-use Rattle.std.proofs.Common.{◌≡◌, ◌+◌, ◌<◌, length, get_or, sym, ap, ◌∙◌, arith}
+use Rattle.std.proofs.Common.{◌+◌, ◌<◌, length, sym, ap, ◌∙◌, arith}
 use Rattle.register_store.specs.Register.{fact_row}
-use Rattle.register_store.proofs.SegmentLemmas.{begins_more, begins_whole, begun_at, begun_long}
+use Rattle.register_store.proofs.SegmentLemmas.{begins_more, begun_at, begun_long}
 use Rattle.register_store.proofs.segments.after_facts.Goals as goal
 
 pub returns-then-rows-facts : goal.returns-then-rows-facts

@@ -1,4 +1,4 @@
-use Rattle.std.proofs.Common.{◌≡◌, ◌+◌, ◌≤◌, ◌<◌, [], length, None, map, sym, ◌∙◌, ap, arith}
+use Rattle.std.proofs.Common.{◌+◌, ◌≤◌, ◌<◌, [], length, map, sym, ◌∙◌, ap, arith}
 use Rattle.sqlite.specs.Held.{state}
 use Rattle.xbrl_report.specs.ReportParts.{facts}
 use Rattle.filing_model.specs.Register.{Filing, register}

@@ -1,0 +1,77 @@
+-- What an opening reads, and why a database is not opened.
+use Rattle.std.specs.Prelude.{◌≡◌, ◌≢◌, ◌⊎◌, ⊤, ℕ, List, [], ◌∷◌, codes}
+use Rattle.sqlite.specs.Order.{Row}
+use Rattle.sqlite.specs.Store.{Ghosts}
+use Rattle.sqlite.specs.Held.{Held, state}
+use Rattle.sqlite.specs.State.{Shown, FailsToQuery}
+use Rattle.sqlite.specs.declared.error.Error.{Error}
+use Rattle.table_rows.specs.Causes.{cause_of}
+use Rattle.table_rows.specs.declared.cause.Cause.{Cause}
+use Rattle.table_rows.specs.declared.cause.Cause.TheVariants as cause
+use Rattle.register_store.specs.declared.audit.Verdict.TheVariants as verdict
+use Rattle.register_store.specs.declared.fault.OpenFault.{OpenFault}
+use Rattle.register_store.specs.declared.fault.OpenFault.TheVariants as fault
+use Rattle.register_store.specs.Audit.{Others, IsVerdict}
+use Rattle.register_store.specs.Register.{meta_row}
+
+-- ---- the rows of the tables, each in the order of its key
+
+abbrev pub all_meta : List ℕ
+all_meta = codes "SELECT id, kind, form FROM intake_meta ORDER BY id"
+
+abbrev pub all_kept : List ℕ
+all_kept = codes "SELECT seq, filer, idem, body, number FROM kept ORDER BY seq"
+
+abbrev pub all_findings : List ℕ
+all_findings = codes "SELECT seq, pos, code, place FROM finding ORDER BY seq, pos"
+
+abbrev pub all_filings : List ℕ
+all_filings = codes "SELECT number, seq FROM filing ORDER BY number"
+
+abbrev pub all_facts : List ℕ
+all_facts = codes "SELECT number, pos, id, concept, dimensions, value, decimals FROM fact ORDER BY number, pos"
+
+-- the tables beside `intake_meta`
+abbrev pub table_texts : List (List ℕ)
+table_texts = all_kept ∷ all_findings ∷ all_filings ∷ all_facts ∷ []
+
+-- the query shows these rows, and the limit on steps stays
+pub record IsRead {S : Type 0} (g : Ghosts S) (text : List ℕ) (old new : Held S) (rows : List Row) : Type 0 where
+  pub shown : Shown text [] (state g old) (state g new) rows
+  pub limit : new.step_limit ≡ old.step_limit
+
+-- of several queries, one after another, each shows its rows
+abbrev pub AreRead : {S : Type 0} → Ghosts S → List (List ℕ) → Held S → Held S → List (List Row) → Type 0
+AreRead g [] old new [] = old ≡ new
+AreRead g [] old new (rows ∷ more) = ⊥
+AreRead g (text ∷ texts) old new [] = ⊥
+AreRead {S} g (text ∷ texts) old new (rows ∷ more) = (mid : Held S) × IsRead g text old mid rows × AreRead g texts mid new more
+
+-- one of them cannot be run, after those before it, for such a cause
+abbrev pub StopsFor : {S : Type 0} → Ghosts S → Cause → List (List ℕ) → Held S → Held S → Type 0
+StopsFor g why [] old new = ⊥
+StopsFor {S} g why (text ∷ texts) old new =
+    ((error : Error) × FailsToQuery text [] (state g old) (state g new) error × (cause_of error ≡ why)) ⊎ ((mid : Held S) × (rows : List Row) × IsRead g text old mid rows × StopsFor g why texts mid new)
+
+-- ---- why a database is not opened
+
+-- `intake_meta` cannot be read, for another cause than memory or disk, or its rows are not the one row
+abbrev pub IsNoRegister : {S : Type 0} → Ghosts S → Held S → Held S → Type 0
+IsNoRegister g old new = StopsFor g cause.Other (all_meta ∷ []) old new ⊎ ((rows : List Row) × IsRead g all_meta old new rows × (rows ≢ meta_row ∷ []))
+
+-- another table cannot be read so, and the row is 0; or the rows of the four tables stand for no requests, for what the row tells
+abbrev pub IsDamagedAt : {S : Type 0} → Ghosts S → ℕ → Held S → Held S → Type 0
+IsDamagedAt g row old new =
+    ((row ≡ 0) × StopsFor g cause.Other table_texts old new)
+    ⊎ ((kept : List Row) × (others : Others) × AreRead g table_texts old new (kept ∷ others.finding ∷ others.filing ∷ others.fact ∷ []) × IsVerdict kept others (verdict.Damaged row))
+
+-- so it is where the rows of `intake_meta` are the one row
+abbrev pub IsDamaged : {S : Type 0} → Ghosts S → ℕ → Held S → Held S → Type 0
+IsDamaged {S} g row old new = (mid : Held S) × IsRead g all_meta old mid (meta_row ∷ []) × IsDamagedAt g row mid new
+
+-- what a refusal says of the database; the disk is blamed where a query of the five failed by it
+abbrev pub IsRefused : {S : Type 0} → Ghosts S → OpenFault → Held S → Held S → Type 0
+IsRefused g fault.NotOurs old new = IsNoRegister g old new
+IsRefused g (fault.Damaged row) old new = IsDamaged g row old new
+IsRefused g fault.Memory old new = ⊤
+IsRefused g fault.Disk old new = StopsFor g cause.Disk (all_meta ∷ table_texts) old new
