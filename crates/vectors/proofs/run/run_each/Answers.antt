@@ -12,12 +12,12 @@ loop-number-preserved c =
     let some = c.loop-number.invariant.some in
     let below : c.loop-number.number-index < length c.args.numbers.now = omega arith in
     elim c.if-branch.branch [
-        then-branch w ↦ record {
-            some = rw w.failed-is (some_after c.args.numbers.now c.loop-number.failed.items c.loop-number.number-index below some);
-            counted = rw (w.failed-is, w.passed-is) (omega arith);
-        }
+      | then-branch w ↦ record {
+        some = rw w.failed-is (some_after c.args.numbers.now c.loop-number.failed.items c.loop-number.number-index below some);
+        counted = rw (w.failed-is, w.passed-is) (omega arith);
+      }
       | else-branch+in_ok-push w ↦ record {
-            some = rw (w.failed-is, w.in_ok-push.ensures.items) (some_after_with c.args.numbers.now c.loop-number.failed.items c.loop-number.number-index below some);
-            counted = rw (w.failed-is, w.passed-is, w.in_ok-push.ensures.len) (omega arith);
-        }
+        some = rw (w.failed-is, w.in_ok-push.ensures.items) (some_after_with c.args.numbers.now c.loop-number.failed.items c.loop-number.number-index below some);
+        counted = rw (w.failed-is, w.passed-is, w.in_ok-push.ensures.len) (omega arith);
+      }
     ]
