@@ -1,0 +1,401 @@
+//! Vectors of connections to an intake.
+
+use crate::examples::{
+    CONTINUE, KEY_REUSED, MALFORMED, NO_FILINGS, NOT_JSON, REGISTERED, REGISTERED_CLOSED,
+    REGISTERED_SECOND, REPORT, REQUEST, SMALLEST, UNAVAILABLE, filing, front, posted, repeated,
+    report,
+};
+use crate::history::{Connection, History};
+use crate::stop::Stop;
+use gateway_server::{Ended, Mark, fact_line};
+use register_store::Store;
+use sqlite::MemStore;
+use std::alloc::Global;
+
+/// A connection whose input ends after what is answered.
+fn answered<'a>(given: &'a str, written: &'a str, marks: &'a [Mark]) -> Connection<'a> {
+    Connection {
+        given: given.as_bytes(),
+        written,
+        marks,
+        ended: Ended::InputEnded,
+    }
+}
+
+/// A connection that closes after the last reply.
+fn closed<'a>(given: &'a str, written: &'a str, marks: &'a [Mark]) -> Connection<'a> {
+    Connection {
+        given: given.as_bytes(),
+        written,
+        marks,
+        ended: Ended::Closed,
+    }
+}
+
+/// Vector 1: a valid report is registered, listed, and shown by its facts.
+pub(crate) fn registered(alloc: Global, limit: u32) -> Result<bool, Stop> {
+    let connections = [
+        answered(REQUEST, REGISTERED, &[Mark::Done]),
+        answered(
+            "GET /filings/ACME HTTP/1.1\r\nHost: localhost\r\n\r\n",
+            "HTTP/1.1 200 OK\r\nContent-Type: application/json\r\nContent-Length: 36\r\n\r\n{\"filings\":[{\"facts\":1,\"number\":1}]}",
+            &[Mark::NotFiled],
+        ),
+    ];
+    let history = History {
+        limit,
+        ..History::of(&connections, 1, 1)
+    };
+    match history.run(alloc)? {
+        Some(mut store) => Ok(history.leaves(&store)? && has_fact(alloc, &mut store)?),
+        None => Ok(false),
+    }
+}
+
+/// Whether the fact of the example, and no other, is that of the first filing.
+fn has_fact(alloc: Global, store: &mut Store<MemStore>) -> Result<bool, Stop> {
+    match store.facts(1)? {
+        None => Ok(false),
+        Some(facts) => match facts.as_slice() {
+            [fact] => Ok(
+                fact_line(alloc, fact)?.as_str()
+                    == "{\"concept\":\"eg:Assets\",\"decimals\":0,\"dimensions\":{\"concept\":\"eg:Assets\",\"entity\":\"lei:ACME\",\"period\":\"2024-12-31T00:00:00\",\"unit\":\"iso4217:EUR\"},\"id\":\"f1\",\"value\":\"100\"}",
+            ),
+            _ => Ok(false),
+        },
+    }
+}
+
+/// Vector 2: repeats get the first reply, and add nothing.
+pub(crate) fn repeated_request(alloc: Global) -> Result<bool, Stop> {
+    let given = format!(in alloc; "{REQUEST}{REQUEST}{REQUEST}")?;
+    let written = format!(in alloc; "{REGISTERED}{REGISTERED}{REGISTERED}")?;
+    History::of(&[answered(&given, &written, &[Mark::Done; 3])], 1, 1).holds(alloc)
+}
+
+/// Vector 3: another body under a used key.
+pub(crate) fn key_reused(alloc: Global) -> Result<bool, Stop> {
+    let longer = format!(in alloc; "{REPORT} ")?;
+    let second = filing(alloc, "ACME", "k-1", &longer)?;
+    let given = format!(in alloc; "{REQUEST}{second}")?;
+    let written = format!(in alloc; "{REGISTERED}{KEY_REUSED}")?;
+    History::of(&[answered(&given, &written, &[Mark::Done; 2])], 1, 1).holds(alloc)
+}
+
+/// Vector 4: the same key of two filers.
+pub(crate) fn two_filers(alloc: Global) -> Result<bool, Stop> {
+    let body = report(
+        alloc,
+        "f1",
+        "100",
+        "lei:BETA",
+        "2024-12-31T00:00:00",
+        "iso4217:EUR",
+    )?;
+    let second = filing(alloc, "BETA", "k-1", &body)?;
+    let given = format!(in alloc; "{REQUEST}{second}")?;
+    let written = format!(in alloc; "{REGISTERED}{REGISTERED_SECOND}")?;
+    History::of(&[answered(&given, &written, &[Mark::Done; 2])], 2, 2).holds(alloc)
+}
+
+/// Vector 5: a refused report is kept with its findings, and takes no number.
+pub(crate) fn refused(alloc: Global) -> Result<bool, Stop> {
+    let body = report(
+        alloc,
+        "f1",
+        "100",
+        "lei:ACME",
+        "2023-02-29T00:00:00",
+        "usd:EUR",
+    )?;
+    let refused = filing(alloc, "ACME", "k-1", &body)?;
+    let other_key = filing(alloc, "ACME", "k-2", REPORT)?;
+    let given = format!(in alloc; "{refused}{refused}{REQUEST}{other_key}")?;
+    let findings =
+        "HTTP/1.1 422 Unprocessable Content\r\nContent-Type: application/json\r\nContent-Length: 151\r\n\r\n{\"findings\":[{\"code\":\"period\",\"place\":\"/facts/f1/dimensions/period\"},{\"code\":\"unbound-prefix\",\"place\":\"/facts/f1/dimensions/unit\"}],\"status\":\"refused\"}";
+    let written = format!(in alloc; "{findings}{findings}{KEY_REUSED}{REGISTERED}")?;
+    History::of(&[answered(&given, &written, &[Mark::Done; 4])], 2, 1).holds(alloc)
+}
+
+/// Vector 6: the place of a finding is a JSON Pointer.
+pub(crate) fn escaped_place(alloc: Global) -> Result<bool, Stop> {
+    let body = report(
+        alloc,
+        "a/b~c",
+        "1,5",
+        "lei:ACME",
+        "2024-12-31T00:00:00",
+        "iso4217:EUR",
+    )?;
+    let given = filing(alloc, "ACME", "k-1", &body)?;
+    let written =
+        "HTTP/1.1 422 Unprocessable Content\r\nContent-Type: application/json\r\nContent-Length: 82\r\n\r\n{\"findings\":[{\"code\":\"number\",\"place\":\"/facts/a~1b~0c/value\"}],\"status\":\"refused\"}";
+    History::of(&[answered(&given, written, &[Mark::Done])], 1, 0).holds(alloc)
+}
+
+/// Vector 7: an empty body is kept; a POST without a length is not.
+pub(crate) fn empty_body(alloc: Global) -> Result<bool, Stop> {
+    let empty = filing(alloc, "ACME", "k-1", "")?;
+    let given = format!(in alloc; "{empty}{REQUEST}")?;
+    let written = format!(in alloc; "{NOT_JSON}{KEY_REUSED}")?;
+    let kept = History::of(&[answered(&given, &written, &[Mark::Done; 2])], 1, 0).holds(alloc)?;
+    let no_length = closed(
+        "POST /filings/ACME HTTP/1.1\r\nHost: localhost\r\nIdempotency-Key: \"k-1\"\r\n\r\n",
+        "HTTP/1.1 411 Length Required\r\nContent-Type: application/json\r\nContent-Length: 27\r\nConnection: close\r\n\r\n{\"status\":\"length-missing\"}",
+        &[Mark::NotFiled],
+    );
+    Ok(kept && History::of(&[no_length], 0, 0).holds(alloc)?)
+}
+
+/// Vector 9: the values of `Content-Length`.
+pub(crate) fn content_lengths(alloc: Global) -> Result<bool, Stop> {
+    if !is_length(alloc, "Content-Length: 84, 084")? {
+        return Ok(false);
+    }
+    for lines in [
+        "Content-Length: 84, 85",
+        "Content-Length: 84,",
+        "Content-Length: +84",
+        "Content-Length: 84\r\nContent-Length: 85",
+    ] {
+        if !is_no_length(alloc, lines)? {
+            return Ok(false);
+        }
+    }
+    Ok(true)
+}
+
+/// The request that files the smallest report with its length so declared.
+fn declared(alloc: Global, lines: &str) -> Result<String, Stop> {
+    Ok(format!(in alloc;
+        "POST /filings/ACME HTTP/1.1\r\nHost: localhost\r\nIdempotency-Key: \"k-1\"\r\n{lines}\r\n\r\n{SMALLEST}"
+    )?)
+}
+
+fn is_length(alloc: Global, lines: &str) -> Result<bool, Stop> {
+    let given = declared(alloc, lines)?;
+    History::of(&[answered(&given, REGISTERED, &[Mark::Done])], 1, 1).holds(alloc)
+}
+
+fn is_no_length(alloc: Global, lines: &str) -> Result<bool, Stop> {
+    let given = declared(alloc, lines)?;
+    History::of(&[closed(&given, MALFORMED, &[Mark::NotFiled])], 0, 0).holds(alloc)
+}
+
+/// Vector 10: the longest body, a longer one, and the interim response.
+pub(crate) fn long_bodies(alloc: Global) -> Result<bool, Stop> {
+    Ok(longest_body(alloc)? && longer_body(alloc)? && awaited_body(alloc)?)
+}
+
+fn longest_body(alloc: Global) -> Result<bool, Stop> {
+    let spaces = repeated(alloc, ' ', 1_048_492)?;
+    let body = format!(in alloc; "{SMALLEST}{spaces}")?;
+    let given = filing(alloc, "ACME", "k-1", &body)?;
+    History::of(&[answered(&given, REGISTERED, &[Mark::Done])], 1, 1).holds(alloc)
+}
+
+fn longer_body(alloc: Global) -> Result<bool, Stop> {
+    let refused = closed(
+        "POST /filings/ACME HTTP/1.1\r\nHost: localhost\r\nIdempotency-Key: \"k-1\"\r\nExpect: 100-continue\r\nContent-Length: 1048577\r\n\r\n",
+        "HTTP/1.1 413 Content Too Large\r\nContent-Type: application/json\r\nContent-Length: 22\r\nConnection: close\r\n\r\n{\"status\":\"too-large\"}",
+        &[Mark::NotFiled],
+    );
+    History::of(&[refused], 0, 0).holds(alloc)
+}
+
+fn awaited_body(alloc: Global) -> Result<bool, Stop> {
+    let written = format!(in alloc; "{CONTINUE}{NOT_JSON}")?;
+    let awaited = answered(
+        "POST /filings/ACME HTTP/1.1\r\nHost: localhost\r\nIdempotency-Key: \"k-1\"\r\nExpect: 100-continue\r\nContent-Length: 5\r\n\r\nhello",
+        &written,
+        &[Mark::Done],
+    );
+    History::of(&[awaited], 1, 0).holds(alloc)
+}
+
+/// The reply to a head that is too long.
+const HEAD_TOO_LARGE: &str =
+    "HTTP/1.1 431 Request Header Fields Too Large\r\nContent-Type: application/json\r\nContent-Length: 27\r\nConnection: close\r\n\r\n{\"status\":\"head-too-large\"}";
+
+/// Vector 11: heads at the limit of their length.
+pub(crate) fn long_heads(alloc: Global) -> Result<bool, Stop> {
+    Ok(heads_without_end(alloc)? && heads_with_end(alloc)?)
+}
+
+fn heads_without_end(alloc: Global) -> Result<bool, Stop> {
+    let too_long = repeated(alloc, 'a', 16_384)?;
+    let letters = repeated(alloc, 'a', 16_383)?;
+    let spaces = repeated(alloc, ' ', 16_383)?;
+    let unfinished = [answered(&letters, "", &[]), answered(&spaces, "", &[])];
+    let refused = [closed(&too_long, HEAD_TOO_LARGE, &[Mark::NotFiled])];
+    Ok(History::of(&unfinished, 0, 0).holds(alloc)? && History::of(&refused, 0, 0).holds(alloc)?)
+}
+
+fn heads_with_end(alloc: Global) -> Result<bool, Stop> {
+    let longest = asked_at_length(alloc, "", 16_332)?;
+    let after_empty_line = asked_at_length(alloc, "\r\n", 16_332)?;
+    let longer = asked_at_length(alloc, "", 16_333)?;
+    let connections = [
+        answered(&longest, NO_FILINGS, &[Mark::NotFiled]),
+        answered(&after_empty_line, NO_FILINGS, &[Mark::NotFiled]),
+        closed(&longer, HEAD_TOO_LARGE, &[Mark::NotFiled]),
+    ];
+    History::of(&connections, 0, 0).holds(alloc)
+}
+
+/// A GET with a field of so many letters, after this.
+fn asked_at_length(alloc: Global, before: &str, letters: u32) -> Result<String, Stop> {
+    let letters = repeated(alloc, 'a', letters)?;
+    Ok(format!(in alloc;
+        "{before}GET /filings/ACME HTTP/1.1\r\nHost: localhost\r\nX: {letters}\r\n\r\n"
+    )?)
+}
+
+/// Vector 12: how the bytes come changes nothing, and a body is no request.
+pub(crate) fn byte_by_byte(alloc: Global) -> Result<bool, Stop> {
+    let given = format!(in alloc; "{REQUEST}{REQUEST}{REQUEST}")?;
+    let written = format!(in alloc; "{REGISTERED}{REGISTERED}{REGISTERED}")?;
+    let bytes = History {
+        piece: 1,
+        ..History::of(&[answered(&given, &written, &[Mark::Done; 3])], 1, 1)
+    }
+    .holds(alloc)?;
+    let nested = filing(alloc, "ACME", "k-2", REQUEST)?;
+    Ok(bytes && History::of(&[answered(&nested, NOT_JSON, &[Mark::Done])], 1, 0).holds(alloc)?)
+}
+
+/// Vector 13: a request that is cut off gets no reply.
+pub(crate) fn cut_off(alloc: Global) -> Result<bool, Stop> {
+    let connection = Connection {
+        given: front(REQUEST, 485),
+        ..answered("", "", &[])
+    };
+    History::of(&[connection], 0, 0).holds(alloc)
+}
+
+/// Vector 14: a register that is full answers what it keeps, and no more.
+pub(crate) fn full_register(alloc: Global) -> Result<bool, Stop> {
+    let second = filing(alloc, "ACME", "k-2", REPORT)?;
+    let given = format!(in alloc; "{REQUEST}{second}{REQUEST}")?;
+    let written = format!(in alloc; "{REGISTERED}{UNAVAILABLE}{REGISTERED}")?;
+    let marks = [Mark::Done, Mark::Unavailable, Mark::Done];
+    let one = History {
+        limit: 1,
+        ..History::of(&[answered(&given, &written, &marks)], 1, 1)
+    }
+    .holds(alloc)?;
+    let none = History {
+        limit: 0,
+        ..History::of(
+            &[answered(REQUEST, UNAVAILABLE, &[Mark::Unavailable])],
+            0,
+            0,
+        )
+    }
+    .holds(alloc)?;
+    Ok(one && none)
+}
+
+/// Vector 17: requests that file nothing, and other spellings of one that does.
+pub(crate) fn other_requests(alloc: Global) -> Result<bool, Stop> {
+    Ok(refused_heads(alloc)? && told(alloc)? && posts_told(alloc)? && posts_filed(alloc)?)
+}
+
+/// Heads after whose refusal the connection closes.
+fn refused_heads(alloc: Global) -> Result<bool, Stop> {
+    for (given, written) in [
+        ("GET /filings/ACME HTTP/1.1\r\n\r\n", MALFORMED),
+        (
+            "GET /filings/ACME HTTP/1.1\r\nHost: localhost\r\nHost: localhost\r\n\r\n",
+            MALFORMED,
+        ),
+        (
+            "POST /filings/ACME HTTP/1.1\r\nHost: localhost\r\nTransfer-Encoding: chunked\r\nContent-Length: x\r\n\r\n",
+            "HTTP/1.1 501 Not Implemented\r\nContent-Type: application/json\r\nContent-Length: 19\r\nConnection: close\r\n\r\n{\"status\":\"coding\"}",
+        ),
+    ] {
+        if !History::of(&[closed(given, written, &[Mark::NotFiled])], 0, 0).holds(alloc)? {
+            return Ok(false);
+        }
+    }
+    Ok(true)
+}
+
+/// Messages whose path or method is answered.
+fn told(alloc: Global) -> Result<bool, Stop> {
+    for (given, written) in [
+        (
+            "GET /other HTTP/1.1\r\nHost: localhost\r\n\r\n",
+            "HTTP/1.1 404 Not Found\r\nContent-Type: application/json\r\nContent-Length: 20\r\n\r\n{\"status\":\"no-path\"}",
+        ),
+        (
+            "PUT /filings/ACME HTTP/1.1\r\nHost: localhost\r\n\r\n",
+            "HTTP/1.1 405 Method Not Allowed\r\nContent-Type: application/json\r\nContent-Length: 22\r\nAllow: GET, POST\r\n\r\n{\"status\":\"no-method\"}",
+        ),
+        (
+            "HEAD /filings/ACME HTTP/1.1\r\nHost: localhost\r\n\r\n",
+            "HTTP/1.1 405 Method Not Allowed\r\nContent-Type: application/json\r\nAllow: GET, POST\r\n\r\n",
+        ),
+    ] {
+        if !History::of(&[answered(given, written, &[Mark::NotFiled])], 0, 0).holds(alloc)? {
+            return Ok(false);
+        }
+    }
+    Ok(true)
+}
+
+/// Reports whose coding or key is answered.
+fn posts_told(alloc: Global) -> Result<bool, Stop> {
+    for (lines, written) in [
+        (
+            "Host: localhost\r\nIdempotency-Key: \"k-1\"\r\nContent-Encoding: gzip\r\n",
+            "HTTP/1.1 415 Unsupported Media Type\r\nContent-Type: application/json\r\nContent-Length: 27\r\n\r\n{\"status\":\"content-coding\"}",
+        ),
+        (
+            "Host: localhost\r\n",
+            "HTTP/1.1 400 Bad Request\r\nContent-Type: application/json\r\nContent-Length: 24\r\n\r\n{\"status\":\"key-missing\"}",
+        ),
+        (
+            "Host: localhost\r\nIdempotency-Key: k-1\r\n",
+            "HTTP/1.1 400 Bad Request\r\nContent-Type: application/json\r\nContent-Length: 20\r\n\r\n{\"status\":\"key-bad\"}",
+        ),
+    ] {
+        let given = posted(alloc, "POST /filings/ACME HTTP/1.1", lines)?;
+        if !History::of(&[answered(&given, written, &[Mark::NotFiled])], 0, 0).holds(alloc)? {
+            return Ok(false);
+        }
+    }
+    Ok(true)
+}
+
+/// Reports that are registered.
+fn posts_filed(alloc: Global) -> Result<bool, Stop> {
+    let absolute = posted(
+        alloc,
+        "POST http://localhost/filings/ACME HTTP/1.1",
+        "Host: localhost\r\nIdempotency-Key: \"k-1\"\r\n",
+    )?;
+    let older = posted(
+        alloc,
+        "POST /filings/ACME HTTP/1.0",
+        "Idempotency-Key: \"k-1\"\r\n",
+    )?;
+    let followed = format!(in alloc; "{REQUEST}\r\n\r\n")?;
+    let written = format!(in alloc; "{REGISTERED}{MALFORMED}")?;
+    for connection in [
+        answered(&absolute, REGISTERED, &[Mark::Done]),
+        closed(&older, REGISTERED_CLOSED, &[Mark::Done]),
+        closed(&followed, &written, &[Mark::Done, Mark::NotFiled]),
+    ] {
+        if !History::of(&[connection], 1, 1).holds(alloc)? {
+            return Ok(false);
+        }
+    }
+    Ok(true)
+}
+
+/// That a body gets this reply, is kept and not registered.
+pub(crate) fn is_refused_with(alloc: Global, body: &str, written: &str) -> Result<bool, Stop> {
+    let given = filing(alloc, "ACME", "k-1", body)?;
+    History::of(&[answered(&given, written, &[Mark::Done])], 1, 0).holds(alloc)
+}

@@ -1,0 +1,93 @@
+//! The bytes that several vectors share: reports, requests and replies.
+
+use crate::stop::Stop;
+use std::alloc::Global;
+
+/// A valid report without facts, 84 bytes.
+pub(crate) const SMALLEST: &str =
+    "{\"documentInfo\":{\"documentType\":\"https://xbrl.org/2021/xbrl-json\",\"taxonomy\":[\"t\"]}}";
+
+/// A valid report of one fact, 393 bytes.
+pub(crate) const REPORT: &str =
+    "{\"documentInfo\":{\"documentType\":\"https://xbrl.org/2021/xbrl-json\",\"namespaces\":{\"eg\":\"http://example.com/eg\",\"iso4217\":\"http://www.xbrl.org/2003/iso4217\",\"lei\":\"http://standards.iso.org/iso/17442\"},\"taxonomy\":[\"http://example.com/eg.xsd\"]},\"facts\":{\"f1\":{\"value\":\"100\",\"decimals\":0,\"dimensions\":{\"concept\":\"eg:Assets\",\"entity\":\"lei:ACME\",\"period\":\"2024-12-31T00:00:00\",\"unit\":\"iso4217:EUR\"}}}}";
+
+/// The request that files that report for `ACME` under the key `k-1`, 486 bytes.
+pub(crate) const REQUEST: &str =
+    "POST /filings/ACME HTTP/1.1\r\nHost: localhost\r\nIdempotency-Key: \"k-1\"\r\nContent-Length: 393\r\n\r\n{\"documentInfo\":{\"documentType\":\"https://xbrl.org/2021/xbrl-json\",\"namespaces\":{\"eg\":\"http://example.com/eg\",\"iso4217\":\"http://www.xbrl.org/2003/iso4217\",\"lei\":\"http://standards.iso.org/iso/17442\"},\"taxonomy\":[\"http://example.com/eg.xsd\"]},\"facts\":{\"f1\":{\"value\":\"100\",\"decimals\":0,\"dimensions\":{\"concept\":\"eg:Assets\",\"entity\":\"lei:ACME\",\"period\":\"2024-12-31T00:00:00\",\"unit\":\"iso4217:EUR\"}}}}";
+
+/// The reply to the first registered report, 110 bytes.
+pub(crate) const REGISTERED: &str =
+    "HTTP/1.1 201 Created\r\nContent-Type: application/json\r\nContent-Length: 34\r\n\r\n{\"number\":1,\"status\":\"registered\"}";
+
+/// The same where the connection closes, 129 bytes.
+pub(crate) const REGISTERED_CLOSED: &str =
+    "HTTP/1.1 201 Created\r\nContent-Type: application/json\r\nContent-Length: 34\r\nConnection: close\r\n\r\n{\"number\":1,\"status\":\"registered\"}";
+
+/// The reply to the second registered report.
+pub(crate) const REGISTERED_SECOND: &str =
+    "HTTP/1.1 201 Created\r\nContent-Type: application/json\r\nContent-Length: 34\r\n\r\n{\"number\":2,\"status\":\"registered\"}";
+
+/// The reply where the key was used for another body.
+pub(crate) const KEY_REUSED: &str =
+    "HTTP/1.1 422 Unprocessable Content\r\nContent-Type: application/json\r\nContent-Length: 23\r\n\r\n{\"status\":\"key-reused\"}";
+
+/// The reply to a body that is no JSON text.
+pub(crate) const NOT_JSON: &str =
+    "HTTP/1.1 400 Bad Request\r\nContent-Type: application/json\r\nContent-Length: 64\r\n\r\n{\"findings\":[{\"code\":\"not-json\",\"place\":\"\"}],\"status\":\"refused\"}";
+
+/// The reply to a head that is malformed.
+pub(crate) const MALFORMED: &str =
+    "HTTP/1.1 400 Bad Request\r\nContent-Type: application/json\r\nContent-Length: 22\r\nConnection: close\r\n\r\n{\"status\":\"malformed\"}";
+
+/// The reply where a request cannot be decided now.
+pub(crate) const UNAVAILABLE: &str =
+    "HTTP/1.1 503 Service Unavailable\r\nContent-Type: application/json\r\nContent-Length: 24\r\n\r\n{\"status\":\"unavailable\"}";
+
+/// The reply that lists no filing.
+pub(crate) const NO_FILINGS: &str =
+    "HTTP/1.1 200 OK\r\nContent-Type: application/json\r\nContent-Length: 14\r\n\r\n{\"filings\":[]}";
+
+/// The interim response, 25 bytes.
+pub(crate) const CONTINUE: &str = "HTTP/1.1 100 Continue\r\n\r\n";
+
+/// The request that files a body for a filer under a key.
+pub(crate) fn filing(alloc: Global, filer: &str, key: &str, body: &str) -> Result<String, Stop> {
+    let length = body.len();
+    Ok(format!(in alloc;
+        "POST /filings/{filer} HTTP/1.1\r\nHost: localhost\r\nIdempotency-Key: \"{key}\"\r\nContent-Length: {length}\r\n\r\n{body}"
+    )?)
+}
+
+/// The request that files the report under the key, with this request line and these lines before its length.
+pub(crate) fn posted(alloc: Global, first: &str, lines: &str) -> Result<String, Stop> {
+    Ok(format!(in alloc; "{first}\r\n{lines}Content-Length: 393\r\n\r\n{REPORT}")?)
+}
+
+/// The report of one fact but for these parts.
+pub(crate) fn report(
+    alloc: Global,
+    fact: &str,
+    value: &str,
+    entity: &str,
+    period: &str,
+    unit: &str,
+) -> Result<String, Stop> {
+    Ok(format!(in alloc;
+        "{{\"documentInfo\":{{\"documentType\":\"https://xbrl.org/2021/xbrl-json\",\"namespaces\":{{\"eg\":\"http://example.com/eg\",\"iso4217\":\"http://www.xbrl.org/2003/iso4217\",\"lei\":\"http://standards.iso.org/iso/17442\"}},\"taxonomy\":[\"http://example.com/eg.xsd\"]}},\"facts\":{{\"{fact}\":{{\"value\":\"{value}\",\"decimals\":0,\"dimensions\":{{\"concept\":\"eg:Assets\",\"entity\":\"{entity}\",\"period\":\"{period}\",\"unit\":\"{unit}\"}}}}}}}}"
+    )?)
+}
+
+/// A character so many times.
+pub(crate) fn repeated(alloc: Global, character: char, count: u32) -> Result<String, Stop> {
+    let mut text = String::new(alloc);
+    for _ in 0..count {
+        text.push(character)?;
+    }
+    Ok(text)
+}
+
+/// The first bytes of a text, at most so many.
+pub(crate) fn front(text: &str, most: usize) -> &[u8] {
+    let bytes = text.as_bytes();
+    &bytes[..most.min(bytes.len())]
+}

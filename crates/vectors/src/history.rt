@@ -1,0 +1,136 @@
+//! Connections to an intake as data, and what runs them.
+
+use crate::stop::Stop;
+use gateway_server::{Ended, Mark, Served, serve};
+use http_wire::{ConnFault, Device};
+use intake_core::Intake;
+use register_store::Store;
+use sqlite::MemStore;
+use std::alloc::Global;
+use std::io::{self, Read};
+
+/// What is given to an intake on one connection, and what is to come of it.
+#[derive(Clone, Copy)]
+pub(crate) struct Connection<'a> {
+    pub(crate) given: &'a [u8],
+    pub(crate) written: &'a str,
+    pub(crate) marks: &'a [Mark],
+    pub(crate) ended: Ended,
+}
+
+/// The connections of an intake that is empty at first, one after another, and what it keeps in the end.
+#[derive(Clone, Copy)]
+pub(crate) struct History<'a> {
+    /// How many keys the intake may keep.
+    pub(crate) limit: u32,
+    /// How many bytes a read gives at most.
+    pub(crate) piece: usize,
+    pub(crate) connections: &'a [Connection<'a>],
+    /// How many requests are kept.
+    pub(crate) kept: u64,
+    /// How many of these are registered.
+    pub(crate) filings: u64,
+}
+
+/// How many keys an intake may keep where a vector names no other limit.
+pub(crate) const LIMIT: u32 = 1_000_000;
+
+/// How many bytes a read gives at most where a vector names no other number.
+pub(crate) const PIECE: usize = 4096;
+
+impl<'a> History<'a> {
+    /// Connections that leave this much, under no special limits.
+    pub(crate) fn of(connections: &'a [Connection<'a>], kept: u64, filings: u64) -> History<'a> {
+        History {
+            limit: LIMIT,
+            piece: PIECE,
+            connections,
+            kept,
+            filings,
+        }
+    }
+
+    /// Whether all comes as it is to come.
+    pub(crate) fn holds(&self, alloc: Global) -> Result<bool, Stop> {
+        match self.run(alloc)? {
+            Some(store) => self.leaves(&store),
+            None => Ok(false),
+        }
+    }
+
+    /// The register after the connections, if each went as it is to go.
+    pub(crate) fn run(&self, alloc: Global) -> Result<Option<Store<MemStore>>, Stop> {
+        let mut intake = Intake::in_memory(alloc, u64::from(self.limit))?;
+        for connection in self.connections {
+            if !connection.goes(alloc, &mut intake, self.piece)? {
+                return Ok(None);
+            }
+        }
+        Ok(Some(intake.into_store()))
+    }
+
+    /// Whether the register holds as much as it is to hold.
+    pub(crate) fn leaves(&self, store: &Store<MemStore>) -> Result<bool, Stop> {
+        Ok(store.kept_count()? == self.kept && store.filing_count()? == self.filings)
+    }
+}
+
+impl Connection<'_> {
+    /// Whether the intake answers as it is to answer.
+    fn goes(
+        &self,
+        alloc: Global,
+        intake: &mut Intake<MemStore>,
+        piece: usize,
+    ) -> Result<bool, Stop> {
+        let mut output = Vec::new(alloc);
+        let served = served(alloc, intake, self.given, piece, &mut output);
+        self.is_so(&served, &output)
+    }
+
+    /// Whether this came of it. A writer in memory fails for want of memory alone.
+    pub(crate) fn is_so(&self, served: &Served, output: &[u8]) -> Result<bool, Stop> {
+        match served.ended {
+            Ended::Fault(ConnFault::Memory | ConnFault::Write { .. }) => Err(Stop::Memory),
+            ended => Ok(
+                ended == self.ended
+                    && served.marks.as_slice() == self.marks
+                    && output == self.written.as_bytes(),
+            ),
+        }
+    }
+}
+
+/// Gives an intake these bytes on one connection, in pieces, and appends what it writes.
+fn served(
+    alloc: Global,
+    intake: &mut Intake<MemStore>,
+    given: &[u8],
+    piece: usize,
+    output: &mut Vec<u8>,
+) -> Served {
+    let pieces = Pieces {
+        rest: given,
+        most: piece,
+    };
+    serve(
+        alloc,
+        &mut Device::new(pieces),
+        &mut Device::new(output),
+        intake,
+    )
+}
+
+/// A reader that gives at most so many bytes a read.
+#[derive(Drop)]
+pub(crate) struct Pieces<'a> {
+    pub(crate) rest: &'a [u8],
+    pub(crate) most: usize,
+}
+
+impl Read for Pieces<'_> {
+    fn read(&mut self, room: &mut [u8]) -> io::Result<usize> {
+        let count = self.most.min(room.len());
+        self.rest.read(&mut room[..count])
+    }
+}

@@ -1,0 +1,20 @@
+//! The worked examples of the protocol as vectors: each runs one example over the public calls, and tells whether
+//! what came is what is to come. What may live here: the examples as data, written out by hand, and what runs and
+//! compares them.
+#![tactic(auto)]
+
+mod connection;
+mod examples;
+mod files;
+mod history;
+mod keys;
+mod outbox;
+mod replies;
+mod reports;
+mod run;
+mod stop;
+
+pub use run::{NUMBERS, VectorReport, run_all};
+
+#[cfg(test)]
+mod tests;

@@ -1,0 +1,17 @@
+use crate::connection::registered;
+use crate::run_all;
+use std::test::Fail;
+
+#[test]
+fn all_vectors_pass(rt: HostRuntime) -> Result<(), Fail> {
+    let report = run_all(rt.alloc())?;
+    assert_eq!(rt; report.passed, 21);
+    assert!(rt; report.failed.is_empty());
+    Ok(())
+}
+
+#[test]
+fn an_intake_that_keeps_nothing_fails_the_first(rt: HostRuntime) -> Result<(), Fail> {
+    assert_eq!(rt; registered(rt.alloc(), 0).ok(), Some(false));
+    Ok(())
+}
