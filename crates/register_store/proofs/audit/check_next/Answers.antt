@@ -4,7 +4,7 @@ use Rattle.filing_model.specs.Request.{has_key}
 use Rattle.register_store.specs.Audit.{view_rest}
 use Rattle.register_store.specs.Columns.{request_in}
 use Rattle.register_store.specs.Columns.{request_in}
-use Rattle.register_store.proofs.AuditLemmas.{sound_if, unsound_if, more_if}
+use Rattle.register_store.proofs.AuditLemmas.{more_if}
 use Rattle.register_store.proofs.audit.check_next.Goals as goal
 
 pub returns-then-has_more : goal.returns-then-has_more
