@@ -27,12 +27,16 @@ const LEAST: &str =
     "{\"documentInfo\":{\"documentType\":\"https://xbrl.org/2021/xbrl-json\",\"taxonomy\":[\"t\"]}}";
 
 /// The outbox of a filer with one entry, which is open.
+fn made(alloc: Global) -> Option<Outbox<MemStore>> {
+    let conn = Connection::open_in_memory(alloc).ok()?;
+    let mut outbox = Outbox::create(alloc, conn, "ACME").ok()?;
+    let body = REPORT.as_bytes().to_vec(alloc).ok()?;
+    outbox.put(KeyText::new(alloc, "k-1").ok()?, body).ok()?;
+    Some(outbox)
+}
+
 fn outbox(alloc: Global) -> Result<Outbox<MemStore>, Fail> {
-    let mut outbox = Outbox::create(alloc, Connection::open_in_memory(alloc)?, "ACME")?;
-    let mut body = Vec::new(alloc);
-    body.extend_from_slice(REPORT.as_bytes())?;
-    outbox.put(KeyText::new(alloc, "k-1")?, body)?;
-    Ok(outbox)
+    Ok(made(alloc).ok_or("the outbox is not made")?)
 }
 
 /// The bytes of its request.
@@ -244,23 +248,23 @@ fn wants_memory(fault: ExchangeFault) -> bool {
 #[test]
 fn refused_memory_changes_nothing(rt: HostRuntime) -> Result<(), Fail> {
     let alloc = rt.alloc();
-    let mut made = match outbox(alloc) {
-        Err(_) => outbox(alloc)?,
-        Ok(made) => made,
+    let mut outbox = match made(alloc) {
+        None => outbox(alloc)?,
+        Some(outbox) => outbox,
     };
-    let bytes = match request_bytes(alloc, &mut made, 1) {
+    let bytes = match request_bytes(alloc, &mut outbox, 1) {
         Err(fault) => {
             assert_eq!(rt; fault, TakeFault::Memory);
-            request_bytes(alloc, &mut made, 1)?
+            request_bytes(alloc, &mut outbox, 1)?
         }
         Ok(bytes) => bytes,
     };
     assert_eq!(rt; bytes.len(), 537);
-    let (mut answer, _) = exchanged(alloc, &mut made, REGISTERED.as_bytes(), 1)?;
+    let (mut answer, _) = exchanged(alloc, &mut outbox, REGISTERED.as_bytes(), 1)?;
     if let Err(fault) = answer {
         assert!(rt; wants_memory(fault));
-        assert_eq!(rt; state_of(&mut made, 1)?, Some(State::Open));
-        answer = exchanged(alloc, &mut made, REGISTERED.as_bytes(), 1)?.0;
+        assert_eq!(rt; state_of(&mut outbox, 1)?, Some(State::Open));
+        answer = exchanged(alloc, &mut outbox, REGISTERED.as_bytes(), 1)?.0;
     }
     assert_eq!(rt; answer, Ok(State::Confirmed(1)));
     Ok(())
