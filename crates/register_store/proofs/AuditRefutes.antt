@@ -7,12 +7,13 @@ use Rattle.filing_model.specs.Request.{Request, firsts, has_key}
 use Rattle.filing_model.specs.Register.{Kept, judged, kept, register}
 use Rattle.filing_model.proofs.Keeping.{kept_new, kept_grows}
 use Rattle.table_rows.specs.Rows.{counted_from}
-use Rattle.register_store.specs.Audit.{Others, IsSound, AreFirst, AreRowsOf, IsUnsoundAt, IsLeftOver, IsVerdict}
+use Rattle.register_store.specs.Audit.{has_more, Others, IsSound, AreFirst, AreRowsOf, IsUnsoundAt, IsLeftOver, IsVerdict}
 use Rattle.register_store.specs.declared.audit.Verdict.{Verdict}
 use Rattle.register_store.specs.declared.audit.Verdict.TheVariants.{Sound, Damaged}
 use Rattle.register_store.specs.Columns.{request_in}
 use Rattle.register_store.specs.Register.{IsCompleted, kept_row, finding_rows, filing_rows, fact_rows, joined_from}
 use Rattle.register_store.proofs.MoreRequests.{kept_length}
+use Rattle.register_store.proofs.NextLemmas.{goes_on}
 use Rattle.register_store.proofs.AuditSteps.{joined_append, counted_append, all_at, requests_first, kept_is_judged, apart_from}
 
 row_at : (front : List Row) (row : Row) (back : List Row) (i : ℕ) (d : Row) → i ≡ length front → get_or (front ++ row ∷ back) i d ≡ row
@@ -91,6 +92,7 @@ module _ (rows : List Row) (all rest : Others) (F G : List Request) (i : ℕ) (b
             filing = left_of filing_rows all.filing rest.filing whole.filing_is first.filing_is ∙ ap (λ x. filing_rows (suc (length F)) x ++ tail.filing) (sym is);
             fact = left_of fact_rows all.fact rest.fact whole.fact_is first.fact_is ∙ ap (λ x. fact_rows (suc (length F)) x ++ tail.fact) (sym is);
           };
+          ends = ap (λ (x : Kept). has_more (suc (length F)) x.outcome tail) is ∙ goes_on F G k more kept_are tail refl refl refl;
         },
       )
 

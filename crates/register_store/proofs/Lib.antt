@@ -14,12 +14,14 @@ pub mod Growing
 pub mod ListLemmas
 pub mod Making
 pub mod MoreRequests
+pub mod NextLemmas
 pub mod NumberLemmas
 pub mod OpenLemmas
 pub mod OurGains
 pub mod ReadLemmas
 pub mod ReadTexts
 pub mod RisingLemmas
+pub mod SeenLemmas
 pub mod SegmentLemmas
 pub mod StepsOfLists
 pub mod StoreLemmas

@@ -1,7 +1,10 @@
 -- What an audit asks of the rows of a register.
-use Rattle.std.specs.Prelude.{◌≡◌, ◌⊎◌, ◌<◌, ◌+◌, ℕ, suc, false, List, [], ◌++◌, length, map, take, get_or}
+use Rattle.std.specs.Prelude.{◌≡◌, ◌⊎◌, ◌<◌, ◌+◌, ℕ, suc, Bool, false, ◌||◌, pos, List, [], ◌∷◌, ◌++◌, length, map, take, get_or}
 use Rattle.std.specs.List.{AllByRecursion}
-use Rattle.sqlite.specs.Order.{Row}
+use Rattle.std.specs.Ordering.{int_eq}
+use Rattle.sqlite.specs.declared.types.Value.{Value}
+use Rattle.sqlite.specs.declared.types.Value.TheVariants.{Int}
+use Rattle.sqlite.specs.Order.{Row, column}
 use Rattle.xbrl_report.specs.Findings.{findings as found_in}
 use Rattle.filing_model.specs.Request.{Request, firsts, has_key}
 use Rattle.filing_model.specs.Register.{Outcome, Kept, outcome_by, kept, register}
@@ -36,13 +39,36 @@ request_outcome row outcome = record { request = request_in row; outcome = outco
 abbrev pub kept_in : Row → ℕ → Kept
 kept_in row number = request_outcome row (outcome_by (found_in (request_in row).filer (request_in row).body) number)
 
+-- one of the earlier rows has the filer and key of the row at this place, counted from 0
+abbrev pub is_repeated_at : List Row → ℕ → Bool
+is_repeated_at rows at = has_key (map request_in (take at rows)) (request_in (get_or rows at []))
+
+-- the column is this number
+abbrev pub is_number : ℕ → Value → Bool
+is_number n (Int k) = int_eq k (pos n)
+is_number n _ = false
+
+-- the first of the rows has this number in the column
+abbrev pub begins_with : ℕ → ℕ → List Row → Bool
+begins_with at n [] = false
+begins_with at n (row ∷ rows) = is_number n (column row at)
+
+abbrev pub has_more_facts : Outcome → List Row → Bool
+has_more_facts (Outcome.Registered number) rows = begins_with 0 number rows
+has_more_facts (Outcome.Refused findings) rows = false
+
+-- what is left, of rows in the order of the keys, begins with another row of the request at this place with this outcome
+abbrev pub has_more : ℕ → Outcome → Others → Bool
+has_more seq outcome rest = begins_with 0 seq rest.finding || (begins_with 1 seq rest.filing || has_more_facts outcome rest.fact)
+
 -- the row is sound after these: its request is one that may be completed, its filer and key are new, and its place, its outcome and its
--- rows in the other tables are what judging it gives
+-- rows in the other tables are what judging it gives, and no others
 pub record IsSound (earlier : List Row) (seq number : ℕ) (row : Row) (all rest : Others) : Type 0 where
   pub completed : IsCompleted (request_in row)
   pub fresh : has_key (map request_in earlier) (request_in row) ≡ false
   pub row_is : row ≡ kept_row seq (kept_in row number)
   pub begins : Begins seq (kept_in row number) all rest
+  pub ends : has_more seq (kept_in row number).outcome rest ≡ false
 
 -- the rows of the four tables are those of these requests
 pub record AreRowsOf (kept_are : List Row) (others : Others) (F : List Request) : Type 0 where

@@ -1,7 +1,6 @@
 //! Whether the rows of a register's tables stand for a list of requests. No SQL is known here.
 
 ghost use Rattle.std.specs.Prelude.{◌≡◌, ◌≢◌, ◌↔◌, ◌<◌, ◌≤◌, ◌^◌, ◌+◌, ◌&&◌, ℕ, suc, pos, List, [], ◌∷◌, ◌++◌, map, length, bytes_eq, take, get_or, Some, None, true, false, IsTrue, IfOk, IfSome, MatchOption};
-ghost use Rattle.std.specs.List.{list_any};
 ghost use Rattle.sqlite.specs.declared.types.Value.TheVariants.{Int, Text, Blob};
 ghost use Rattle.sqlite.specs.Order.{column};
 ghost use Rattle.sqlite.specs.Values.{or_null};
@@ -10,7 +9,7 @@ ghost use Rattle.xbrl_report.specs.ReportParts.{facts as facts_of};
 ghost use Rattle.xbrl_report.specs.Judgement.{IsJudgement, HasFacts};
 ghost use Rattle.filing_model.specs.Register.{Outcome, register};
 ghost use Rattle.filing_model.specs.Request.{Request, has_key};
-ghost use Rattle.register_store.specs.Audit.{Others, AreRowsOf, Begins, IsSound, IsVerdict, view_rest, request_outcome, kept_in};
+ghost use Rattle.register_store.specs.Audit.{Others, AreRowsOf, Begins, IsSound, IsVerdict, is_repeated_at, begins_with, has_more, view_rest, request_outcome, kept_in};
 ghost use Rattle.register_store.specs.Cells.{value_of};
 ghost use Rattle.register_store.specs.Columns.{text_in, bytes_in, request_in};
 ghost use Rattle.register_store.specs.Outcomes.{outcome_of, filings_by};
@@ -22,6 +21,7 @@ use key_string::read_filer;
 use sqlite::Row;
 use sqlite::types::ValueRef;
 use std::alloc::{AllocError, Global};
+use std::collections::BTreeSet;
 use xbrl_report::{Fact, Finding, Judged, judge};
 
 /// The most bytes of a body.
@@ -80,17 +80,19 @@ fn is_key(text: &[u8]) -> bool
         && text.iter().all(|byte| matches!(byte, b' '..=b'~'))
 }
 
-fn has_filer_and_key(row: &Row, filer: &[u8], key: &[u8]) -> bool
-    ensures { result ≡ (bytes_eq (request_in row.now).filer filer.now && bytes_eq (request_in row.now).key key.now) }
+/// The place, from 0, of the first row whose filer and key an earlier one has, or how many rows there are. The error is want
+/// of memory.
+fn first_repeated(alloc: Global, kept: &[Row]) -> Result<usize, AllocError>
+    ensures { IfOk result (λ first. (first ≤ length kept.now) × ((at : ℕ) → at < first → is_repeated_at kept.now at ≡ false) × (first < length kept.now → is_repeated_at kept.now first ≡ true)) }
 {
-    text_at(row, 1) == filer && text_at(row, 2) == key
-}
-
-/// Whether one of the rows has this filer and key.
-fn is_repeated(rows: &[Row], filer: &[u8], key: &[u8]) -> bool
-    ensures { result ≡ list_any (λ row. bytes_eq (request_in row).filer filer.now && bytes_eq (request_in row).key key.now) rows.now }
-{
-    rows.iter().any(|row| has_filer_and_key(row, filer, key))
+    let mut seen = BTreeSet::new(alloc);
+    for at in 0..kept.len() {
+        let row = &kept[at];
+        if !seen.insert((text_at(row, 1), text_at(row, 2)))? {
+            return Ok(at);
+        }
+    }
+    Ok(kept.len())
 }
 
 /// The number of a filing as a column holds it.
@@ -174,11 +176,37 @@ fn after_judged<'a>(row: &Row, seq: u64, judged: &Judged, rest: Rest<'a>) -> Opt
     }
 }
 
-/// The filer of a row whose request may be completed, and whose filer and key none of the earlier rows has.
-fn new_filer<'a>(earlier: &[Row], row: &'a Row) -> Option<&'a str>
-    ensures { MatchOption result
-        (IsCompleted (request_in row.now) → has_key (map request_in earlier.now) (request_in row.now) ≡ false → ⊥)
-        (λ filer. (filer.now ≡ (request_in row.now).filer) × IsCompleted (request_in row.now) × (has_key (map request_in earlier.now) (request_in row.now) ≡ false)) }
+/// Whether the first of the rows has this number in the column.
+fn begins_with(rows: &[Row], at: usize, number: u64) -> bool
+    requires { number < 2 ^ 63 }
+    ensures { result ≡ begins_with at number rows.now }
+{
+    match rows {
+        [row, ..] => match row.get_ref(at) {
+            Ok(ValueRef::Int(found)) => found == number as i64,
+            _ => false,
+        },
+        [] => false,
+    }
+}
+
+/// Whether what is left begins with another row of the request at this place, which was judged so.
+fn has_more(seq: u64, judged: &Judged, number: u64, rest: Rest<'_>) -> bool
+    requires seq { seq < 2 ^ 63 }
+    requires number { number < 2 ^ 63 }
+    ensures { result ≡ has_more seq (outcome_of number judged.now) (view_rest rest.entry) }
+{
+    begins_with(rest.findings, 0, seq)
+        || begins_with(rest.filings, 1, seq)
+        || match judged {
+            Judged::Valid(_) => begins_with(rest.facts, 0, number),
+            Judged::Refused(_) => false,
+        }
+}
+
+/// The filer of a row whose request may be completed.
+fn filer_of<'a>(row: &'a Row) -> Option<&'a str>
+    ensures { MatchOption result (IsCompleted (request_in row.now) → ⊥) (λ filer. (filer.now ≡ (request_in row.now).filer) × IsCompleted (request_in row.now)) }
 {
     let key = text_at(row, 2);
     let Some(filer) = read_filer(text_at(row, 1)) else {
@@ -190,9 +218,6 @@ fn new_filer<'a>(earlier: &[Row], row: &'a Row) -> Option<&'a str>
     if bytes_at(row, 3).len() > MAX_BODY_LEN {
         return None;
     }
-    if is_repeated(earlier, filer.as_bytes(), key) {
-        return None;
-    }
     Some(filer)
 }
 
@@ -201,21 +226,35 @@ fn new_filer<'a>(earlier: &[Row], row: &'a Row) -> Option<&'a str>
 fn check_next<'a>(
     alloc: Global,
     earlier: &[Row],
+    is_repeated: bool,
     row: &Row,
     seq: u64,
     rest: Rest<'a>,
 ) -> Result<Option<Rest<'a>>, AllocError>
     requires seq { seq < 2 ^ 63 }
     requires number { rest.number < 2 ^ 63 }
+    requires repeated { is_repeated ≡ has_key (map request_in earlier.now) (request_in row.now) }
     ensures { IfOk result (λ next. MatchOption next
         ((tail : Others) → IsSound earlier.now seq rest.entry.number row.now (view_rest rest.entry) tail → ⊥)
         (λ tail. IsSound earlier.now seq rest.entry.number row.now (view_rest rest.entry) (view_rest tail) × (tail.number ≡ rest.entry.number + filings_by (kept_in row.now rest.entry.number).outcome))) }
 {
-    let Some(filer) = new_filer(earlier, row) else {
+    if is_repeated {
+        return Ok(None);
+    }
+    let Some(filer) = filer_of(row) else {
         return Ok(None);
     };
     match judge(alloc, filer, bytes_at(row, 3)) {
-        Ok(judged) => Ok(after_judged(row, seq, &judged, rest)),
+        Ok(judged) => match after_judged(row, seq, &judged, rest) {
+            Some(tail) => {
+                if has_more(seq, &judged, rest.number, tail) {
+                    Ok(None)
+                } else {
+                    Ok(Some(tail))
+                }
+            }
+            None => Ok(None),
+        },
         Err(error) => Err(error),
     }
 }
@@ -240,9 +279,10 @@ fn audit_in_order(
         facts,
         number: 1,
     };
+    let first = first_repeated(alloc, kept)?;
     for at in 0..kept.len() {
         let seq = at as u64 + 1;
-        match check_next(alloc, &kept[..at], &kept[at], seq, rest)? {
+        match check_next(alloc, &kept[..at], at == first, &kept[at], seq, rest)? {
             Some(next) => rest = next,
             None => return Ok(Verdict::Damaged { row: seq }),
         }

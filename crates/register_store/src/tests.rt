@@ -1,9 +1,14 @@
-use crate::{CreateFault, KeptRow, NewRow, Outcome, Store};
+ghost use Rattle.std.specs.Prelude.{◌≡◌, false, None, IfOk};
+
+use crate::{CreateFault, KeptRow, NewRow, Outcome, Store, StoreFault};
 use key_string::{KeyText, is_filer};
-use sqlite::{Connection, MemStore};
+use sqlite::{Alter, Connection, MemStore};
 use std::alloc::Global;
 use std::test::Fail;
 use xbrl_report::judge;
+
+mod damage;
+mod files;
 
 const VALID: &[u8] =
     b"{\"documentInfo\":{\"documentType\":\"https://xbrl.org/2021/xbrl-json\",\"taxonomy\":[\"t\"]}}";
@@ -13,14 +18,18 @@ const REGISTERED: &[u8] = b"{\"number\":1,\"status\":\"registered\"}";
 const REFUSED: &[u8] =
     b"{\"findings\":[{\"code\":\"not-json\",\"place\":\"\"}],\"status\":\"refused\"}";
 
-/// Keeps a short report of a filer under a key, as it is judged.
-fn keep(
+/// A report with one fact.
+const REPORT: &[u8] =
+    b"{\"documentInfo\":{\"documentType\":\"https://xbrl.org/2021/xbrl-json\",\"namespaces\":{\"eg\":\"http://example.com/eg\",\"iso4217\":\"http://www.xbrl.org/2003/iso4217\",\"lei\":\"http://standards.iso.org/iso/17442\"},\"taxonomy\":[\"http://example.com/eg.xsd\"]},\"facts\":{\"f1\":{\"value\":\"100\",\"decimals\":0,\"dimensions\":{\"concept\":\"eg:Assets\",\"entity\":\"lei:ACME\",\"period\":\"2024-12-31T00:00:00\",\"unit\":\"iso4217:EUR\"}}}}";
+
+/// What `add` answers for a short report of a filer under a key, as it is judged.
+fn add<S: Alter>(
     alloc: Global,
-    store: &mut Store<MemStore>,
+    store: &mut Store<S>,
     filer: &str,
     key: &str,
     body: &[u8],
-) -> Result<Outcome, Fail> {
+) -> Result<Result<Outcome, StoreFault>, Fail> {
     if !is_filer(filer) || body.len() > 1000 || store.kept_count()? > 1000 {
         return Err(Fail::from("not for this test"));
     }
@@ -32,13 +41,24 @@ fn keep(
         body,
         judged: &judged,
     };
-    Ok(store.add(&row)?)
+    Ok(store.add(&row))
+}
+
+/// Keeps a short report of a filer under a key.
+fn keep<S: Alter>(
+    alloc: Global,
+    store: &mut Store<S>,
+    filer: &str,
+    key: &str,
+    body: &[u8],
+) -> Result<Outcome, Fail> {
+    Ok(add(alloc, store, filer, key, body)??)
 }
 
 /// What is kept of a filer and key.
-fn find(
+fn find<S: Alter>(
     alloc: Global,
-    store: &mut Store<MemStore>,
+    store: &mut Store<S>,
     filer: &str,
     key: &str,
 ) -> Result<Option<KeptRow>, Fail> {
@@ -79,4 +99,16 @@ fn a_name_in_use_is_refused(rt: HostRuntime) -> Result<(), Fail> {
     let refused = Store::create(alloc, conn);
     assert!(rt; matches!(refused, Err(CreateFault::Taken)));
     Ok(())
+}
+
+/// A connection in no transaction and without a limit of steps.
+fn ready<S: Alter + Drop>(conn: Connection<S>) -> Result<Connection<S>, Fail>
+    ensures { IfOk result (λ conn. (conn.in_transaction ≡ false) × (conn.step_limit ≡ None)) }
+{
+    let mut conn = conn;
+    conn.set_step_limit(None);
+    if !conn.is_autocommit() {
+        return Err(Fail::from("a transaction is under way"));
+    }
+    Ok(conn)
 }
