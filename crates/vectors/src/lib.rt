@@ -9,6 +9,7 @@ mod files;
 mod history;
 mod keys;
 mod outbox;
+mod register;
 mod replies;
 mod reports;
 mod run;

@@ -4,7 +4,7 @@ ghost use Rattle.std.specs.Prelude.{◌≡◌, ◌+◌, ◌<◌, ◌^◌, length
 ghost use Rattle.vectors.specs.Report.{AreSomeOf};
 
 use crate::stop::Stop;
-use crate::{connection, history, keys, outbox, replies, reports};
+use crate::{connection, history, keys, outbox, register, replies, reports};
 use std::alloc::{AllocError, Global};
 
 /// Which vectors passed.
@@ -17,8 +17,8 @@ pub struct VectorReport {
 }
 
 /// The numbers of the vectors. Those of schedules, 15 and 16, stand elsewhere.
-pub const NUMBERS: [u32; 21] = [
-    1, 2, 3, 4, 5, 6, 7, 8, 9, 10, 11, 12, 13, 14, 17, 18, 19, 20, 21, 22, 24,
+pub const NUMBERS: [u32; 22] = [
+    1, 2, 3, 4, 5, 6, 7, 8, 9, 10, 11, 12, 13, 14, 17, 18, 19, 20, 21, 22, 23, 24,
 ];
 
 /// Runs all vectors, each over databases of its own in memory. Want of memory is answered where memory was refused.
@@ -70,6 +70,7 @@ fn run(alloc: Global, number: u32) -> Result<bool, Stop> {
         20 => reports::units_and_periods(alloc),
         21 => replies::replies(alloc),
         22 => outbox::entries(alloc),
+        23 => register::reopened(alloc),
         24 => outbox::exchanges(alloc),
         _ => Ok(false),
     }

@@ -2,7 +2,7 @@
 
 use http_wire::ReplyFault;
 use key_string::KeyFault;
-use register_store::CreateFault;
+use register_store::{CreateFault, OpenFault};
 use std::alloc::{AllocError, AllocFailed};
 use table_rows::Cause;
 
@@ -78,6 +78,15 @@ impl From<CreateFault> for Stop {
         match fault {
             CreateFault::Memory => Stop::Memory,
             CreateFault::Taken | CreateFault::Disk => Stop::Refused,
+        }
+    }
+}
+
+impl From<OpenFault> for Stop {
+    fn from(fault: OpenFault) -> Stop {
+        match fault {
+            OpenFault::Memory => Stop::Memory,
+            OpenFault::NotOurs | OpenFault::Damaged { .. } | OpenFault::Disk => Stop::Refused,
         }
     }
 }

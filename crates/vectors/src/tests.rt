@@ -5,7 +5,7 @@ use std::test::Fail;
 #[test]
 fn all_vectors_pass(rt: HostRuntime) -> Result<(), Fail> {
     let report = run_all(rt.alloc())?;
-    assert_eq!(rt; report.passed, 21);
+    assert_eq!(rt; report.passed, 22);
     assert!(rt; report.failed.is_empty());
     Ok(())
 }

@@ -1,5 +1,4 @@
-use Rattle.std.proofs.Common.{rules, arith, ◌≡◌, ◌+◌, length, vec_len, ◌<◌, List, [], ◌∷◌, ◌++◌, take, refl}
-use Rattle.vectors.specs.Report.{AreSomeOf}
+use Rattle.std.proofs.Common.{arith, length, ◌<◌}
 use Rattle.vectors.proofs.Some.{none_of_none, some_after, some_after_with}
 use Rattle.vectors.proofs.run.run_each.Goals as goal
 use Rattle.vectors.proofs.run.run_each.Goals.{then-branch, else-branch+in_ok-push}
