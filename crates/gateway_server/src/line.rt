@@ -1,12 +1,11 @@
 //! The line that shows a fact.
 
-ghost use Rattle.std.specs.Prelude.{◌≡◌, false, option_map, string_bytes, IfOk};
+ghost use Rattle.std.specs.Prelude.{◌≡◌, option_map, string_bytes, IfOk};
 ghost use Rattle.serde_json.specs.Data.{string, null};
-ghost use Rattle.serde_json.specs.View.{view};
-ghost use Rattle.serde_json.specs.Written.{compact_text, has_float};
+ghost use Rattle.serde_json.specs.Written.{compact_text};
 ghost use Rattle.gateway_server.specs.Line.{value_data, decimals_data, line_of, fact_line};
 
-use serde_json::{Value, json};
+use serde_json::json;
 use std::alloc::{AllocError, Global};
 use xbrl_report::Fact;
 
