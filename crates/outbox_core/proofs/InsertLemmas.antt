@@ -1,26 +1,20 @@
 -- What the INSERT of an entry makes of an outbox.
-use Rattle.std.proofs.Common.{arith, ◌≡◌, ◌≢◌, ℕ, ◌+◌, pos, List, [], ◌∷◌, ◌++◌, length, map, None, Ok, Err, Result, IsTrue, refl, sym, ap, subst, ◌∙◌, OnOk}
-use Rattle.std.specs.List.{AllByRecursion}
+use Rattle.std.proofs.Common.{arith, ◌≡◌, ℕ, ◌+◌, pos, List, [], ◌∷◌, ◌++◌, length, map, Ok, Err, Result, IsTrue, refl, sym, ap, subst, ◌∙◌, OnOk}
 use Rattle.sqlite.specs.declared.types.Value.TheVariants.{Null, Int, Text, Blob}
 use Rattle.sqlite.specs.declared.error.Error.{Error}
 use Rattle.sqlite.specs.Order.{Row}
 use Rattle.sqlite.specs.Tree.{Trees}
-use Rattle.sqlite.specs.Table.{Table}
 use Rattle.sqlite.specs.Schema.{Schema}
 use Rattle.sqlite.specs.Cast.{cast_row}
 use Rattle.sqlite.specs.Rowids.TheVariants.{Chosen}
-use Rattle.sqlite.specs.Does.{Tally, Does}
-use Rattle.sqlite.specs.Rows.{Written}
-use Rattle.sqlite.specs.Effect.{Database, IsDatabase}
 use Rattle.sqlite.specs.Listing.{understood}
-use Rattle.sqlite.specs.State.{State, mode_of, CommitsBy, Executes}
-use Rattle.sqlite.proofs.Callers.{statement_of, one_step}
-use Rattle.sqlite_rules.specs.Edit.{edit_of, with_rowid, Applies}
+use Rattle.sqlite.specs.State.{State, CommitsBy, Executes}
+use Rattle.sqlite.proofs.Callers.{statement_of}
+use Rattle.sqlite_rules.specs.Edit.{with_rowid}
 use Rattle.filing_model.specs.Outbox.{Entry}
 use Rattle.table_rows.specs.Tables.{schema_with}
 use Rattle.table_rows.specs.Rows.{shown, Holds}
 use Rattle.table_rows.specs.Standing.{Stands}
-use Rattle.table_rows.proofs.PartLemmas.{went, same_value}
 use Rattle.table_rows.proofs.InsertLemmas.{inserted}
 use Rattle.table_rows.proofs.GainLemmas.{cast_int, cast_null, gained, holds_more, same_rows}
 use Rattle.table_rows.proofs.WriteLemmas.{LeadsTo, EndsNone, written_stands, crash_leaves}

@@ -1,16 +1,12 @@
 -- The rows of an outbox pass the audit of an opening.
-use Rattle.std.proofs.Common.{◌≡◌, ◌≤◌, ◌<◌, ◌^◌, ℕ, suc, pos, true, List, [], ◌∷◌, map, length, nat_le, nat_lt, None, Some, refl, ap, subst, ◌∙◌, arith, IsPermutation, ◌⊎◌, inl, inr}
+use Rattle.std.proofs.Common.{◌≡◌, ◌≤◌, ◌<◌, ◌^◌, ℕ, suc, pos, true, List, [], ◌∷◌, map, length, nat_le, nat_lt, None, Some, refl, ap, ◌∙◌, arith, ◌⊎◌, inl, inr}
 use Rattle.std.specs.Prelude.{◌&&◌, ◌≢◌}
 use Rattle.std.specs.List.{AllByRecursion}
 use Rattle.std.proofs.lemmas.Bool.Decides.{nat_tests}
-use Rattle.std.proofs.lemmas.Int.{ints}
 use Rattle.std.proofs.lemmas.List.Sorted.{IsPermutation-sym, IsPermutation-trans}
 use Rattle.std.proofs.lemmas.Bool.Decides.{Decides-int_eq}
 use Rattle.sqlite.specs.declared.types.Value.TheVariants.{Int}
 use Rattle.sqlite.specs.Order.{Row}
-use Rattle.sqlite.specs.Effect.{Database}
-use Rattle.sqlite.specs.Store.{Ghosts}
-use Rattle.sqlite.specs.Held.{Held, state}
 use Rattle.sqlite.specs.State.{State, Shown, FailsToQuery}
 use Rattle.sqlite.specs.declared.error.Error.{Error}
 use Rattle.sqlite.proofs.Callers.{one_permutation, reads_as}
@@ -24,12 +20,10 @@ use Rattle.table_rows.specs.declared.cause.Cause.{Cause}
 use Rattle.table_rows.specs.declared.cause.Cause.TheVariants.{Other}
 use Rattle.outbox_core.specs.declared.fault.OutboxFault.TheVariants as fault
 use Rattle.outbox_core.specs.Faults.{meta_fault_by, entry_fault_by}
-use Rattle.table_rows.specs.Rows.{Holds}
 use Rattle.table_rows.proofs.FailLemmas.{failure_cause}
-use Rattle.outbox_core.specs.Schema.{meta_table}
-use Rattle.outbox_core.specs.Entries.{Contents, IsOutbox, FitsNumber, numbered, numbered_from}
+use Rattle.outbox_core.specs.Entries.{Contents, IsOutbox, FitsNumber, numbered_from}
 use Rattle.outbox_core.specs.Rows.{IsOutboxOf, code_of, number_of, meta_row, entry_row}
-use Rattle.outbox_core.specs.Audit.{meta_text, entries_text, is_int, is_state, filer_in, is_sound, first_damaged, IsKept, IsNoOutbox, IsDamagedAt}
+use Rattle.outbox_core.specs.Audit.{meta_text, entries_text, is_int, is_state, filer_in, is_sound, first_damaged, IsKept}
 use Rattle.outbox_core.proofs.Texts.{meta_terms, entry_columns, by_id, meta_asks, meta_whole, entries_asks, entries_whole}
 use Rattle.outbox_core.proofs.SelectLemmas.{entries_selected}
 use Rattle.outbox_core.proofs.HeldLemmas.{meta_held}

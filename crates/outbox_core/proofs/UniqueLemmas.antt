@@ -1,5 +1,5 @@
 -- A database is one outbox at most.
-use Rattle.std.proofs.Common.{◌≡◌, ◌<◌, ℕ, suc, pos, Bool, true, false, not, List, [], ◌∷◌, map, filter, nat_eq, refl, sym, ap, ap₂, subst₂, ◌∙◌, arith, IsPermutation}
+use Rattle.std.proofs.Common.{◌≡◌, ◌<◌, ℕ, suc, pos, Bool, true, false, not, List, [], ◌∷◌, map, filter, nat_eq, refl, ap, ap₂, subst₂, ◌∙◌, arith, IsPermutation}
 use Rattle.std.specs.List.{AllByRecursion}
 use Rattle.std.proofs.lemmas.Bool.Decides.{nat_tests, Decides-int_eq}
 use Rattle.std.proofs.lemmas.List.Sorted.{IsPermutation-sym, IsPermutation-trans, length_permutation}

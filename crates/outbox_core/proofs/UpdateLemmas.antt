@@ -13,26 +13,20 @@ use Rattle.sqlite.specs.Kind.TheVariants.{Integer}
 use Rattle.sqlite.specs.Cast.{cast, cast_row}
 use Rattle.sqlite.specs.Query.{Output}
 use Rattle.sqlite.specs.Program.{overlay}
-use Rattle.sqlite.specs.Rowids.TheVariants.{Given}
-use Rattle.sqlite.specs.Does.{Tally, Does}
-use Rattle.sqlite.specs.Rows.{Written}
-use Rattle.sqlite.specs.Effect.{Database}
 use Rattle.sqlite.specs.Listing.{understood}
-use Rattle.sqlite.specs.State.{State, mode_of, CommitsBy, Executes}
+use Rattle.sqlite.specs.State.{State, CommitsBy, Executes}
 use Rattle.sqlite.specs.Values.{bound_value}
-use Rattle.sqlite.proofs.Callers.{statement_of, one_step, one_permutation}
+use Rattle.sqlite.proofs.Callers.{statement_of, one_permutation}
 use Rattle.sqlite_sql.specs.Query.{IsSureAnswer}
-use Rattle.sqlite_trees.specs.Tree.{put_row, has_rowid}
+use Rattle.sqlite_trees.specs.Tree.{put_row}
 use Rattle.sqlite_value.specs.Order.{value_cmp}
 use Rattle.sqlite_value.proofs.OrderLemmas.{value_cmp-Int}
-use Rattle.sqlite_rules.specs.Calls.{ids_of}
-use Rattle.sqlite_rules.specs.Edit.{edit_of, is_taken, Applies}
+use Rattle.sqlite_rules.specs.Edit.{is_taken}
 use Rattle.sqlite_keyed.proofs.ListLemmas.{filter-map, IsPermutation-filter}
 use Rattle.filing_model.specs.Outbox.{Entry, State as Place, Open, Confirmed, Refused, Clashed}
 use Rattle.table_rows.specs.Tables.{schema_with}
 use Rattle.table_rows.specs.Rows.{shown}
 use Rattle.table_rows.specs.Standing.{Stands}
-use Rattle.table_rows.proofs.PartLemmas.{went, same_value}
 use Rattle.table_rows.proofs.InsertLemmas.{put_fresh}
 use Rattle.table_rows.proofs.GainLemmas.{cast_int, cast_null, same_rows}
 use Rattle.table_rows.proofs.SelectLemmas.{selects}

@@ -16,7 +16,6 @@ use Rattle.sqlite_sql.specs.Query.{key_cmp}
 use Rattle.sqlite_value.proofs.OrderLemmas.{value_cmp-Int, value_cmp-Text}
 use Rattle.sqlite_keyed.proofs.KeyedLemmas.{Less-from_lt}
 use Rattle.sqlite_typed.proofs.TestLemmas.{last_key}
-use Rattle.sqlite_trees.specs.Tree.{IsAscending}
 use Rattle.table_rows.specs.Rows.{counted_from}
 use Rattle.table_rows.specs.Reading.{ascending, RisesBy}
 
