@@ -14,8 +14,10 @@ const FILER: &str = "ACME";
 const BODY: &[u8] =
     b"{\"documentInfo\":{\"documentType\":\"https://xbrl.org/2021/xbrl-json\",\"taxonomy\":[\"t\"]}}";
 
-/// How many requests are added together, and how many are looked up.
+/// How many requests are added and timed together.
 const ADDED: u64 = 1_000;
+
+/// How many are looked up.
 const FOUND: u64 = 10_000;
 
 /// The times of these calls, in all.
