@@ -9,6 +9,7 @@ use xbrl_report::judge;
 
 mod damage;
 mod files;
+mod memory;
 
 const VALID: &[u8] =
     b"{\"documentInfo\":{\"documentType\":\"https://xbrl.org/2021/xbrl-json\",\"taxonomy\":[\"t\"]}}";
