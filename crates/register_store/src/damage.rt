@@ -148,7 +148,7 @@ fn is_kept_as(row: &Row, seq: u64, number: u64, judged: &Judged, beside: Beside<
 }
 
 /// How many filings a report is that was judged so.
-fn filings_of(judged: &Judged) -> u64
+fn filings_as_judged(judged: &Judged) -> u64
     ensures { (number : ℕ) → result ≡ filings_by (outcome_of number judged.now) }
 {
     match judged {
@@ -178,7 +178,7 @@ fn filings_if_sound(
     match judge(alloc, filer, bytes_at(row, 3)) {
         Ok(judged) => {
             if is_kept_as(row, seq, number, &judged, beside) {
-                Ok(Some(filings_of(&judged)))
+                Ok(Some(filings_as_judged(&judged)))
             } else {
                 Ok(None)
             }

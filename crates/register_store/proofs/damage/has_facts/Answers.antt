@@ -14,11 +14,12 @@ returns-then-found-facts c =
 
 pub returns-then-not-is_fact_row : goal.returns-then-not-is_fact_row
 returns-then-not-is_fact_row c =
-    let yes = sym c.has_number.ensures ∙ c.if-has_number.true in
-    (λ h. absurd (let no : false ≡ true = h in cc),
-     λ are.
-         let so = c.is_fact_row.ensures.1 (another (fact_row c.args.number) (λ r. is_number c.args.number (column r 0)) c.args.rows.now c.args.facts.now c.loop-at.at c.loop-at.found c.loop-at.invariant.0 c.loop-at.invariant.1 c.index-rows-at.result c.loop-at-test.true c.index-rows-at.is yes c.index-facts-found.result c.if-found-facts.false c.index-facts-found.is are) in
-         absurd (let no = c.if-not-is_fact_row.true in cc))
+    let yes = sym c.has_number.ensures ∙ c.if-has_number.true in (
+      λ h. absurd (let no : false ≡ true = h in cc),
+      λ are.
+          let so = c.is_fact_row.ensures.1 (another (fact_row c.args.number) (λ r. is_number c.args.number (column r 0)) c.args.rows.now c.args.facts.now c.loop-at.at c.loop-at.found c.loop-at.invariant.0 c.loop-at.invariant.1 c.index-rows-at.result c.loop-at-test.true c.index-rows-at.is yes c.index-facts-found.result c.if-found-facts.false c.index-facts-found.is are) in
+          absurd (let no = c.if-not-is_fact_row.true in cc),
+    )
 
 pub loop-at-preserved : goal.loop-at-preserved
 loop-at-preserved c = elim c.if-has_number.branch [
@@ -31,6 +32,7 @@ loop-at-preserved c = elim c.if-has_number.branch [
 
 pub returns : goal.returns
 returns c =
-    let end : c.loop-at.at ≡ length c.args.rows.now = omega (arith, c.loop-at-test.false, c.loop-at.auto.at-end) in
-    (λ h. all_found (fact_row c.args.number) (λ r. is_number c.args.number (column r 0)) c.args.rows.now c.args.facts.now c.loop-at.at c.loop-at.found c.loop-at.invariant.0 c.loop-at.invariant.1 end (grind (arith, nat_tests, h)),
-     λ are. let same = too_few (fact_row c.args.number) (λ r. is_number c.args.number (column r 0)) c.args.rows.now c.args.facts.now c.loop-at.at c.loop-at.found c.loop-at.invariant.0 c.loop-at.invariant.1 end are in grind (arith, nat_tests, same))
+    let end : c.loop-at.at ≡ length c.args.rows.now = omega (arith, c.loop-at-test.false, c.loop-at.auto.at-end) in (
+      λ h. all_found (fact_row c.args.number) (λ r. is_number c.args.number (column r 0)) c.args.rows.now c.args.facts.now c.loop-at.at c.loop-at.found c.loop-at.invariant.0 c.loop-at.invariant.1 end (grind (arith, nat_tests, h)),
+      λ are. let same = too_few (fact_row c.args.number) (λ r. is_number c.args.number (column r 0)) c.args.rows.now c.args.facts.now c.loop-at.at c.loop-at.found c.loop-at.invariant.0 c.loop-at.invariant.1 end are in grind (arith, nat_tests, same),
+    )

@@ -15,11 +15,12 @@ returns-then-found-numbers c =
 
 pub returns-then-not-is_filing_row : goal.returns-then-not-is_filing_row
 returns-then-not-is_filing_row c =
-    let yes = sym c.has_number.ensures ∙ c.if-has_number.true in
-    (λ h. absurd (let no : false ≡ true = h in cc),
-     λ are.
-         let so = c.is_filing_row.ensures.1 (another (λ _ n. Int n ∷ Int (pos c.args.seq) ∷ []) (λ r. is_number c.args.seq (column r 1)) c.args.rows.now c.args.numbers.now c.loop-at.at c.loop-at.found c.loop-at.invariant.0 c.loop-at.invariant.1 c.index-rows-at.result c.loop-at-test.true c.index-rows-at.is yes _ c.if-found-numbers.false (get_at c.args.numbers.now c.loop-at.found _ _ c.if-found-numbers.false) are) in
-         absurd (let no = c.if-not-is_filing_row.true in cc))
+    let yes = sym c.has_number.ensures ∙ c.if-has_number.true in (
+      λ h. absurd (let no : false ≡ true = h in cc),
+      λ are.
+          let so = c.is_filing_row.ensures.1 (another (λ _ n. Int n ∷ Int (pos c.args.seq) ∷ []) (λ r. is_number c.args.seq (column r 1)) c.args.rows.now c.args.numbers.now c.loop-at.at c.loop-at.found c.loop-at.invariant.0 c.loop-at.invariant.1 c.index-rows-at.result c.loop-at-test.true c.index-rows-at.is yes _ c.if-found-numbers.false (get_at c.args.numbers.now c.loop-at.found _ _ c.if-found-numbers.false) are) in
+          absurd (let no = c.if-not-is_filing_row.true in cc),
+    )
 
 pub loop-at-preserved : goal.loop-at-preserved
 loop-at-preserved c = elim c.if-has_number.branch [
@@ -32,6 +33,7 @@ loop-at-preserved c = elim c.if-has_number.branch [
 
 pub returns : goal.returns
 returns c =
-    let end : c.loop-at.at ≡ length c.args.rows.now = omega (arith, c.loop-at-test.false, c.loop-at.auto.at-end) in
-    (λ h. all_found (λ _ n. Int n ∷ Int (pos c.args.seq) ∷ []) (λ r. is_number c.args.seq (column r 1)) c.args.rows.now c.args.numbers.now c.loop-at.at c.loop-at.found c.loop-at.invariant.0 c.loop-at.invariant.1 end (grind (arith, nat_tests, h)),
-     λ are. let same = too_few (λ _ n. Int n ∷ Int (pos c.args.seq) ∷ []) (λ r. is_number c.args.seq (column r 1)) c.args.rows.now c.args.numbers.now c.loop-at.at c.loop-at.found c.loop-at.invariant.0 c.loop-at.invariant.1 end are in grind (arith, nat_tests, same))
+    let end : c.loop-at.at ≡ length c.args.rows.now = omega (arith, c.loop-at-test.false, c.loop-at.auto.at-end) in (
+      λ h. all_found (λ _ n. Int n ∷ Int (pos c.args.seq) ∷ []) (λ r. is_number c.args.seq (column r 1)) c.args.rows.now c.args.numbers.now c.loop-at.at c.loop-at.found c.loop-at.invariant.0 c.loop-at.invariant.1 end (grind (arith, nat_tests, h)),
+      λ are. let same = too_few (λ _ n. Int n ∷ Int (pos c.args.seq) ∷ []) (λ r. is_number c.args.seq (column r 1)) c.args.rows.now c.args.numbers.now c.loop-at.at c.loop-at.found c.loop-at.invariant.0 c.loop-at.invariant.1 end are in grind (arith, nat_tests, same),
+    )

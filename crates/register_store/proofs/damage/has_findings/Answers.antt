@@ -14,11 +14,12 @@ returns-then-found-findings c =
 
 pub returns-then-not-is_finding_row : goal.returns-then-not-is_finding_row
 returns-then-not-is_finding_row c =
-    let yes = sym c.has_number.ensures ∙ c.if-has_number.true in
-    (λ h. absurd (let no : false ≡ true = h in cc),
-     λ are.
-         let so = c.is_finding_row.ensures.1 (another (finding_row c.args.seq) (λ r. is_number c.args.seq (column r 0)) c.args.rows.now c.args.findings.now c.loop-at.at c.loop-at.found c.loop-at.invariant.0 c.loop-at.invariant.1 c.index-rows-at.result c.loop-at-test.true c.index-rows-at.is yes c.index-findings-found.result c.if-found-findings.false c.index-findings-found.is are) in
-         absurd (let no = c.if-not-is_finding_row.true in cc))
+    let yes = sym c.has_number.ensures ∙ c.if-has_number.true in (
+      λ h. absurd (let no : false ≡ true = h in cc),
+      λ are.
+          let so = c.is_finding_row.ensures.1 (another (finding_row c.args.seq) (λ r. is_number c.args.seq (column r 0)) c.args.rows.now c.args.findings.now c.loop-at.at c.loop-at.found c.loop-at.invariant.0 c.loop-at.invariant.1 c.index-rows-at.result c.loop-at-test.true c.index-rows-at.is yes c.index-findings-found.result c.if-found-findings.false c.index-findings-found.is are) in
+          absurd (let no = c.if-not-is_finding_row.true in cc),
+    )
 
 pub loop-at-preserved : goal.loop-at-preserved
 loop-at-preserved c = elim c.if-has_number.branch [
@@ -31,6 +32,7 @@ loop-at-preserved c = elim c.if-has_number.branch [
 
 pub returns : goal.returns
 returns c =
-    let end : c.loop-at.at ≡ length c.args.rows.now = omega (arith, c.loop-at-test.false, c.loop-at.auto.at-end) in
-    (λ h. all_found (finding_row c.args.seq) (λ r. is_number c.args.seq (column r 0)) c.args.rows.now c.args.findings.now c.loop-at.at c.loop-at.found c.loop-at.invariant.0 c.loop-at.invariant.1 end (grind (arith, nat_tests, h)),
-     λ are. let same = too_few (finding_row c.args.seq) (λ r. is_number c.args.seq (column r 0)) c.args.rows.now c.args.findings.now c.loop-at.at c.loop-at.found c.loop-at.invariant.0 c.loop-at.invariant.1 end are in grind (arith, nat_tests, same))
+    let end : c.loop-at.at ≡ length c.args.rows.now = omega (arith, c.loop-at-test.false, c.loop-at.auto.at-end) in (
+      λ h. all_found (finding_row c.args.seq) (λ r. is_number c.args.seq (column r 0)) c.args.rows.now c.args.findings.now c.loop-at.at c.loop-at.found c.loop-at.invariant.0 c.loop-at.invariant.1 end (grind (arith, nat_tests, h)),
+      λ are. let same = too_few (finding_row c.args.seq) (λ r. is_number c.args.seq (column r 0)) c.args.rows.now c.args.findings.now c.loop-at.at c.loop-at.found c.loop-at.invariant.0 c.loop-at.invariant.1 end are in grind (arith, nat_tests, same),
+    )
