@@ -8,7 +8,7 @@ use Rattle.filing_model.specs.Request.{Request, firsts, has_key}
 use Rattle.filing_model.specs.Register.{Kept, judged, kept, register}
 use Rattle.filing_model.proofs.Keeping.{kept_new, kept_grows}
 use Rattle.table_rows.specs.Rows.{counted_from}
-use Rattle.register_store.specs.Audit.{has_more, Others, IsNext, AreFirst, AreRowsOf, IsVerdict, StandForNone}
+use Rattle.register_store.specs.Audit.{has_more, Others, IsNext, AreRowsOf, IsVerdict, StandForNone}
 use Rattle.register_store.specs.declared.audit.Verdict.{Verdict}
 use Rattle.register_store.specs.declared.audit.Verdict.TheVariants.{Sound, Damaged}
 use Rattle.register_store.specs.Columns.{request_in}
@@ -16,7 +16,7 @@ use Rattle.register_store.specs.Register.{IsCompleted, kept_row, finding_rows, f
 use Rattle.register_store.proofs.MoreRequests.{kept_length}
 use Rattle.register_store.proofs.NextLemmas.{goes_on}
 use Rattle.register_store.proofs.SeenLemmas.{get_at}
-use Rattle.register_store.proofs.AuditSteps.{Stood, joined_append, counted_append, all_at, requests_first, kept_is_judged, apart_from}
+use Rattle.register_store.proofs.AuditSteps.{AreFirst, Stood, joined_append, counted_append, all_at, requests_first, kept_is_judged, apart_from}
 
 pub row_at : (front : List Row) (row : Row) (back : List Row) (i : ℕ) (d : Row) → i ≡ length front → get_or (front ++ row ∷ back) i d ≡ row
 row_at [] row back i d at = ap (λ n. get_or (row ∷ back) n d) at

@@ -11,12 +11,21 @@ use Rattle.filing_model.specs.Register.Outcome.{Registered, Refused}
 use Rattle.filing_model.proofs.Firsts.{firsts_new, firsts-append, firsts_short}
 use Rattle.filing_model.proofs.Keeping.{kept_new, requests_of_kept}
 use Rattle.table_rows.specs.Rows.{counted_from}
-use Rattle.register_store.specs.Audit.{Others, IsNext, AreFirst, kept_in}
+use Rattle.register_store.specs.Audit.{Others, IsNext, kept_in}
 use Rattle.register_store.specs.Columns.{request_in}
 use Rattle.register_store.specs.Outcomes.{filings_by}
 use Rattle.register_store.specs.Register.{IsCompleted, kept_row, finding_rows, filing_rows, fact_rows, joined_from}
 use Rattle.register_store.proofs.ListLemmas.{requests_said}
 use Rattle.register_store.proofs.MoreRequests.{kept_length, registered_more}
+
+-- the first rows are those of these requests, and the rest follows
+pub record AreFirst (kept_are : List Row) (all rest : Others) (F : List Request) : Type 0 where
+  pub distinct : firsts F ≡ F
+  pub completed : AllByRecursion IsCompleted F
+  pub kept_is : kept_are ≡ counted_from kept_row 1 (kept F)
+  pub finding_is : all.finding ≡ joined_from finding_rows 1 (kept F) ++ rest.finding
+  pub filing_is : all.filing ≡ joined_from filing_rows 1 (kept F) ++ rest.filing
+  pub fact_is : all.fact ≡ joined_from fact_rows 1 (kept F) ++ rest.fact
 
 pub joined_append : (rows : ℕ → Kept → List Row) (at : ℕ) (ks ms : List Kept) → joined_from rows at (ks ++ ms) ≡ joined_from rows at ks ++ joined_from rows (at + length ks) ms
 joined_append rows at [] ms = ap (λ n. joined_from rows n ms) (omega arith)

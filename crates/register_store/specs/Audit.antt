@@ -84,15 +84,6 @@ pub record AreRowsOf (kept_are : List Row) (others : Others) (F : List Request) 
   pub filing_is : others.filing ≡ joined_from filing_rows 1 (kept F)
   pub fact_is : others.fact ≡ joined_from fact_rows 1 (kept F)
 
--- the first rows are those of these requests, and the rest follows
-pub record AreFirst (kept_are : List Row) (all rest : Others) (F : List Request) : Type 0 where
-  pub distinct : firsts F ≡ F
-  pub completed : AllByRecursion IsCompleted F
-  pub kept_is : kept_are ≡ counted_from kept_row 1 (kept F)
-  pub finding_is : all.finding ≡ joined_from finding_rows 1 (kept F) ++ rest.finding
-  pub filing_is : all.filing ≡ joined_from filing_rows 1 (kept F) ++ rest.filing
-  pub fact_is : all.fact ≡ joined_from fact_rows 1 (kept F) ++ rest.fact
-
 -- ---- which kept row is told
 
 -- the rows with this number in the column
