@@ -10,7 +10,7 @@ use Rattle.filing_model.specs.Request.{has_key}
 use Rattle.filing_model.specs.Register.{Outcome, outcome_by}
 use Rattle.register_store.specs.declared.audit.Rest.{Rest}
 use Rattle.std.proofs.lemmas.List.{append_cancel_left}
-use Rattle.register_store.specs.Audit.{Others, Begins, IsSound, has_more, view_rest, request_outcome, kept_in}
+use Rattle.register_store.specs.Audit.{Others, Begins, IsNext, has_more, view_rest, request_outcome, kept_in}
 use Rattle.register_store.specs.Columns.{request_in}
 use Rattle.register_store.specs.Outcomes.{outcome_of, filings_by}
 use Rattle.register_store.specs.Register.{IsCompleted, kept_row}
@@ -33,17 +33,17 @@ module _ (earlier : List Row) (row : Row) (seq number : ℕ) (all : Others) (com
     same_outcome : outcome_of number j ≡ (kept_in row number).outcome
     same_outcome = sym (outcome_is number (request_in row).filer (request_in row).body j is)
 
-    pub unsound_if : Told (outcome_of number j) None → (tail : Others) → IsSound earlier seq number row all tail → ⊥
+    pub unsound_if : Told (outcome_of number j) None → (tail : Others) → IsNext earlier seq number row all tail → ⊥
     unsound_if h tail s = let told = subst (λ o. Told o None) same_outcome h in told tail s.row_is s.begins
 
     pub sound_if : (tail : Rest) → Told (outcome_of number j) (Some tail) → has_more seq (outcome_of number j) (view_rest tail) ≡ false
-        → IsSound earlier seq number row all (view_rest tail) × (tail.number ≡ number + filings_by (kept_in row number).outcome)
+        → IsNext earlier seq number row all (view_rest tail) × (tail.number ≡ number + filings_by (kept_in row number).outcome)
     sound_if tail h none =
         let told = subst (λ o. Told o (Some tail)) same_outcome h in
         (record { completed = completed; fresh = fresh; row_is = told.0; begins = told.1; ends = subst (λ o. has_more seq o (view_rest tail) ≡ false) same_outcome none }, told.2)
 
     -- what is left is told by the rows before it
-    pub more_if : (tail : Rest) → Told (outcome_of number j) (Some tail) → has_more seq (outcome_of number j) (view_rest tail) ≡ true → (rest : Others) → IsSound earlier seq number row all rest → ⊥
+    pub more_if : (tail : Rest) → Told (outcome_of number j) (Some tail) → has_more seq (outcome_of number j) (view_rest tail) ≡ true → (rest : Others) → IsNext earlier seq number row all rest → ⊥
     more_if tail h some rest s =
         let told = subst (λ o. Told o (Some tail)) same_outcome h in
         let one = append_cancel_left _ _ _ (sym told.1.finding ∙ s.begins.finding) in

@@ -1,22 +1,24 @@
 -- Rows that an audit finds damaged stand for no requests.
-use Rattle.std.proofs.Common.{◌≡◌, ◌⊎◌, inl, inr, ◌<◌, ℕ, ◌+◌, zero, suc, List, [], ◌∷◌, ◌++◌, append_assoc, length, length-append, map, take, drop, get_or, refl, sym, ap, subst, ◌∙◌, arith, false}
+use Rattle.std.proofs.Common.{◌≡◌, ◌<◌, ℕ, ◌+◌, zero, suc, List, [], ◌∷◌, ◌++◌, append_assoc, length, length-append, map, take, drop, get_or, refl, sym, ap, subst, subst₂, ◌∙◌, arith, false}
 use Rattle.std.specs.List.{AllByRecursion}
+use Rattle.std.proofs.Math.Seq.{take-length}
 use Rattle.std.proofs.lemmas.List.{take_more, take-append-drop, map-append, append_cancel_left}
 use Rattle.sqlite.specs.Order.{Row}
 use Rattle.filing_model.specs.Request.{Request, firsts, has_key}
 use Rattle.filing_model.specs.Register.{Kept, judged, kept, register}
 use Rattle.filing_model.proofs.Keeping.{kept_new, kept_grows}
 use Rattle.table_rows.specs.Rows.{counted_from}
-use Rattle.register_store.specs.Audit.{has_more, Others, IsSound, AreFirst, AreRowsOf, IsUnsoundAt, IsLeftOver, IsVerdict}
+use Rattle.register_store.specs.Audit.{has_more, Others, IsNext, AreRowsOf, IsVerdict, StandForNone}
 use Rattle.register_store.specs.declared.audit.Verdict.{Verdict}
 use Rattle.register_store.specs.declared.audit.Verdict.TheVariants.{Sound, Damaged}
 use Rattle.register_store.specs.Columns.{request_in}
 use Rattle.register_store.specs.Register.{IsCompleted, kept_row, finding_rows, filing_rows, fact_rows, joined_from}
 use Rattle.register_store.proofs.MoreRequests.{kept_length}
 use Rattle.register_store.proofs.NextLemmas.{goes_on}
-use Rattle.register_store.proofs.AuditSteps.{joined_append, counted_append, all_at, requests_first, kept_is_judged, apart_from}
+use Rattle.register_store.proofs.SeenLemmas.{get_at}
+use Rattle.register_store.proofs.AuditSteps.{AreFirst, Stood, joined_append, counted_append, all_at, requests_first, kept_is_judged, apart_from}
 
-row_at : (front : List Row) (row : Row) (back : List Row) (i : ℕ) (d : Row) → i ≡ length front → get_or (front ++ row ∷ back) i d ≡ row
+pub row_at : (front : List Row) (row : Row) (back : List Row) (i : ℕ) (d : Row) → i ≡ length front → get_or (front ++ row ∷ back) i d ≡ row
 row_at [] row back i d at = ap (λ n. get_or (row ∷ back) n d) at
 row_at (x ∷ front) row back zero d at = absurd (omega arith)
 row_at (x ∷ front) row back (suc i) d at = row_at front row back i d (omega arith)
@@ -78,7 +80,7 @@ module _ (rows : List Row) (all rest : Others) (F G : List Request) (i : ℕ) (b
   tail = record { finding = joined_from finding_rows (suc (length F) + 1) more; filing = joined_from filing_rows (suc (length F) + 1) more; fact = joined_from fact_rows (suc (length F) + 1) more }
 
   -- where rows stand for requests, each kept row is sound after those before it
-  pub sound_there : (t : Others) × IsSound (take i rows) (suc (length F)) (suc (length (register F))) row rest t
+  pub sound_there : (t : Others) × IsNext (take i rows) (suc (length F)) (suc (length (register F))) row rest t
   unfolding tail
   sound_there =
       let is = kept_is_judged F row in (
@@ -99,34 +101,30 @@ module _ (rows : List Row) (all rest : Others) (F G : List Request) (i : ℕ) (b
 none_left : (front left : List Row) → front ≡ front ++ left → length left ≡ 0
 none_left front left is = let long = ap length is ∙ length-append front left in omega (arith, long)
 
-pub refuted : (rows : List Row) (all : Others) (row : ℕ) → IsUnsoundAt rows all row ⊎ IsLeftOver rows all row → (G : List Request) → AreRowsOf rows all G → ⊥
-refuted rows all row (inl u) G whole =
-    let place : suc (length u.requests) ≡ suc u.before = ap suc (at_length u.before rows u.within u.requests u.rest u.first) in
-    let there = sound_there rows all u.rest u.requests G u.before u.within u.first whole in
-    u.unsound there.0 (subst (λ n. IsSound (take u.before rows) n (suc (length (register u.requests))) (get_or rows u.before []) u.rest there.0) place there.1)
-  where
-    length_first : (j : ℕ) (xs : List Row) → j < length xs → length (take j xs) ≡ j
-    length_first zero xs h = refl
-    length_first (suc j) [] h = absurd (omega arith)
-    length_first (suc j) (x ∷ xs) h = ap suc (length_first j xs (omega arith))
+-- rows of which one cannot come next
+pub refuted_at : (rows : List Row) (all rest : Others) (i number : ℕ) (row : Row) → i < length rows → row ≡ get_or rows i row → Stood rows all rest i number
+    → ((tail : Others) → IsNext (take i rows) (i + 1) number row rest tail → ⊥) → StandForNone rows all
+refuted_at rows all rest i number row below at stood none G whole =
+    let F = stood.0 in
+    let there = sound_there rows all rest F G i below stood.3 whole in
+    let seq : suc (length F) ≡ i + 1 = omega (arith, stood.1) in
+    let place : get_or rows i [] ≡ row = get_at rows i [] row below ∙ sym at in
+    none there.0 (subst (λ r. IsNext (take i rows) (i + 1) number r rest there.0) place (subst₂ (λ s n. IsNext (take i rows) s n (get_or rows i []) rest there.0) seq (sym stood.2) there.1))
 
-    at_length : (i : ℕ) (xs : List Row) → i < length xs → (F : List Request) (rest : Others) → AreFirst (take i xs) all rest F → length F ≡ i
-    at_length i xs low F rest first =
-        sym (ap length (requests_first (take i xs) F first.distinct first.kept_is)) ∙ length_map (take i xs) ∙ length_first i xs low
-      where
-        length_map : (ys : List Row) → length (map request_in ys) ≡ length ys
-        length_map [] = refl
-        length_map (y ∷ ys) = ap suc (length_map ys)
-refuted rows all row (inr left) G whole =
-    let same : left.requests ≡ G = sym (requests_first rows left.requests left.first.distinct left.first.kept_is) ∙ requests_first rows G whole.distinct whole.kept_is in
-    let one = none_left _ left.rest.finding (ap (λ H. joined_from finding_rows 1 (kept H)) same ∙ sym whole.finding_is ∙ left.first.finding_is) in
-    let two = none_left _ left.rest.filing (ap (λ H. joined_from filing_rows 1 (kept H)) same ∙ sym whole.filing_is ∙ left.first.filing_is) in
-    let three = none_left _ left.rest.fact (ap (λ H. joined_from fact_rows 1 (kept H)) same ∙ sym whole.fact_is ∙ left.first.fact_is) in
-    omega (arith, left.left, one, two, three)
+-- rows of which some are left over
+pub refuted_by_rest : (rows : List Row) (all rest : Others) (i number : ℕ) → i ≡ length rows → Stood rows all rest i number → 0 < length rest.finding + length rest.filing + length rest.fact → StandForNone rows all
+refuted_by_rest rows all rest i number end stood left G whole =
+    let F = stood.0 in
+    let first = subst (λ l. AreFirst l all rest F) (ap (λ n. take n rows) end ∙ take-length rows) stood.3 in
+    let same : F ≡ G = sym (requests_first rows F first.distinct first.kept_is) ∙ requests_first rows G whole.distinct whole.kept_is in
+    let one = none_left _ rest.finding (ap (λ H. joined_from finding_rows 1 (kept H)) same ∙ sym whole.finding_is ∙ first.finding_is) in
+    let two = none_left _ rest.filing (ap (λ H. joined_from filing_rows 1 (kept H)) same ∙ sym whole.filing_is ∙ first.filing_is) in
+    let three = none_left _ rest.fact (ap (λ H. joined_from fact_rows 1 (kept H)) same ∙ sym whole.fact_is ∙ first.fact_is) in
+    omega (arith, left, one, two, three)
 
 -- rows that stand for requests are found to do so
 pub complete : (rows : List Row) (all : Others) (verdict : Verdict) → IsVerdict rows all verdict → (G : List Request) → AreRowsOf rows all G → verdict ≡ Sound (length (register G))
 complete rows all (Sound count) is G whole =
     let same : is.0 ≡ G = sym (requests_first rows is.0 is.1.distinct is.1.kept_is) ∙ requests_first rows G whole.distinct whole.kept_is in
     ap Sound (is.2 ∙ ap (λ H. length (register H)) same)
-complete rows all (Damaged row) damaged G whole = absurd (refuted rows all row damaged G whole)
+complete rows all (Damaged _) damaged G whole = absurd (damaged.0 G whole)

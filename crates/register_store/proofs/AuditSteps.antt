@@ -11,12 +11,21 @@ use Rattle.filing_model.specs.Register.Outcome.{Registered, Refused}
 use Rattle.filing_model.proofs.Firsts.{firsts_new, firsts-append, firsts_short}
 use Rattle.filing_model.proofs.Keeping.{kept_new, requests_of_kept}
 use Rattle.table_rows.specs.Rows.{counted_from}
-use Rattle.register_store.specs.Audit.{Others, IsSound, AreFirst, kept_in}
+use Rattle.register_store.specs.Audit.{Others, IsNext, kept_in}
 use Rattle.register_store.specs.Columns.{request_in}
 use Rattle.register_store.specs.Outcomes.{filings_by}
 use Rattle.register_store.specs.Register.{IsCompleted, kept_row, finding_rows, filing_rows, fact_rows, joined_from}
 use Rattle.register_store.proofs.ListLemmas.{requests_said}
 use Rattle.register_store.proofs.MoreRequests.{kept_length, registered_more}
+
+-- the first rows are those of these requests, and the rest follows
+pub record AreFirst (kept_are : List Row) (all rest : Others) (F : List Request) : Type 0 where
+  pub distinct : firsts F ≡ F
+  pub completed : AllByRecursion IsCompleted F
+  pub kept_is : kept_are ≡ counted_from kept_row 1 (kept F)
+  pub finding_is : all.finding ≡ joined_from finding_rows 1 (kept F) ++ rest.finding
+  pub filing_is : all.filing ≡ joined_from filing_rows 1 (kept F) ++ rest.filing
+  pub fact_is : all.fact ≡ joined_from fact_rows 1 (kept F) ++ rest.fact
 
 pub joined_append : (rows : ℕ → Kept → List Row) (at : ℕ) (ks ms : List Kept) → joined_from rows at (ks ++ ms) ≡ joined_from rows at ks ++ joined_from rows (at + length ks) ms
 joined_append rows at [] ms = ap (λ n. joined_from rows n ms) (omega arith)
@@ -45,7 +54,7 @@ pub kept_is_judged : (F : List Request) (row : Row) → kept_in row (suc (length
 unfolding verdict
 kept_is_judged F row = refl
 
-module _ (all rest tail : Others) (F : List Request) (front : List Row) (row : Row) (first : AreFirst front all rest F) (sound : IsSound front (suc (length F)) (suc (length (register F))) row rest tail) where
+module _ (all rest tail : Others) (F : List Request) (front : List Row) (row : Row) (first : AreFirst front all rest F) (sound : IsNext front (suc (length F)) (suc (length (register F))) row rest tail) where
   abbrev r : Request
   r = request_in row
 
@@ -101,7 +110,7 @@ apart_from F G r once all = ⊎_elim
     (λ (h : has_key F r ≡ false). h)
     (cases_Bool (has_key F r))
 
-one_filing : (o : Outcome) → filings_by o ≤ 1
+pub one_filing : (o : Outcome) → filings_by o ≤ 1
 one_filing (Registered number) = omega arith
 one_filing (Refused found) = omega arith
 
@@ -114,11 +123,11 @@ unfolding firsts kept_after filings
 none_yet rows all = ([], refl, refl, record { distinct = refl; completed = tt; kept_is = refl; finding_is = refl; filing_is = refl; fact_is = refl }, omega arith)
 
 pub one_more : (rows : List Row) (all rest tail : Others) (i number next : ℕ) (row : Row) → i < length rows → row ≡ get_or rows i row → Stood rows all rest i number
-    → IsSound (take i rows) (i + 1) number row rest tail × (next ≡ number + filings_by (kept_in row number).outcome) → Stood rows all tail (i + 1) next
+    → IsNext (take i rows) (i + 1) number row rest tail × (next ≡ number + filings_by (kept_in row number).outcome) → Stood rows all tail (i + 1) next
 one_more rows all rest tail i number next row below at stood sound =
     let F = stood.0 in
     let seq : i + 1 ≡ suc (length F) = omega (arith, stood.1) in
-    let is = subst₂ (λ s n. IsSound (take i rows) s n row rest tail) seq stood.2 sound.0 in
+    let is = subst₂ (λ s n. IsNext (take i rows) s n row rest tail) seq stood.2 sound.0 in
     let more = first_more all rest tail F (take i rows) row stood.3 is in
     let count = register_more all rest tail F (take i rows) row stood.3 is in
     let told : next ≡ suc (length (register F)) + filings_by (kept_in row (suc (length (register F)))).outcome = sound.1 ∙ ap (λ n. n + filings_by (kept_in row n).outcome) stood.2 in

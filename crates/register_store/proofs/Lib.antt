@@ -4,6 +4,7 @@ pub mod AuditRefutes
 pub mod AuditSteps
 pub mod CellLemmas
 pub mod CreateTexts
+pub mod DamageLemmas
 pub mod FactLemmas
 pub mod FailLemmas
 pub mod FindLemmas

@@ -36,7 +36,6 @@ use Rattle.register_store.specs.Reads.{Knows, every, whole, by_first, by_both}
 use Rattle.register_store.specs.Schema.{IsDeclared, register_tables, meta_table, kept_table, finding_table, filing_table, fact_table}
 use Rattle.register_store.proofs.ReadTexts.{columns, asks_meta, asks_findings, asks_filings, asks_facts}
 use Rattle.register_store.proofs.ReadLemmas.{reads_kept}
-use Rattle.register_store.proofs.AuditRefutes.{refuted}
 use Rattle.register_store.proofs.AuditSteps.{requests_first}
 use Rattle.register_store.proofs.ListLemmas.{filter_every, map_whole}
 use Rattle.register_store.proofs.FailLemmas.{meta_fails, kept_fails, findings_fail, filings_fail, facts_fail}
@@ -213,7 +212,7 @@ module _ {S : Type 0} (g : Ghosts S) where
   by_memory_or_disk fault.NotOurs a last unlimited (inl (inl h)) F is = absurd (meta_fails (state g a) (state g last) is.rows.rows.declared unlimited h.0 h.1 h.2)
   by_memory_or_disk fault.NotOurs a last unlimited (inl (inr h)) F is = absurd h.3
   by_memory_or_disk fault.NotOurs a last unlimited (inr h) F is = absurd (h.2 (one_meta F (state g a).now is h.0 (got_meta (state g a) (state g last) h.0 is.rows.rows.declared h.1.shown).1))
-  by_memory_or_disk (fault.Damaged row) a last unlimited h F is = absurd (elim h.2 [ inl stops ↦ four_stop mid last d (h.1.limit ∙ unlimited) stops.1 | inr found ↦ refuted found.0 found.1 row found.3 F (are_rows F (state g mid).now here found.0 found.1 (got_four g mid last found.0 found.1 d found.2).1) ])
+  by_memory_or_disk (fault.Damaged row) a last unlimited h F is = absurd (elim h.2 [ inl stops ↦ four_stop mid last d (h.1.limit ∙ unlimited) stops.1 | inr found ↦ found.3.0 F (are_rows F (state g mid).now here found.0 found.1 (got_four g mid last found.0 found.1 d found.2).1) ])
     where
       mid : Held S
       mid = h.0

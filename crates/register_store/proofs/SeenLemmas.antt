@@ -80,7 +80,7 @@ one_more_seen rows at row low is f k =
     ap (map request_in) (take_more rows at row low ∙ ap (λ r. take at rows ++ r ∷ []) (sym is)) ∙ map-append request_in (take at rows) (row ∷ []) in
     or_comm (bytes_eq f (request_in row).filer && bytes_eq k (request_in row).key) before ∙ ap (λ b. before || b) (turned ∙ sym last) ∙ sym (list_any-append (λ s. same_key s (the_request f k [])) (map request_in (take at rows)) (request_in row ∷ [])) ∙ ap (λ F. has_key F (the_request f k [])) (sym rows_are)
 
-get_at : (rows : List Row) (at : ℕ) (d e : Row) → at < length rows → get_or rows at d ≡ get_or rows at e
+pub get_at : {X : Type 0} (rows : List X) (at : ℕ) (d e : X) → at < length rows → get_or rows at d ≡ get_or rows at e
 get_at [] at d e low = absurd (omega arith)
 get_at (r ∷ rows) zero d e low = refl
 get_at (r ∷ rows) (suc at) d e low = get_at rows at d e (omega arith)

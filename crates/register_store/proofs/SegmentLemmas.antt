@@ -21,7 +21,7 @@ row_at row at [] tail i d e below = absurd (omega arith)
 row_at row at (x ∷ xs) tail zero d e below = ap (λ n. row n x) (omega arith)
 row_at row at (x ∷ xs) tail (suc i) d e below = row_at row (at + 1) xs tail i d e (omega arith) ∙ ap (λ n. row n (get_or xs i e)) (omega arith)
 
-length_counted : {X : Type 0} (row : ℕ → X → Row) (at : ℕ) (xs : List X) → length (counted_from row at xs) ≡ length xs
+pub length_counted : {X : Type 0} (row : ℕ → X → Row) (at : ℕ) (xs : List X) → length (counted_from row at xs) ≡ length xs
 length_counted row at [] = refl
 length_counted row at (x ∷ xs) = ap suc (length_counted row (at + 1) xs)
 

@@ -1,5 +1,5 @@
 -- What an audit asks of the rows of a register.
-use Rattle.std.specs.Prelude.{◌≡◌, ◌⊎◌, ◌<◌, ◌+◌, ℕ, suc, Bool, false, ◌||◌, pos, List, [], ◌∷◌, ◌++◌, length, map, take, get_or}
+use Rattle.std.specs.Prelude.{◌≡◌, ◌⊎◌, ◌<◌, ℕ, suc, Bool, false, ◌||◌, pos, List, [], ◌∷◌, ◌++◌, length, map, filter, take, get_or}
 use Rattle.std.specs.List.{AllByRecursion}
 use Rattle.std.specs.Ordering.{int_eq}
 use Rattle.sqlite.specs.declared.types.Value.{Value}
@@ -11,6 +11,7 @@ use Rattle.filing_model.specs.Register.{Outcome, Kept, outcome_by, kept, registe
 use Rattle.table_rows.specs.Rows.{counted_from}
 use Rattle.register_store.specs.declared.audit.Rest.{Rest}
 use Rattle.register_store.specs.declared.audit.Verdict.{Verdict}
+use Rattle.register_store.specs.declared.damage.Beside.{Beside}
 use Rattle.register_store.specs.declared.audit.Verdict.TheVariants.{Sound, Damaged}
 use Rattle.register_store.specs.Columns.{request_in}
 use Rattle.register_store.specs.Register.{IsCompleted, kept_row, finding_rows, filing_rows, fact_rows, joined_from}
@@ -26,6 +27,10 @@ pub record Begins (seq : ℕ) (k : Kept) (all rest : Others) : Type 0 where
   pub finding : all.finding ≡ finding_rows seq k ++ rest.finding
   pub filing : all.filing ≡ filing_rows seq k ++ rest.filing
   pub fact : all.fact ≡ fact_rows seq k ++ rest.fact
+
+-- as code holds them
+abbrev pub view_beside : Beside → Others
+view_beside b = record { finding = b.findings.now; filing = b.filings.now; fact = b.facts.now }
 
 -- what is left of them, as code holds it
 abbrev pub view_rest : Rest → Others
@@ -61,9 +66,9 @@ has_more_facts (Outcome.Refused findings) rows = false
 abbrev pub has_more : ℕ → Outcome → Others → Bool
 has_more seq outcome rest = begins_with 0 seq rest.finding || (begins_with 1 seq rest.filing || has_more_facts outcome rest.fact)
 
--- the row is sound after these: its request is one that may be completed, its filer and key are new, and its place, its outcome and its
--- rows in the other tables are what judging it gives, and no others
-pub record IsSound (earlier : List Row) (seq number : ℕ) (row : Row) (all rest : Others) : Type 0 where
+-- the row is the next after these, of rows in the order of the keys: its request is one that may be completed, its filer and key are new,
+-- and its place, its outcome and its rows in the other tables are what judging it gives, and no others
+pub record IsNext (earlier : List Row) (seq number : ℕ) (row : Row) (all rest : Others) : Type 0 where
   pub completed : IsCompleted (request_in row)
   pub fresh : has_key (map request_in earlier) (request_in row) ≡ false
   pub row_is : row ≡ kept_row seq (kept_in row number)
@@ -79,34 +84,52 @@ pub record AreRowsOf (kept_are : List Row) (others : Others) (F : List Request) 
   pub filing_is : others.filing ≡ joined_from filing_rows 1 (kept F)
   pub fact_is : others.fact ≡ joined_from fact_rows 1 (kept F)
 
--- the first rows are those of these requests, and the rest follows
-pub record AreFirst (kept_are : List Row) (all rest : Others) (F : List Request) : Type 0 where
-  pub distinct : firsts F ≡ F
-  pub completed : AllByRecursion IsCompleted F
-  pub kept_is : kept_are ≡ counted_from kept_row 1 (kept F)
-  pub finding_is : all.finding ≡ joined_from finding_rows 1 (kept F) ++ rest.finding
-  pub filing_is : all.filing ≡ joined_from filing_rows 1 (kept F) ++ rest.filing
-  pub fact_is : all.fact ≡ joined_from fact_rows 1 (kept F) ++ rest.fact
+-- ---- which kept row is told
+
+-- the rows with this number in the column
+abbrev pub with_number : ℕ → ℕ → List Row → List Row
+with_number at n rows = filter (λ row. is_number n (column row at)) rows
+
+-- the rows of a filing's facts, none where there is no filing
+abbrev pub facts_under : Outcome → List Row → List Row
+facts_under (Outcome.Registered number) rows = with_number 0 number rows
+facts_under (Outcome.Refused findings) rows = []
+
+-- the row is that of the kept request at this place, and of the other tables so are those with its place or number
+pub record IsKeptAs (seq : ℕ) (k : Kept) (row : Row) (others : Others) : Type 0 where
+  pub row_is : row ≡ kept_row seq k
+  pub finding_is : with_number 0 seq others.finding ≡ finding_rows seq k
+  pub filing_is : with_number 1 seq others.filing ≡ filing_rows seq k
+  pub fact_is : facts_under k.outcome others.fact ≡ fact_rows seq k
+
+-- the number of the next filing after so many rows
+abbrev pub number_after : ℕ → List Row → ℕ
+number_after count kept_are = suc (length (register (map request_in (take count kept_are))))
+
+-- the kept row at this place, counted from 0, is sound: its request is one that may be completed, no earlier row has its filer and key,
+-- and its place, its outcome and its rows in the other tables are what judging it after the rows before gives
+pub record IsSoundAt (kept_are : List Row) (others : Others) (at : ℕ) : Type 0 where
+  pub completed : IsCompleted (request_in (get_or kept_are at []))
+  pub fresh : is_repeated_at kept_are at ≡ false
+  pub kept_as : IsKeptAs (suc at) (kept_in (get_or kept_are at []) (number_after at kept_are)) (get_or kept_are at []) others
 
 -- the kept row at this place, counted from 1, is the first that is not sound
-pub record IsUnsoundAt (kept_are : List Row) (all : Others) (row : ℕ) : Type 0 where
+pub record IsFirstUnsound (kept_are : List Row) (others : Others) (row : ℕ) : Type 0 where
   pub before : ℕ
   pub place : row ≡ suc before
   pub within : before < length kept_are
-  pub requests : List Request
-  pub rest : Others
-  pub first : AreFirst (take before kept_are) all rest requests
-  pub unsound : (tail : Others) → IsSound (take before kept_are) (suc before) (suc (length (register requests))) (get_or kept_are before []) rest tail → ⊥
+  pub sound : (at : ℕ) → at < before → IsSoundAt kept_are others at
+  pub unsound : IsSoundAt kept_are others before → ⊥
 
--- each kept row is sound, and rows of the other tables are left over
-pub record IsLeftOver (kept_are : List Row) (all : Others) (row : ℕ) : Type 0 where
-  pub none : row ≡ 0
-  pub requests : List Request
-  pub rest : Others
-  pub first : AreFirst kept_are all rest requests
-  pub left : 0 < length rest.finding + length rest.filing + length rest.fact
+-- this row is told: the first that is not sound, or 0 where each one is
+abbrev pub IsTold : List Row → Others → ℕ → Type 0
+IsTold kept_are others row = IsFirstUnsound kept_are others row ⊎ ((row ≡ 0) × ((at : ℕ) → at < length kept_are → IsSoundAt kept_are others at))
 
--- the rows stand for requests, so many of which are registered; or for none, for this cause
+-- the rows stand for no requests
+abbrev pub StandForNone : List Row → Others → Type 0
+StandForNone kept_are others = (F : List Request) → AreRowsOf kept_are others F → ⊥
+
+-- the rows stand for requests, so many of which are registered; or for none, and this row is told
 abbrev pub IsVerdict : List Row → Others → Verdict → Type 0
-IsVerdict kept_are all (Sound filings) = (F : List Request) × AreRowsOf kept_are all F × (filings ≡ length (register F))
-IsVerdict kept_are all (Damaged row) = IsUnsoundAt kept_are all row ⊎ IsLeftOver kept_are all row
+IsVerdict kept_are others (Sound filings) = (F : List Request) × AreRowsOf kept_are others F × (filings ≡ length (register F))
+IsVerdict kept_are others (Damaged row) = StandForNone kept_are others × IsTold kept_are others row

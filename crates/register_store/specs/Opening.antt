@@ -59,7 +59,8 @@ StopsFor {S} g why (text ∷ texts) old new =
 abbrev pub IsNoRegister : {S : Type 0} → Ghosts S → Held S → Held S → Type 0
 IsNoRegister g old new = StopsFor g cause.Other (all_meta ∷ []) old new ⊎ ((rows : List Row) × IsRead g all_meta old new rows × (rows ≢ meta_row ∷ []))
 
--- another table cannot be read so, and the row is 0; or the rows of the four tables stand for no requests, for what the row tells
+-- another table cannot be read so, and the row is 0; or the rows of the four tables stand for no requests, and the row is the
+-- first kept one that is not sound, or 0
 abbrev pub IsDamagedAt : {S : Type 0} → Ghosts S → ℕ → Held S → Held S → Type 0
 IsDamagedAt g row old new =
     ((row ≡ 0) × StopsFor g cause.Other table_texts old new)

@@ -9,13 +9,14 @@ ghost use Rattle.xbrl_report.specs.ReportParts.{facts as facts_of};
 ghost use Rattle.xbrl_report.specs.Judgement.{IsJudgement, HasFacts};
 ghost use Rattle.filing_model.specs.Register.{Outcome, register};
 ghost use Rattle.filing_model.specs.Request.{Request, has_key};
-ghost use Rattle.register_store.specs.Audit.{Others, AreRowsOf, Begins, IsSound, IsVerdict, is_repeated_at, begins_with, has_more, view_rest, request_outcome, kept_in};
+ghost use Rattle.register_store.specs.Audit.{Others, AreRowsOf, Begins, IsNext, IsVerdict, StandForNone, is_repeated_at, begins_with, has_more, view_rest, request_outcome, kept_in};
 ghost use Rattle.register_store.specs.Cells.{value_of};
 ghost use Rattle.register_store.specs.Columns.{text_in, bytes_in, request_in};
 ghost use Rattle.register_store.specs.Outcomes.{outcome_of, filings_by};
 ghost use Rattle.register_store.specs.Register.{IsCompleted, kept_row};
 
 use crate::cells::{Cell, is_row};
+use crate::damage::{Beside, first_unsound};
 use crate::segments::{after_facts, after_filing, after_findings};
 use key_string::read_filer;
 use sqlite::Row;
@@ -47,13 +48,13 @@ pub(crate) struct Rest<'a> {
 pub(crate) enum Verdict {
     /// The rows stand for a list of requests, of which so many are registered.
     Sound { filings: u64 },
-    /// They stand for none: the kept row at this place, counted from 1, is the first that is not sound, or at 0 rows of the
-    /// other tables are left over.
+    /// They stand for none: the kept row at this place, counted from 1, is the first that is not sound, or at 0 each one is,
+    /// and rows of the other tables are left over.
     Damaged { row: u64 },
 }
 
 /// The bytes of a text, none where the column has no text.
-fn text_at(row: &Row, at: usize) -> &[u8]
+pub(crate) fn text_at(row: &Row, at: usize) -> &[u8]
     ensures { result.now ≡ text_in (column row.now at) }
 {
     match row.get_ref(at) {
@@ -63,7 +64,7 @@ fn text_at(row: &Row, at: usize) -> &[u8]
 }
 
 /// The bytes of a blob, none where the column has none.
-fn bytes_at(row: &Row, at: usize) -> &[u8]
+pub(crate) fn bytes_at(row: &Row, at: usize) -> &[u8]
     ensures { result.now ≡ bytes_in (column row.now at) }
 {
     match row.get_ref(at) {
@@ -82,7 +83,7 @@ fn is_key(text: &[u8]) -> bool
 
 /// The place, from 0, of the first row whose filer and key an earlier one has, or how many rows there are. The error is want
 /// of memory.
-fn first_repeated(alloc: Global, kept: &[Row]) -> Result<usize, AllocError>
+pub(crate) fn first_repeated(alloc: Global, kept: &[Row]) -> Result<usize, AllocError>
     ensures { IfOk result (λ first. (first ≤ length kept.now) × ((at : ℕ) → at < first → is_repeated_at kept.now at ≡ false) × (first < length kept.now → is_repeated_at kept.now first ≡ true)) }
 {
     let mut seen = BTreeSet::new(alloc);
@@ -107,7 +108,7 @@ fn number_cell(number: Option<u64>) -> Cell<'static>
 }
 
 /// Whether the row has this place and this number beside its own request.
-fn is_kept_row(row: &Row, seq: u64, number: Option<u64>) -> bool
+pub(crate) fn is_kept_row(row: &Row, seq: u64, number: Option<u64>) -> bool
     requires seq { seq < 2 ^ 63 }
     requires number { IfSome number (λ n. n < 2 ^ 63) }
     ensures { IsTrue result ↔ (row.now ≡ Int (pos seq) ∷ Text (request_in row.now).filer ∷ Text (request_in row.now).key ∷ Blob (request_in row.now).body ∷ or_null (λ n. Int (pos n)) number ∷ []) }
@@ -205,7 +206,7 @@ fn has_more(seq: u64, judged: &Judged, number: u64, rest: Rest<'_>) -> bool
 }
 
 /// The filer of a row whose request may be completed.
-fn filer_of<'a>(row: &'a Row) -> Option<&'a str>
+pub(crate) fn filer_of<'a>(row: &'a Row) -> Option<&'a str>
     ensures { MatchOption result (IsCompleted (request_in row.now) → ⊥) (λ filer. (filer.now ≡ (request_in row.now).filer) × IsCompleted (request_in row.now)) }
 {
     let key = text_at(row, 2);
@@ -221,7 +222,7 @@ fn filer_of<'a>(row: &'a Row) -> Option<&'a str>
     Some(filer)
 }
 
-/// Whether the next kept row is sound after the earlier ones: what is left behind its rows in the other tables, or `None`.
+/// Whether the kept row may come next after the earlier ones: what is left behind its rows in the other tables, or `None`.
 /// The error is want of memory.
 fn check_next<'a>(
     alloc: Global,
@@ -235,8 +236,8 @@ fn check_next<'a>(
     requires number { rest.number < 2 ^ 63 }
     requires repeated { is_repeated ≡ has_key (map request_in earlier.now) (request_in row.now) }
     ensures { IfOk result (λ next. MatchOption next
-        ((tail : Others) → IsSound earlier.now seq rest.entry.number row.now (view_rest rest.entry) tail → ⊥)
-        (λ tail. IsSound earlier.now seq rest.entry.number row.now (view_rest rest.entry) (view_rest tail) × (tail.number ≡ rest.entry.number + filings_by (kept_in row.now rest.entry.number).outcome))) }
+        ((tail : Others) → IsNext earlier.now seq rest.entry.number row.now (view_rest rest.entry) tail → ⊥)
+        (λ tail. IsNext earlier.now seq rest.entry.number row.now (view_rest rest.entry) (view_rest tail) × (tail.number ≡ rest.entry.number + filings_by (kept_in row.now rest.entry.number).outcome))) }
 {
     if is_repeated {
         return Ok(None);
@@ -259,20 +260,19 @@ fn check_next<'a>(
     }
 }
 
-/// Audits one kept row after the other. The error is want of memory.
+/// Audits one kept row after the other, as the tables are in the order of their keys: how many filings the requests are that
+/// the rows stand for, or `None` where they stand for none. The error is want of memory.
 fn audit_in_order(
     alloc: Global,
     kept: &[Row],
     findings: &[Row],
     filings: &[Row],
     facts: &[Row],
-) -> Result<Verdict, AllocError>
-    ensures verdict { IfOk result (λ verdict. IsVerdict kept.now (record { finding = findings.now; filing = filings.now; fact = facts.now }) verdict) }
-    ensures few { IfOk result (λ verdict. (filings : ℕ) → verdict ≡ Verdict.Sound filings → (filings ≤ length kept.now) × (length kept.now ≤ 2 ^ 62)) }
+) -> Result<Option<u64>, AllocError>
+    requires { length kept.now ≤ 2 ^ 62 }
+    ensures found { IfOk result (λ found. MatchOption found (StandForNone kept.now (record { finding = findings.now; filing = filings.now; fact = facts.now }))
+        (λ filings_are. IsVerdict kept.now (record { finding = findings.now; filing = filings.now; fact = facts.now }) (Verdict.Sound filings_are) × (filings_are ≤ length kept.now))) }
 {
-    if kept.len() as u64 > MAX_KEPT {
-        return Err(AllocError);
-    }
     let mut rest = Rest {
         findings,
         filings,
@@ -284,15 +284,13 @@ fn audit_in_order(
         let seq = at as u64 + 1;
         match check_next(alloc, &kept[..at], at == first, &kept[at], seq, rest)? {
             Some(next) => rest = next,
-            None => return Ok(Verdict::Damaged { row: seq }),
+            None => return Ok(None),
         }
     }
     if rest.findings.is_empty() && rest.filings.is_empty() && rest.facts.is_empty() {
-        Ok(Verdict::Sound {
-            filings: rest.number - 1,
-        })
+        Ok(Some(rest.number - 1))
     } else {
-        Ok(Verdict::Damaged { row: 0 })
+        Ok(None)
     }
 }
 
@@ -310,5 +308,22 @@ pub(crate) fn audit(
         → verdict ≡ Verdict.Sound (length (register F))) }
     ensures few { IfOk result (λ verdict. (filings : ℕ) → verdict ≡ Verdict.Sound filings → (filings ≤ length kept.now) × (length kept.now ≤ 2 ^ 62)) }
 {
-    audit_in_order(alloc, kept, findings, filings, facts)
+    if kept.len() as u64 > MAX_KEPT {
+        return Err(AllocError);
+    }
+    match audit_in_order(alloc, kept, findings, filings, facts)? {
+        Some(filings) => Ok(Verdict::Sound { filings }),
+        None => {
+            let row = first_unsound(
+                alloc,
+                kept,
+                Beside {
+                    findings,
+                    filings,
+                    facts,
+                },
+            )?;
+            Ok(Verdict::Damaged { row })
+        }
+    }
 }

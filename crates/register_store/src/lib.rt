@@ -9,6 +9,7 @@ mod completed;
 mod content;
 mod counts;
 mod create;
+mod damage;
 mod facts;
 mod fault;
 mod files;

@@ -12,7 +12,7 @@ use crate::cells::{Cell, is_row};
 use sqlite::Row;
 use xbrl_report::{Fact, Finding};
 
-fn is_finding_row(row: &Row, seq: u64, at: u64, finding: &Finding) -> bool
+pub(crate) fn is_finding_row(row: &Row, seq: u64, at: u64, finding: &Finding) -> bool
     requires seq { seq < 2 ^ 63 }
     requires at { at < 2 ^ 63 }
     ensures { IsTrue result ↔ (row.now ≡ finding_row seq at finding.now) }
@@ -46,7 +46,7 @@ fn optional_integer(number: Option<i64>) -> Cell<'static>
     }
 }
 
-fn is_fact_row(row: &Row, number: u64, at: u64, fact: &Fact) -> bool
+pub(crate) fn is_fact_row(row: &Row, number: u64, at: u64, fact: &Fact) -> bool
     requires number { number < 2 ^ 63 }
     requires at { at < 2 ^ 63 }
     ensures { IsTrue result ↔ (row.now ≡ fact_row number at fact.now) }

@@ -60,6 +60,63 @@ fn rows_that_judging_does_not_give_are_damage(rt: HostRuntime) -> Result<(), Fai
 }
 
 #[test]
+fn rows_of_no_request_are_left_over(rt: HostRuntime) -> Result<(), Fail> {
+    let alloc = rt.alloc();
+    let none = Some(OpenFault::Damaged { row: 0 });
+    assert_eq!(rt;
+        fault_after(alloc, "INSERT INTO finding VALUES (0, 1, 2, x'')")?,
+        none
+    );
+    assert_eq!(rt;
+        fault_after(
+            alloc,
+            "INSERT INTO fact VALUES (0, 1, x'61', x'61', x'7b7d', NULL, NULL)"
+        )?,
+        none
+    );
+    assert_eq!(rt;
+        fault_after(alloc, "INSERT INTO filing VALUES (0, 9)")?,
+        none
+    );
+    Ok(())
+}
+
+#[test]
+fn more_rows_of_a_request_are_its_damage(rt: HostRuntime) -> Result<(), Fail> {
+    let alloc = rt.alloc();
+    let first = Some(OpenFault::Damaged { row: 1 });
+    let second = Some(OpenFault::Damaged { row: 2 });
+    assert_eq!(rt;
+        fault_after(
+            alloc,
+            "INSERT INTO fact VALUES (1, 2, x'61', x'61', x'7b7d', NULL, NULL)"
+        )?,
+        first
+    );
+    assert_eq!(rt;
+        fault_after(alloc, "INSERT INTO finding VALUES (1, 1, 2, x'')")?,
+        first
+    );
+    assert_eq!(rt;
+        fault_after(alloc, "INSERT INTO filing VALUES (2, 2)")?,
+        second
+    );
+    Ok(())
+}
+
+#[test]
+fn a_filing_of_a_refused_report_is_its_damage(rt: HostRuntime) -> Result<(), Fail> {
+    let alloc = rt.alloc();
+    let mut store = Store::open(alloc, ready(with_two(alloc)?)?)?;
+    keep(alloc, &mut store, "ACME", "k-3", VALID)?;
+    let mut conn = store.into_conn();
+    conn.execute("INSERT INTO filing VALUES (3, 2)", &[])?;
+    let fault = fault_of(alloc, conn)?;
+    assert_eq!(rt; fault, Some(OpenFault::Damaged { row: 2 }));
+    Ok(())
+}
+
+#[test]
 fn another_report_is_damage(rt: HostRuntime) -> Result<(), Fail> {
     let alloc = rt.alloc();
     let mut conn = with_two(alloc)?;

@@ -1,7 +1,8 @@
-use Rattle.std.proofs.lemmas.Result.{IfOk-weaker}
+use Rattle.register_store.specs.declared.audit.Verdict.TheVariants.{Sound}
 use Rattle.register_store.proofs.AuditRefutes.{complete}
 use Rattle.register_store.proofs.audit.audit.Goals as goal
 
-pub returns-clause-complete : goal.returns-clause-complete
-returns-clause-complete c = IfOk-weaker c.audit_in_order.result _ _
-    (λ verdict is F whole. complete c.args.kept.now (record { finding = c.args.findings.now; filing = c.args.filings.now; fact = c.args.facts.now }) verdict is F whole) c.audit_in_order.ensures.verdict
+pub returns-in-Some-clause-complete : goal.returns-in-Some-clause-complete
+returns-in-Some-clause-complete c F whole =
+    let found = rw c.in-Some.is at c.in_ok-filings.ensures.found in
+    complete c.args.kept.now (record { finding = c.args.findings.now; filing = c.args.filings.now; fact = c.args.facts.now }) (Sound c.in-Some.filings) found.0 F whole

@@ -1,0 +1,212 @@
+//! Which kept row is told of a register whose rows stand for no requests. Each kept row is held against the other tables
+//! whole, in any order of their rows.
+
+ghost use Rattle.std.specs.Prelude.{◌≡◌, ◌↔◌, ◌<◌, ◌≤◌, ◌^◌, ◌+◌, ℕ, suc, pos, List, [], ◌∷◌, length, map, IsTrue, IfOk, MatchOption};
+ghost use Rattle.sqlite.specs.Order.{column};
+ghost use Rattle.sqlite.specs.declared.types.Value.TheVariants.{Int};
+ghost use Rattle.xbrl_report.specs.ReportParts.{facts as facts_of};
+ghost use Rattle.xbrl_report.specs.Judgement.{HasFacts};
+ghost use Rattle.filing_model.specs.Register.{Outcome};
+ghost use Rattle.table_rows.specs.Rows.{counted_from};
+ghost use Rattle.register_store.specs.Audit.{Others, IsKeptAs, IsTold, is_number, with_number, view_beside, request_outcome, kept_in};
+ghost use Rattle.register_store.specs.Columns.{request_in};
+ghost use Rattle.register_store.specs.Outcomes.{outcome_of, filings_by};
+ghost use Rattle.register_store.specs.Register.{IsCompleted, finding_row, fact_row};
+
+use crate::audit::{bytes_at, filer_of, first_repeated, is_kept_row};
+use crate::cells::{Cell, is_row};
+use crate::segments::{is_fact_row, is_finding_row};
+use sqlite::Row;
+use sqlite::types::ValueRef;
+use std::alloc::{AllocError, Global};
+use xbrl_report::{Fact, Finding, Judged, judge};
+
+/// The rows of the tables beside `kept`.
+#[derive(Clone, Copy)]
+pub(crate) struct Beside<'a> {
+    pub(crate) findings: &'a [Row],
+    pub(crate) filings: &'a [Row],
+    pub(crate) facts: &'a [Row],
+}
+
+/// Whether the row has this number in the column.
+fn has_number(row: &Row, at: usize, number: u64) -> bool
+    requires { number < 2 ^ 63 }
+    ensures { result ≡ is_number number (column row.now at) }
+{
+    match row.get_ref(at) {
+        Ok(ValueRef::Int(found)) => found == number as i64,
+        _ => false,
+    }
+}
+
+/// Whether the rows of the request at this place are those of the findings, in order.
+fn has_findings(rows: &[Row], seq: u64, findings: &[Finding]) -> bool
+    requires { seq < 2 ^ 63 }
+    ensures { IsTrue result ↔ (with_number 0 seq rows.now ≡ counted_from (finding_row seq) 1 findings.now) }
+{
+    let mut found = 0;
+    for at in 0..rows.len() {
+        let row = &rows[at];
+        if has_number(row, 0, seq) {
+            if found >= findings.len() {
+                return false;
+            }
+            if !is_finding_row(row, seq, found as u64 + 1, &findings[found]) {
+                return false;
+            }
+            found += 1;
+        }
+    }
+    found == findings.len()
+}
+
+/// Whether the rows of the filing are those of the facts, in order.
+fn has_facts(rows: &[Row], number: u64, facts: &[Fact]) -> bool
+    requires { number < 2 ^ 63 }
+    ensures { IsTrue result ↔ (with_number 0 number rows.now ≡ counted_from (fact_row number) 1 facts.now) }
+{
+    let mut found = 0;
+    for at in 0..rows.len() {
+        let row = &rows[at];
+        if has_number(row, 0, number) {
+            if found >= facts.len() {
+                return false;
+            }
+            if !is_fact_row(row, number, found as u64 + 1, &facts[found]) {
+                return false;
+            }
+            found += 1;
+        }
+    }
+    found == facts.len()
+}
+
+/// Whether the row is that of the filing under this number.
+fn is_filing_row(row: &Row, number: &i64, seq: u64) -> bool
+    requires { seq < 2 ^ 63 }
+    ensures { IsTrue result ↔ (row.now ≡ Int number.now ∷ Int (pos seq) ∷ []) }
+{
+    is_row(row, &[Cell::Int(*number), Cell::Int(seq as i64)])
+}
+
+/// Whether the filings of the request at this place have these numbers, in order.
+fn has_filings(rows: &[Row], seq: u64, numbers: &[i64]) -> bool
+    requires { seq < 2 ^ 63 }
+    ensures { IsTrue result ↔ (with_number 1 seq rows.now ≡ counted_from (λ _ n. Int n ∷ Int (pos seq) ∷ []) 1 numbers.now) }
+{
+    let mut found = 0;
+    for at in 0..rows.len() {
+        let row = &rows[at];
+        if has_number(row, 1, seq) {
+            if found >= numbers.len() {
+                return false;
+            }
+            if !is_filing_row(row, &numbers[found], seq) {
+                return false;
+            }
+            found += 1;
+        }
+    }
+    found == numbers.len()
+}
+
+/// Whether the row and those of the other tables are those of a refused request.
+fn is_refused(row: &Row, seq: u64, findings: &[Finding], beside: Beside<'_>) -> bool
+    requires { seq < 2 ^ 63 }
+    ensures { IsTrue result ↔ IsKeptAs seq (request_outcome row.now (Outcome.Refused findings.now)) row.now (view_beside beside.entry) }
+{
+    is_kept_row(row, seq, None)
+        && has_findings(beside.findings, seq, findings)
+        && has_filings(beside.filings, seq, &[])
+}
+
+/// Whether the row and those of the other tables are those of a request registered under the number.
+fn is_registered(row: &Row, seq: u64, number: u64, facts: &[Fact], beside: Beside<'_>) -> bool
+    requires seq { seq < 2 ^ 63 }
+    requires number { number < 2 ^ 63 }
+    requires facts { facts.now ≡ facts_of (request_in row.now).body }
+    ensures { IsTrue result ↔ IsKeptAs seq (request_outcome row.now (Outcome.Registered number)) row.now (view_beside beside.entry) }
+{
+    is_kept_row(row, seq, Some(number))
+        && has_findings(beside.findings, seq, &[])
+        && has_filings(beside.filings, seq, &[number as i64])
+        && has_facts(beside.facts, number, facts)
+}
+
+/// Whether the row and those of the other tables are those of a request that was judged so.
+fn is_kept_as(row: &Row, seq: u64, number: u64, judged: &Judged, beside: Beside<'_>) -> bool
+    requires seq { seq < 2 ^ 63 }
+    requires number { number < 2 ^ 63 }
+    requires facts { HasFacts (request_in row.now).body judged.now }
+    ensures { IsTrue result ↔ IsKeptAs seq (request_outcome row.now (outcome_of number judged.now)) row.now (view_beside beside.entry) }
+{
+    match judged {
+        Judged::Valid(report) => is_registered(row, seq, number, report.facts(), beside),
+        Judged::Refused(findings) => is_refused(row, seq, findings.list(), beside),
+    }
+}
+
+/// How many filings a report is that was judged so.
+fn filings_as_judged(judged: &Judged) -> u64
+    ensures { (number : ℕ) → result ≡ filings_by (outcome_of number judged.now) }
+{
+    match judged {
+        Judged::Valid(_) => 1,
+        Judged::Refused(_) => 0,
+    }
+}
+
+/// How many filings the kept row's request is, or `None` where the row, whatever its filer and key are, is not sound. The
+/// error is want of memory.
+fn filings_if_sound(
+    alloc: Global,
+    row: &Row,
+    seq: u64,
+    number: u64,
+    beside: Beside<'_>,
+) -> Result<Option<u64>, AllocError>
+    requires seq { seq < 2 ^ 63 }
+    requires number { number < 2 ^ 63 }
+    ensures { IfOk result (λ found. MatchOption found
+        (IsCompleted (request_in row.now) → IsKeptAs seq (kept_in row.now number) row.now (view_beside beside.entry) → ⊥)
+        (λ filings. IsCompleted (request_in row.now) × IsKeptAs seq (kept_in row.now number) row.now (view_beside beside.entry) × (filings ≡ filings_by (kept_in row.now number).outcome))) }
+{
+    let Some(filer) = filer_of(row) else {
+        return Ok(None);
+    };
+    match judge(alloc, filer, bytes_at(row, 3)) {
+        Ok(judged) => {
+            if is_kept_as(row, seq, number, &judged, beside) {
+                Ok(Some(filings_as_judged(&judged)))
+            } else {
+                Ok(None)
+            }
+        }
+        Err(error) => Err(error),
+    }
+}
+
+/// The place, from 1, of the first kept row that is not sound, or 0 where each one is. The error is want of memory.
+pub(crate) fn first_unsound(
+    alloc: Global,
+    kept: &[Row],
+    beside: Beside<'_>,
+) -> Result<u64, AllocError>
+    requires { length kept.now ≤ 2 ^ 62 }
+    ensures { IfOk result (λ row. IsTold kept.now (view_beside beside.entry) row) }
+{
+    let first = first_repeated(alloc, kept)?;
+    let mut number = 1;
+    for at in 0..kept.len() {
+        let seq = at as u64 + 1;
+        if at == first {
+            return Ok(seq);
+        }
+        match filings_if_sound(alloc, &kept[at], seq, number, beside)? {
+            Some(filings) => number += filings,
+            None => return Ok(seq),
+        }
+    }
+    Ok(0)
+}
