@@ -1,6 +1,6 @@
 //! Reading bytes up to a length.
 
-ghost use Rattle.std.specs.Prelude.{◌≡◌, ◌++◌, ◌+◌, ◌<◌, ◌≤◌, drop, slice_range, vec_len, IfOk, IfErr, OnOk, Ok, Err};
+ghost use Rattle.std.specs.Prelude.{◌≡◌, ◌++◌, ◌+◌, ◌<◌, ◌≤◌, ℕ, List, drop, length, slice_range, vec_len, IfOk, IfErr, OnOk, Ok, Err};
 ghost use Rattle.std.specs.Io.KnownBytes.{Consumes, IsAtEnd};
 ghost use Rattle.http_wire.specs.Device.{HasFailed};
 ghost use Rattle.command_input.specs.declared.bytes.ReadFault.TheVariants.{Read, ReadLimit, Memory};
@@ -38,7 +38,7 @@ impl From<AllocError> for ReadFault {
 }
 
 /// The bytes of a reader up to its end, or the first `most` of them. At most 4,194,304 reads are made,
-/// each of one byte at least, so `ReadLimit` comes only where `most` is above that.
+/// each of one byte at least, so `ReadLimit` comes only after as many bytes, and with fewer than `most`.
 pub fn read_up_to<R: Source>(
     alloc: Global,
     reader: &mut R,
@@ -49,7 +49,7 @@ pub fn read_up_to<R: Source>(
     ensures whole { IfOk result (λ bytes. vec_len bytes < most → IsAtEnd (R.left reader.new)) }
     ensures fine { OnOk result (R.read_failures reader.new ≡ R.read_failures reader.old) }
     ensures failed { result ≡ Err Read → HasFailed (R.read_failures reader.old) (R.read_failures reader.new) }
-    ensures limited { result ≡ Err ReadLimit → MAX_READS < most }
+    ensures limited { result ≡ Err ReadLimit → (bytes : List ℕ) × Consumes (R.left reader.old) (R.left reader.new) bytes × (MAX_READS ≤ length bytes) × (length bytes < most) }
 {
     let mut bytes = Vec::new(alloc);
     let mut room = room(alloc)?;
