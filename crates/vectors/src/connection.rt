@@ -9,8 +9,9 @@ use crate::history::{Connection, History};
 use crate::stop::Stop;
 use gateway_server::{Ended, Mark, fact_line};
 use register_store::Store;
-use sqlite::MemStore;
+use sqlite::Alter;
 use std::alloc::Global;
+use xbrl_report::Fact;
 
 /// A connection whose input ends after what is answered.
 fn answered<'a>(given: &'a str, written: &'a str, marks: &'a [Mark]) -> Connection<'a> {
@@ -53,8 +54,8 @@ pub(crate) fn registered(alloc: Global, limit: u32) -> Result<bool, Stop> {
 }
 
 /// Whether the fact of the example, and no other, is that of the first filing.
-fn has_fact(alloc: Global, store: &mut Store<MemStore>) -> Result<bool, Stop> {
-    match store.facts(1)? {
+fn has_fact<S: Alter>(alloc: Global, store: &mut Store<S>) -> Result<bool, Stop> {
+    match first_facts(store)? {
         None => Ok(false),
         Some(facts) => match facts.as_slice() {
             [fact] => Ok(
@@ -64,6 +65,11 @@ fn has_fact(alloc: Global, store: &mut Store<MemStore>) -> Result<bool, Stop> {
             _ => Ok(false),
         },
     }
+}
+
+/// The facts of the first filing.
+fn first_facts<S: Alter>(store: &mut Store<S>) -> Result<Option<Vec<Fact>>, Stop> {
+    Ok(store.facts(1)?)
 }
 
 /// Vector 2: repeats get the first reply, and add nothing.

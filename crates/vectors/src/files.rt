@@ -1,11 +1,10 @@
-//! Databases on disks in memory.
+//! Databases in files, on disks in memory.
 
 ghost use Rattle.std.specs.Prelude.{◌≡◌, false, None, IfOk, IsTrue};
-ghost use Rattle.sqlite_disk.specs.Memory.{memory_is_usable};
 
 use crate::stop::Stop;
 use sqlite::{Connection, FileStore, Files, Options};
-use sqlite_disk::Memory;
+use sqlite_disk::{Disk, Memory};
 use std::alloc::Global;
 
 /// A connection to a database that is new.
@@ -22,16 +21,26 @@ pub(crate) fn connect_new(alloc: Global) -> Result<Connection<FileStore<Memory>>
 }
 
 /// A connection to the database that is in these files.
-pub(crate) fn connect(
+pub(crate) fn connect<D: Disk + Drop>(
     alloc: Global,
-    files: Files<Memory>,
-) -> Result<Connection<FileStore<Memory>>, Stop>
-    requires log { IsTrue (memory_is_usable files.log) }
-    requires db { IsTrue (memory_is_usable files.db) }
+    files: Files<D>,
+) -> Result<Connection<FileStore<D>>, Stop>
+    requires log { IsTrue (D.Disk.is_usable files.log) }
+    requires db { IsTrue (D.Disk.is_usable files.db) }
     ensures { IfOk result (λ conn. (conn.in_transaction ≡ false) × (conn.step_limit ≡ None)) }
 {
     match Connection::open_files(alloc, files, Options::new(1)) {
         Ok(conn) => Ok(conn),
+        Err((error, _)) => Err(Stop::from(error)),
+    }
+}
+
+/// The files of a connection.
+pub(crate) fn close<D: Disk + Drop>(conn: Connection<FileStore<D>>) -> Result<Files<D>, Stop>
+    ensures { IfOk result (λ files. IsTrue (D.Disk.is_usable files.log) × IsTrue (D.Disk.is_usable files.db)) }
+{
+    match conn.close_files() {
+        Ok(files) => Ok(files),
         Err((error, _)) => Err(Stop::from(error)),
     }
 }

@@ -5,9 +5,9 @@ use gateway_server::{Ended, Mark, Served, serve};
 use http_wire::{ConnFault, Device};
 use intake_core::Intake;
 use register_store::Store;
-use sqlite::MemStore;
+use sqlite::{Alter, MemStore};
 use std::alloc::Global;
-use std::io::{self, Read};
+use std::io::{self, Read, Write};
 
 /// What is given to an intake on one connection, and what is to come of it.
 #[derive(Clone, Copy)]
@@ -60,31 +60,54 @@ impl<'a> History<'a> {
 
     /// The register after the connections, if each went as it is to go.
     pub(crate) fn run(&self, alloc: Global) -> Result<Option<Store<MemStore>>, Stop> {
-        let mut intake = Intake::in_memory(alloc, u64::from(self.limit))?;
+        let mut intake = empty_intake(alloc, self.limit)?;
+        if self.goes(alloc, &mut intake)? {
+            Ok(Some(register_of(intake)))
+        } else {
+            Ok(None)
+        }
+    }
+
+    /// Whether each connection goes as it is to go.
+    fn goes<S: Alter>(&self, alloc: Global, intake: &mut Intake<S>) -> Result<bool, Stop> {
         for connection in self.connections {
-            if !connection.goes(alloc, &mut intake, self.piece)? {
-                return Ok(None);
+            if !connection.goes(alloc, intake, self.piece)? {
+                return Ok(false);
             }
         }
-        Ok(Some(intake.into_store()))
+        Ok(true)
     }
 
     /// Whether the register holds as much as it is to hold.
-    pub(crate) fn leaves(&self, store: &Store<MemStore>) -> Result<bool, Stop> {
+    pub(crate) fn leaves<S: Alter>(&self, store: &Store<S>) -> Result<bool, Stop> {
         Ok(store.kept_count()? == self.kept && store.filing_count()? == self.filings)
     }
 }
 
+/// An intake that keeps nothing yet.
+fn empty_intake(alloc: Global, limit: u32) -> Result<Intake<MemStore>, Stop> {
+    Ok(Intake::in_memory(alloc, u64::from(limit))?)
+}
+
+/// The register of an intake.
+fn register_of<S: Alter>(intake: Intake<S>) -> Store<S> {
+    intake.into_store()
+}
+
 impl Connection<'_> {
     /// Whether the intake answers as it is to answer.
-    fn goes(
+    fn goes<S: Alter>(
         &self,
         alloc: Global,
-        intake: &mut Intake<MemStore>,
+        intake: &mut Intake<S>,
         piece: usize,
     ) -> Result<bool, Stop> {
         let mut output = Vec::new(alloc);
-        let served = served(alloc, intake, self.given, piece, &mut output);
+        let pieces = Pieces {
+            rest: self.given,
+            most: piece,
+        };
+        let served = served(alloc, intake, pieces, &mut output);
         self.is_so(&served, &output)
     }
 
@@ -101,24 +124,16 @@ impl Connection<'_> {
     }
 }
 
-/// Gives an intake these bytes on one connection, in pieces, and appends what it writes.
-fn served(
+/// Gives an intake what this reader has on one connection, and has what it writes written.
+pub(crate) fn served<R: Read + Drop, W: Write + Drop, S: Alter>(
     alloc: Global,
-    intake: &mut Intake<MemStore>,
-    given: &[u8],
-    piece: usize,
-    output: &mut Vec<u8>,
+    intake: &mut Intake<S>,
+    reader: R,
+    writer: W,
 ) -> Served {
-    let pieces = Pieces {
-        rest: given,
-        most: piece,
-    };
-    serve(
-        alloc,
-        &mut Device::new(pieces),
-        &mut Device::new(output),
-        intake,
-    )
+    let mut reader = Device::new(reader);
+    let mut writer = Device::new(writer);
+    serve(alloc, &mut reader, &mut writer, intake)
 }
 
 /// A reader that gives at most so many bytes a read.

@@ -1,5 +1,7 @@
 //! Vectors of an outbox.
 
+ghost use Rattle.std.specs.Prelude.{◌≡◌, false, None, IfOk, IsTrue};
+
 use crate::examples::{REGISTERED_CLOSED, REPORT, SMALLEST, front, repeated};
 use crate::files::{connect, connect_new};
 use crate::stop::{Stop, refusal};
@@ -7,7 +9,8 @@ use filer_client::{ExchangeFault, exchange};
 use http_wire::{Device, MAX_BODY_LEN, Reply, ReplyFault, append_request};
 use key_string::{KeyText, is_filer};
 use outbox_core::{Entry, Outbox, OutboxFault, PutFault, State, TakeFault, key_of};
-use sqlite::{Connection, MemStore};
+use sqlite::{Alter, Connection, FileStore, Files, MemStore};
+use sqlite_disk::Disk;
 use std::alloc::Global;
 use uuid::Uuid;
 
@@ -28,8 +31,34 @@ pub(crate) fn entries(alloc: Global) -> Result<bool, Stop> {
 
 /// The outbox of `ACME`, without entries.
 fn empty_outbox(alloc: Global) -> Result<Outbox<MemStore>, Stop> {
-    let conn = Connection::open_in_memory(alloc)?;
+    created(alloc, connect_in_memory(alloc)?)
+}
+
+/// A connection to a database in memory that is new.
+fn connect_in_memory(alloc: Global) -> Result<Connection<MemStore>, Stop>
+    ensures { IfOk result (λ conn. (conn.in_transaction ≡ false) × (conn.step_limit ≡ None)) }
+{
+    Ok(Connection::open_in_memory(alloc)?)
+}
+
+/// The outbox of `ACME`, made in this database.
+fn created<S: Alter + Drop>(alloc: Global, conn: Connection<S>) -> Result<Outbox<S>, Stop>
+    requires autocommit { conn.in_transaction ≡ false }
+    requires unlimited { conn.step_limit ≡ None }
+{
     Ok(Outbox::create(alloc, conn, "ACME")?)
+}
+
+/// How a new outbox of this filer is refused in this database, if it is.
+fn create_fault<S: Alter + Drop>(
+    alloc: Global,
+    conn: Connection<S>,
+    filer: &str,
+) -> Result<Option<OutboxFault>, Stop>
+    requires autocommit { conn.in_transaction ≡ false }
+    requires unlimited { conn.step_limit ≡ None }
+{
+    refusal(Outbox::create(alloc, conn, filer))
 }
 
 /// The outbox with the report under the key `k-1`.
@@ -40,9 +69,9 @@ fn outbox_with_report(alloc: Global) -> Result<Outbox<MemStore>, Stop> {
 }
 
 /// Puts a body under a key.
-fn put(
+fn put<S: Alter>(
     alloc: Global,
-    outbox: &mut Outbox<MemStore>,
+    outbox: &mut Outbox<S>,
     key: &str,
     body: &str,
 ) -> Result<Result<u64, PutFault>, Stop> {
@@ -52,7 +81,7 @@ fn put(
 }
 
 /// Whether the first body is put, and no other under its key, nor one that is too large.
-fn puts(alloc: Global, outbox: &mut Outbox<MemStore>) -> Result<bool, Stop> {
+fn puts<S: Alter>(alloc: Global, outbox: &mut Outbox<S>) -> Result<bool, Stop> {
     let first = put(alloc, outbox, "k-1", REPORT)??;
     let again = refusal(put(alloc, outbox, "k-1", SMALLEST)?)?;
     let large = repeated(alloc, ' ', 1_048_577)?;
@@ -65,10 +94,20 @@ fn puts(alloc: Global, outbox: &mut Outbox<MemStore>) -> Result<bool, Stop> {
 }
 
 /// Whether entry 1 is there, and the next that is open.
-fn is_open(outbox: &mut Outbox<MemStore>) -> Result<bool, Stop> {
-    let next = outbox.next_open()?;
-    let entry = outbox.entry(1)?;
+fn is_open<S: Alter>(outbox: &mut Outbox<S>) -> Result<bool, Stop> {
+    let next = next_open(outbox)?;
+    let entry = first_entry(outbox)?;
     Ok(is_first(&next) && is_first(&entry))
+}
+
+/// The next entry that is open.
+fn next_open<S: Alter>(outbox: &mut Outbox<S>) -> Result<Option<Entry>, Stop> {
+    Ok(outbox.next_open()?)
+}
+
+/// Entry 1.
+fn first_entry<S: Alter>(outbox: &mut Outbox<S>) -> Result<Option<Entry>, Stop> {
+    Ok(outbox.entry(1)?)
 }
 
 fn is_first(entry: &Option<Entry>) -> bool {
@@ -84,7 +123,7 @@ fn is_first(entry: &Option<Entry>) -> bool {
 }
 
 /// Whether replies move entry 1 as they are to, one after another, and there is no entry 2.
-fn moves(alloc: Global, outbox: &mut Outbox<MemStore>) -> Result<bool, Stop> {
+fn moves<S: Alter>(alloc: Global, outbox: &mut Outbox<S>) -> Result<bool, Stop> {
     for (status, content, state) in [
         (503, "{\"status\":\"unavailable\"}", State::Open),
         (
@@ -95,12 +134,17 @@ fn moves(alloc: Global, outbox: &mut Outbox<MemStore>) -> Result<bool, Stop> {
         (422, "{\"status\":\"key-reused\"}", State::Confirmed(1)),
     ] {
         let reply = reply(alloc, status, content)?;
-        if outbox.take(1, &reply)? != state {
+        if take(outbox, 1, &reply)? != state {
             return Ok(false);
         }
     }
     let reply = reply(alloc, 201, "{\"number\":1,\"status\":\"registered\"}")?;
-    Ok(refusal(outbox.take(2, &reply))? == Some(TakeFault::NoEntry))
+    Ok(refusal(take(outbox, 2, &reply))? == Some(TakeFault::NoEntry))
+}
+
+/// Moves an entry by a reply.
+fn take<S: Alter>(outbox: &mut Outbox<S>, id: u64, reply: &Reply) -> Result<State, TakeFault> {
+    outbox.take(id, reply)
 }
 
 fn reply(alloc: Global, status: u16, content: &str) -> Result<Reply, Stop> {
@@ -111,23 +155,35 @@ fn reply(alloc: Global, status: u16, content: &str) -> Result<Reply, Stop> {
 }
 
 /// Whether entry 1 is confirmed, and nothing else is there.
-fn is_confirmed(outbox: &mut Outbox<MemStore>) -> Result<bool, Stop> {
-    let next = outbox.next_open()?;
-    let states = outbox.states()?;
+fn is_confirmed<S: Alter>(outbox: &mut Outbox<S>) -> Result<bool, Stop> {
+    let next = next_open(outbox)?;
+    let states = states(outbox)?;
     Ok(next.is_none() && states.as_slice() == [(1, State::Confirmed(1))].as_slice())
+}
+
+/// The entries and how they stand.
+fn states<S: Alter>(outbox: &mut Outbox<S>) -> Result<Vec<(u64, State)>, Stop> {
+    Ok(outbox.states()?)
 }
 
 /// Whether an outbox of no filer is refused.
 fn bad_filer(alloc: Global) -> Result<bool, Stop> {
-    let conn = Connection::open_in_memory(alloc)?;
-    Ok(refusal(Outbox::create(alloc, conn, "a b"))? == Some(OutboxFault::BadFiler))
+    let conn = connect_in_memory(alloc)?;
+    Ok(create_fault(alloc, conn, "a b")? == Some(OutboxFault::BadFiler))
 }
 
 /// Whether a second outbox in a database is refused.
 fn taken(alloc: Global) -> Result<bool, Stop> {
-    let first = Outbox::create(alloc, connect_new(alloc)?, "ACME")?;
-    let conn = connect(alloc, first.into_files()?)?;
-    Ok(refusal(Outbox::create(alloc, conn, "ACME"))? == Some(OutboxFault::Taken))
+    let first = created(alloc, connect_new(alloc)?)?;
+    let conn = connect(alloc, files_of(first)?)?;
+    Ok(create_fault(alloc, conn, "ACME")? == Some(OutboxFault::Taken))
+}
+
+/// The files of an outbox.
+fn files_of<D: Disk + Drop>(outbox: Outbox<FileStore<D>>) -> Result<Files<D>, Stop>
+    ensures { IfOk result (λ files. IsTrue (D.Disk.is_usable files.log) × IsTrue (D.Disk.is_usable files.db)) }
+{
+    Ok(outbox.into_files()?)
 }
 
 fn is_key_of_nil(alloc: Global) -> Result<bool, Stop> {
@@ -138,7 +194,7 @@ fn is_key_of_nil(alloc: Global) -> Result<bool, Stop> {
 /// Whether the requests of entry 1, and of the smallest report in its place, are as long as they are to be.
 fn requests(alloc: Global) -> Result<bool, Stop> {
     let mut outbox = outbox_with_report(alloc)?;
-    match outbox.entry(1)? {
+    match first_entry(&mut outbox)? {
         None => Ok(false),
         Some(entry) => Ok(
             request_length(alloc, &entry.key, entry.body.as_slice())? == Some(537)
@@ -191,9 +247,9 @@ fn cut_exchange(alloc: Global) -> Result<bool, Stop> {
 }
 
 /// Sends entry 1 over a stream in memory.
-fn exchanged(
+fn exchanged<S: Alter>(
     alloc: Global,
-    outbox: &mut Outbox<MemStore>,
+    outbox: &mut Outbox<S>,
     given: &[u8],
     written: &mut Vec<u8>,
 ) -> Result<State, ExchangeFault> {

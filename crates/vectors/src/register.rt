@@ -1,19 +1,18 @@
 //! The vector of a register that is opened again.
 
-ghost use Rattle.std.specs.Prelude.{IfOk, IsTrue};
+ghost use Rattle.std.specs.Prelude.{◌≡◌, false, None, IfOk, IsTrue};
 ghost use Rattle.sqlite_disk.specs.Memory.{memory_is_usable};
 
 use crate::examples::{REGISTERED, REPORT, REQUEST, SMALLEST};
-use crate::files::{connect, connect_new};
-use crate::history;
+use crate::files::{close, connect, connect_new};
+use crate::history::{self, served};
 use crate::stop::{Stop, refusal};
-use gateway_server::{Ended, Mark, Served, serve};
-use http_wire::Device;
+use gateway_server::{Ended, Mark};
 use intake_core::Intake;
 use key_string::KeyText;
-use register_store::{CreateFault, OpenFault, Outcome, Store};
-use sqlite::{Connection, FileStore, Files, params};
-use sqlite_disk::Memory;
+use register_store::{CreateFault, KeptRow, OpenFault, Outcome, Store};
+use sqlite::{Alter, Connection, FileStore, Files, params};
+use sqlite_disk::{Disk, Memory};
 use std::alloc::Global;
 
 /// Vector 23: a register is found as it was left, and damage to it is told.
@@ -25,14 +24,28 @@ pub(crate) fn reopened(alloc: Global) -> Result<bool, Stop> {
 fn register_files(alloc: Global) -> Result<Files<Memory>, Stop>
     ensures { IfOk result (λ files. IsTrue (memory_is_usable files.log) × IsTrue (memory_is_usable files.db)) }
 {
-    let store = Store::create(alloc, connect_new(alloc)?)?;
-    let mut intake = Intake::new(alloc, store, 1_000_000);
+    let mut intake = empty_intake(alloc, connect_new(alloc)?)?;
     fill(alloc, &mut intake)?;
+    files_of(intake)
+}
+
+/// An intake over a new register in this database.
+fn empty_intake<S: Alter + Drop>(alloc: Global, conn: Connection<S>) -> Result<Intake<S>, Stop>
+    requires autocommit { conn.in_transaction ≡ false }
+    requires unlimited { conn.step_limit ≡ None }
+{
+    Ok(Intake::new(alloc, Store::create(alloc, conn)?, 1_000_000))
+}
+
+/// The files of an intake's register.
+fn files_of<D: Disk + Drop>(intake: Intake<FileStore<D>>) -> Result<Files<D>, Stop>
+    ensures { IfOk result (λ files. IsTrue (D.Disk.is_usable files.log) × IsTrue (D.Disk.is_usable files.db)) }
+{
     Ok(intake.into_store().into_files()?)
 }
 
 /// Gives an intake three times the same request.
-fn fill(alloc: Global, intake: &mut Intake<FileStore<Memory>>) -> Result<(), Stop> {
+fn fill<S: Alter>(alloc: Global, intake: &mut Intake<S>) -> Result<(), Stop> {
     let given = format!(in alloc; "{REQUEST}{REQUEST}{REQUEST}")?;
     let written = format!(in alloc; "{REGISTERED}{REGISTERED}{REGISTERED}")?;
     let mut output = Vec::new(alloc);
@@ -50,25 +63,10 @@ fn fill(alloc: Global, intake: &mut Intake<FileStore<Memory>>) -> Result<(), Sto
     }
 }
 
-/// Gives an intake these bytes on one connection, and appends what it writes.
-fn served(
-    alloc: Global,
-    intake: &mut Intake<FileStore<Memory>>,
-    given: &[u8],
-    output: &mut Vec<u8>,
-) -> Served {
-    serve(
-        alloc,
-        &mut Device::new(given),
-        &mut Device::new(output),
-        intake,
-    )
-}
-
 /// Whether an opening finds the one request, and no other.
 fn found(alloc: Global) -> Result<bool, Stop> {
     let conn = connect(alloc, register_files(alloc)?)?;
-    let mut store = Store::open(alloc, conn)?;
+    let mut store = opened(alloc, conn)?;
     Ok(
         has_first(alloc, &mut store)?
             && has_no_second(alloc, &mut store)?
@@ -76,9 +74,22 @@ fn found(alloc: Global) -> Result<bool, Stop> {
     )
 }
 
-fn has_first(alloc: Global, store: &mut Store<FileStore<Memory>>) -> Result<bool, Stop> {
-    let key = KeyText::new(alloc, "k-1")?;
-    match store.find("ACME", &key)? {
+/// The register that is in this database.
+fn opened<S: Alter + Drop>(alloc: Global, conn: Connection<S>) -> Result<Store<S>, Stop>
+    requires autocommit { conn.in_transaction ≡ false }
+    requires unlimited { conn.step_limit ≡ None }
+{
+    Ok(Store::open(alloc, conn)?)
+}
+
+/// What is kept of `ACME` under a key.
+fn kept<S: Alter>(alloc: Global, store: &mut Store<S>, key: &str) -> Result<Option<KeptRow>, Stop> {
+    let key = KeyText::new(alloc, key)?;
+    Ok(store.find("ACME", &key)?)
+}
+
+fn has_first<S: Alter>(alloc: Global, store: &mut Store<S>) -> Result<bool, Stop> {
+    match kept(alloc, store, "k-1")? {
         None => Ok(false),
         Some(row) => Ok(
             row.body.as_slice() == REPORT.as_bytes()
@@ -87,12 +98,11 @@ fn has_first(alloc: Global, store: &mut Store<FileStore<Memory>>) -> Result<bool
     }
 }
 
-fn has_no_second(alloc: Global, store: &mut Store<FileStore<Memory>>) -> Result<bool, Stop> {
-    let key = KeyText::new(alloc, "k-2")?;
-    Ok(store.find("ACME", &key)?.is_none())
+fn has_no_second<S: Alter>(alloc: Global, store: &mut Store<S>) -> Result<bool, Stop> {
+    Ok(kept(alloc, store, "k-2")?.is_none())
 }
 
-fn has_one_request(store: &mut Store<FileStore<Memory>>) -> Result<bool, Stop> {
+fn has_one_request<S: Alter>(store: &mut Store<S>) -> Result<bool, Stop> {
     match store.requests()?.as_slice() {
         [request] => Ok(
             request.filer.as_str() == "ACME"
@@ -106,15 +116,26 @@ fn has_one_request(store: &mut Store<FileStore<Memory>>) -> Result<bool, Stop> {
 /// Whether another body in the kept row is told.
 fn damaged(alloc: Global) -> Result<bool, Stop> {
     let files = changed(alloc, register_files(alloc)?)?;
-    let refused = refusal(Store::open(alloc, connect(alloc, files)?))?;
-    Ok(refused == Some(OpenFault::Damaged { row: 1 }))
+    let conn = connect(alloc, files)?;
+    Ok(open_fault(alloc, conn)? == Some(OpenFault::Damaged { row: 1 }))
+}
+
+/// How a database is refused as a register, if it is.
+fn open_fault<S: Alter + Drop>(
+    alloc: Global,
+    conn: Connection<S>,
+) -> Result<Option<OpenFault>, Stop>
+    requires autocommit { conn.in_transaction ≡ false }
+    requires unlimited { conn.step_limit ≡ None }
+{
+    refusal(Store::open(alloc, conn))
 }
 
 /// The files after the kept body was changed.
-fn changed(alloc: Global, files: Files<Memory>) -> Result<Files<Memory>, Stop>
-    requires log { IsTrue (memory_is_usable files.log) }
-    requires db { IsTrue (memory_is_usable files.db) }
-    ensures { IfOk result (λ files. IsTrue (memory_is_usable files.log) × IsTrue (memory_is_usable files.db)) }
+fn changed<D: Disk + Drop>(alloc: Global, files: Files<D>) -> Result<Files<D>, Stop>
+    requires log { IsTrue (D.Disk.is_usable files.log) }
+    requires db { IsTrue (D.Disk.is_usable files.db) }
+    ensures { IfOk result (λ files. IsTrue (D.Disk.is_usable files.log) × IsTrue (D.Disk.is_usable files.db)) }
 {
     let mut conn = connect(alloc, files)?;
     change(&mut conn)?;
@@ -122,7 +143,7 @@ fn changed(alloc: Global, files: Files<Memory>) -> Result<Files<Memory>, Stop>
 }
 
 /// Puts another body into the kept row.
-fn change(conn: &mut Connection<FileStore<Memory>>) -> Result<(), Stop> {
+fn change<S: Alter>(conn: &mut Connection<S>) -> Result<(), Stop> {
     conn.execute(
         "UPDATE kept SET body = ?1 WHERE seq = 1",
         params![SMALLEST.as_bytes()],
@@ -130,24 +151,25 @@ fn change(conn: &mut Connection<FileStore<Memory>>) -> Result<(), Stop> {
     Ok(())
 }
 
-/// The files of a connection.
-fn close(conn: Connection<FileStore<Memory>>) -> Result<Files<Memory>, Stop>
-    ensures { IfOk result (λ files. IsTrue (memory_is_usable files.log) × IsTrue (memory_is_usable files.db)) }
-{
-    match conn.close_files() {
-        Ok(files) => Ok(files),
-        Err((error, _)) => Err(Stop::from(error)),
-    }
-}
-
 /// Whether a database without tables is told.
 fn not_ours(alloc: Global) -> Result<bool, Stop> {
-    let refused = refusal(Store::open(alloc, connect_new(alloc)?))?;
-    Ok(refused == Some(OpenFault::NotOurs))
+    let conn = connect_new(alloc)?;
+    Ok(open_fault(alloc, conn)? == Some(OpenFault::NotOurs))
 }
 
 /// Whether a second register in a database is refused.
 fn taken(alloc: Global) -> Result<bool, Stop> {
     let conn = connect(alloc, register_files(alloc)?)?;
-    Ok(refusal(Store::create(alloc, conn))? == Some(CreateFault::Taken))
+    Ok(create_fault(alloc, conn)? == Some(CreateFault::Taken))
+}
+
+/// How a new register is refused in this database, if it is.
+fn create_fault<S: Alter + Drop>(
+    alloc: Global,
+    conn: Connection<S>,
+) -> Result<Option<CreateFault>, Stop>
+    requires autocommit { conn.in_transaction ≡ false }
+    requires unlimited { conn.step_limit ≡ None }
+{
+    refusal(Store::create(alloc, conn))
 }
