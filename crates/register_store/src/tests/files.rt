@@ -1,9 +1,8 @@
 //! Registers in files on disks in memory, which may stop.
 
-ghost use Rattle.std.specs.Prelude.{◌≡◌, false, None, IfSome};
-
-use super::{REPORT, add, find, keep};
-use crate::{Completed, Outcome, Store};
+use super::calls::{close, create, into_files, open, requests};
+use super::{REPORT, add, is_new, is_registered, keep};
+use crate::{Completed, Store};
 use sqlite::{Connection, FileStore, Files, Options};
 use sqlite_disk::{Crash, Disk, Fuse, Memory};
 use std::alloc::Global;
@@ -13,9 +12,7 @@ use std::test::Fail;
 const ENOUGH: u64 = 1000;
 
 /// A connection to the database that is in these files, or `None` where it is not opened.
-fn connect<D: Disk + Drop>(alloc: Global, files: Files<D>) -> Option<Connection<FileStore<D>>>
-    ensures { IfSome result (λ conn. (conn.in_transaction ≡ false) × (conn.step_limit ≡ None)) }
-{
+fn connect<D: Disk + Drop>(alloc: Global, files: Files<D>) -> Option<Connection<FileStore<D>>> {
     if !files.log.may_be_used() || !files.db.may_be_used() {
         return None;
     }
@@ -25,15 +22,25 @@ fn connect<D: Disk + Drop>(alloc: Global, files: Files<D>) -> Option<Connection<
     }
 }
 
-/// The files of a register with a report of one fact.
-fn with_one(alloc: Global) -> Result<Files<Memory>, Fail> {
+/// The register that is in these files.
+fn opened<D: Disk + Drop>(alloc: Global, files: Files<D>) -> Result<Store<FileStore<D>>, Fail> {
+    Ok(open(alloc, connect(alloc, files).ok_or("no database")?)??)
+}
+
+/// A register with a report of one fact, in new files.
+fn made(alloc: Global) -> Result<Store<FileStore<Memory>>, Fail> {
     let files = Files {
         log: Memory::new(alloc),
         db: Memory::new(alloc),
     };
-    let mut store = Store::create(alloc, connect(alloc, files).ok_or("no database")?)?;
+    let mut store = create(alloc, connect(alloc, files).ok_or("no database")?)??;
     keep(alloc, &mut store, "ACME", "k-1", REPORT)?;
-    Ok(store.into_files()?)
+    Ok(store)
+}
+
+/// The files of such a register.
+fn with_one(alloc: Global) -> Result<Files<Memory>, Fail> {
+    Ok(into_files(made(alloc)?)?)
 }
 
 /// A register of one report on disks that stop after so many calls, or `None` where it is not opened by then.
@@ -48,17 +55,14 @@ fn stopping(
         db: Fuse::new(files.db, db),
     };
     match connect(alloc, fused) {
-        Some(conn) => Ok(Store::open(alloc, conn).ok()),
+        Some(conn) => Ok(open(alloc, conn)?.ok()),
         None => Ok(None),
     }
 }
 
 /// The files as the machine finds them when it comes back.
 fn after_crash(store: Store<FileStore<Fuse<Memory>>>) -> Files<Fuse<Memory>> {
-    let mut files = match store.into_conn().close_files() {
-        Ok(files) => files,
-        Err((_, store)) => store.close(),
-    };
+    let mut files = close(store);
     files.log.crash();
     files.db.crash();
     files
@@ -77,11 +81,8 @@ fn found_after(
     alloc: Global,
     store: Store<FileStore<Fuse<Memory>>>,
 ) -> Result<Vec<Completed>, Fail> {
-    let mut store = Store::open(
-        alloc,
-        connect(alloc, after_crash(store)).ok_or("no database")?,
-    )?;
-    Ok(store.requests()?)
+    let mut store = opened(alloc, after_crash(store))?;
+    Ok(requests(&mut store)?)
 }
 
 /// Whether these are the first request and, where it was answered, the second.
@@ -93,12 +94,12 @@ fn are_before_or_after(found: &[Completed], answered: bool) -> bool {
     }
 }
 
-/// Keeps a second request, and opens the register again.
-fn stopped_at(alloc: Global, body: &[u8], log: u64, db: u64) -> Result<Kept, Fail> {
-    let Some(mut store) = stopping(alloc, log, db)? else {
-        return Ok(Kept::NotOpened);
-    };
-    let answered = add(alloc, &mut store, "ACME", "k-2", body)?.is_ok();
+/// Opens the register again, whose rows are to be those of before or after a request that was answered or refused.
+fn found_as_answered(
+    alloc: Global,
+    store: Store<FileStore<Fuse<Memory>>>,
+    answered: bool,
+) -> Result<Kept, Fail> {
     let found = found_after(alloc, store)?;
     if !are_before_or_after(&found, answered) {
         return Err(Fail::from("the rows are neither of before nor of after"));
@@ -108,6 +109,15 @@ fn stopped_at(alloc: Global, body: &[u8], log: u64, db: u64) -> Result<Kept, Fai
     } else {
         Ok(Kept::Refused)
     }
+}
+
+/// Keeps a second request, and opens the register again.
+fn stopped_at(alloc: Global, body: &[u8], log: u64, db: u64) -> Result<Kept, Fail> {
+    let Some(mut store) = stopping(alloc, log, db)? else {
+        return Ok(Kept::NotOpened);
+    };
+    let answered = add(alloc, &mut store, "ACME", "k-2", body)?.is_ok();
+    found_as_answered(alloc, store, answered)
 }
 
 /// Stops the log after 0, 1, 2, .. calls, until the request is answered; whether it was refused before.
@@ -153,15 +163,10 @@ fn so_does_a_stop_of_the_other_file(rt: HostRuntime) -> Result<(), Fail> {
 #[test]
 fn files_are_opened_again(rt: HostRuntime) -> Result<(), Fail> {
     let alloc = rt.alloc();
-    let mut store = Store::open(
-        alloc,
-        connect(alloc, with_one(alloc)?).ok_or("no database")?,
-    )?;
-    let first = find(alloc, &mut store, "ACME", "k-1")?.ok_or("it is not kept")?;
-    assert_eq!(rt; first.body.as_slice(), REPORT);
-    assert!(rt; matches!(first.outcome, Outcome::Registered(1)));
-    assert!(rt; find(alloc, &mut store, "ACME", "k-2")?.is_none());
-    let requests = store.requests()?;
+    let mut store = opened(alloc, with_one(alloc)?)?;
+    assert!(rt; is_registered(alloc, &mut store, "ACME", "k-1", REPORT, 1)?);
+    assert!(rt; is_new(alloc, &mut store, "ACME", "k-2")?);
+    let requests = requests(&mut store)?;
     assert!(rt; are_before_or_after(&requests, false) && requests.len() == 1);
     Ok(())
 }
