@@ -3,13 +3,58 @@
 use super::calls::{close, create, into_files, open, requests};
 use super::{REPORT, add, is_new, is_registered, keep};
 use crate::{Completed, Store};
-use sqlite::{Connection, FileStore, Files, Options};
+use sqlite::{Alter, Connection, FileStore, Files, Options};
 use sqlite_disk::{Crash, Disk, Fuse, Memory};
 use std::alloc::Global;
+use std::process::Abort;
 use std::test::Fail;
 
 /// More calls than the runs below make of a disk.
 const ENOUGH: u64 = 1000;
+
+// What needs no disk by name is generic over the store, and the rest over the disk.
+
+/// A register with a report of one fact.
+fn made<S: Alter + Drop>(alloc: Global, conn: Connection<S>) -> Result<Store<S>, Fail> {
+    let mut store = create(alloc, conn)??;
+    keep(alloc, &mut store, "ACME", "k-1", REPORT)?;
+    Ok(store)
+}
+
+/// The requests that are found, in the order of the rows.
+fn found<S: Alter + Drop>(alloc: Global, conn: Connection<S>) -> Result<Vec<Completed>, Fail> {
+    let mut store = open(alloc, conn)??;
+    Ok(requests(&mut store)?)
+}
+
+/// A register that is opened and then asked to keep a second request, and whether it answers; `None` where it is not opened.
+fn asked<S: Alter + Drop>(
+    alloc: Global,
+    conn: Connection<S>,
+    body: &[u8],
+) -> Result<Option<(Store<S>, bool)>, Fail> {
+    match open(alloc, conn)? {
+        Ok(mut store) => {
+            let answered = add(alloc, &mut store, "ACME", "k-2", body)?.is_ok();
+            Ok(Some((store, answered)))
+        }
+        Err(_) => Ok(None),
+    }
+}
+
+/// Asserts that the report is kept, and no other request.
+fn has_one<S: Alter + Drop>(
+    rt: &impl Abort,
+    alloc: Global,
+    conn: Connection<S>,
+) -> Result<(), Fail> {
+    let mut store = open(alloc, conn)??;
+    assert!(rt; is_registered(alloc, &mut store, "ACME", "k-1", REPORT, 1)?);
+    assert!(rt; is_new(alloc, &mut store, "ACME", "k-2")?);
+    let requests = requests(&mut store)?;
+    assert!(rt; are_before_or_after(&requests, false) && requests.len() == 1);
+    Ok(())
+}
 
 /// A connection to the database that is in these files, or `None` where it is not opened.
 fn connect<D: Disk + Drop>(alloc: Global, files: Files<D>) -> Option<Connection<FileStore<D>>> {
@@ -22,46 +67,33 @@ fn connect<D: Disk + Drop>(alloc: Global, files: Files<D>) -> Option<Connection<
     }
 }
 
-/// The register that is in these files.
-fn opened<D: Disk + Drop>(alloc: Global, files: Files<D>) -> Result<Store<FileStore<D>>, Fail> {
-    Ok(open(alloc, connect(alloc, files).ok_or("no database")?)??)
+/// The files, with a register of one report.
+fn with_one_in<D: Disk + Drop>(alloc: Global, files: Files<D>) -> Result<Files<D>, Fail> {
+    match connect(alloc, files) {
+        Some(conn) => Ok(into_files(made(alloc, conn)?)?),
+        None => Err(Fail::from("no database")),
+    }
 }
 
-/// A register with a report of one fact, in new files.
-fn made(alloc: Global) -> Result<Store<FileStore<Memory>>, Fail> {
+/// The files of a register with a report of one fact.
+fn with_one(alloc: Global) -> Result<Files<Memory>, Fail> {
     let files = Files {
         log: Memory::new(alloc),
         db: Memory::new(alloc),
     };
-    let mut store = create(alloc, connect(alloc, files).ok_or("no database")?)??;
-    keep(alloc, &mut store, "ACME", "k-1", REPORT)?;
-    Ok(store)
+    with_one_in(alloc, files)
 }
 
-/// The files of such a register.
-fn with_one(alloc: Global) -> Result<Files<Memory>, Fail> {
-    Ok(into_files(made(alloc)?)?)
-}
-
-/// A register of one report on disks that stop after so many calls, or `None` where it is not opened by then.
-fn stopping(
-    alloc: Global,
-    log: u64,
-    db: u64,
-) -> Result<Option<Store<FileStore<Fuse<Memory>>>>, Fail> {
-    let files = with_one(alloc)?;
-    let fused = Files {
-        log: Fuse::new(files.log, log),
-        db: Fuse::new(files.db, db),
-    };
-    match connect(alloc, fused) {
-        Some(conn) => Ok(open(alloc, conn)?.ok()),
-        None => Ok(None),
+/// The requests that are found in these files.
+fn found_in<D: Disk + Drop>(alloc: Global, files: Files<D>) -> Result<Vec<Completed>, Fail> {
+    match connect(alloc, files) {
+        Some(conn) => found(alloc, conn),
+        None => Err(Fail::from("no database")),
     }
 }
 
 /// The files as the machine finds them when it comes back.
-fn after_crash(store: Store<FileStore<Fuse<Memory>>>) -> Files<Fuse<Memory>> {
+fn after_crash<D: Crash + Drop>(store: Store<FileStore<D>>) -> Files<D> {
     let mut files = close(store);
     files.log.crash();
     files.db.crash();
@@ -76,15 +108,6 @@ enum Kept {
     Answered,
 }
 
-/// The requests that are found after a stop, in the order of the rows.
-fn found_after(
-    alloc: Global,
-    store: Store<FileStore<Fuse<Memory>>>,
-) -> Result<Vec<Completed>, Fail> {
-    let mut store = opened(alloc, after_crash(store))?;
-    Ok(requests(&mut store)?)
-}
-
 /// Whether these are the first request and, where it was answered, the second.
 fn are_before_or_after(found: &[Completed], answered: bool) -> bool {
     match found {
@@ -94,14 +117,9 @@ fn are_before_or_after(found: &[Completed], answered: bool) -> bool {
     }
 }
 
-/// Opens the register again, whose rows are to be those of before or after a request that was answered or refused.
-fn found_as_answered(
-    alloc: Global,
-    store: Store<FileStore<Fuse<Memory>>>,
-    answered: bool,
-) -> Result<Kept, Fail> {
-    let found = found_after(alloc, store)?;
-    if !are_before_or_after(&found, answered) {
+/// What became of a request that was answered or refused, where these are found then.
+fn kept_as(found: &[Completed], answered: bool) -> Result<Kept, Fail> {
+    if !are_before_or_after(found, answered) {
         return Err(Fail::from("the rows are neither of before nor of after"));
     }
     if answered {
@@ -111,13 +129,28 @@ fn found_as_answered(
     }
 }
 
-/// Keeps a second request, and opens the register again.
-fn stopped_at(alloc: Global, body: &[u8], log: u64, db: u64) -> Result<Kept, Fail> {
-    let Some(mut store) = stopping(alloc, log, db)? else {
+/// Keeps a second request in the register that is in these files, and opens it again after a crash.
+fn stopped_in<D: Crash + Drop>(alloc: Global, files: Files<D>, body: &[u8]) -> Result<Kept, Fail> {
+    let Some(conn) = connect(alloc, files) else {
         return Ok(Kept::NotOpened);
     };
-    let answered = add(alloc, &mut store, "ACME", "k-2", body)?.is_ok();
-    found_as_answered(alloc, store, answered)
+    match asked(alloc, conn, body)? {
+        Some((store, answered)) => {
+            let found = found_in(alloc, after_crash(store))?;
+            kept_as(&found, answered)
+        }
+        None => Ok(Kept::NotOpened),
+    }
+}
+
+/// The same on disks that stop after so many calls.
+fn stopped_at(alloc: Global, body: &[u8], log: u64, db: u64) -> Result<Kept, Fail> {
+    let files = with_one(alloc)?;
+    let fused = Files {
+        log: Fuse::new(files.log, log),
+        db: Fuse::new(files.db, db),
+    };
+    stopped_in(alloc, fused, body)
 }
 
 /// Stops the log after 0, 1, 2, .. calls, until the request is answered; whether it was refused before.
@@ -160,13 +193,16 @@ fn so_does_a_stop_of_the_other_file(rt: HostRuntime) -> Result<(), Fail> {
     Ok(())
 }
 
+/// Asserts that the report is kept in these files, and no other request.
+fn has_one_in<D: Disk + Drop>(rt: &impl Abort, alloc: Global, files: Files<D>) -> Result<(), Fail> {
+    match connect(alloc, files) {
+        Some(conn) => has_one(rt, alloc, conn),
+        None => Err(Fail::from("no database")),
+    }
+}
+
 #[test]
 fn files_are_opened_again(rt: HostRuntime) -> Result<(), Fail> {
     let alloc = rt.alloc();
-    let mut store = opened(alloc, with_one(alloc)?)?;
-    assert!(rt; is_registered(alloc, &mut store, "ACME", "k-1", REPORT, 1)?);
-    assert!(rt; is_new(alloc, &mut store, "ACME", "k-2")?);
-    let requests = requests(&mut store)?;
-    assert!(rt; are_before_or_after(&requests, false) && requests.len() == 1);
-    Ok(())
+    has_one_in(&rt, alloc, with_one(alloc)?)
 }
