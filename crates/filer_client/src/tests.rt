@@ -1,12 +1,13 @@
-use crate::{ExchangeFault, ToSend, exchange, hand_over, open_request, request_bytes};
+use crate::{ExchangeFault, ToSend};
 use http_wire::{Device, ReplyFault};
 use key_string::KeyText;
 use outbox_core::{Outbox, State, TakeFault};
-use sqlite::{Connection, MemStore};
+use sqlite::MemStore;
 use std::alloc::Global;
 use std::test::Fail;
 use streams::{Giving, Taking, front};
 
+mod calls;
 mod streams;
 
 const REPORT: &str =
@@ -28,10 +29,9 @@ const LEAST: &str =
 
 /// The outbox of a filer with one entry, which is open.
 fn made(alloc: Global) -> Option<Outbox<MemStore>> {
-    let conn = Connection::open_in_memory(alloc).ok()?;
-    let mut outbox = Outbox::create(alloc, conn, "ACME").ok()?;
+    let mut outbox = calls::create(alloc)?;
     let body = REPORT.as_bytes().to_vec(alloc).ok()?;
-    outbox.put(KeyText::new(alloc, "k-1").ok()?, body).ok()?;
+    calls::put(&mut outbox, KeyText::new(alloc, "k-1").ok()?, body).ok()?;
     Some(outbox)
 }
 
@@ -52,7 +52,7 @@ fn exchanged(
     id: u64,
 ) -> Result<(Result<State, ExchangeFault>, String), Fail> {
     let mut output: Vec<u8> = Vec::new(alloc);
-    let answer = exchange(
+    let answer = calls::exchanged(
         alloc,
         &mut Device::new(input),
         &mut Device::new(&mut output),
@@ -63,7 +63,7 @@ fn exchanged(
 }
 
 fn state_of(outbox: &mut Outbox<MemStore>, id: u64) -> Result<Option<State>, Fail> {
-    Ok(outbox.entry(id)?.map(|entry| entry.state))
+    Ok(calls::state_of(outbox, id)?)
 }
 
 #[test]
@@ -95,7 +95,7 @@ fn each_front_of_a_reply_is_cut(rt: HostRuntime) -> Result<(), Fail> {
     assert_eq!(rt; reply.len(), 110);
     for most in 0..110 {
         let mut reader = Device::new(front(reply, most));
-        let answer = hand_over(rt.alloc(), &mut reader, &mut outbox, 1);
+        let answer = calls::heard(rt.alloc(), &mut reader, &mut outbox, 1);
         assert_eq!(rt;
             answer,
             Err(ExchangeFault::Reply(ReplyFault::Cut)),
@@ -104,7 +104,7 @@ fn each_front_of_a_reply_is_cut(rt: HostRuntime) -> Result<(), Fail> {
         assert_eq!(rt; state_of(&mut outbox, 1)?, Some(State::Open));
     }
     let mut reader = Device::new(reply);
-    let answer = hand_over(rt.alloc(), &mut reader, &mut outbox, 1);
+    let answer = calls::heard(rt.alloc(), &mut reader, &mut outbox, 1);
     assert_eq!(rt; answer, Ok(State::Confirmed(1)));
     Ok(())
 }
@@ -115,8 +115,9 @@ fn the_request_of_the_least_report(rt: HostRuntime) -> Result<(), Fail> {
     let mut body = Vec::new(rt.alloc());
     body.extend_from_slice(LEAST.as_bytes())?;
     assert_eq!(rt; body.len(), 84);
-    assert_eq!(rt; outbox.put(KeyText::new(rt.alloc(), "k-2")?, body)?, 2);
-    assert_eq!(rt; request_bytes(rt.alloc(), &mut outbox, 2)?.len(), 227);
+    let put = calls::put(&mut outbox, KeyText::new(rt.alloc(), "k-2")?, body);
+    assert_eq!(rt; put, Ok(2));
+    assert_eq!(rt; calls::bytes(rt.alloc(), &mut outbox, 2)?.len(), 227);
     Ok(())
 }
 
@@ -140,7 +141,7 @@ fn no_entry(rt: HostRuntime) -> Result<(), Fail> {
     assert_eq!(rt; output.len(), 0);
     let mut reader = Device::new(REGISTERED.as_bytes());
     assert_eq!(rt;
-        hand_over(rt.alloc(), &mut reader, &mut outbox, 2),
+        calls::heard(rt.alloc(), &mut reader, &mut outbox, 2),
         Err(fault)
     );
     assert_eq!(rt; state_of(&mut outbox, 1)?, Some(State::Open));
@@ -151,22 +152,22 @@ fn no_entry(rt: HostRuntime) -> Result<(), Fail> {
 fn the_halves_of_an_exchange(rt: HostRuntime) -> Result<(), Fail> {
     let mut outbox = outbox(rt.alloc())?;
     let expected = request(rt.alloc())?;
-    match open_request(rt.alloc(), &mut outbox, 1)? {
+    match calls::to_send(rt.alloc(), &mut outbox, 1)? {
         ToSend::Request(bytes) => assert_eq!(rt; bytes.as_slice(), expected.as_bytes()),
         ToSend::Settled(_) => assert!(rt; false),
     }
     let mut reader = Device::new(REGISTERED.as_bytes());
     assert_eq!(rt;
-        hand_over(rt.alloc(), &mut reader, &mut outbox, 1)?,
+        calls::heard(rt.alloc(), &mut reader, &mut outbox, 1)?,
         State::Confirmed(1)
     );
-    match open_request(rt.alloc(), &mut outbox, 1)? {
+    match calls::to_send(rt.alloc(), &mut outbox, 1)? {
         ToSend::Request(_) => assert!(rt; false),
         ToSend::Settled(state) => assert_eq!(rt; state, State::Confirmed(1)),
     }
 
     // A confirmed entry still has its request.
-    let bytes = request_bytes(rt.alloc(), &mut outbox, 1)?;
+    let bytes = calls::bytes(rt.alloc(), &mut outbox, 1)?;
     assert_eq!(rt; bytes.as_slice(), expected.as_bytes());
     Ok(())
 }
@@ -179,7 +180,7 @@ fn each_write_fails_once(rt: HostRuntime) -> Result<(), Fail> {
     // 537 bytes, 100 a write.
     for calls in 0..6 {
         let mut output: Vec<u8> = Vec::new(rt.alloc());
-        let answer = exchange(
+        let answer = calls::exchanged(
             rt.alloc(),
             &mut Device::new(REGISTERED.as_bytes()),
             &mut Device::new(Taking {
@@ -207,7 +208,7 @@ fn each_read_fails_once(rt: HostRuntime) -> Result<(), Fail> {
     // 129 bytes, 50 a read.
     for calls in 0..3 {
         let mut output: Vec<u8> = Vec::new(rt.alloc());
-        let answer = exchange(
+        let answer = calls::exchanged(
             rt.alloc(),
             &mut Device::new(Giving {
                 rest: REGISTERED.as_bytes(),
@@ -228,7 +229,7 @@ fn each_read_fails_once(rt: HostRuntime) -> Result<(), Fail> {
         calls: Some(3),
     });
     assert_eq!(rt;
-        hand_over(rt.alloc(), &mut reader, &mut outbox, 1)?,
+        calls::heard(rt.alloc(), &mut reader, &mut outbox, 1)?,
         State::Confirmed(1)
     );
     Ok(())
@@ -252,10 +253,10 @@ fn refused_memory_changes_nothing(rt: HostRuntime) -> Result<(), Fail> {
         None => outbox(alloc)?,
         Some(outbox) => outbox,
     };
-    let bytes = match request_bytes(alloc, &mut outbox, 1) {
+    let bytes = match calls::bytes(alloc, &mut outbox, 1) {
         Err(fault) => {
             assert_eq!(rt; fault, TakeFault::Memory);
-            request_bytes(alloc, &mut outbox, 1)?
+            calls::bytes(alloc, &mut outbox, 1)?
         }
         Ok(bytes) => bytes,
     };

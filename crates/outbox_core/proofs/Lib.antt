@@ -12,3 +12,4 @@ pub mod HeldLemmas
 pub mod DistinctLemmas
 pub mod SoundLemmas
 pub mod UniqueLemmas
+pub mod RefusalLemmas

@@ -1,5 +1,5 @@
 -- The statements that make the tables of an outbox, in turn.
-use Rattle.std.proofs.Common.{◌≡◌, true, ℕ, pos, List, [], ◌∷◌, codes, Ok, refl, ◌∙◌, sym, subst, arith}
+use Rattle.std.proofs.Common.{◌≡◌, true, ℕ, pos, List, [], ◌∷◌, codes, Ok, refl, ◌∙◌, sym, subst, arith, inl, inr}
 use Rattle.std.specs.List.{AllByRecursion}
 use Rattle.key_string.specs.Filer.{is_filer}
 use Rattle.sqlite_tied.specs.Compute.{everything}
@@ -12,7 +12,13 @@ use Rattle.sqlite.specs.Term.{lit, col}
 use Rattle.sqlite.specs.Source.TheVariants.{Values}
 use Rattle.sqlite.specs.Command.TheVariants.{Insert}
 use Rattle.sqlite.specs.Effect.{IsDatabase}
-use Rattle.sqlite.specs.State.{State, ExecutesInside}
+use Rattle.sqlite.specs.declared.error.Error.{Error}
+use Rattle.sqlite.specs.Store.{Ghosts}
+use Rattle.sqlite.specs.Held.{Held, state}
+use Rattle.sqlite.specs.State.{State, KeepsCommit, IsRolledBack, ExecutesInside}
+use Rattle.sqlite.specs.Steps.{FailsToCommit}
+use Rattle.sqlite.proofs.InsideLemmas.{unchanged_keeps}
+use Rattle.table_rows.proofs.StepLemmas.{keeps_then}
 use Rattle.sqlite.proofs.Callers.{IsPlain, command_of}
 use Rattle.sqlite_catalog.specs.Listing.{automatic}
 use Rattle.sqlite_schema.specs.declared.schema.Index.{Index}
@@ -85,3 +91,16 @@ module _ (a b c d : State) (n : ℕ × ℕ × ℕ) (filer : List ℕ) where
 
 pub no_entries : (filer : List ℕ) → is_filer filer ≡ true → IsOutbox (empty filer)
 no_entries filer is = record { filer = is; sendable = tt; numbers = tt; distinct = tt }
+
+-- ---- where they are not made, nothing is committed
+
+pub begun_keeps : {S : Type 0} (g : Ghosts S) (old : Held S) (new : State) → KeepsCommit (state g (record old { in_transaction = true })) new → KeepsCommit (state g old) new
+begun_keeps g old new kept = record { was_open = kept.was_open; committed = kept.committed }
+
+module _ (a b c : State) (kept : KeepsCommit a b) where
+  pub dropped_keeps : IsRolledBack b c → KeepsCommit a c
+  dropped_keeps undone = keeps_then a b c kept (unchanged_keeps b c (inr undone))
+
+  pub commit_keeps : (e : Error) → FailsToCommit b c e → KeepsCommit a c
+  commit_keeps e (inl failed) = dropped_keeps failed.3
+  commit_keeps e (inr late) = keeps_then a b c kept (unchanged_keeps b c (inl late.2))

@@ -1,5 +1,5 @@
 -- What an opening makes of the rows that it finds.
-use Rattle.std.specs.Prelude.{IsSome, ◌≡◌, ◌≤◌, ◌⊎◌, ℕ, suc, pos, ◌^◌, Bool, true, false, ◌&&◌, ◌||◌, if◌then◌else◌, List, [], ◌∷◌, length, codes, bytes_eq, nat_le, nat_lt, Option, Some, None}
+use Rattle.std.specs.Prelude.{IsSome, ◌≡◌, ◌≤◌, ◌⊎◌, ⊤, ℕ, suc, pos, ◌^◌, Bool, true, false, ◌&&◌, ◌||◌, if◌then◌else◌, List, [], ◌∷◌, length, codes, bytes_eq, nat_le, nat_lt, Option, Some, None}
 use Rattle.std.specs.Ordering.{int_eq}
 use Rattle.sqlite.specs.declared.types.Value.{Value}
 use Rattle.sqlite.specs.declared.types.Value.TheVariants.{Null, Int, Text, Blob}
@@ -11,7 +11,9 @@ use Rattle.sqlite.specs.declared.error.Error.{Error}
 use Rattle.key_string.specs.Key.{IsKey, is_key}
 use Rattle.filing_model.specs.Outbox.{Entry}
 use Rattle.table_rows.specs.Causes.{cause_of}
-use Rattle.table_rows.specs.declared.cause.Cause.TheVariants.{Other}
+use Rattle.table_rows.specs.declared.cause.Cause.TheVariants.{Disk, Other}
+use Rattle.outbox_core.specs.declared.fault.OutboxFault.{OutboxFault}
+use Rattle.outbox_core.specs.declared.fault.OutboxFault.TheVariants as fault
 use Rattle.outbox_core.specs.Entries.{FitsNumber}
 use Rattle.key_string.specs.Filer.{is_filer}
 use Rattle.http_wire.specs.Head.{max_body_len}
@@ -95,3 +97,22 @@ IsDamagedAt row old new =
 -- so it is where the filer was found before
 abbrev pub IsDamaged : {S : Type 0} → Ghosts S → ℕ → Held S → Held S → Type 0
 IsDamaged {S} g row old new = (mid : Held S) × ((rows : List Row) × Shown meta_text [] (state g old) (state g mid) rows × IsSome (filer_in rows)) × IsDamagedAt row (state g mid) (state g new)
+
+-- the query failed by the disk
+abbrev pub StopsByDisk : List ℕ → State → State → Type 0
+StopsByDisk text old new = (error : Error) × FailsToQuery text [] old new error × (cause_of error ≡ Disk)
+
+-- the query of `outbox_meta` failed by it, or that of `entry` where the filer was found before
+abbrev pub IsStopped : {S : Type 0} → Ghosts S → Held S → Held S → Type 0
+IsStopped {S} g old new =
+    StopsByDisk meta_text (state g old) (state g new)
+    ⊎ ((mid : Held S) × ((rows : List Row) × Shown meta_text [] (state g old) (state g mid) rows × IsSome (filer_in rows)) × StopsByDisk entries_text (state g mid) (state g new))
+
+-- what a refusal says of the database; an opening has no other refusals
+abbrev pub IsRefused : {S : Type 0} → Ghosts S → OutboxFault → Held S → Held S → Type 0
+IsRefused g fault.BadFiler old new = ⊥
+IsRefused g fault.Taken old new = ⊥
+IsRefused g fault.NotOurs old new = IsNoOutbox (state g old) (state g new)
+IsRefused g (fault.Damaged row) old new = IsDamaged g row old new
+IsRefused g fault.Memory old new = ⊤
+IsRefused g fault.Disk old new = IsStopped g old new

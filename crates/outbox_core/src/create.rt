@@ -1,6 +1,6 @@
 //! The tables of an outbox are made.
 
-ghost use Rattle.std.specs.Prelude.{◌≡◌, ◌||◌, ℕ, true, false, [], Ok, codes, IsTrue, OnOk};
+ghost use Rattle.std.specs.Prelude.{◌≡◌, ◌||◌, ℕ, true, false, [], Ok, codes, IsTrue, OnOk, OnErr};
 ghost use Rattle.key_string.specs.Filer.{is_filer};
 ghost use Rattle.sqlite.specs.Held.{state};
 ghost use Rattle.sqlite.specs.Values.{bound};
@@ -72,6 +72,7 @@ pub(crate) fn make<S: Alter>(conn: &mut Connection<S>, filer: &str) -> Result<()
         → OnOk result (IsTrue (state S.Store conn.new).is_open × IsOutboxOf (empty filer.now) (state S.Store conn.new).now × ((state S.Store conn.new).committed ≡ (state S.Store conn.new).now)) }
     ensures durable { HasCleanDisk (state S.Store conn.new) → OnOk result ((trees : Trees) → (state S.Store conn.new).may_leave trees → trees ≡ (state S.Store conn.new).now.trees) }
     ensures crash { Survives (state S.Store conn.old) (state S.Store conn.new) (λ trees. (state S.Store conn.old).now.schema ≡ no_schema → Leaves (empty filer.now) trees) }
+    ensures undone { HasCleanDisk (state S.Store conn.new) → OnErr result (KeepsCommit (state S.Store conn.old) (state S.Store conn.new)) }
 {
     let mut tx = conn.transaction();
     make_tables(&mut tx, filer)?;

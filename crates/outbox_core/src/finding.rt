@@ -13,7 +13,7 @@ ghost use Rattle.outbox_core.specs.Schema.{IsDeclared, meta_table, entry_table};
 ghost use Rattle.outbox_core.specs.Entries.{Contents, contents_of};
 ghost use Rattle.outbox_core.specs.Rows.{IsOutboxOf, meta_row, entry_rows};
 ghost use Rattle.outbox_core.specs.Faults.{meta_fault, entry_fault};
-ghost use Rattle.outbox_core.specs.Audit.{meta_text, filer_in, IsKept, IsNoOutbox, IsDamagedAt, IsDamaged};
+ghost use Rattle.outbox_core.specs.Audit.{meta_text, entries_text, filer_in, IsKept, StopsByDisk, IsNoOutbox, IsDamagedAt, IsRefused};
 
 use crate::audit::{filer_in, first_damaged};
 use crate::fault::OutboxFault;
@@ -48,6 +48,7 @@ fn filer_of<S: Alter>(conn: &mut Connection<S>, alloc: Global) -> Result<String,
         → IfOk result (λ filer. Holds (state S.Store conn.old).now meta_table (meta_row (string_bytes filer) ∷ []) × (is_filer (string_bytes filer) ≡ true) × IsUnchanged (state S.Store conn.old) (state S.Store conn.new)) }
     ensures read { HasCleanDisk (state S.Store conn.new) → OnOk result ((rows : List Stored) × Shown meta_text [] (state S.Store conn.old) (state S.Store conn.new) rows × IsSome (filer_in rows)) }
     ensures not_ours { HasCleanDisk (state S.Store conn.new) → result ≡ Err OutboxFault.NotOurs → IsNoOutbox (state S.Store conn.old) (state S.Store conn.new) }
+    ensures disk { HasCleanDisk (state S.Store conn.new) → result ≡ Err OutboxFault.Disk → StopsByDisk meta_text (state S.Store conn.old) (state S.Store conn.new) }
     ensures others { IfErr result (λ fault. (fault ≡ OutboxFault.NotOurs) ⊎ ((fault ≡ OutboxFault.Memory) ⊎ (fault ≡ OutboxFault.Disk))) }
     ensures ours { HasCleanDisk (state S.Store conn.new) → (it : Contents) → IsOutboxOf it (state S.Store conn.old).now → (state S.Store conn.old).step_limit ≡ None
         → IfErr result (λ fault. (fault ≡ OutboxFault.Memory) ⊎ (fault ≡ OutboxFault.Disk)) }
@@ -69,6 +70,7 @@ fn count_entries<S: Alter>(conn: &mut Connection<S>) -> Result<u64, OutboxFault>
     ensures counted { HasCleanDisk (state S.Store conn.new) → IsDeclared (state S.Store conn.old).now.schema
         → IfOk result (λ count. (entries : List Item) × Holds (state S.Store conn.old).now entry_table (entry_rows entries) × AllByRecursion IsKept entries × (count ≡ length entries) × IsUnchanged (state S.Store conn.old) (state S.Store conn.new)) }
     ensures damaged { HasCleanDisk (state S.Store conn.new) → (row : _) → result ≡ Err (OutboxFault.Damaged row) → IsDamagedAt row (state S.Store conn.old) (state S.Store conn.new) }
+    ensures disk { HasCleanDisk (state S.Store conn.new) → result ≡ Err OutboxFault.Disk → StopsByDisk entries_text (state S.Store conn.old) (state S.Store conn.new) }
     ensures others { IfErr result (λ fault. ((row : _) × (fault ≡ OutboxFault.Damaged row)) ⊎ ((fault ≡ OutboxFault.Memory) ⊎ (fault ≡ OutboxFault.Disk))) }
     ensures few { IfOk result (λ count. count ≤ 2 ^ 62) }
     ensures whole { HasCleanDisk (state S.Store conn.new) → (it : Contents) → IsOutboxOf it (state S.Store conn.old).now → (state S.Store conn.old).step_limit ≡ None
@@ -108,8 +110,7 @@ pub(crate) fn find<S: Alter>(conn: &mut Connection<S>, alloc: Global) -> Result<
     ensures found { HasCleanDisk (state S.Store conn.new) → IsDeclared (state S.Store conn.old).now.schema
         → IfOk result (λ found. (entries : List Item) × IsOutboxOf (contents_of (string_bytes found.filer) entries) (state S.Store conn.old).now
         × Stands (IsOutboxOf (contents_of (string_bytes found.filer) entries)) (state S.Store conn.new) × (found.count ≡ length entries)) }
-    ensures not_ours { HasCleanDisk (state S.Store conn.new) → result ≡ Err OutboxFault.NotOurs → IsNoOutbox (state S.Store conn.old) (state S.Store conn.new) }
-    ensures damaged { HasCleanDisk (state S.Store conn.new) → (row : _) → result ≡ Err (OutboxFault.Damaged row) → IsDamaged S.Store row conn.old conn.new }
+    ensures refused { HasCleanDisk (state S.Store conn.new) → IfErr result (λ fault. IsRefused S.Store fault conn.old conn.new) }
     ensures others { IfErr result (λ fault. (fault ≢ OutboxFault.BadFiler) × (fault ≢ OutboxFault.Taken)) }
     ensures sound { HasCleanDisk (state S.Store conn.new) → (it : Contents) → IsOutboxOf it (state S.Store conn.old).now → (state S.Store conn.old).step_limit ≡ None
         → IfErr result (λ fault. (fault ≡ OutboxFault.Memory) ⊎ (fault ≡ OutboxFault.Disk)) }

@@ -112,7 +112,7 @@ impl<S: Alter + Drop> Outbox<S> {
     ghost use Rattle.std.specs.Prelude.{◌⊎◌};
     ghost use Rattle.outbox_core.specs.Entries.{Contents};
     ghost use Rattle.outbox_core.specs.Rows.{IsOutboxOf};
-    ghost use Rattle.outbox_core.specs.Audit.{IsNoOutbox, IsDamaged};
+    ghost use Rattle.outbox_core.specs.Audit.{IsRefused};
     ghost use Rattle.outbox_core.specs.Box.{shows, contents, HasEntries};
 
     /// Opens the outbox that the database holds. A refusal gives the connection up, and leaves the database as it was. How
@@ -130,13 +130,10 @@ impl<S: Alter + Drop> Outbox<S> {
             → IsTrue (shows S.Store outbox).is_open × ((trees : Trees) → (shows S.Store outbox).may_leave trees → Leaves it trees)) }
         ensures crash { IfOk result (λ outbox. Survives (state S.Store conn) (shows S.Store outbox) (λ _. IsDeclared (state S.Store conn).now.schema → ⊥)) }
 
-        // Such a database is refused for want of memory or by the disk alone. A refusal writes nothing.
+        // A refusal writes nothing and says why, of the connection as it was given up; an outbox is refused by memory or disk.
         ensures refused { IfErr result (λ fault. (last : Held S) × Survives (state S.Store conn) (state S.Store last) (λ _. IsDeclared (state S.Store conn).now.schema → ⊥)
+            × (HasCleanDisk (state S.Store last) → IsRefused S.Store fault conn last)
             × (HasCleanDisk (state S.Store last) → (it : Contents) → IsOutboxOf it (state S.Store conn).now → (fault ≡ OutboxFault.Memory) ⊎ (fault ≡ OutboxFault.Disk))) }
-
-        // NotOurs and Damaged come by what was read up to then, where the disk gave back what was written.
-        ensures not_ours { result ≡ Err OutboxFault.NotOurs → (last : Held S) × (HasCleanDisk (state S.Store last) → IsNoOutbox (state S.Store conn) (state S.Store last)) }
-        ensures damaged { (row : _) → result ≡ Err (OutboxFault.Damaged row) → (last : Held S) × (HasCleanDisk (state S.Store last) → IsDamaged S.Store row conn last) }
         ensures no_other { IfErr result (λ fault. (fault ≢ OutboxFault.BadFiler) × (fault ≢ OutboxFault.Taken)) }
     {
         let mut conn = conn;

@@ -5,17 +5,18 @@ ghost use Rattle.std.specs.Prelude.{◌≡◌, false, None, IfOk};
 use super::{Outbox, OutboxFault, PutFault, State};
 use http_wire::Reply;
 use key_string::KeyText;
-use sqlite::{Connection, MemStore};
+use sqlite::{Alter, Connection, MemStore};
 use std::alloc::Global;
 use std::test::Fail;
 
+mod calls;
 mod memory;
 mod stops;
 
 const BODY: &[u8] = b"{\"facts\":{}}";
 
 /// A connection in no transaction and without a limit of steps.
-fn ready(conn: Connection<MemStore>) -> Result<Connection<MemStore>, Fail>
+fn ready<S: Alter + Drop>(conn: Connection<S>) -> Result<Connection<S>, Fail>
     ensures { IfOk result (λ conn. (conn.in_transaction ≡ false) × (conn.step_limit ≡ None)) }
 {
     let mut conn = conn;
@@ -27,13 +28,23 @@ fn ready(conn: Connection<MemStore>) -> Result<Connection<MemStore>, Fail>
 }
 
 fn new_outbox(alloc: Global) -> Result<Outbox<MemStore>, Fail> {
-    let conn = ready(Connection::open_in_memory(alloc)?)?;
-    Ok(Outbox::create(alloc, conn, "ACME")?)
+    let conn = Connection::open_in_memory(alloc)?;
+    Ok(calls::create(alloc, conn, "ACME")??)
+}
+
+/// What a put of these answers.
+fn put(
+    alloc: Global,
+    outbox: &mut Outbox<MemStore>,
+    key: &str,
+    body: &[u8],
+) -> Result<Result<u64, PutFault>, Fail> {
+    Ok(calls::put(outbox, KeyText::new(alloc, key)?, body.to_vec(alloc)?))
 }
 
 fn with_entry(alloc: Global) -> Result<Outbox<MemStore>, Fail> {
     let mut outbox = new_outbox(alloc)?;
-    outbox.put(KeyText::new(alloc, "k-1")?, BODY.to_vec(alloc)?)?;
+    put(alloc, &mut outbox, "k-1", BODY)??;
     Ok(outbox)
 }
 
@@ -45,14 +56,23 @@ fn reply(alloc: Global, status: u16, content: &[u8]) -> Result<Reply, Fail> {
 }
 
 fn reopened(alloc: Global, outbox: Outbox<MemStore>) -> Result<Outbox<MemStore>, Fail> {
-    Ok(Outbox::open(alloc, ready(outbox.into_conn())?)?)
+    Ok(calls::open(alloc, calls::conn_of(outbox))??)
 }
 
 /// What an opening answers after a statement on the tables.
 fn fault_after(alloc: Global, sql: &str) -> Result<Option<OutboxFault>, Fail> {
-    let mut conn = with_entry(alloc)?.into_conn();
-    conn.execute(sql, &[])?;
-    Ok(Outbox::open(alloc, ready(conn)?).err())
+    let mut conn = calls::conn_of(with_entry(alloc)?);
+    calls::execute(&mut conn, sql)?;
+    Ok(calls::open(alloc, conn)?.err())
+}
+
+/// What a creation answers.
+fn fault_of_create(
+    alloc: Global,
+    conn: Connection<MemStore>,
+    filer: &str,
+) -> Result<Option<OutboxFault>, Fail> {
+    Ok(calls::create(alloc, conn, filer)?.err())
 }
 
 #[test]
@@ -60,32 +80,23 @@ fn a_used_key_and_a_large_body_are_refused(rt: HostRuntime) -> Result<(), Fail> 
     let alloc = rt.alloc();
     let mut outbox = new_outbox(alloc)?;
     assert_eq!(rt; outbox.filer(), "ACME");
-    assert_eq!(rt;
-        outbox.put(KeyText::new(alloc, "k-1")?, BODY.to_vec(alloc)?)?,
-        1
-    );
-    let again = outbox.put(KeyText::new(alloc, "k-1")?, b"{}".to_vec(alloc)?);
+    assert_eq!(rt; put(alloc, &mut outbox, "k-1", BODY)?, Ok(1));
+    let again = put(alloc, &mut outbox, "k-1", b"{}")?;
     assert_eq!(rt; again, Err(PutFault::KeyUsed { id: 1 }));
     let large = vec![in alloc; 0u8; 1_048_577]?;
-    assert_eq!(rt;
-        outbox.put(KeyText::new(alloc, "k-2")?, large),
-        Err(PutFault::TooLarge)
-    );
-    assert_eq!(rt;
-        outbox.put(KeyText::new(alloc, "k-2")?, BODY.to_vec(alloc)?)?,
-        2
-    );
+    let large = calls::put(&mut outbox, KeyText::new(alloc, "k-2")?, large);
+    assert_eq!(rt; large, Err(PutFault::TooLarge));
+    assert_eq!(rt; put(alloc, &mut outbox, "k-2", BODY)?, Ok(2));
     Ok(())
 }
 
 #[test]
 fn an_outbox_is_made_once_and_for_a_filer(rt: HostRuntime) -> Result<(), Fail> {
     let alloc = rt.alloc();
-    let conn = ready(Connection::open_in_memory(alloc)?)?;
-    let fault = Outbox::create(alloc, conn, "a b").err();
+    let fault = fault_of_create(alloc, Connection::open_in_memory(alloc)?, "a b")?;
     assert_eq!(rt; fault, Some(OutboxFault::BadFiler));
-    let conn = ready(with_entry(alloc)?.into_conn())?;
-    let fault = Outbox::create(alloc, conn, "ACME").err();
+    let conn = calls::conn_of(with_entry(alloc)?);
+    let fault = fault_of_create(alloc, conn, "ACME")?;
     assert_eq!(rt; fault, Some(OutboxFault::Taken));
     Ok(())
 }
@@ -95,17 +106,12 @@ fn an_opening_finds_the_entries(rt: HostRuntime) -> Result<(), Fail> {
     let alloc = rt.alloc();
     let mut outbox = with_entry(alloc)?;
     let refused = reply(alloc, 422, b"{\"findings\":[],\"status\":\"refused\"}")?;
-    outbox.take(1, &refused)?;
+    calls::take(&mut outbox, 1, &refused)?;
     let mut outbox = reopened(alloc, outbox)?;
     assert_eq!(rt; outbox.filer(), "ACME");
-    assert_eq!(rt;
-        outbox.states()?.as_slice(),
-        [(1, State::Refused)].as_slice()
-    );
-    assert_eq!(rt;
-        outbox.put(KeyText::new(alloc, "k-2")?, BODY.to_vec(alloc)?)?,
-        2
-    );
+    let states = calls::states(&mut outbox)?;
+    assert_eq!(rt; states.as_slice(), [(1, State::Refused)].as_slice());
+    assert_eq!(rt; put(alloc, &mut outbox, "k-2", BODY)?, Ok(2));
     Ok(())
 }
 

@@ -1,12 +1,12 @@
-ghost use Rattle.std.specs.Prelude.{◌≡◌, false, None, IfOk};
-
-use crate::{CreateFault, KeptRow, NewRow, Outcome, Store, StoreFault};
-use key_string::{KeyText, is_filer};
+use crate::{CreateFault, KeptRow, Outcome, Store, StoreFault};
+use calls::{add_short, counts, create, look_up, new_database, run};
+use key_string::KeyText;
 use sqlite::{Alter, Connection, MemStore};
 use std::alloc::Global;
+use std::process::Abort;
 use std::test::Fail;
-use xbrl_report::judge;
 
+mod calls;
 mod damage;
 mod files;
 mod memory;
@@ -31,18 +31,8 @@ fn add<S: Alter>(
     key: &str,
     body: &[u8],
 ) -> Result<Result<Outcome, StoreFault>, Fail> {
-    if !is_filer(filer) || body.len() > 1000 || store.kept_count()? > 1000 {
-        return Err(Fail::from("not for this test"));
-    }
     let key = KeyText::new(alloc, key)?;
-    let judged = judge(alloc, filer, body)?;
-    let row = NewRow {
-        filer,
-        key: &key,
-        body,
-        judged: &judged,
-    };
-    Ok(store.add(&row))
+    add_short(alloc, store, filer, &key, body)
 }
 
 /// Keeps a short report of a filer under a key.
@@ -56,6 +46,18 @@ fn keep<S: Alter>(
     Ok(add(alloc, store, filer, key, body)??)
 }
 
+/// The content of the reply to a short report of a filer under a key, which is kept.
+fn content_of<S: Alter>(
+    alloc: Global,
+    store: &mut Store<S>,
+    filer: &str,
+    key: &str,
+    body: &[u8],
+) -> Result<Vec<u8>, Fail> {
+    let outcome = keep(alloc, store, filer, key, body)?;
+    Ok(outcome.content(alloc)?)
+}
+
 /// What is kept of a filer and key.
 fn find<S: Alter>(
     alloc: Global,
@@ -64,52 +66,87 @@ fn find<S: Alter>(
     key: &str,
 ) -> Result<Option<KeptRow>, Fail> {
     let key = KeyText::new(alloc, key)?;
-    Ok(store.find(filer, &key)?)
+    Ok(look_up(store, filer, &key)?)
+}
+
+/// Whether nothing is kept of a filer and key.
+fn is_new<S: Alter>(
+    alloc: Global,
+    store: &mut Store<S>,
+    filer: &str,
+    key: &str,
+) -> Result<bool, Fail> {
+    Ok(find(alloc, store, filer, key)?.is_none())
+}
+
+/// Whether this body is kept of a filer and key, and is registered under this number.
+fn is_registered<S: Alter>(
+    alloc: Global,
+    store: &mut Store<S>,
+    filer: &str,
+    key: &str,
+    body: &[u8],
+    number: u64,
+) -> Result<bool, Fail> {
+    let row = find(alloc, store, filer, key)?.ok_or("it is not kept")?;
+    Ok(
+        row.body.as_slice() == body
+            && matches!(row.outcome, Outcome::Registered(found) if found == number),
+    )
+}
+
+/// Whether this body is kept of a filer and key, with an outcome of this content.
+fn is_answered<S: Alter>(
+    alloc: Global,
+    store: &mut Store<S>,
+    filer: &str,
+    key: &str,
+    body: &[u8],
+    content: &[u8],
+) -> Result<bool, Fail> {
+    let row = find(alloc, store, filer, key)?.ok_or("it is not kept")?;
+    Ok(row.body.as_slice() == body && row.outcome.content(alloc)?.as_slice() == content)
+}
+
+/// A register with a valid report and a refused empty body, which is no JSON text.
+fn with_both(rt: &impl Abort, alloc: Global) -> Result<Store<MemStore>, Fail> {
+    let mut store = create(alloc, new_database(alloc)?)??;
+    let valid = content_of(alloc, &mut store, "ACME", "k-1", VALID)?;
+    assert_eq!(rt; valid.as_slice(), REGISTERED);
+    let empty = content_of(alloc, &mut store, "ACME", "k-2", b"")?;
+    assert_eq!(rt; empty.as_slice(), REFUSED);
+    Ok(store)
 }
 
 #[test]
 fn what_is_kept_is_found(rt: HostRuntime) -> Result<(), Fail> {
     let alloc = rt.alloc();
-    let mut store = Store::create(alloc, Connection::open_in_memory(alloc)?)?;
-    let valid = keep(alloc, &mut store, "ACME", "k-1", VALID)?;
-    assert_eq!(rt; valid.content(alloc)?.as_slice(), REGISTERED);
+    let mut store = with_both(&rt, alloc)?;
+    assert!(rt; is_registered(alloc, &mut store, "ACME", "k-1", VALID, 1)?);
 
-    // An empty body is no JSON text. It is kept, and takes no number.
-    let empty = keep(alloc, &mut store, "ACME", "k-2", b"")?;
-    assert_eq!(rt; empty.content(alloc)?.as_slice(), REFUSED);
-
-    let first = find(alloc, &mut store, "ACME", "k-1")?.ok_or("it is not kept")?;
-    assert_eq!(rt; first.body.as_slice(), VALID);
-    assert!(rt; matches!(first.outcome, Outcome::Registered(1)));
-    let second = find(alloc, &mut store, "ACME", "k-2")?.ok_or("it is not kept")?;
-    assert!(rt; second.body.is_empty());
-    assert_eq!(rt; second.outcome.content(alloc)?.as_slice(), REFUSED);
+    // An empty body is kept, and takes no number.
+    assert!(rt; is_answered(alloc, &mut store, "ACME", "k-2", b"", REFUSED)?);
 
     // Another filer's key is another one.
-    assert!(rt; find(alloc, &mut store, "BETA", "k-1")?.is_none());
-    assert_eq!(rt; (store.kept_count()?, store.filing_count()?), (2, 1));
+    assert!(rt; is_new(alloc, &mut store, "BETA", "k-1")?);
+    assert_eq!(rt; counts(&store)?, (2, 1));
     Ok(())
+}
+
+/// A database with a table of one of our names.
+fn with_a_filing_table(alloc: Global) -> Result<Connection<MemStore>, Fail> {
+    let mut conn = new_database(alloc)?;
+    run(
+        &mut conn,
+        "CREATE TABLE Filing (id INTEGER PRIMARY KEY) STRICT",
+    )?;
+    Ok(conn)
 }
 
 #[test]
 fn a_name_in_use_is_refused(rt: HostRuntime) -> Result<(), Fail> {
     let alloc = rt.alloc();
-    let mut conn = Connection::open_in_memory(alloc)?;
-    conn.execute("CREATE TABLE Filing (id INTEGER PRIMARY KEY) STRICT", &[])?;
-    assert!(rt; conn.is_autocommit());
-    let refused = Store::create(alloc, conn);
-    assert!(rt; matches!(refused, Err(CreateFault::Taken)));
+    let refused = create(alloc, with_a_filing_table(alloc)?)?.err();
+    assert_eq!(rt; refused, Some(CreateFault::Taken));
     Ok(())
-}
-
-/// A connection in no transaction and without a limit of steps.
-fn ready<S: Alter + Drop>(conn: Connection<S>) -> Result<Connection<S>, Fail>
-    ensures { IfOk result (λ conn. (conn.in_transaction ≡ false) × (conn.step_limit ≡ None)) }
-{
-    let mut conn = conn;
-    conn.set_step_limit(None);
-    if !conn.is_autocommit() {
-        return Err(Fail::from("a transaction is under way"));
-    }
-    Ok(conn)
 }

@@ -1,7 +1,7 @@
 //! The life of an entry, where each call is made again that was refused for want of memory: the entries are those of
 //! before, and the second answer is that of ample memory. Run it with each allocation refused too, one in a run.
 
-use super::{BODY, ready};
+use super::{BODY, calls};
 use crate::{Entry, Outbox, OutboxFault, PutFault, State, StoreFault, TakeFault, key_of};
 use http_wire::Reply;
 use key_string::{KeyFault, KeyText};
@@ -41,31 +41,29 @@ fn connected(alloc: Global) -> Result<Connection<MemStore>, Fail> {
 }
 
 fn created(alloc: Global) -> Result<Outbox<MemStore>, Fail> {
-    match Outbox::create(alloc, ready(connected(alloc)?)?, "ACME") {
-        Err(OutboxFault::Memory) => {
-            Ok(Outbox::create(alloc, ready(connected(alloc)?)?, "ACME")?)
-        }
+    match calls::create(alloc, connected(alloc)?, "ACME")? {
+        Err(OutboxFault::Memory) => Ok(calls::create(alloc, connected(alloc)?, "ACME")??),
         answer => Ok(answer?),
     }
 }
 
 fn states(outbox: &mut Outbox<MemStore>) -> Result<Vec<(u64, State)>, StoreFault> {
-    match outbox.states() {
-        Err(StoreFault::Memory) => outbox.states(),
+    match calls::states(outbox) {
+        Err(StoreFault::Memory) => calls::states(outbox),
         answer => answer,
     }
 }
 
 fn entry(outbox: &mut Outbox<MemStore>, id: u64) -> Result<Option<Entry>, StoreFault> {
-    match outbox.entry(id) {
-        Err(StoreFault::Memory) => outbox.entry(id),
+    match calls::entry(outbox, id) {
+        Err(StoreFault::Memory) => calls::entry(outbox, id),
         answer => answer,
     }
 }
 
 fn next_open(outbox: &mut Outbox<MemStore>) -> Result<Option<Entry>, StoreFault> {
-    match outbox.next_open() {
-        Err(StoreFault::Memory) => outbox.next_open(),
+    match calls::next_open(outbox) {
+        Err(StoreFault::Memory) => calls::next_open(outbox),
         answer => answer,
     }
 }
@@ -78,10 +76,10 @@ fn put(
     body: &[u8],
     before: &[(u64, State)],
 ) -> Result<Result<u64, PutFault>, Fail> {
-    match outbox.put(key(alloc)?, bytes(alloc, body)?) {
+    match calls::put(outbox, key(alloc)?, bytes(alloc, body)?) {
         Err(PutFault::Memory) => {
             assert_eq!(rt; states(outbox)?.as_slice(), before);
-            Ok(outbox.put(key(alloc)?, bytes(alloc, body)?))
+            Ok(calls::put(outbox, key(alloc)?, bytes(alloc, body)?))
         }
         answer => Ok(answer),
     }
@@ -95,10 +93,10 @@ fn take(
     reply: &Reply,
     before: State,
 ) -> Result<Result<State, TakeFault>, Fail> {
-    match outbox.take(id, reply) {
+    match calls::take(outbox, id, reply) {
         Err(TakeFault::Memory) => {
             assert_eq!(rt; states(outbox)?.as_slice(), [(1, before)].as_slice());
-            Ok(outbox.take(id, reply))
+            Ok(calls::take(outbox, id, reply))
         }
         answer => Ok(answer),
     }

@@ -3,7 +3,7 @@
 ghost use Rattle.std.specs.Prelude.{IsTrue, IfOk};
 ghost use Rattle.sqlite_disk.specs.Memory.{memory_is_usable};
 
-use super::{BODY, reply};
+use super::{BODY, calls, reply};
 use crate::{Outbox, PutFault, State, TakeFault};
 use key_string::KeyText;
 use sqlite::{Connection, FileStore, Options};
@@ -56,16 +56,25 @@ fn created(alloc: Global) -> Result<Outbox<Kept>, Fail> {
         db: Memory::new(alloc),
     };
     match Connection::open_files(alloc, files, Options::new(1)) {
-        Ok(conn) => Ok(Outbox::create(alloc, conn, "ACME")?),
+        Ok(conn) => Ok(calls::create(alloc, conn, "ACME")??),
         Err((error, _)) => Err(error)?,
     }
+}
+
+/// The outbox's files, with what it holds in the database file.
+fn files_of(outbox: Outbox<Kept>) -> Result<Files<Memory>, Fail> {
+    Ok(outbox.into_files()?)
 }
 
 /// The files of an outbox with one entry, which is open.
 fn one_entry(alloc: Global) -> Result<Files<Memory>, Fail> {
     let mut outbox = created(alloc)?;
-    outbox.put(KeyText::new(alloc, "k-1")?, BODY.to_vec(alloc)?)?;
-    Ok(outbox.into_files()?)
+    calls::put(
+        &mut outbox,
+        KeyText::new(alloc, "k-1")?,
+        BODY.to_vec(alloc)?,
+    )?;
+    files_of(outbox)
 }
 
 /// The outbox of these files on a disk of which one file stops after so many calls; `None` where it stops before the
@@ -85,7 +94,7 @@ fn stopping(
         db: Fuse::new(file_of(alloc, files.db.bytes())?, db),
     };
     match Connection::open_files(alloc, files, Options::new(1)) {
-        Ok(conn) => Ok(Outbox::open(alloc, conn).ok()),
+        Ok(conn) => Ok(calls::open(alloc, conn)?.ok()),
         Err(_) => Ok(None),
     }
 }
@@ -110,7 +119,7 @@ fn opened(alloc: Global, log: Memory, db: Memory) -> Result<Outbox<Kept>, Fail>
     requires { IsTrue (memory_is_usable log) × IsTrue (memory_is_usable db) }
 {
     match Connection::open_files(alloc, Files { log, db }, Options::new(1)) {
-        Ok(conn) => Ok(Outbox::open(alloc, conn)?),
+        Ok(conn) => Ok(calls::open(alloc, conn)??),
         Err((error, _)) => Err(error)?,
     }
 }
@@ -118,13 +127,13 @@ fn opened(alloc: Global, log: Memory, db: Memory) -> Result<Outbox<Kept>, Fail>
 /// Whether the entry of the id is this one.
 fn is_entry(outbox: &mut Outbox<Kept>, id: u64, expected: Expected) -> Result<bool, Fail> {
     let (key, body, state) = expected;
-    let entry = outbox.entry(id)?.ok_or("there is no such entry")?;
+    let entry = calls::entry(outbox, id)?.ok_or("there is no such entry")?;
     Ok(entry.key.as_str() == key && entry.body.as_slice() == body && entry.state == state)
 }
 
 /// Whether the outbox has these entries and no others.
 fn holds(outbox: &mut Outbox<Kept>, expected: &[Expected]) -> Result<bool, Fail> {
-    if outbox.filer() != "ACME" || outbox.states()?.len() != expected.len() {
+    if outbox.filer() != "ACME" || calls::states(outbox)?.len() != expected.len() {
         return Ok(false);
     }
     for at in 0..expected.len() {
@@ -150,7 +159,7 @@ fn is_made(
     change: Change,
 ) -> Result<bool, Fail> {
     match change {
-        Change::Put => match outbox.put(KeyText::new(alloc, "k-2")?, b"{}".to_vec(alloc)?) {
+        Change::Put => match calls::put(outbox, KeyText::new(alloc, "k-2")?, b"{}".to_vec(alloc)?) {
             Ok(id) => {
                 assert_eq!(rt; id, 2);
                 Ok(true)
@@ -162,7 +171,7 @@ fn is_made(
         },
         Change::Take => {
             let registered = reply(alloc, 201, b"{\"number\":1,\"status\":\"registered\"}")?;
-            match outbox.take(1, &registered) {
+            match calls::take(outbox, 1, &registered) {
                 Ok(state) => {
                     assert_eq!(rt; state, State::Confirmed(1));
                     Ok(true)

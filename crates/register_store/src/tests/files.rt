@@ -1,21 +1,63 @@
 //! Registers in files on disks in memory, which may stop.
 
-ghost use Rattle.std.specs.Prelude.{◌≡◌, false, None, IfSome};
-
-use super::{REPORT, add, find, keep};
-use crate::{Completed, Outcome, Store};
-use sqlite::{Connection, FileStore, Files, Options};
+use super::calls::{close, create, into_files, open, requests};
+use super::{REPORT, add, is_new, is_registered, keep};
+use crate::{Completed, Store};
+use sqlite::{Alter, Connection, FileStore, Files, Options};
 use sqlite_disk::{Crash, Disk, Fuse, Memory};
 use std::alloc::Global;
+use std::process::Abort;
 use std::test::Fail;
 
 /// More calls than the runs below make of a disk.
 const ENOUGH: u64 = 1000;
 
+// What needs no disk by name is generic over the store, and the rest over the disk.
+
+/// A register with a report of one fact.
+fn made<S: Alter + Drop>(alloc: Global, conn: Connection<S>) -> Result<Store<S>, Fail> {
+    let mut store = create(alloc, conn)??;
+    keep(alloc, &mut store, "ACME", "k-1", REPORT)?;
+    Ok(store)
+}
+
+/// The requests that are found, in the order of the rows.
+fn found<S: Alter + Drop>(alloc: Global, conn: Connection<S>) -> Result<Vec<Completed>, Fail> {
+    let mut store = open(alloc, conn)??;
+    Ok(requests(&mut store)?)
+}
+
+/// A register that is opened and then asked to keep a second request, and whether it answers; `None` where it is not opened.
+fn asked<S: Alter + Drop>(
+    alloc: Global,
+    conn: Connection<S>,
+    body: &[u8],
+) -> Result<Option<(Store<S>, bool)>, Fail> {
+    match open(alloc, conn)? {
+        Ok(mut store) => {
+            let answered = add(alloc, &mut store, "ACME", "k-2", body)?.is_ok();
+            Ok(Some((store, answered)))
+        }
+        Err(_) => Ok(None),
+    }
+}
+
+/// Asserts that the report is kept, and no other request.
+fn has_one<S: Alter + Drop>(
+    rt: &impl Abort,
+    alloc: Global,
+    conn: Connection<S>,
+) -> Result<(), Fail> {
+    let mut store = open(alloc, conn)??;
+    assert!(rt; is_registered(alloc, &mut store, "ACME", "k-1", REPORT, 1)?);
+    assert!(rt; is_new(alloc, &mut store, "ACME", "k-2")?);
+    let requests = requests(&mut store)?;
+    assert!(rt; are_before_or_after(&requests, false) && requests.len() == 1);
+    Ok(())
+}
+
 /// A connection to the database that is in these files, or `None` where it is not opened.
-fn connect<D: Disk + Drop>(alloc: Global, files: Files<D>) -> Option<Connection<FileStore<D>>>
-    ensures { IfSome result (λ conn. (conn.in_transaction ≡ false) × (conn.step_limit ≡ None)) }
-{
+fn connect<D: Disk + Drop>(alloc: Global, files: Files<D>) -> Option<Connection<FileStore<D>>> {
     if !files.log.may_be_used() || !files.db.may_be_used() {
         return None;
     }
@@ -25,40 +67,34 @@ fn connect<D: Disk + Drop>(alloc: Global, files: Files<D>) -> Option<Connection<
     }
 }
 
+/// The files, with a register of one report.
+fn with_one_in<D: Disk + Drop>(alloc: Global, files: Files<D>) -> Result<Files<D>, Fail> {
+    match connect(alloc, files) {
+        Some(conn) => Ok(into_files(made(alloc, conn)?)?),
+        None => Err(Fail::from("no database")),
+    }
+}
+
 /// The files of a register with a report of one fact.
 fn with_one(alloc: Global) -> Result<Files<Memory>, Fail> {
     let files = Files {
         log: Memory::new(alloc),
         db: Memory::new(alloc),
     };
-    let mut store = Store::create(alloc, connect(alloc, files).ok_or("no database")?)?;
-    keep(alloc, &mut store, "ACME", "k-1", REPORT)?;
-    Ok(store.into_files()?)
+    with_one_in(alloc, files)
 }
 
-/// A register of one report on disks that stop after so many calls, or `None` where it is not opened by then.
-fn stopping(
-    alloc: Global,
-    log: u64,
-    db: u64,
-) -> Result<Option<Store<FileStore<Fuse<Memory>>>>, Fail> {
-    let files = with_one(alloc)?;
-    let fused = Files {
-        log: Fuse::new(files.log, log),
-        db: Fuse::new(files.db, db),
-    };
-    match connect(alloc, fused) {
-        Some(conn) => Ok(Store::open(alloc, conn).ok()),
-        None => Ok(None),
+/// The requests that are found in these files.
+fn found_in<D: Disk + Drop>(alloc: Global, files: Files<D>) -> Result<Vec<Completed>, Fail> {
+    match connect(alloc, files) {
+        Some(conn) => found(alloc, conn),
+        None => Err(Fail::from("no database")),
     }
 }
 
 /// The files as the machine finds them when it comes back.
-fn after_crash(store: Store<FileStore<Fuse<Memory>>>) -> Files<Fuse<Memory>> {
-    let mut files = match store.into_conn().close_files() {
-        Ok(files) => files,
-        Err((_, store)) => store.close(),
-    };
+fn after_crash<D: Crash + Drop>(store: Store<FileStore<D>>) -> Files<D> {
+    let mut files = close(store);
     files.log.crash();
     files.db.crash();
     files
@@ -72,18 +108,6 @@ enum Kept {
     Answered,
 }
 
-/// The requests that are found after a stop, in the order of the rows.
-fn found_after(
-    alloc: Global,
-    store: Store<FileStore<Fuse<Memory>>>,
-) -> Result<Vec<Completed>, Fail> {
-    let mut store = Store::open(
-        alloc,
-        connect(alloc, after_crash(store)).ok_or("no database")?,
-    )?;
-    Ok(store.requests()?)
-}
-
 /// Whether these are the first request and, where it was answered, the second.
 fn are_before_or_after(found: &[Completed], answered: bool) -> bool {
     match found {
@@ -93,14 +117,9 @@ fn are_before_or_after(found: &[Completed], answered: bool) -> bool {
     }
 }
 
-/// Keeps a second request, and opens the register again.
-fn stopped_at(alloc: Global, body: &[u8], log: u64, db: u64) -> Result<Kept, Fail> {
-    let Some(mut store) = stopping(alloc, log, db)? else {
-        return Ok(Kept::NotOpened);
-    };
-    let answered = add(alloc, &mut store, "ACME", "k-2", body)?.is_ok();
-    let found = found_after(alloc, store)?;
-    if !are_before_or_after(&found, answered) {
+/// What became of a request that was answered or refused, where these are found then.
+fn kept_as(found: &[Completed], answered: bool) -> Result<Kept, Fail> {
+    if !are_before_or_after(found, answered) {
         return Err(Fail::from("the rows are neither of before nor of after"));
     }
     if answered {
@@ -108,6 +127,30 @@ fn stopped_at(alloc: Global, body: &[u8], log: u64, db: u64) -> Result<Kept, Fai
     } else {
         Ok(Kept::Refused)
     }
+}
+
+/// Keeps a second request in the register that is in these files, and opens it again after a crash.
+fn stopped_in<D: Crash + Drop>(alloc: Global, files: Files<D>, body: &[u8]) -> Result<Kept, Fail> {
+    let Some(conn) = connect(alloc, files) else {
+        return Ok(Kept::NotOpened);
+    };
+    match asked(alloc, conn, body)? {
+        Some((store, answered)) => {
+            let found = found_in(alloc, after_crash(store))?;
+            kept_as(&found, answered)
+        }
+        None => Ok(Kept::NotOpened),
+    }
+}
+
+/// The same on disks that stop after so many calls.
+fn stopped_at(alloc: Global, body: &[u8], log: u64, db: u64) -> Result<Kept, Fail> {
+    let files = with_one(alloc)?;
+    let fused = Files {
+        log: Fuse::new(files.log, log),
+        db: Fuse::new(files.db, db),
+    };
+    stopped_in(alloc, fused, body)
 }
 
 /// Stops the log after 0, 1, 2, .. calls, until the request is answered; whether it was refused before.
@@ -150,18 +193,16 @@ fn so_does_a_stop_of_the_other_file(rt: HostRuntime) -> Result<(), Fail> {
     Ok(())
 }
 
+/// Asserts that the report is kept in these files, and no other request.
+fn has_one_in<D: Disk + Drop>(rt: &impl Abort, alloc: Global, files: Files<D>) -> Result<(), Fail> {
+    match connect(alloc, files) {
+        Some(conn) => has_one(rt, alloc, conn),
+        None => Err(Fail::from("no database")),
+    }
+}
+
 #[test]
 fn files_are_opened_again(rt: HostRuntime) -> Result<(), Fail> {
     let alloc = rt.alloc();
-    let mut store = Store::open(
-        alloc,
-        connect(alloc, with_one(alloc)?).ok_or("no database")?,
-    )?;
-    let first = find(alloc, &mut store, "ACME", "k-1")?.ok_or("it is not kept")?;
-    assert_eq!(rt; first.body.as_slice(), REPORT);
-    assert!(rt; matches!(first.outcome, Outcome::Registered(1)));
-    assert!(rt; find(alloc, &mut store, "ACME", "k-2")?.is_none());
-    let requests = store.requests()?;
-    assert!(rt; are_before_or_after(&requests, false) && requests.len() == 1);
-    Ok(())
+    has_one_in(&rt, alloc, with_one(alloc)?)
 }

@@ -1,26 +1,29 @@
 //! The life of a register, where each call is made again that was refused for want of memory: what is kept is that of
 //! before, and the second answer is that of ample memory. Run it with each allocation refused too, one in a run.
 
-use super::{REPORT, ready};
-use crate::{CreateFault, KeptRow, NewRow, OpenFault, Outcome, Store, StoreFault};
-use key_string::{KeyFault, KeyText, is_filer};
+use super::REPORT;
+use super::calls::{
+    add_short, all_filings, conn_of, counts, create, facts, filings, look_up, new_database, open,
+    requests,
+};
+use crate::{CreateFault, KeptRow, OpenFault, Outcome, Store, StoreFault};
+use key_string::{KeyFault, KeyText};
 use sqlite::{Connection, MemStore};
-use std::alloc::Global;
+use std::alloc::{AllocError, Global};
 use std::process::Abort;
 use std::test::Fail;
-use xbrl_report::judge;
 
 /// A new database.
-fn connected(alloc: Global) -> Result<Connection<MemStore>, Fail> {
-    match Connection::open_in_memory(alloc) {
-        Err(_) => ready(Connection::open_in_memory(alloc)?),
-        Ok(conn) => ready(conn),
+fn connected(alloc: Global) -> Result<Connection<MemStore>, AllocError> {
+    match new_database(alloc) {
+        Err(_) => new_database(alloc),
+        answer => answer,
     }
 }
 
 fn created(alloc: Global) -> Result<Store<MemStore>, Fail> {
-    match Store::create(alloc, ready(connected(alloc)?)?) {
-        Err(CreateFault::Memory) => Ok(Store::create(alloc, ready(connected(alloc)?)?)?),
+    match create(alloc, connected(alloc)?)? {
+        Err(CreateFault::Memory) => Ok(create(alloc, connected(alloc)?)??),
         answer => Ok(answer?),
     }
 }
@@ -33,36 +36,31 @@ fn key(alloc: Global) -> Result<KeyText, KeyFault> {
 }
 
 /// What keeping the report under this key answers.
-fn add(alloc: Global, store: &mut Store<MemStore>, key: &KeyText) -> Result<Outcome, StoreFault> {
-    if !is_filer("ACME") || REPORT.len() > 1000 || store.kept_count()? > 1000 {
-        return Err(StoreFault::Store);
-    }
-    let judged = judge(alloc, "ACME", REPORT)?;
-    store.add(&NewRow {
-        filer: "ACME",
-        key,
-        body: REPORT,
-        judged: &judged,
-    })
+fn add(
+    alloc: Global,
+    store: &mut Store<MemStore>,
+    key: &KeyText,
+) -> Result<Result<Outcome, StoreFault>, Fail> {
+    add_short(alloc, store, "ACME", key, REPORT)
 }
 
 /// Keeps the report, which is not kept where memory is refused.
 fn keep(rt: &impl Abort, alloc: Global, store: &mut Store<MemStore>) -> Result<Outcome, Fail> {
     let key = key(alloc)?;
-    match add(alloc, store, &key) {
+    match add(alloc, store, &key)? {
         Ok(outcome) => Ok(outcome),
         Err(fault) => {
             assert_eq!(rt; fault, StoreFault::Memory);
-            assert_eq!(rt; (store.kept_count()?, store.filing_count()?), (0, 0));
+            assert_eq!(rt; counts(store)?, (0, 0));
             assert!(rt; found(store, &key)?.is_none());
-            Ok(add(alloc, store, &key)?)
+            Ok(add(alloc, store, &key)??)
         }
     }
 }
 
 fn found(store: &mut Store<MemStore>, key: &KeyText) -> Result<Option<KeptRow>, StoreFault> {
-    match store.find("ACME", key) {
-        Err(StoreFault::Memory) => store.find("ACME", key),
+    match look_up(store, "ACME", key) {
+        Err(StoreFault::Memory) => look_up(store, "ACME", key),
         answer => answer,
     }
 }
@@ -75,63 +73,70 @@ fn with_one(rt: &impl Abort, alloc: Global) -> Result<Store<MemStore>, Fail> {
     Ok(store)
 }
 
-/// The same, opened again. A refusal gives the database up, so another one is made then.
+/// The database of such a register.
+fn conn_with_one(rt: &impl Abort, alloc: Global) -> Result<Connection<MemStore>, Fail> {
+    Ok(conn_of(with_one(rt, alloc)?))
+}
+
+/// The register, opened again. A refusal gives the database up, so another one is made then.
 fn opened(rt: &impl Abort, alloc: Global) -> Result<Store<MemStore>, Fail> {
-    match Store::open(alloc, ready(with_one(rt, alloc)?.into_conn())?) {
-        Err(OpenFault::Memory) => {
-            let conn = ready(with_one(rt, alloc)?.into_conn())?;
-            Ok(Store::open(alloc, conn)?)
-        }
+    match open(alloc, conn_with_one(rt, alloc)?)? {
+        Err(OpenFault::Memory) => Ok(open(alloc, conn_with_one(rt, alloc)?)??),
         answer => Ok(answer?),
     }
 }
 
 /// The keys of the requests that are kept.
 fn has_one_request(store: &mut Store<MemStore>) -> Result<bool, StoreFault> {
-    let requests = match store.requests() {
-        Err(StoreFault::Memory) => store.requests()?,
+    let list = match requests(store) {
+        Err(StoreFault::Memory) => requests(store)?,
         answer => answer?,
     };
     Ok(
-        matches!(requests.as_slice(), [request] if request.filer.as_str() == "ACME" && request.key.as_str() == "k-1" && request.body.as_slice() == REPORT),
+        matches!(list.as_slice(), [request] if request.filer.as_str() == "ACME" && request.key.as_str() == "k-1" && request.body.as_slice() == REPORT),
     )
 }
 
 fn has_one_filing(store: &mut Store<MemStore>) -> Result<bool, StoreFault> {
-    let filings = match store.filings("ACME") {
-        Err(StoreFault::Memory) => store.filings("ACME")?,
+    let list = match filings(store, "ACME") {
+        Err(StoreFault::Memory) => filings(store, "ACME")?,
         answer => answer?,
     };
-    Ok(matches!(filings.as_slice(), [filing] if filing.number == 1 && filing.facts == 1))
+    Ok(matches!(list.as_slice(), [filing] if filing.number == 1 && filing.facts == 1))
 }
 
 fn has_one_number(store: &mut Store<MemStore>) -> Result<bool, StoreFault> {
-    let filings = match store.all_filings() {
-        Err(StoreFault::Memory) => store.all_filings()?,
+    let list = match all_filings(store) {
+        Err(StoreFault::Memory) => all_filings(store)?,
         answer => answer?,
     };
-    Ok(matches!(filings.as_slice(), [filing] if filing.number == 1))
+    Ok(matches!(list.as_slice(), [filing] if filing.number == 1))
 }
 
 fn has_one_fact(store: &mut Store<MemStore>) -> Result<bool, StoreFault> {
-    let facts = match store.facts(1) {
-        Err(StoreFault::Memory) => store.facts(1)?,
+    let list = match facts(store, 1) {
+        Err(StoreFault::Memory) => facts(store, 1)?,
         answer => answer?,
     };
-    match facts {
-        Some(facts) => Ok(matches!(facts.as_slice(), [fact] if fact.id.as_str() == "f1")),
+    match list {
+        Some(list) => Ok(matches!(list.as_slice(), [fact] if fact.id.as_str() == "f1")),
         None => Ok(false),
     }
+}
+
+/// Whether the report is found, as it was registered.
+fn is_found(alloc: Global, store: &mut Store<MemStore>) -> Result<bool, Fail> {
+    let key = key(alloc)?;
+    let row = found(store, &key)?.ok_or("it is not kept")?;
+    Ok(row.body.as_slice() == REPORT && matches!(row.outcome, Outcome::Registered(1)))
 }
 
 #[test]
 fn refused_memory_changes_nothing(rt: HostRuntime) -> Result<(), Fail> {
     let alloc = rt.alloc();
     let mut store = opened(&rt, alloc)?;
-    assert_eq!(rt; (store.kept_count()?, store.filing_count()?), (1, 1));
-    let key = key(alloc)?;
-    let row = found(&mut store, &key)?.ok_or("it is not kept")?;
-    assert!(rt; row.body.as_slice() == REPORT && matches!(row.outcome, Outcome::Registered(1)));
+    assert_eq!(rt; counts(&store)?, (1, 1));
+    assert!(rt; is_found(alloc, &mut store)?);
     assert!(rt; has_one_request(&mut store)?);
     assert!(rt; has_one_filing(&mut store)?);
     assert!(rt; has_one_number(&mut store)?);

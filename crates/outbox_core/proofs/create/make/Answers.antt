@@ -1,15 +1,15 @@
 use Rattle.std.proofs.Common.{◌≡◌, sym, ap, subst, ◌∙◌, IsTrue, rules, arith}
-use Rattle.std.proofs.lemmas.Result.{IfOk-weaker}
+use Rattle.std.proofs.lemmas.Result.{IfOk-weaker, IfErr-weaker}
 use Rattle.sqlite.specs.Held.{state}
 use Rattle.sqlite.specs.Effect.{Database}
 use Rattle.sqlite.specs.Tree.{Trees}
-use Rattle.sqlite.specs.State.{State, HasCleanDisk, Survives}
+use Rattle.sqlite.specs.State.{State, HasCleanDisk, KeepsCommit, Survives}
 use Rattle.sqlite.proofs.StateLemmas.{survives_then}
 use Rattle.sqlite.proofs.Callers.{survives_begin}
 use Rattle.table_rows.specs.Tables.{no_schema}
 use Rattle.outbox_core.specs.Entries.{Contents, empty}
 use Rattle.outbox_core.specs.Rows.{IsOutboxOf, Leaves}
-use Rattle.outbox_core.proofs.MakeLemmas.{no_entries}
+use Rattle.outbox_core.proofs.MakeLemmas.{no_entries, begun_keeps, commit_keeps}
 use Rattle.outbox_core.proofs.create.make.Goals as goal
 
 abbrev IsMade : Contents → State → Type 0
@@ -55,3 +55,15 @@ returns-clause-durable g c clean =
     IfOk-weaker c.commit.result _ _ (λ _ done. let r : (trees : Trees) → (state g.S.Store c.conn-2-1.given.0).may_leave trees → trees ≡ (state g.S.Store c.conn-2-1.given.0).now.trees =
     subst (λ h. (trees : Trees) → (state g.S.Store h).may_leave trees → trees ≡ (state g.S.Store h).now.trees) same
     (λ trees left. g.met.S.Store.settled end.store trees done.1.is_open left ∙ ap (λ (d : Database). d.trees) (done.1.committed_is ∙ sym done.1.now_is)) in r) (c.commit.ensures.ok late)
+
+pub returns-clause-undone : goal.returns-clause-undone
+returns-clause-undone g c clean =
+    let old = c.args.conn.now in
+    let last = c.make_tables.new.tx.conn.now in
+    let begun = c.transaction-tx.ensures.begun in
+    let end = c.commit.new.self.0 in
+    let same : end ≡ c.conn-2-1.given.0 = search rules in
+    let late : HasCleanDisk (state g.S.Store end) = search rules in
+    let mid : HasCleanDisk (state g.S.Store last) = omega (arith, c.commit.ensures.survives.clean) in
+    let kept = begun_keeps g.S.Store old (state g.S.Store last) (rw begun at (c.in_ok-make_tables.ensures.keeps mid)) in
+    IfErr-weaker c.commit.result _ _ (λ e failed. subst (λ h. KeepsCommit (state g.S.Store old) (state g.S.Store h)) same (commit_keeps (state g.S.Store old) (state g.S.Store last) (state g.S.Store end) kept e failed)) (c.commit.ensures.err late)

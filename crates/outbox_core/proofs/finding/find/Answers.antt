@@ -6,12 +6,12 @@ use Rattle.sqlite.proofs.StateLemmas.{survives_then}
 use Rattle.table_rows.specs.Rows.{Holds}
 use Rattle.table_rows.specs.Standing.{Stands}
 use Rattle.table_rows.proofs.StandLemmas.{stands_on}
-use Rattle.outbox_core.specs.declared.fault.OutboxFault.TheVariants.{Damaged}
 use Rattle.outbox_core.specs.Schema.{IsDeclared, entry_table}
 use Rattle.outbox_core.specs.Entries.{contents_of}
 use Rattle.outbox_core.specs.Rows.{IsOutboxOf, entry_rows}
 use Rattle.outbox_core.proofs.ListLemmas.{kept_list}
 use Rattle.outbox_core.proofs.DistinctLemmas.{distinct_held}
+use Rattle.outbox_core.proofs.RefusalLemmas.{refused_first, refused_later}
 use Rattle.outbox_core.proofs.finding.find.Goals as goal
 
 pub returns-in-Ok-count_entries-clause-found : goal.returns-in-Ok-count_entries-clause-found
@@ -36,11 +36,16 @@ returns-in-Ok-count_entries-clause-found g c clean declared =
     let stood : Stands (IsOutboxOf it) old = record { autocommit = c.requires.autocommit; now = λ _. here; committed = λ alive. sym (c.is_settled.ensures.settled settled alive) } in
     (two.0, here, stands_on (IsOutboxOf it) mid new (inl two.4) (stands_on (IsOutboxOf it) old mid (inl same) stood), two.3)
 
-pub returns-in-Err-count_entries-clause-damaged : goal.returns-in-Err-count_entries-clause-damaged
-returns-in-Err-count_entries-clause-damaged g c clean row is =
+pub returns-in-Err-count_entries-clause-refused : goal.returns-in-Err-count_entries-clause-refused
+returns-in-Err-count_entries-clause-refused g c clean =
+    let fault = c.in-Err-count_entries.fault in
     let early : HasCleanDisk (state g.S.Store c.filer_of.new.conn) = c.in-Err-count_entries.ensures.clean clean in
-    let same : c.in-Err-count_entries.fault ≡ Damaged row = cc in
-    (c.filer_of.new.conn, c.in-Ok.ensures.read early, c.in-Err-count_entries.ensures.damaged clean row (ap Err same))
+    refused_later g.S.Store fault c.args.conn.now c.filer_of.new.conn c.count_entries.new.conn (c.in-Ok.ensures.read early) c.in-Err-count_entries.ensures.others
+    (λ row is. c.in-Err-count_entries.ensures.damaged clean row (ap Err is)) (λ is. c.in-Err-count_entries.ensures.disk clean (ap Err is))
+
+pub returns-in-Err-clause-refused : goal.returns-in-Err-clause-refused
+returns-in-Err-clause-refused g c clean =
+    refused_first g.S.Store c.in-Err.fault c.args.conn.now c.filer_of.new.conn c.in-Err.ensures.others (λ is. c.in-Err.ensures.not_ours clean (ap Err is)) (λ is. c.in-Err.ensures.disk clean (ap Err is))
 
 pub returns-in-Ok-count_entries-clause-crash : goal.returns-in-Ok-count_entries-clause-crash
 returns-in-Ok-count_entries-clause-crash g c =

@@ -1,4 +1,4 @@
-use Rattle.std.proofs.Common.{◌≡◌, Err, List, length, ap, subst, ◌∙◌, string_bytes}
+use Rattle.std.proofs.Common.{List, length, ap, subst, ◌∙◌, string_bytes}
 use Rattle.sqlite.specs.Held.{state}
 use Rattle.filing_model.specs.Outbox.{Entry}
 use Rattle.table_rows.specs.Standing.{Stands}
@@ -6,23 +6,12 @@ use Rattle.outbox_core.specs.Entries.{Contents, contents_of}
 use Rattle.outbox_core.specs.Rows.{IsOutboxOf}
 use Rattle.outbox_core.proofs.ListLemmas.{leaves_last}
 use Rattle.outbox_core.proofs.UniqueLemmas.{one_outbox}
-use Rattle.outbox_core.specs.declared.fault.OutboxFault.TheVariants.{NotOurs, Damaged}
 use Rattle.outbox_core.proofs.outbox.Outbox.open.Goals as goal
 
 pub returns-in-Ok-clause-opened : goal.returns-in-Ok-clause-opened
 returns-in-Ok-clause-opened g c clean declared =
     let found = c.in-Ok.ensures.found clean declared in
     (found.0, found.1, record { stands = found.2; count = found.3 })
-
-pub returns-in-Err-clause-not_ours : goal.returns-in-Err-clause-not_ours
-returns-in-Err-clause-not_ours g c is =
-    let same : c.in-Err.fault ≡ NotOurs = cc in
-    (c.find.new.conn, λ clean. c.in-Err.ensures.not_ours clean (ap Err same))
-
-pub returns-in-Err-clause-damaged : goal.returns-in-Err-clause-damaged
-returns-in-Err-clause-damaged g c row is =
-    let same : c.in-Err.fault ≡ Damaged row = cc in
-    (c.find.new.conn, λ clean. c.in-Err.ensures.damaged clean row (ap Err same))
 
 pub returns-in-Ok-clause-same : goal.returns-in-Ok-clause-same
 returns-in-Ok-clause-same g c clean it is =
@@ -46,4 +35,4 @@ returns-in-Ok-clause-durable g c clean it is =
     (alive, λ trees may. leaves_last new it (subst (λ i. Stands (IsOutboxOf i) new) one found.2) alive trees (g.met.S.Store.settled c.find.new.conn.store trees alive may))
 
 pub returns-in-Err-clause-refused : goal.returns-in-Err-clause-refused
-returns-in-Err-clause-refused g c = (c.find.new.conn, c.find.ensures.crash, λ clean it is. c.in-Err.ensures.sound clean it is c.requires.unlimited)
+returns-in-Err-clause-refused g c = (c.find.new.conn, c.find.ensures.crash, c.in-Err.ensures.refused, λ clean it is. c.in-Err.ensures.sound clean it is c.requires.unlimited)

@@ -1,0 +1,140 @@
+//! The calls that the tests make, each in a function of its own that has no clause: what calls it carries none of theirs.
+
+ghost use Rattle.std.specs.Prelude.{◌≡◌, false, None, IfOk};
+
+use crate::{
+    Completed, CreateFault, KeptRow, NewRow, OpenFault, Outcome, Registered, Store, StoreFault,
+};
+use filing_model::plain::FilingRow;
+use key_string::{KeyText, is_filer};
+use sqlite::{Alter, Connection, FileStore, Files, MemStore};
+use sqlite_disk::Disk;
+use std::alloc::{AllocError, Global};
+use std::test::Fail;
+use xbrl_report::{Fact, judge};
+
+/// A connection in no transaction and without a limit of steps.
+fn ready<S: Alter + Drop>(conn: Connection<S>) -> Result<Connection<S>, Fail>
+    ensures { IfOk result (λ conn. (conn.in_transaction ≡ false) × (conn.step_limit ≡ None)) }
+{
+    let mut conn = conn;
+    conn.set_step_limit(None);
+    if !conn.is_autocommit() {
+        return Err(Fail::from("a transaction is under way"));
+    }
+    Ok(conn)
+}
+
+/// A new database.
+pub fn new_database(alloc: Global) -> Result<Connection<MemStore>, AllocError> {
+    Connection::open_in_memory(alloc)
+}
+
+/// Runs a statement that has no parameter.
+pub fn run<S: Alter>(conn: &mut Connection<S>, sql: &str) -> Result<(), Fail> {
+    conn.execute(sql, &[])?;
+    Ok(())
+}
+
+/// Runs a statement that has one parameter.
+pub fn run_with<S: Alter>(conn: &mut Connection<S>, sql: &str, blob: &[u8]) -> Result<(), Fail> {
+    conn.execute(sql, sqlite::params![blob])?;
+    Ok(())
+}
+
+/// Runs the statements.
+pub fn run_all<S: Alter>(conn: &mut Connection<S>, sql: &str) -> Result<(), Fail> {
+    conn.execute_batch(sql)?;
+    Ok(())
+}
+
+/// What `create` answers.
+pub fn create<S: Alter + Drop>(
+    alloc: Global,
+    conn: Connection<S>,
+) -> Result<Result<Store<S>, CreateFault>, Fail> {
+    Ok(Store::create(alloc, ready(conn)?))
+}
+
+/// What `open` answers.
+pub fn open<S: Alter + Drop>(
+    alloc: Global,
+    conn: Connection<S>,
+) -> Result<Result<Store<S>, OpenFault>, Fail> {
+    Ok(Store::open(alloc, ready(conn)?))
+}
+
+/// The connection of a store.
+pub fn conn_of<S: Alter>(store: Store<S>) -> Connection<S> {
+    store.into_conn()
+}
+
+/// How many requests are kept, and how many of them are registered.
+pub fn counts<S: Alter>(store: &Store<S>) -> Result<(u64, u64), StoreFault> {
+    Ok((store.kept_count()?, store.filing_count()?))
+}
+
+/// What `add` answers for a short report of a filer under a key, as it is judged. Want of memory to judge it is told as that
+/// of the store.
+pub fn add_short<S: Alter>(
+    alloc: Global,
+    store: &mut Store<S>,
+    filer: &str,
+    key: &KeyText,
+    body: &[u8],
+) -> Result<Result<Outcome, StoreFault>, Fail> {
+    if !is_filer(filer) || body.len() > 1000 || store.kept_count()? > 1000 {
+        return Err(Fail::from("not for this test"));
+    }
+    match judge(alloc, filer, body) {
+        Ok(judged) => Ok(store.add(&NewRow {
+            filer,
+            key,
+            body,
+            judged: &judged,
+        })),
+        Err(error) => Ok(Err(StoreFault::from(error))),
+    }
+}
+
+/// What `find` answers.
+pub fn look_up<S: Alter>(
+    store: &mut Store<S>,
+    filer: &str,
+    key: &KeyText,
+) -> Result<Option<KeptRow>, StoreFault> {
+    store.find(filer, key)
+}
+
+/// What `requests` answers.
+pub fn requests<S: Alter>(store: &mut Store<S>) -> Result<Vec<Completed>, StoreFault> {
+    store.requests()
+}
+
+/// What `filings` answers.
+pub fn filings<S: Alter>(store: &mut Store<S>, filer: &str) -> Result<Vec<FilingRow>, StoreFault> {
+    store.filings(filer)
+}
+
+/// What `all_filings` answers.
+pub fn all_filings<S: Alter>(store: &mut Store<S>) -> Result<Vec<Registered>, StoreFault> {
+    store.all_filings()
+}
+
+/// What `facts` answers.
+pub fn facts<S: Alter>(store: &mut Store<S>, number: u64) -> Result<Option<Vec<Fact>>, StoreFault> {
+    store.facts(number)
+}
+
+/// What `into_files` answers.
+pub fn into_files<D: Disk + Drop>(store: Store<FileStore<D>>) -> Result<Files<D>, StoreFault> {
+    store.into_files()
+}
+
+/// The files, with whatever they hold now.
+pub fn close<D: Disk + Drop>(store: Store<FileStore<D>>) -> Files<D> {
+    match store.into_conn().close_files() {
+        Ok(files) => files,
+        Err((_, store)) => store.close(),
+    }
+}
