@@ -1,30 +1,28 @@
 -- A connection that goes on by one place, or ends.
-use Rattle.std.proofs.Common.{arith, ◌≡◌, ◌≢◌, ℕ, ◌+◌, ◌≤◌, Bool, true, false, List, [], ◌∷◌, ◌++◌, take, drop, length, Option, Some, None, Result, Ok, Err, refl, sym, ap, ◌∙◌, subst, append_assoc, inl, inr, ◌⊎◌}
+use Rattle.std.proofs.Common.{arith, ◌≡◌, ◌≢◌, ℕ, ◌≤◌, Bool, true, false, List, [], ◌++◌, take, drop, length, Option, refl, sym, ap, ◌∙◌, subst, append_assoc, inl, inr, ◌⊎◌}
 use Rattle.std.proofs.lemmas.List.{length-append}
 use Rattle.std.specs.Io.KnownBytes.{Consumes, Appends, IsAtEnd}
 use Rattle.http_wire.specs.declared.inbox.Inbox.{Inbox}
 use Rattle.http_wire.specs.declared.refusal.ConnFault.{ConnFault}
 use Rattle.http_wire.specs.declared.refusal.ConnFault.TheVariants.{Write, ReadLimit, Memory}
 use Rattle.http_wire.specs.declared.refusal.ConnFault.TheVariants as fault
-use Rattle.http_wire.specs.declared.refusal.Next.{Next}
 use Rattle.http_wire.specs.declared.refusal.Refusal.{Refusal}
 use Rattle.http_wire.specs.Calls.{interim_if, WritesAsked, WritesUpTo, IsFault}
 use Rattle.http_wire.specs.Head.{closes}
-use Rattle.http_wire.specs.Inbox.{held, unread, lent_len, lent_request, lent_awaits, is_over, got, ReadsOn, LendsFirst, IsNew, reads}
-use Rattle.http_wire.specs.Message.{Place, Read, Refused, Ending, Rest, Asks, IsRest, IsRefused, awaits, interim}
+use Rattle.http_wire.specs.Inbox.{held, unread, lent_len, lent_awaits, got, ReadsOn, LendsFirst, IsNew, reads}
+use Rattle.http_wire.specs.Message.{Read, Refused, Rest, IsRest, IsRefused, interim}
 use Rattle.http_wire.specs.Received.{max_reads}
 use Rattle.http_wire.specs.Request.{Request as Message}
 use Rattle.std.proofs.Math.Seq.{drop-nil}
 use Rattle.http_wire.proofs.DeviceLemmas.{Appends-join, Appends-nil, Consumes-join, Consumes-nil}
-use Rattle.filing_model.specs.declared.served.Ended.{Ended}
 use Rattle.filing_model.specs.declared.served.Ended.TheVariants.{Closed, InputEnded, Fault}
 use Rattle.filing_model.specs.declared.served.Mark.{Mark}
 use Rattle.filing_model.specs.Request.{Request}
-use Rattle.filing_model.specs.Serving.{kept_by, IsServed, IsCutShort, Serves}
+use Rattle.filing_model.specs.Serving.{IsServed, IsCutShort}
 use Rattle.filing_model.specs.Text.{interim_of, reply_text, next_interim}
 use Rattle.filing_model.proofs.Lists.{append_nil}
-use Rattle.gateway_server.specs.Answered.{IsMarked, IsAnswered, IsPartly, IsUntouched, Answers, IsReplyFault}
-use Rattle.gateway_server.specs.Progress.{HasServed, GoesOn, HasMessage, HasRefusal, ServesConnection, Continues}
+use Rattle.gateway_server.specs.Answered.{IsAnswered, IsPartly, IsUntouched, IsReplyFault}
+use Rattle.gateway_server.specs.Progress.{HasServed, GoesOn, HasMessage, HasRefusal, ServesConnection}
 use Rattle.gateway_server.proofs.Progress.{HasServed-none, HasServed-more, HasServed-end}
 use Rattle.gateway_server.proofs.Places.{served_last, served_push, served_part, served_read, served_asked, served_nothing, served_rest}
 

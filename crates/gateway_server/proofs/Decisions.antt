@@ -5,7 +5,6 @@ use Rattle.http_wire.specs.declared.reply.Reply.{Reply}
 use Rattle.http_wire.specs.Replies.{reply_parts}
 use Rattle.filing_model.specs.declared.served.Mark.{Mark}
 use Rattle.filing_model.specs.declared.served.Mark.TheVariants.{Unavailable, NotFiled}
-use Rattle.filing_model.specs.Reply.{unavailable}
 use Rattle.filing_model.specs.Request.{Request}
 use Rattle.filing_model.specs.Serving.{kept_by}
 use Rattle.filing_model.specs.Text.{Route, Listed, Filed, RouteFits, requests_of_route, bare}
@@ -14,7 +13,6 @@ use Rattle.gateway_server.specs.declared.route.Route.TheVariants as asked
 use Rattle.gateway_server.specs.declared.route.Told.{Told}
 use Rattle.gateway_server.specs.Decided.{Decides, IsUnavailable, marked_reply, told_reply}
 use Rattle.gateway_server.specs.Route.{view_route}
-use Rattle.gateway_server.proofs.Statuses.{phrase-parts, phrase-told_reply, phrase-unavailable}
 
 decides : (limit : ℕ) (requests : List Request) (to : Route) (d : Decided) → IsUnavailable d → RouteFits limit requests to Unavailable → requests ≡ kept_by requests (requests_of_route to Unavailable) → Decides limit requests requests to d
 decides limit requests to d is fit kept = record {

@@ -1,19 +1,18 @@
 -- What one more place does to a connection that was served so far.
-use Rattle.std.proofs.Common.{◌≡◌, ℕ, ◌≤◌, Bool, true, false, List, [], ◌∷◌, ◌++◌, length, drop, take, map, refl, sym, ap, ◌∙◌, subst, append_assoc, arith, true≢false}
+use Rattle.std.proofs.Common.{◌≡◌, ℕ, ◌≤◌, Bool, true, false, List, [], ◌∷◌, ◌++◌, length, drop, map, refl, sym, ap, ◌∙◌, subst, append_assoc, arith, true≢false}
 use Rattle.std.specs.Prelude.{if◌then◌else◌}
 use Rattle.std.proofs.lemmas.Grind.{common_steps}
 use Rattle.std.proofs.lemmas.List.{map-append}
 use Rattle.http_wire.specs.Head.{closes}
-use Rattle.http_wire.specs.Message.{Place, Read, Refused, Ending, Rest, BeginsRequest, IsRefused, IsRest, Asks, HasPlaces, interim, awaits}
+use Rattle.http_wire.specs.Message.{Place, Read, Refused, Ending, Rest, BeginsRequest, IsRest, Asks, HasPlaces}
 use Rattle.http_wire.specs.Request.{Request as Message}
 use Rattle.http_wire.proofs.MoreBytes.{BeginsRequest-more}
 use Rattle.filing_model.specs.declared.served.Mark.{Mark}
-use Rattle.filing_model.specs.declared.served.Ended.{Ended}
-use Rattle.filing_model.specs.declared.served.Ended.TheVariants.{Closed, InputEnded, Fault}
+use Rattle.filing_model.specs.declared.served.Ended.TheVariants.{Closed, InputEnded}
 use Rattle.filing_model.specs.Prefix.{IsPrefixOf}
 use Rattle.filing_model.specs.Request.{Request}
-use Rattle.filing_model.specs.Serving.{kept_by, AreMarked, GoesThrough, MayBegin, IsServed, IsCutShort, Serves}
-use Rattle.filing_model.specs.Text.{MarksFit, completed, completed_at, interim_of, reply_text, text, next_interim}
+use Rattle.filing_model.specs.Serving.{kept_by, AreMarked, GoesThrough, MayBegin, IsServed, IsCutShort}
+use Rattle.filing_model.specs.Text.{MarksFit, completed, text, next_interim}
 use Rattle.filing_model.proofs.Lists.{append_nil}
 use Rattle.filing_model.proofs.Appending.{completed-append, text-append, text_now, are_marked_now, kept_by-append, AreMarked-append}
 use Rattle.gateway_server.specs.Progress.{HasServed}

@@ -1,5 +1,5 @@
 -- Each status that is answered has a phrase.
-use Rattle.std.proofs.Common.{◌≡◌, ℕ, Bool, true, false, List, [], ◌∷◌, refl, sym, ap, subst, ⊎_elim, Result, Ok, Err}
+use Rattle.std.proofs.Common.{◌≡◌, Bool, true, false, List, [], ◌∷◌, refl, sym, subst, ⊎_elim, Result, Ok, Err}
 use Rattle.std.specs.Prelude.{IsSome, IfOk, nat_eq}
 use Rattle.std.proofs.lemmas.Bool.{cases_Bool}
 use Rattle.http_wire.specs.declared.head.HeadFault.{HeadFault}

@@ -1,6 +1,5 @@
 -- What a message gets. No public clause cites this file.
 use Rattle.std.specs.Prelude.{◌≡◌, ℕ, Bool, List, [], IfOk, IsSome, if◌then◌else◌}
-use Rattle.http_wire.specs.declared.reply.Reply.{Reply}
 use Rattle.http_wire.specs.Replies.{reply_parts}
 use Rattle.http_wire.specs.Reply.{ReplyParts, phrase}
 use Rattle.filing_model.specs.declared.served.Mark.{Mark}

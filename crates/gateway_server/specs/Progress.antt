@@ -1,5 +1,5 @@
 -- How far a connection was served, and what serving it to its end does.
-use Rattle.std.specs.Prelude.{◌≡◌, ℕ, ◌≤◌, false, List, [], ◌∷◌, ◌++◌, length, map, Option, Some, None}
+use Rattle.std.specs.Prelude.{◌≡◌, ℕ, ◌≤◌, false, List, ◌++◌, length, map, Option, Some, None}
 use Rattle.std.specs.Io.KnownBytes.{Consumes, Appends, IsAtEnd}
 use Rattle.http_wire.specs.declared.inbox.Inbox.{Inbox}
 use Rattle.http_wire.specs.declared.refusal.ConnFault.{ConnFault}

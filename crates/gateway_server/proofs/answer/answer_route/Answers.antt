@@ -1,4 +1,4 @@
-use Rattle.std.proofs.Common.{◌≡◌, Bool, sym, ap, ◌∙◌, subst}
+use Rattle.std.proofs.Common.{Bool, sym, ap, ◌∙◌, subst}
 use Rattle.http_wire.specs.Reply.{render}
 use Rattle.filing_model.specs.Text.{Route, bare}
 use Rattle.intake_core.specs.Held.{limit_of}

@@ -1,4 +1,4 @@
-use Rattle.std.proofs.Common.{◌≡◌, ◌∷◌, sym, ap, ◌∙◌, inr}
+use Rattle.std.proofs.Common.{◌∷◌, sym, ap, ◌∙◌, inr}
 use Rattle.http_wire.specs.FieldsNamed.{values_left}
 use Rattle.gateway_server.proofs.route.only_key.Goals as goal
 

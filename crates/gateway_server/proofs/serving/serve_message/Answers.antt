@@ -1,7 +1,7 @@
-use Rattle.std.proofs.Common.{◌≡◌, ℕ, List, Option, length, true, false, sym, ap, ◌∙◌, subst, ◌⊎◌, ◌≤◌}
+use Rattle.std.proofs.Common.{◌≡◌, length, true, false, sym, ◌∙◌, subst, ◌⊎◌, ◌≤◌}
 use Rattle.http_wire.specs.Device.{HasFailed}
 use Rattle.http_wire.specs.Head.{closes, max_body_len}
-use Rattle.http_wire.specs.Inbox.{held, lent_len, LendsFirst}
+use Rattle.http_wire.specs.Inbox.{held, lent_len}
 use Rattle.http_wire.specs.Message.{Read}
 use Rattle.http_wire.specs.Request.{Request as Message}
 use Rattle.intake_core.specs.Held.{limit_of}

@@ -1,4 +1,4 @@
-use Rattle.std.proofs.Common.{◌≡◌, true, false, true≢false, sym, ◌∙◌, inl, inr}
+use Rattle.std.proofs.Common.{true≢false, sym, ◌∙◌, inl, inr}
 use Rattle.std.specs.Io.KnownBytes.{IsAtEnd}
 use Rattle.http_wire.specs.Calls.{WritesAsked}
 use Rattle.http_wire.specs.Device.{HasFailed}
