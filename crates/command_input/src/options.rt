@@ -1,6 +1,6 @@
 //! The options of a command line that have a value.
 
-ghost use Rattle.std.specs.Prelude.{◌≡◌, Some, true};
+ghost use Rattle.std.specs.Prelude.{◌≡◌, Some, true, codes, IfSome};
 
 use clap::{Arg, ArgAction, value_parser};
 use std::alloc::Global;
@@ -23,12 +23,20 @@ pub fn option<'a>(alloc: Global, name: &'a str, value: &'a str, help: &'a str) -
 }
 
 /// The option `--db`, a file.
-pub fn database_option<'a>(alloc: Global, help: &'a str) -> Arg<'a> {
+pub fn database_option<'a>(alloc: Global, help: &'a str) -> Arg<'a>
+    ensures id { result.id.now ≡ codes "db" }
+    ensures long { IfSome result.long (λ name. name.now ≡ codes "db") }
+    ensures required { result.required ≡ true }
+{
     option(alloc, "db", "FILE", help)
 }
 
 /// The option `--filer`, a filer's code.
-pub fn filer_option<'a>(alloc: Global) -> Arg<'a> {
+pub fn filer_option<'a>(alloc: Global) -> Arg<'a>
+    ensures id { result.id.now ≡ codes "filer" }
+    ensures long { IfSome result.long (λ name. name.now ≡ codes "filer") }
+    ensures required { result.required ≡ true }
+{
     option(
         alloc,
         "filer",
@@ -38,6 +46,10 @@ pub fn filer_option<'a>(alloc: Global) -> Arg<'a> {
 }
 
 /// The option `--port`, 1 to 65535.
-pub fn port_option<'a>(alloc: Global, help: &'a str) -> Arg<'a> {
+pub fn port_option<'a>(alloc: Global, help: &'a str) -> Arg<'a>
+    ensures id { result.id.now ≡ codes "port" }
+    ensures long { IfSome result.long (λ name. name.now ≡ codes "port") }
+    ensures required { result.required ≡ true }
+{
     option(alloc, "port", "PORT", help).value_parser(value_parser!(u16).range(1..))
 }
