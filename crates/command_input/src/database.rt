@@ -1,6 +1,7 @@
 //! Opening the files of a database.
 
-ghost use Rattle.std.specs.Prelude.{◌≡◌, None, false, IfOk};
+ghost use Rattle.std.specs.Prelude.{◌≡◌, ◌≢◌, None, false, Err, IfOk};
+ghost use Rattle.command_input.specs.Faults.{database_fault};
 
 use sqlite::{Connection, Error, ErrorCode, File, FileStore};
 use std::fs;
@@ -44,6 +45,7 @@ pub fn open_database(rt: &HostRuntime, name: &str) -> Result<Database, DatabaseF
 pub fn make_database(rt: &HostRuntime, name: &str) -> Result<Database, DatabaseFault>
     ensures autocommit { IfOk result (λ conn. conn.in_transaction ≡ false) }
     ensures unlimited { IfOk result (λ conn. conn.step_limit ≡ None) }
+    ensures any_name { result ≢ Err DatabaseFault.Missing }
 {
     match Connection::open(rt, name) {
         Ok(conn) => Ok(conn),
@@ -51,7 +53,10 @@ pub fn make_database(rt: &HostRuntime, name: &str) -> Result<Database, DatabaseF
     }
 }
 
-fn fault_of(error: sqlite::Error) -> DatabaseFault {
+fn fault_of(error: sqlite::Error) -> DatabaseFault
+    ensures told { result ≡ database_fault error }
+    ensures any_name { result ≢ DatabaseFault.Missing }
+{
     match error {
         Error::SqliteFailure(ErrorCode::NotADatabase | ErrorCode::DatabaseCorrupt) => {
             DatabaseFault::NotADatabase

@@ -1,6 +1,7 @@
 //! The tasks of `intake` and their values, as `clap` reads them.
 
 use clap::{Arg, ArgAction, ArgMatches, Command, Error, value_parser};
+use command_input::{database_option, filer_option, option, port_option};
 use std::alloc::{AllocError, Global};
 
 /// How many keys are kept at most, where the command line does not say.
@@ -9,7 +10,7 @@ pub const DEFAULT_LIMIT: u64 = 1_000_000;
 const MOST_CONNECTIONS: i64 = (1 << 32) - 1;
 
 /// What the command line asks for.
-#[derive(Clone, Copy, Debug, PartialEq, Eq)]
+#[derive(Clone, Copy)]
 pub enum Task<'a> {
     /// Serve standard input on a register in memory.
     Run {
@@ -39,19 +40,8 @@ pub enum Task<'a> {
     },
 }
 
-/// A required option with one value, which may begin with a hyphen, as a filer's code may.
-fn option<'a>(alloc: Global, name: &'a str, value: &'a str, help: &'a str) -> Arg<'a> {
-    Arg::new(alloc, name)
-        .long(name)
-        .value_name(value)
-        .help(help)
-        .required(true)
-        .action(ArgAction::Set)
-        .allow_hyphen_values(true)
-}
-
 fn database<'a>(alloc: Global) -> Arg<'a> {
-    option(alloc, "db", "FILE", "The database file of the register")
+    database_option(alloc, "The database file of the register")
 }
 
 fn limit<'a>(alloc: Global) -> Arg<'a> {
@@ -71,57 +61,75 @@ fn run<'a>(alloc: Global) -> Result<Command<'a>, AllocError> {
         .arg(limit(alloc))
 }
 
-fn serve<'a>(alloc: Global) -> Result<Command<'a>, AllocError> {
-    let port = option(
-        alloc,
-        "port",
-        "PORT",
-        "The port of 127.0.0.1 to listen on, 1 to 65535",
-    );
-    let connections = option(
+fn port<'a>(alloc: Global) -> Arg<'a> {
+    port_option(alloc, "The port of 127.0.0.1 to listen on, 1 to 65535")
+}
+
+fn connections<'a>(alloc: Global) -> Arg<'a> {
+    option(
         alloc,
         "connections",
         "COUNT",
         "How many connections are served, one after the other, 1 to 4294967295",
-    );
-    let new = Arg::new(alloc, "new")
+    )
+    .value_parser(value_parser!(u32).range(1..=MOST_CONNECTIONS))
+}
+
+fn new<'a>(alloc: Global) -> Arg<'a> {
+    Arg::new(alloc, "new")
         .long("new")
         .help("Makes the register; the file is made where it is missing")
-        .action(ArgAction::SetTrue);
+        .action(ArgAction::SetTrue)
+}
+
+fn serve<'a>(alloc: Global) -> Result<Command<'a>, AllocError> {
+    let options = vec![in alloc;
+        database(alloc),
+        port(alloc),
+        connections(alloc),
+        limit(alloc),
+        new(alloc),
+    ]?;
     Command::new(alloc, "serve")
         .about("Serves connections of a port on the register of a file, and ends")
-        .arg(database(alloc))?
-        .arg(port.value_parser(value_parser!(u16).range(1..)))?
-        .arg(connections.value_parser(value_parser!(u32).range(1..=MOST_CONNECTIONS)))?
-        .arg(limit(alloc))?
-        .arg(new)
+        .args(options)
 }
 
 fn list<'a>(alloc: Global) -> Result<Command<'a>, AllocError> {
-    let filer = option(
-        alloc,
-        "filer",
-        "CODE",
-        "The filer's code: 1 to 64 ASCII letters, digits, '.', '_' and '-'",
-    );
+    let options = vec![in alloc; database(alloc), filer_option(alloc)]?;
     Command::new(alloc, "list")
         .about("Prints the filings of a filer, as GET /filings/CODE answers")
-        .arg(database(alloc))?
-        .arg(filer)
+        .args(options)
+}
+
+fn number<'a>(alloc: Global) -> Arg<'a> {
+    option(alloc, "number", "N", "The number of the filing").value_parser(value_parser!(u64).range(
+        0..=i64::MAX,
+    ))
 }
 
 fn show<'a>(alloc: Global) -> Result<Command<'a>, AllocError> {
-    let number = option(alloc, "number", "N", "The number of the filing");
+    let options = vec![in alloc; database(alloc), number(alloc)]?;
     Command::new(alloc, "show")
         .about("Prints the facts of a filing, each as a line of JSON")
-        .arg(database(alloc))?
-        .arg(number.value_parser(value_parser!(u64).range(0..=i64::MAX)))
+        .args(options)
 }
 
 fn check<'a>(alloc: Global) -> Result<Command<'a>, AllocError> {
     Command::new(alloc, "check")
         .about("Holds each row of the register to the bodies that are kept, and says what it found")
         .arg(database(alloc))
+}
+
+fn tasks<'a>(alloc: Global) -> Result<Vec<Command<'a>>, AllocError> {
+    let tasks = vec![in alloc;
+        run(alloc)?,
+        serve(alloc)?,
+        list(alloc)?,
+        show(alloc)?,
+        check(alloc)?,
+    ]?;
+    Ok(tasks)
 }
 
 fn command<'a>(alloc: Global) -> Result<Command<'a>, AllocError> {
@@ -131,11 +139,7 @@ fn command<'a>(alloc: Global) -> Result<Command<'a>, AllocError> {
         .after_help(
             "Exit status: 0 done; 1 not a register, a damaged one, or one that is there already;\n2 the command line; 3 memory, a file, the disk or the network failed; 4 no such filing",
         )
-        .subcommand(run(alloc)?)?
-        .subcommand(serve(alloc)?)?
-        .subcommand(list(alloc)?)?
-        .subcommand(show(alloc)?)?
-        .subcommand(check(alloc)?)
+        .subcommands(tasks(alloc)?)
 }
 
 fn limit_of(values: &ArgMatches<'_>) -> u64 {

@@ -1,6 +1,6 @@
 //! Why a task is not done, in words and as a status.
 
-use command_input::DatabaseFault;
+use command_input::{CommandFault, DatabaseFault};
 use http_wire::ConnFault;
 use intake_core::Unavailable;
 use register_store::{CreateFault, OpenFault, StoreFault};
@@ -12,16 +12,10 @@ use thiserror::Error;
 /// Why a task was not done. Its text is one line.
 #[derive(Debug, Drop, Error)]
 pub enum Fault<'a> {
-    #[error("a word of the command line is not UTF-8")]
-    NotText,
-    #[error("the command line asks for nothing")]
-    NoTask,
+    #[error("{0}")]
+    Command(CommandFault<'a>),
     #[error("--limit: it is 4611686018427387904 at most")]
     Limit,
-    #[error("--filer: not a filer code, which is 1 to 64 ASCII letters, digits, '.', '_' and '-'")]
-    Filer,
-    #[error("{name}: {fault}")]
-    Database { name: &'a str, fault: DatabaseFault },
     #[error("{0}")]
     InMemory(CreateFault),
     #[error("{name}: {fault}")]
@@ -40,15 +34,17 @@ pub enum Fault<'a> {
     Served { connection: u32, fault: ConnFault },
     #[error("127.0.0.1:{port}: {error}")]
     Network { port: u16, error: io::Error },
-    #[error("the output cannot be written")]
-    Output,
-    #[error("out of memory")]
-    Memory,
+}
+
+impl<'a> From<CommandFault<'a>> for Fault<'a> {
+    fn from(fault: CommandFault<'a>) -> Self {
+        Fault::Command(fault)
+    }
 }
 
 impl From<AllocError> for Fault<'_> {
     fn from(_error: AllocError) -> Self {
-        Fault::Memory
+        Fault::Command(CommandFault::Memory)
     }
 }
 
@@ -58,10 +54,7 @@ impl Fault<'_> {
     /// a filing is missing.
     pub fn status(&self) -> u8 {
         match self {
-            Fault::Database {
-                fault: DatabaseFault::Missing | DatabaseFault::NotADatabase,
-                ..
-            } => 1,
+            Fault::Command(fault) => fault.status(),
             Fault::Create {
                 fault: CreateFault::Taken,
                 ..
@@ -70,7 +63,7 @@ impl Fault<'_> {
                 fault: OpenFault::NotOurs | OpenFault::Damaged { .. },
                 ..
             } => 1,
-            Fault::NotText | Fault::NoTask | Fault::Limit | Fault::Filer => 2,
+            Fault::Limit => 2,
             Fault::NoFiling { .. } => 4,
             _ => 3,
         }
@@ -87,10 +80,12 @@ impl Fault<'_> {
                 fault: OpenFault::Damaged { row },
                 ..
             } => Some(OpenFault::Damaged { row: *row }),
-            Fault::Database {
-                fault: DatabaseFault::Missing | DatabaseFault::NotADatabase,
-                ..
-            } => Some(OpenFault::NotOurs),
+            Fault::Command(
+                CommandFault::Database {
+                    fault: DatabaseFault::Missing | DatabaseFault::NotADatabase,
+                    ..
+                },
+            ) => Some(OpenFault::NotOurs),
             _ => None,
         }
     }

@@ -3,6 +3,7 @@
 //! status.
 #![tactic(auto)]
 
+mod calls;
 mod command_line;
 mod fault;
 mod perform;
@@ -10,27 +11,21 @@ mod register;
 #[cfg(test)]
 mod tests;
 
+use command_input::words;
 use fault::Fault;
 use perform::perform;
-use std::env;
-use std::io::ErrorKind;
 use std::process::ExitCode;
 
 fn main(rt: HostRuntime) -> ExitCode {
-    let words = env::args(&rt).and_then(|words| Ok(words.collect(rt.alloc())?));
-    let words: Vec<String> = match words {
-        Ok(words) => words,
-        Err(error) if error.kind() == ErrorKind::InvalidData => {
-            return ExitCode::from(Fault::NotText.tell(&mut rt.stderr()));
-        }
-        Err(_) => return ExitCode::from(Fault::Memory.tell(&mut rt.stderr())),
+    let status = match words(&rt) {
+        Ok(words) => perform(
+            &rt,
+            words.as_slice(),
+            &mut rt.reader(),
+            &mut rt.stdout(),
+            &mut rt.stderr(),
+        ),
+        Err(fault) => Fault::Command(fault).tell(&mut rt.stderr()),
     };
-    let status = perform(
-        &rt,
-        words.as_slice(),
-        &mut rt.reader(),
-        &mut rt.stdout(),
-        &mut rt.stderr(),
-    );
     ExitCode::from(status)
 }

@@ -2,23 +2,21 @@
 
 ghost use Rattle.std.specs.Prelude.{◌≤◌, ◌^◌, IfOk};
 
-use crate::command_line;
 use crate::command_line::{DEFAULT_LIMIT, Task};
 use crate::fault::Fault;
 use crate::register::{FileRegister, close, create, open};
-use clap::error::ErrorKind;
-use gateway_server::{Ended, fact_line, serve};
+use crate::{calls, command_line};
+use command_input::{CommandFault, DONE, show, show_refusal};
+use gateway_server::{Ended, fact_line};
 use http_wire::Device;
 use intake_core::{FilingRow, Intake, list_reply};
 use key_string::is_filer;
+use register_store::OpenFault;
 use sqlite::{File, FileStore};
 use std::alloc::{AllocError, Global};
 use std::io::{self, Read, Write};
 use std::net::{TcpListener, TcpStream};
 use xbrl_report::Fact;
-
-/// The status where the task was done.
-const DONE: u8 = 0;
 
 /// The greatest limit.
 const MOST_KEPT: u64 = 1 << 62;
@@ -34,14 +32,6 @@ fn limit_within<'a>(limit: u64) -> Result<u64, Fault<'a>>
     }
 }
 
-/// Writes a text whole.
-fn show<'a, O: Write>(output: &mut O, text: &[u8]) -> Result<(), Fault<'a>> {
-    match output.write_all(text).and_then(|()| output.flush()) {
-        Ok(()) => Ok(()),
-        Err(_) => Err(Fault::Output),
-    }
-}
-
 /// Serves one connection on a register in memory, which begins empty.
 fn run<'a, R: Read, O: Write>(
     alloc: Global,
@@ -50,13 +40,13 @@ fn run<'a, R: Read, O: Write>(
     output: &mut O,
 ) -> Result<(), Fault<'a>> {
     let limit = limit_within(limit)?;
-    let mut intake = match Intake::in_memory(alloc, limit) {
+    let mut intake = match calls::in_memory(alloc, limit) {
         Ok(intake) => intake,
         Err(fault) => return Err(Fault::InMemory(fault)),
     };
     let mut reader = Device::new(input);
     let mut writer = Device::new(output);
-    match serve(alloc, &mut reader, &mut writer, &mut intake).ended {
+    match calls::serve(alloc, &mut reader, &mut writer, &mut intake) {
         Ended::Closed | Ended::InputEnded => Ok(()),
         Ended::Fault(fault) => Err(Fault::Connection(fault)),
     }
@@ -68,7 +58,7 @@ fn serve_stream(alloc: Global, stream: &TcpStream, intake: &mut Intake<FileStore
     let _ = stream.set_nodelay(true);
     let mut reader = Device::new(stream);
     let mut writer = Device::new(stream);
-    serve(alloc, &mut reader, &mut writer, intake).ended
+    calls::serve(alloc, &mut reader, &mut writer, intake)
 }
 
 /// Serves so many connections, one after the other. One that ends in a fault, or that its peer gave up
@@ -107,7 +97,10 @@ fn serve_port<'a, E: Write>(
         Ok(listener) => serve_connections(rt.alloc(), &listener, connections, intake, errors),
         Err(error) => Err(error),
     };
-    served.map_err(|error| Fault::Network { port, error })
+    match served {
+        Ok(()) => Ok(()),
+        Err(error) => Err(Fault::Network { port, error }),
+    }
 }
 
 /// Serves so many connections of the port on this register, and closes it.
@@ -136,6 +129,15 @@ fn list_line(alloc: Global, rows: &[FilingRow]) -> Result<Vec<u8>, AllocError> {
     Ok(text)
 }
 
+fn show_rows<'a, O: Write>(
+    alloc: Global,
+    rows: &[FilingRow],
+    output: &mut O,
+) -> Result<(), Fault<'a>> {
+    let text = list_line(alloc, rows)?;
+    Ok(show(output, text.as_slice())?)
+}
+
 /// Prints the filings of a filer, as the reply to a GET lists them.
 fn list<'a, O: Write>(
     rt: &HostRuntime,
@@ -144,14 +146,15 @@ fn list<'a, O: Write>(
     output: &mut O,
 ) -> Result<(), Fault<'a>> {
     if !is_filer(filer) {
-        return Err(Fault::Filer);
+        return Err(CommandFault::Filer.into());
     }
     let mut intake = Intake::new(rt.alloc(), open(rt, name)?, DEFAULT_LIMIT);
-    let rows = intake.list(filer);
+    let rows = calls::list(&mut intake, filer);
     close(intake.into_store(), name)?;
-    let rows = rows.map_err(|fault| Fault::List { name, fault })?;
-    let text = list_line(rt.alloc(), rows.as_slice())?;
-    show(output, text.as_slice())
+    match rows {
+        Ok(rows) => show_rows(rt.alloc(), rows.as_slice(), output),
+        Err(fault) => Err(Fault::List { name, fault }),
+    }
 }
 
 /// A line for each fact.
@@ -164,6 +167,15 @@ fn fact_lines(alloc: Global, facts: &[Fact]) -> Result<String, AllocError> {
     Ok(text)
 }
 
+fn show_facts<'a, O: Write>(
+    alloc: Global,
+    facts: &[Fact],
+    output: &mut O,
+) -> Result<(), Fault<'a>> {
+    let text = fact_lines(alloc, facts)?;
+    Ok(show(output, text.as_bytes())?)
+}
+
 /// Prints the facts of a filing.
 fn show_filing<'a, O: Write>(
     rt: &HostRuntime,
@@ -172,13 +184,10 @@ fn show_filing<'a, O: Write>(
     output: &mut O,
 ) -> Result<(), Fault<'a>> {
     let mut register = open(rt, name)?;
-    let facts = register.facts(number);
+    let facts = calls::facts(&mut register, number);
     close(register, name)?;
     match facts {
-        Ok(Some(facts)) => {
-            let text = fact_lines(rt.alloc(), facts.as_slice())?;
-            show(output, text.as_bytes())
-        }
+        Ok(Some(facts)) => show_facts(rt.alloc(), facts.as_slice(), output),
         Ok(None) => Err(Fault::NoFiling { name, number }),
         Err(fault) => Err(Fault::Store { name, fault }),
     }
@@ -186,13 +195,31 @@ fn show_filing<'a, O: Write>(
 
 /// How many keys and filings the register has, once it is open and so sound.
 fn counts<'a>(register: FileRegister, name: &'a str) -> Result<(u64, u64), Fault<'a>> {
-    let kept = register.kept_count();
-    let filings = register.filing_count();
+    let counts = calls::counts(&register);
     close(register, name)?;
-    match (kept, filings) {
-        (Ok(kept), Ok(filings)) => Ok((kept, filings)),
-        (Err(fault), _) | (_, Err(fault)) => Err(Fault::Store { name, fault }),
+    match counts {
+        Ok(counts) => Ok(counts),
+        Err(fault) => Err(Fault::Store { name, fault }),
     }
+}
+
+fn show_sound<'a, O: Write>(
+    alloc: Global,
+    kept: u64,
+    filings: u64,
+    output: &mut O,
+) -> Result<(), Fault<'a>> {
+    let text = format!(in alloc; "sound: {kept} kept, {filings} filings\n")?;
+    Ok(show(output, text.as_bytes())?)
+}
+
+fn show_verdict<'a, O: Write>(
+    alloc: Global,
+    verdict: OpenFault,
+    output: &mut O,
+) -> Result<(), Fault<'a>> {
+    let text = format!(in alloc; "{verdict}\n")?;
+    Ok(show(output, text.as_bytes())?)
 }
 
 /// Prints whether the register is sound. Where it is not, the text goes to the output too, and the
@@ -201,14 +228,12 @@ fn check<'a, O: Write>(rt: &HostRuntime, name: &'a str, output: &mut O) -> Resul
     match open(rt, name) {
         Ok(register) => {
             let (kept, filings) = counts(register, name)?;
-            let text = format!(in rt.alloc(); "sound: {kept} kept, {filings} filings\n")?;
-            show(output, text.as_bytes())?;
+            show_sound(rt.alloc(), kept, filings, output)?;
             Ok(DONE)
         }
         Err(fault) => match fault.verdict() {
             Some(verdict) => {
-                let text = format!(in rt.alloc(); "{verdict}\n")?;
-                show(output, text.as_bytes())?;
+                show_verdict(rt.alloc(), verdict, output)?;
                 Ok(fault.status())
             }
             None => Err(fault),
@@ -259,21 +284,12 @@ fn perform_task<'a, R: Read, O: Write, E: Write>(
     Ok(DONE)
 }
 
-/// Shows what the reader of the command line says: help and the version are what was asked for, and
-/// all else is a fault of the words or of memory.
-fn tell_words<O: Write, E: Write>(error: &clap::Error, output: &mut O, errors: &mut E) -> u8 {
-    if error.kind() == ErrorKind::OutOfMemory {
-        return Fault::Memory.tell(errors);
-    }
-    if error.use_stderr() {
-        // Nothing is left to be done where this text can't be written either.
-        let _ = write!(errors, "{error}");
-        return Fault::NoTask.status();
-    }
-    match write!(output, "{error}").and_then(|()| output.flush()) {
-        Ok(()) => DONE,
-        Err(_) => Fault::Output.tell(errors),
-    }
+fn refuse<'a, O: Write, E: Write>(
+    error: &clap::Error,
+    output: &mut O,
+    errors: &mut E,
+) -> Result<u8, Fault<'a>> {
+    Ok(show_refusal(error, output, errors)?)
 }
 
 /// Performs what these words ask for, the program's name first, and answers the status. A fault's
@@ -287,8 +303,8 @@ pub fn perform<R: Read, O: Write, E: Write>(
 ) -> u8 {
     let done = match command_line::read(rt.alloc(), words) {
         Ok(Some(task)) => perform_task(rt, task, input, output, errors),
-        Ok(None) => Err(Fault::NoTask),
-        Err(error) => return tell_words(&error, output, errors),
+        Ok(None) => Err(CommandFault::NoTask.into()),
+        Err(error) => refuse(&error, output, errors),
     };
     match done {
         Ok(status) => status,

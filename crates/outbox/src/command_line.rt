@@ -1,10 +1,11 @@
 //! The tasks of `outbox` and their values, as `clap` reads them.
 
-use clap::{Arg, ArgAction, ArgMatches, Command, Error, value_parser};
+use clap::{Arg, ArgMatches, Command, Error, value_parser};
+use command_input::{database_option, filer_option, option, port_option};
 use std::alloc::{AllocError, Global};
 
 /// What the command line asks for.
-#[derive(Clone, Copy, Debug, PartialEq, Eq)]
+#[derive(Clone, Copy)]
 pub enum Task<'a> {
     /// Make an outbox of this filer.
     Init {
@@ -29,82 +30,77 @@ pub enum Task<'a> {
     },
 }
 
-/// A required option with one value, which may begin with a hyphen, as a filer's code or a key may.
-fn option<'a>(alloc: Global, name: &'a str, value: &'a str, help: &'a str) -> Arg<'a> {
-    Arg::new(alloc, name)
-        .long(name)
-        .value_name(value)
-        .help(help)
-        .required(true)
-        .action(ArgAction::Set)
-        .allow_hyphen_values(true)
-}
-
 fn database<'a>(alloc: Global) -> Arg<'a> {
-    option(alloc, "db", "FILE", "The database file of the outbox")
+    database_option(alloc, "The database file of the outbox")
 }
 
 fn init<'a>(alloc: Global) -> Result<Command<'a>, AllocError> {
-    let filer = option(
-        alloc,
-        "filer",
-        "CODE",
-        "The filer's code: 1 to 64 ASCII letters, digits, '.', '_' and '-'",
-    );
+    let options = vec![in alloc; database(alloc), filer_option(alloc)]?;
     Command::new(alloc, "init")
         .about("Makes an outbox without entries; the file is made where it is missing")
-        .arg(database(alloc))?
-        .arg(filer)
+        .args(options)
 }
 
-fn put<'a>(alloc: Global) -> Result<Command<'a>, AllocError> {
-    let body = option(
+fn body<'a>(alloc: Global) -> Arg<'a> {
+    option(
         alloc,
         "body",
         "FILE",
         "The report's file, of at most 1048576 bytes",
-    );
-    let key = option(
+    )
+}
+
+fn key<'a>(alloc: Global) -> Arg<'a> {
+    option(
         alloc,
         "key",
         "TEXT",
         "The key: 1 to 1024 printable ASCII characters [default: a random UUID]",
-    );
-    Command::new(alloc, "put")
-        .about("Puts a report in as an open entry, and prints the entry's id")
-        .arg(database(alloc))?
-        .arg(body)?
-        .arg(key.required(false))
+    )
+    .required(false)
 }
 
-fn send<'a>(alloc: Global) -> Result<Command<'a>, AllocError> {
-    let port = option(
+fn put<'a>(alloc: Global) -> Result<Command<'a>, AllocError> {
+    let options = vec![in alloc; database(alloc), body(alloc), key(alloc)]?;
+    Command::new(alloc, "put")
+        .about("Puts a report in as an open entry, and prints the entry's id")
+        .args(options)
+}
+
+fn port<'a>(alloc: Global) -> Arg<'a> {
+    port_option(
         alloc,
-        "port",
-        "PORT",
         "The port of 127.0.0.1 on which the intake listens, 1 to 65535",
-    );
-    let entry = option(
+    )
+}
+
+fn entry<'a>(alloc: Global) -> Arg<'a> {
+    option(
         alloc,
         "entry",
         "ID",
         "The entry's id [default: the open entry with the least id]",
-    );
+    )
+    .required(false)
+    .value_parser(value_parser!(u64).range(0..=i64::MAX))
+}
+
+fn send<'a>(alloc: Global) -> Result<Command<'a>, AllocError> {
+    let options = vec![in alloc; database(alloc), port(alloc), entry(alloc)]?;
     Command::new(alloc, "send")
         .about("Sends an open entry once, and prints its state after the reply")
-        .arg(database(alloc))?
-        .arg(port.value_parser(value_parser!(u16).range(1..)))?
-        .arg(
-            entry
-                .required(false)
-                .value_parser(value_parser!(u64).range(0..=i64::MAX)),
-        )
+        .args(options)
 }
 
 fn status<'a>(alloc: Global) -> Result<Command<'a>, AllocError> {
     Command::new(alloc, "status")
         .about("Prints a line for each entry: open, confirmed with its number, refused or clashed")
         .arg(database(alloc))
+}
+
+fn tasks<'a>(alloc: Global) -> Result<Vec<Command<'a>>, AllocError> {
+    let tasks = vec![in alloc; init(alloc)?, put(alloc)?, send(alloc)?, status(alloc)?]?;
+    Ok(tasks)
 }
 
 fn command<'a>(alloc: Global) -> Result<Command<'a>, AllocError> {
@@ -115,10 +111,7 @@ fn command<'a>(alloc: Global) -> Result<Command<'a>, AllocError> {
             "Exit status: 0 done; 1 not an outbox, a damaged one, or one that is there already;\n2 the command line, a key that is used or a report that is too large;\n3 memory, a file, the disk or the network failed; 4 no such entry",
         )
         .subcommand_required(true)
-        .subcommand(init(alloc)?)?
-        .subcommand(put(alloc)?)?
-        .subcommand(send(alloc)?)?
-        .subcommand(status(alloc)?)
+        .subcommands(tasks(alloc)?)
 }
 
 fn task_of<'a>(name: &str, values: &ArgMatches<'a>) -> Option<Task<'a>> {

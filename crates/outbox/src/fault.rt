@@ -1,6 +1,6 @@
 //! Why a task is not done, in words and as a status.
 
-use command_input::{DatabaseFault, ReadFault};
+use command_input::{CommandFault, ReadFault};
 use filer_client::ExchangeFault;
 use key_string::KeyFault;
 use outbox_core::{OutboxFault, PutFault, StoreFault};
@@ -12,12 +12,8 @@ use thiserror::Error;
 /// Why a task was not done. Its text is one line.
 #[derive(Debug, Drop, Error)]
 pub enum Fault<'a> {
-    #[error("a word of the command line is not UTF-8")]
-    NotText,
-    #[error("the command line asks for nothing")]
-    NoTask,
-    #[error("--filer: not a filer code, which is 1 to 64 ASCII letters, digits, '.', '_' and '-'")]
-    Filer,
+    #[error("{0}")]
+    Command(CommandFault<'a>),
     #[error("--key: {0}")]
     Key(KeyFault),
     #[error("{name}: {error}")]
@@ -26,8 +22,6 @@ pub enum Fault<'a> {
     Read { name: &'a str, fault: ReadFault },
     #[error("{name}: the report has more than 1048576 bytes")]
     TooLarge { name: &'a str },
-    #[error("{name}: {fault}")]
-    Database { name: &'a str, fault: DatabaseFault },
     #[error("{name}: {fault}")]
     Outbox { name: &'a str, fault: OutboxFault },
     #[error("{name}: {fault}")]
@@ -42,15 +36,17 @@ pub enum Fault<'a> {
     Exchange { port: u16, fault: ExchangeFault },
     #[error("no random key: {0}")]
     Random(io::Error),
-    #[error("the output cannot be written")]
-    Output,
-    #[error("out of memory")]
-    Memory,
+}
+
+impl<'a> From<CommandFault<'a>> for Fault<'a> {
+    fn from(fault: CommandFault<'a>) -> Self {
+        Fault::Command(fault)
+    }
 }
 
 impl From<AllocError> for Fault<'_> {
     fn from(_error: AllocError) -> Self {
-        Fault::Memory
+        Fault::Command(CommandFault::Memory)
     }
 }
 
@@ -60,17 +56,13 @@ impl Fault<'_> {
     /// entry is missing.
     pub fn status(&self) -> u8 {
         match self {
-            Fault::Database {
-                fault: DatabaseFault::Missing | DatabaseFault::NotADatabase,
-                ..
-            } => 1,
+            Fault::Command(fault) => fault.status(),
             Fault::Outbox {
                 fault: OutboxFault::Taken | OutboxFault::NotOurs | OutboxFault::Damaged { .. },
                 ..
             } => 1,
             Fault::Key(KeyFault::Memory) => 3,
-            Fault::NotText | Fault::NoTask | Fault::Filer | Fault::Key(_) => 2,
-            Fault::TooLarge { .. } => 2,
+            Fault::Key(_) | Fault::TooLarge { .. } => 2,
             Fault::Outbox {
                 fault: OutboxFault::BadFiler,
                 ..

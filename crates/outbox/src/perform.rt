@@ -1,35 +1,20 @@
 //! Performs a task, and says how the program ends.
 
-use crate::command_line;
 use crate::command_line::Task;
 use crate::fault::Fault;
+use crate::files::{FileOutbox, close, create, open};
 use crate::line::EntryLine;
-use clap::error::ErrorKind;
-use command_input::{make_database, open_database, read_up_to};
-use filer_client::exchange;
+use crate::{calls, command_line};
+use command_input::{CommandFault, DONE, read_up_to, show, show_refusal};
 use http_wire::{Device, MAX_BODY_LEN};
 use key_string::{KeyText, is_filer};
-use outbox_core::{Entry, Outbox, State, key_of};
+use outbox_core::{Entry, State, key_of};
 use rand::make_rng;
 use rand::rngs::StdRng;
-use sqlite::{File, FileStore};
-use std::io::Write;
+use std::io::{self, Write};
 use std::net::TcpStream;
 use std::{fmt, fs};
 use uuid::Uuid;
-
-type FileOutbox = Outbox<FileStore<File>>;
-
-/// Writes a text whole.
-fn show<'a, O: Write>(output: &mut O, text: &str) -> Result<(), Fault<'a>> {
-    match output
-        .write_all(text.as_bytes())
-        .and_then(|()| output.flush())
-    {
-        Ok(()) => Ok(()),
-        Err(_) => Err(Fault::Output),
-    }
-}
 
 fn show_entry<'a, O: Write>(
     rt: &HostRuntime,
@@ -38,31 +23,14 @@ fn show_entry<'a, O: Write>(
     state: State,
 ) -> Result<(), Fault<'a>> {
     let text = format!(in rt.alloc(); "{}", EntryLine { id, state })?;
-    show(output, text.as_str())
-}
-
-fn open<'a>(rt: &HostRuntime, name: &'a str) -> Result<FileOutbox, Fault<'a>> {
-    let conn = open_database(rt, name).map_err(|fault| Fault::Database { name, fault })?;
-    Outbox::open(rt.alloc(), conn).map_err(|fault| Fault::Outbox { name, fault })
-}
-
-/// Closes the files, so that the database file alone is the outbox.
-fn close(outbox: FileOutbox, name: &str) -> Result<(), Fault<'_>> {
-    match outbox.into_files() {
-        Ok(_) => Ok(()),
-        Err(fault) => Err(Fault::Store { name, fault }),
-    }
+    Ok(show(output, text.as_bytes())?)
 }
 
 fn init<'a>(rt: &HostRuntime, name: &'a str, filer: &str) -> Result<(), Fault<'a>> {
     if !is_filer(filer) {
-        return Err(Fault::Filer);
+        return Err(CommandFault::Filer.into());
     }
-    let conn = make_database(rt, name).map_err(|fault| Fault::Database { name, fault })?;
-    match Outbox::create(rt.alloc(), conn, filer) {
-        Ok(outbox) => close(outbox, name),
-        Err(fault) => Err(Fault::Outbox { name, fault }),
-    }
+    close(create(rt, name, filer)?, name)
 }
 
 /// A version 4 UUID from the system's random bytes.
@@ -84,16 +52,26 @@ fn key<'a>(rt: &HostRuntime, text: Option<&str>) -> Result<KeyText, Fault<'a>> {
     }
 }
 
+fn open_body<'a>(rt: &HostRuntime, name: &'a str) -> Result<fs::File, Fault<'a>> {
+    match fs::File::open(rt, name) {
+        Ok(file) => Ok(file),
+        Err(error) => Err(Fault::Open { name, error }),
+    }
+}
+
 /// The bytes of a report's file.
 fn body<'a>(rt: &HostRuntime, name: &'a str) -> Result<Vec<u8>, Fault<'a>> {
-    let file = fs::File::open(rt, name).map_err(|error| Fault::Open { name, error })?;
-    let body = read_up_to(rt.alloc(), &mut Device::new(file), MAX_BODY_LEN + 1).map_err(
-        |fault| Fault::Read { name, fault },
-    )?;
-    if body.len() > MAX_BODY_LEN {
-        return Err(Fault::TooLarge { name });
+    let mut file = Device::new(open_body(rt, name)?);
+    match read_up_to(rt.alloc(), &mut file, MAX_BODY_LEN + 1) {
+        Ok(body) if body.len() > MAX_BODY_LEN => Err(Fault::TooLarge { name }),
+        Ok(body) => Ok(body),
+        Err(fault) => Err(Fault::Read { name, fault }),
     }
-    Ok(body)
+}
+
+fn show_id<'a, O: Write>(rt: &HostRuntime, id: u64, output: &mut O) -> Result<(), Fault<'a>> {
+    let text = format!(in rt.alloc(); "entry {id}\n")?;
+    Ok(show(output, text.as_bytes())?)
 }
 
 fn put<'a, O: Write>(
@@ -106,11 +84,12 @@ fn put<'a, O: Write>(
     let key = key(rt, key_text)?;
     let body = body(rt, body_name)?;
     let mut outbox = open(rt, name)?;
-    let id = outbox.put(key, body);
+    let id = calls::put(&mut outbox, key, body);
     close(outbox, name)?;
-    let id = id.map_err(|fault| Fault::Put { name, fault })?;
-    let text = format!(in rt.alloc(); "entry {id}\n")?;
-    show(output, text.as_str())
+    match id {
+        Ok(id) => show_id(rt, id, output),
+        Err(fault) => Err(Fault::Put { name, fault }),
+    }
 }
 
 /// The entry of this id, or the next open one.
@@ -120,8 +99,8 @@ fn find<'a>(
     id: Option<u64>,
 ) -> Result<Option<Entry>, Fault<'a>> {
     let found = match id {
-        Some(id) => outbox.entry(id),
-        None => outbox.next_open(),
+        Some(id) => calls::entry(outbox, id),
+        None => calls::next_open(outbox),
     };
     match (found, id) {
         (Ok(None), Some(id)) => Err(Fault::NoEntry { name, id }),
@@ -138,24 +117,24 @@ fn exchange_on<'a>(
     id: u64,
 ) -> Result<State, Fault<'a>> {
     let stream = connect(rt, port)?;
-    exchange(
-        rt.alloc(),
-        &mut Device::new(&stream),
-        &mut Device::new(&stream),
-        outbox,
-        id,
-    )
-    .map_err(|fault| Fault::Exchange { port, fault })
+    let mut reader = Device::new(&stream);
+    let mut writer = Device::new(&stream);
+    match calls::exchange(rt.alloc(), &mut reader, &mut writer, outbox, id) {
+        Ok(state) => Ok(state),
+        Err(fault) => Err(Fault::Exchange { port, fault }),
+    }
 }
 
 fn connect<'a>(rt: &HostRuntime, port: u16) -> Result<TcpStream, Fault<'a>> {
-    let stream = TcpStream::connect(rt, ("127.0.0.1", port)).map_err(|error| Fault::Connect {
-        port,
-        error,
-    })?;
-    stream
-        .set_nodelay(true)
-        .map_err(|error| Fault::Connect { port, error })?;
+    match try_connect(rt, port) {
+        Ok(stream) => Ok(stream),
+        Err(error) => Err(Fault::Connect { port, error }),
+    }
+}
+
+fn try_connect(rt: &HostRuntime, port: u16) -> io::Result<TcpStream> {
+    let stream = TcpStream::connect(rt, ("127.0.0.1", port))?;
+    stream.set_nodelay(true)?;
     Ok(stream)
 }
 
@@ -179,6 +158,10 @@ fn send_entry<'a, O: Write>(
     }
 }
 
+fn show_none<'a, O: Write>(output: &mut O) -> Result<(), Fault<'a>> {
+    Ok(show(output, b"nothing open\n")?)
+}
+
 fn send<'a, O: Write>(
     rt: &HostRuntime,
     name: &'a str,
@@ -189,7 +172,7 @@ fn send<'a, O: Write>(
     let mut outbox = open(rt, name)?;
     let sent = match find(&mut outbox, name, id) {
         Ok(Some(entry)) => send_entry(rt, port, &mut outbox, &entry, output),
-        Ok(None) => show(output, "nothing open\n"),
+        Ok(None) => show_none(output),
         Err(fault) => Err(fault),
     };
     let closed = close(outbox, name);
@@ -205,55 +188,57 @@ fn lines(rt: &HostRuntime, states: &[(u64, State)]) -> Result<String, fmt::Error
     Ok(text)
 }
 
-fn status<'a, O: Write>(rt: &HostRuntime, name: &'a str, output: &mut O) -> Result<(), Fault<'a>> {
-    let mut outbox = open(rt, name)?;
-    let states = outbox.states();
-    close(outbox, name)?;
-    let states = states.map_err(|fault| Fault::Store { name, fault })?;
-    let text = lines(rt, states.as_slice()).map_err(|_| Fault::Memory)?;
-    show(output, text.as_str())
+fn show_states<'a, O: Write>(
+    rt: &HostRuntime,
+    states: &[(u64, State)],
+    output: &mut O,
+) -> Result<(), Fault<'a>> {
+    match lines(rt, states) {
+        Ok(text) => Ok(show(output, text.as_bytes())?),
+        Err(_) => Err(CommandFault::Memory.into()),
+    }
 }
 
+fn status<'a, O: Write>(rt: &HostRuntime, name: &'a str, output: &mut O) -> Result<(), Fault<'a>> {
+    let mut outbox = open(rt, name)?;
+    let states = calls::states(&mut outbox);
+    close(outbox, name)?;
+    match states {
+        Ok(states) => show_states(rt, states.as_slice(), output),
+        Err(fault) => Err(Fault::Store { name, fault }),
+    }
+}
+
+/// Performs a task, and answers the status.
 fn perform_task<'a, O: Write>(
     rt: &HostRuntime,
     task: Task<'a>,
     output: &mut O,
-) -> Result<(), Fault<'a>> {
+) -> Result<u8, Fault<'a>> {
     match task {
-        Task::Init { database, filer } => init(rt, database, filer),
+        Task::Init { database, filer } => init(rt, database, filer)?,
         Task::Put {
             database,
             body,
             key,
-        } => put(rt, database, body, key, output),
+        } => put(rt, database, body, key, output)?,
         Task::Send {
             database,
             port,
             entry,
-        } => send(rt, database, port, entry, output),
-        Task::Status { database } => status(rt, database, output),
+        } => send(rt, database, port, entry, output)?,
+        Task::Status { database } => status(rt, database, output)?,
     }
+    Ok(DONE)
 }
 
-/// Shows what the reader of the command line says: help and the version are what was asked for, and
-/// all else is a fault of the words or of memory.
-fn tell_words<O: Write, E: Write>(error: &clap::Error, output: &mut O, errors: &mut E) -> u8 {
-    if error.kind() == ErrorKind::OutOfMemory {
-        return Fault::Memory.tell(errors);
-    }
-    if error.use_stderr() {
-        // Nothing is left to be done where this text can't be written either.
-        let _ = write!(errors, "{error}");
-        return Fault::NoTask.status();
-    }
-    match write!(output, "{error}").and_then(|()| output.flush()) {
-        Ok(()) => DONE,
-        Err(_) => Fault::Output.tell(errors),
-    }
+fn refuse<'a, O: Write, E: Write>(
+    error: &clap::Error,
+    output: &mut O,
+    errors: &mut E,
+) -> Result<u8, Fault<'a>> {
+    Ok(show_refusal(error, output, errors)?)
 }
-
-/// The status where the task was done.
-const DONE: u8 = 0;
 
 /// Performs what these words ask for, the program's name first, and answers the status. A fault's
 /// text goes to `errors`.
@@ -265,11 +250,11 @@ pub fn perform<O: Write, E: Write>(
 ) -> u8 {
     let done = match command_line::read(rt.alloc(), words) {
         Ok(Some(task)) => perform_task(rt, task, output),
-        Ok(None) => Err(Fault::NoTask),
-        Err(error) => return tell_words(&error, output, errors),
+        Ok(None) => Err(CommandFault::NoTask.into()),
+        Err(error) => refuse(&error, output, errors),
     };
     match done {
-        Ok(()) => DONE,
+        Ok(status) => status,
         Err(fault) => fault.tell(errors),
     }
 }

@@ -1,0 +1,55 @@
+//! The options of a command line that have a value.
+
+ghost use Rattle.std.specs.Prelude.{◌≡◌, Some, true, codes, IfSome};
+
+use clap::{Arg, ArgAction, value_parser};
+use std::alloc::Global;
+
+/// A required option with one value, which may begin with a hyphen, as a filer's code or a key may.
+pub fn option<'a>(alloc: Global, name: &'a str, value: &'a str, help: &'a str) -> Arg<'a>
+    ensures id { result.id ≡ name.entry }
+    ensures long { result.long ≡ Some name.entry }
+    ensures required { result.required ≡ true }
+    ensures set { result.action ≡ Some ArgAction.Set }
+    ensures any_value { result.allow_hyphen_values ≡ true }
+{
+    Arg::new(alloc, name)
+        .long(name)
+        .value_name(value)
+        .help(help)
+        .required(true)
+        .action(ArgAction::Set)
+        .allow_hyphen_values(true)
+}
+
+/// The option `--db`, a file.
+pub fn database_option<'a>(alloc: Global, help: &'a str) -> Arg<'a>
+    ensures id { result.id.now ≡ codes "db" }
+    ensures long { IfSome result.long (λ name. name.now ≡ codes "db") }
+    ensures required { result.required ≡ true }
+{
+    option(alloc, "db", "FILE", help)
+}
+
+/// The option `--filer`, a filer's code.
+pub fn filer_option<'a>(alloc: Global) -> Arg<'a>
+    ensures id { result.id.now ≡ codes "filer" }
+    ensures long { IfSome result.long (λ name. name.now ≡ codes "filer") }
+    ensures required { result.required ≡ true }
+{
+    option(
+        alloc,
+        "filer",
+        "CODE",
+        "The filer's code: 1 to 64 ASCII letters, digits, '.', '_' and '-'",
+    )
+}
+
+/// The option `--port`, 1 to 65535.
+pub fn port_option<'a>(alloc: Global, help: &'a str) -> Arg<'a>
+    ensures id { result.id.now ≡ codes "port" }
+    ensures long { IfSome result.long (λ name. name.now ≡ codes "port") }
+    ensures required { result.required ≡ true }
+{
+    option(alloc, "port", "PORT", help).value_parser(value_parser!(u16).range(1..))
+}

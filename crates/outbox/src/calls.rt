@@ -1,0 +1,78 @@
+//! The calls of an outbox that the tasks make, each in a function that promises nothing: what the
+//! tasks do is not stated, and so no task carries the clauses of what it calls.
+
+ghost use Rattle.std.specs.Prelude.{◌≡◌, None, false};
+
+use filer_client::{ExchangeFault, exchange as exchange_entry};
+use http_wire::{Sink, Source};
+use key_string::KeyText;
+use outbox_core::{Entry, Outbox, OutboxFault, PutFault, State, StoreFault};
+use sqlite::{Alter, Connection, FileStore};
+use sqlite_disk::Disk;
+use std::alloc::Global;
+
+/// Makes the tables of an outbox.
+pub fn create<S: Alter + Drop>(
+    alloc: Global,
+    conn: Connection<S>,
+    filer: &str,
+) -> Result<Outbox<S>, OutboxFault>
+    requires autocommit { conn.in_transaction ≡ false }
+    requires unlimited { conn.step_limit ≡ None }
+{
+    Outbox::create(alloc, conn, filer)
+}
+
+/// Opens an outbox.
+pub fn open<S: Alter + Drop>(alloc: Global, conn: Connection<S>) -> Result<Outbox<S>, OutboxFault>
+    requires autocommit { conn.in_transaction ≡ false }
+    requires unlimited { conn.step_limit ≡ None }
+{
+    Outbox::open(alloc, conn)
+}
+
+/// Gives up the files of an outbox, with all that was committed in the database file.
+pub fn close<D: Disk + Drop>(outbox: Outbox<FileStore<D>>) -> Result<(), StoreFault> {
+    match outbox.into_files() {
+        Ok(_) => Ok(()),
+        Err(fault) => Err(fault),
+    }
+}
+
+/// Puts a report in.
+pub fn put<S: Alter + Drop>(
+    outbox: &mut Outbox<S>,
+    key: KeyText,
+    body: Vec<u8>,
+) -> Result<u64, PutFault> {
+    outbox.put(key, body)
+}
+
+/// The entry of this id.
+pub fn entry<S: Alter + Drop>(
+    outbox: &mut Outbox<S>,
+    id: u64,
+) -> Result<Option<Entry>, StoreFault> {
+    outbox.entry(id)
+}
+
+/// The next open entry.
+pub fn next_open<S: Alter + Drop>(outbox: &mut Outbox<S>) -> Result<Option<Entry>, StoreFault> {
+    outbox.next_open()
+}
+
+/// The state of each entry.
+pub fn states<S: Alter + Drop>(outbox: &mut Outbox<S>) -> Result<Vec<(u64, State)>, StoreFault> {
+    outbox.states()
+}
+
+/// Sends an entry over a connection, and reads the reply.
+pub fn exchange<R: Source, W: Sink, S: Alter + Drop>(
+    alloc: Global,
+    reader: &mut R,
+    writer: &mut W,
+    outbox: &mut Outbox<S>,
+    id: u64,
+) -> Result<State, ExchangeFault> {
+    exchange_entry(alloc, reader, writer, outbox, id)
+}
