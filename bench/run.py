@@ -112,8 +112,8 @@ def register_growth():
         for count, it in times.items():
             said = ", ".join(f"{time / 1000:.1f} us to {what}" for what, time in it.items())
             print(f"{count} kept requests in {'a file' if in_file else 'memory'}: {said}")
-    held.append(growth("in a file, 100 times the requests, to add one", times[1_000]["add"], times[100_000]["add"], 2))
-    print(f"to find one: {times[100_000]['find'] / times[1_000]['find']:.1f} times the time")
+    for what in ("add", "find"):
+        held.append(growth(f"in a file, 100 times the requests, to {what} one", times[1_000][what], times[100_000][what], 2))
     held.append(growth("10 times the requests (10,000 to 100,000), to open", times[10_000]["open"], times[100_000]["open"], 15))
     return held
 

@@ -6,7 +6,7 @@ mod pieces;
 mod register;
 mod work;
 
-use register::{Times, in_file, in_memory, measure, time_to_open};
+use register::{Times, close, in_file, in_memory, measure, time_to_open};
 use std::env;
 use std::io::{self, Read};
 use std::process::ExitCode;
@@ -56,7 +56,7 @@ fn measure_register(rt: &HostRuntime, count: u64, file: Option<&str>) -> anyhow:
     };
     let mut store = in_file(rt, path)?;
     let times = measure(rt, &mut store, count)?;
-    drop(store.into_files()?);
+    close(store)?;
     print(rt, &times)?;
     println!(rt; "{} us to open", time_to_open(rt, path)?.as_micros())?;
     Ok(())

@@ -1,9 +1,13 @@
 //! A register that holds many requests: the time to add one more, to find one, and to open it again.
 
+ghost use Rattle.std.specs.Prelude.{◌≡◌, None, false};
+
 use anyhow::bail;
+use command_input::{make_database, open_database};
 use key_string::{KeyText, is_filer};
 use register_store::{NewRow, Store};
 use sqlite::{Alter, Connection, File, FileStore, MemStore};
+use sqlite_disk::Disk;
 use std::alloc::Global;
 use std::time::{Duration, Instant};
 use xbrl_report::judge;
@@ -41,14 +45,37 @@ impl Times {
 
 /// A new register in memory.
 pub fn in_memory(alloc: Global) -> anyhow::Result<Store<MemStore>> {
-    let conn = Connection::open_in_memory(alloc)?;
-    Ok(Store::create(alloc, conn)?)
+    create(alloc, Connection::open_in_memory(alloc)?)
 }
 
 /// A new register in this file.
 pub fn in_file(rt: &HostRuntime, path: &str) -> anyhow::Result<Store<FileStore<File>>> {
-    let conn = Connection::open(rt, path)?;
-    Ok(Store::create(rt.alloc(), conn)?)
+    create(rt.alloc(), make_database(rt, path)?)
+}
+
+/// The register in this file.
+fn opened(rt: &HostRuntime, path: &str) -> anyhow::Result<Store<FileStore<File>>> {
+    open(rt.alloc(), open_database(rt, path)?)
+}
+
+fn create<S: Alter + Drop>(alloc: Global, conn: Connection<S>) -> anyhow::Result<Store<S>>
+    requires autocommit { conn.in_transaction ≡ false }
+    requires unlimited { conn.step_limit ≡ None }
+{
+    Ok(Store::create(alloc, conn)?)
+}
+
+fn open<S: Alter + Drop>(alloc: Global, conn: Connection<S>) -> anyhow::Result<Store<S>>
+    requires autocommit { conn.in_transaction ≡ false }
+    requires unlimited { conn.step_limit ≡ None }
+{
+    Ok(Store::open(alloc, conn)?)
+}
+
+/// Closes the files.
+pub fn close<D: Disk + Drop>(store: Store<FileStore<D>>) -> anyhow::Result<()> {
+    drop(store.into_files()?);
+    Ok(())
 }
 
 /// Keeps requests until there are so many, and times some more, and look-ups all over them.
@@ -77,10 +104,9 @@ pub fn measure<S: Alter + Drop>(
 /// Opens the register in this file, and gives the time of that.
 pub fn time_to_open(rt: &HostRuntime, path: &str) -> anyhow::Result<Duration> {
     let start = Instant::now(rt)?;
-    let conn = Connection::open(rt, path)?;
-    let store = Store::open(rt.alloc(), conn)?;
+    let store = opened(rt, path)?;
     let time = start.elapsed(rt)?;
-    drop(store.into_files()?);
+    close(store)?;
     Ok(time)
 }
 

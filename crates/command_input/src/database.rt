@@ -1,10 +1,14 @@
 //! Opening the files of a database.
 
-ghost use Rattle.std.specs.Prelude.{◌≡◌, ◌≢◌, None, false, Err, IfOk};
+ghost use Rattle.std.specs.Prelude.{◌≡◌, ◌≢◌, None, false, Err, IfOk, IfErr, IsTrue};
 ghost use Rattle.command_input.specs.Faults.{database_fault};
 
-use sqlite::{Connection, Error, ErrorCode, File, FileStore};
+use sqlite::{Connection, Error, ErrorCode, File, FileStore, Files, Options, Unknown};
+use sqlite_disk::Disk;
+use sqlite_std_file::OpenError;
 use std::fs;
+use std::hash::{BuildHasher, RandomState};
+use std::io::ErrorKind;
 use thiserror::Error;
 
 /// A connection to the files of a database.
@@ -30,6 +34,10 @@ pub enum DatabaseFault {
     Disk,
 }
 
+/// How many pages of a file are kept in memory once they were read: 32 MiB of pages of 4,096 bytes, which those of a new
+/// file have. A register of 100,000 small reports takes 4,400 pages.
+const PAGES_KEPT: usize = 8_192;
+
 /// Opens the database of the file with this name. A file that is not there is not made.
 pub fn open_database(rt: &HostRuntime, name: &str) -> Result<Database, DatabaseFault>
     ensures autocommit { IfOk result (λ conn. conn.in_transaction ≡ false) }
@@ -41,15 +49,65 @@ pub fn open_database(rt: &HostRuntime, name: &str) -> Result<Database, DatabaseF
     }
 }
 
-/// The same, and a file that is not there or is empty gets a database without tables.
+/// The same, and a file that is not there or is empty gets a database without tables. No name stands for a database in
+/// memory, and none is a URI.
 pub fn make_database(rt: &HostRuntime, name: &str) -> Result<Database, DatabaseFault>
     ensures autocommit { IfOk result (λ conn. conn.in_transaction ≡ false) }
     ensures unlimited { IfOk result (λ conn. conn.step_limit ≡ None) }
     ensures any_name { result ≢ Err DatabaseFault.Missing }
 {
-    match Connection::open(rt, name) {
-        Ok(conn) => Ok(conn),
-        Err(error) => Err(fault_of(error)),
+    if name == ":memory:" || name.starts_with("file:") {
+        return Err(DatabaseFault::Disk);
+    }
+    let options = options(rt)?;
+    match sqlite_std_file::open(rt, name, Unknown) {
+        Ok(files) => connect(rt, files, options),
+        Err(error) => Err(fault_of_files(&error)),
+    }
+}
+
+/// How the files are read and written. The seed is drawn at random.
+fn options(rt: &HostRuntime) -> Result<Options, DatabaseFault>
+    ensures { IfErr result (λ fault. fault ≡ DatabaseFault.Disk) }
+{
+    match RandomState::new(rt) {
+        Ok(state) => Ok(Options {
+            cache_pages: PAGES_KEPT,
+            ..Options::new(state.hash_one(&0u8))
+        }),
+        Err(_) => Err(DatabaseFault::Disk),
+    }
+}
+
+/// The connection over these files.
+fn connect<D: Disk + Drop>(
+    rt: &HostRuntime,
+    files: Files<D>,
+    options: Options,
+) -> Result<Connection<FileStore<D>>, DatabaseFault>
+    requires log { IsTrue (D.Disk.is_usable files.log) }
+    requires database { IsTrue (D.Disk.is_usable files.db) }
+    ensures autocommit { IfOk result (λ conn. conn.in_transaction ≡ false) }
+    ensures unlimited { IfOk result (λ conn. conn.step_limit ≡ None) }
+    ensures any_name { result ≢ Err DatabaseFault.Missing }
+{
+    match Connection::open_files(rt.alloc(), files, options) {
+        Ok(mut conn) => {
+            conn.set_clock(rt);
+            Ok(conn)
+        }
+        Err((error, _)) => Err(fault_of(error)),
+    }
+}
+
+fn fault_of_files(error: &OpenError) -> DatabaseFault
+    ensures { result ≢ DatabaseFault.Missing }
+{
+    match error {
+        OpenError::OutOfMemory => DatabaseFault::Memory,
+        OpenError::Io(error) if error.kind() == ErrorKind::OutOfMemory => DatabaseFault::Memory,
+        OpenError::Busy => DatabaseFault::Busy,
+        OpenError::Io(_) | OpenError::HotJournal => DatabaseFault::Disk,
     }
 }
 
