@@ -1,4 +1,4 @@
-use Rattle.std.proofs.Common.{◌≡◌, inl, not, Err, IsTrue, sym, ap, subst, ◌∙◌, string_bytes}
+use Rattle.std.proofs.Common.{inl, not, Err, IsTrue, sym, ap, subst, ◌∙◌, string_bytes}
 use Rattle.sqlite.specs.Held.{state}
 use Rattle.sqlite.specs.Effect.{Database, IsDatabase}
 use Rattle.sqlite.specs.State.{HasCleanDisk}
