@@ -13,3 +13,5 @@ pub mod WriteLemmas
 pub mod ResultLemmas
 pub mod FailLemmas
 pub mod UpdateLemmas
+pub mod CleanLemmas
+pub mod FileLemmas

@@ -3,3 +3,4 @@ pub mod Tables
 pub mod Rows
 pub mod Reading
 pub mod Standing
+pub mod Files
