@@ -3,6 +3,7 @@
 ghost use Rattle.std.specs.Prelude.{◌≡◌, ◌++◌, ◌+◌, ◌<◌, ◌≤◌, ℕ, List, drop, length, slice_range, vec_len, IfOk, IfErr, OnOk, Ok, Err};
 ghost use Rattle.std.specs.Io.KnownBytes.{Consumes, IsAtEnd};
 ghost use Rattle.http_wire.specs.Device.{HasFailed};
+ghost use Rattle.command_input.specs.declared.bytes.TheConstants.{MAX_READS};
 ghost use Rattle.command_input.specs.declared.bytes.ReadFault.TheVariants.{Read, ReadLimit, Memory};
 
 use http_wire::Source;
@@ -11,6 +12,27 @@ use thiserror::Error;
 
 /// How many reads are made of one input at most. Own rule.
 pub const MAX_READS: u32 = 4_194_304;
+
+/// How many reads were made of an input.
+#[derive(Clone, Copy)]
+struct Reads {
+    made: u32,
+    ghost few: { made ≤ MAX_READS },
+}
+
+impl Reads {
+    /// Counts one read more. `ReadLimit` comes exactly where the most reads are made.
+    fn count(&mut self) -> Result<(), ReadFault>
+        ensures counted { OnOk result (self.new.made ≡ self.old.made + 1) }
+        ensures limit { IfErr result (λ fault. (fault ≡ ReadLimit) × (self.old.made ≡ MAX_READS)) }
+    {
+        if self.made == MAX_READS {
+            return Err(ReadFault::ReadLimit);
+        }
+        self.made += 1;
+        Ok(())
+    }
+}
 
 /// The most bytes that are asked for at a time.
 const CHUNK: usize = 16_384;
@@ -53,15 +75,11 @@ pub fn read_up_to<R: Source>(
 {
     let mut bytes = Vec::new(alloc);
     let mut room = room(alloc)?;
-    let mut reads = 0;
+    let mut reads = Reads { made: 0 };
     while bytes.len() < most {
-        if reads >= MAX_READS {
-            return Err(ReadFault::ReadLimit);
-        }
-        if read_more(reader, &mut room, &mut bytes, most)? == 0 {
+        if read_more(reader, &mut reads, &mut room, &mut bytes, most)? == 0 {
             return Ok(bytes);
         }
-        reads += 1;
     }
     Ok(bytes)
 }
@@ -75,10 +93,12 @@ fn room(alloc: Global) -> Result<Vec<u8>, AllocError>
     Ok(room)
 }
 
-/// Makes one read, and appends what it gave, up to `most` bytes in all. The answer is the count of
-/// these bytes, which is 0 only at the end of the input.
+/// Makes one read, counts it, and appends what it gave, up to `most` bytes in all. The answer is the
+/// count of these bytes, which is 0 only at the end of the input. Where the most reads are made
+/// already, `ReadLimit` comes, and only there, and nothing is read.
 fn read_more<R: Source>(
     reader: &mut R,
+    reads: &mut Reads,
     room: &mut Vec<u8>,
     bytes: &mut Vec<u8>,
     most: usize,
@@ -93,8 +113,10 @@ fn read_more<R: Source>(
     ensures end { result ≡ Ok 0 → IsAtEnd (R.left reader.new) }
     ensures fine { OnOk result (R.read_failures reader.new ≡ R.read_failures reader.old) }
     ensures failed { result ≡ Err Read → HasFailed (R.read_failures reader.old) (R.read_failures reader.new) }
-    ensures unlimited { result ≡ Err ReadLimit → ⊥ }
+    ensures made { OnOk result (reads.new.made ≡ reads.old.made + 1) }
+    ensures limited { result ≡ Err ReadLimit → (reads.old.made ≡ MAX_READS) × (reader.new ≡ reader.old) × (bytes.new ≡ bytes.old) }
 {
+    reads.count()?;
     let wanted = room.len().min(most - bytes.len());
     let count = read_into(reader, room, wanted)?;
     bytes.extend_from_slice(&room[0..count])?;

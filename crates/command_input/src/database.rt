@@ -49,16 +49,13 @@ pub fn open_database(rt: &HostRuntime, name: &str) -> Result<Database, DatabaseF
     }
 }
 
-/// The same, and a file that is not there or is empty gets a database without tables. No name stands for a database in
-/// memory, and none is a URI.
+/// The same, and a file that is not there or is empty gets a database without tables. Each name is a path, also `:memory:`
+/// and one that begins with `file:`.
 pub fn make_database(rt: &HostRuntime, name: &str) -> Result<Database, DatabaseFault>
     ensures autocommit { IfOk result (λ conn. conn.in_transaction ≡ false) }
     ensures unlimited { IfOk result (λ conn. conn.step_limit ≡ None) }
     ensures any_name { result ≢ Err DatabaseFault.Missing }
 {
-    if name == ":memory:" || name.starts_with("file:") {
-        return Err(DatabaseFault::Disk);
-    }
     let options = options(rt)?;
     match sqlite_std_file::open(rt, name, Unknown) {
         Ok(files) => connect(rt, files, options),

@@ -1,6 +1,7 @@
 //! The options of a command line that have a value.
 
-ghost use Rattle.std.specs.Prelude.{◌≡◌, Some, true, codes, IfSome};
+ghost use Rattle.std.specs.Prelude.{◌≡◌, Some, pos, true, codes, IfSome};
+ghost use Rattle.clap.specs.declared.builder.value_parser.ValueParser.TheVariants.{Signed};
 
 use clap::{Arg, ArgAction, value_parser};
 use std::alloc::Global;
@@ -50,6 +51,7 @@ pub fn port_option<'a>(alloc: Global, help: &'a str) -> Arg<'a>
     ensures id { result.id.now ≡ codes "port" }
     ensures long { IfSome result.long (λ name. name.now ≡ codes "port") }
     ensures required { result.required ≡ true }
+    ensures range { result.value_parser ≡ Some (Signed (pos 1) (pos 65535)) }
 {
     option(alloc, "port", "PORT", help).value_parser(value_parser!(u16).range(1..))
 }
