@@ -1,19 +1,9 @@
-//! The worked examples of the protocol as vectors: each runs one example over the public calls, and tells whether
-//! what came is what is to come. What may live here: the examples as data, written out by hand, and what runs and
-//! compares them.
+//! The worked examples of the protocol as vectors: which of them pass. What may live here: the numbers of the examples,
+//! the report on a run of them all, and its tests. The examples stand in `vector_rows`, since tests and wrong bodies
+//! prove the crate that they stand in again.
 #![tactic(auto)]
 
-mod connection;
-mod examples;
-mod files;
-mod history;
-mod keys;
-mod outbox;
-mod register;
-mod replies;
-mod reports;
 mod run;
-mod stop;
 
 pub use run::{NUMBERS, VectorReport, run_all};
 

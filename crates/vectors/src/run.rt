@@ -3,9 +3,8 @@
 ghost use Rattle.std.specs.Prelude.{◌≡◌, ◌+◌, ◌<◌, ◌^◌, length, vec_len, IfOk};
 ghost use Rattle.vectors.specs.Report.{AreSomeOf};
 
-use crate::stop::Stop;
-use crate::{connection, history, keys, outbox, register, replies, reports};
 use std::alloc::{AllocError, Global};
+use vector_rows::run;
 
 /// Which vectors passed.
 #[derive(Debug, Drop)]
@@ -38,40 +37,11 @@ fn run_each(alloc: Global, numbers: &[u32]) -> Result<VectorReport, AllocError>
     let mut passed = 0u32;
     let mut failed = Vec::new(alloc);
     for number in numbers {
-        if Stop::settle(run(alloc, *number))? {
+        if run(alloc, *number)? {
             passed += 1;
         } else {
             failed.push(*number)?;
         }
     }
     Ok(VectorReport { passed, failed })
-}
-
-/// Runs one vector. A number that is none fails.
-fn run(alloc: Global, number: u32) -> Result<bool, Stop> {
-    match number {
-        1 => connection::registered(alloc, history::LIMIT),
-        2 => connection::repeated_request(alloc),
-        3 => connection::key_reused(alloc),
-        4 => connection::two_filers(alloc),
-        5 => connection::refused(alloc),
-        6 => connection::escaped_place(alloc),
-        7 => connection::empty_body(alloc),
-        8 => keys::keys(alloc),
-        9 => connection::content_lengths(alloc),
-        10 => connection::long_bodies(alloc),
-        11 => connection::long_heads(alloc),
-        12 => connection::byte_by_byte(alloc),
-        13 => connection::cut_off(alloc),
-        14 => connection::full_register(alloc),
-        17 => connection::other_requests(alloc),
-        18 => reports::all_findings(alloc),
-        19 => reports::many_findings(alloc),
-        20 => reports::units_and_periods(alloc),
-        21 => replies::replies(alloc),
-        22 => outbox::entries(alloc),
-        23 => register::reopened(alloc),
-        24 => outbox::exchanges(alloc),
-        _ => Ok(false),
-    }
 }

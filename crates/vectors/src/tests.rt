@@ -1,6 +1,6 @@
-use crate::connection::registered;
 use crate::run_all;
 use std::test::Fail;
+use vector_rows::first_over;
 
 #[test]
 fn all_vectors_pass(rt: HostRuntime) -> Result<(), Fail> {
@@ -12,6 +12,6 @@ fn all_vectors_pass(rt: HostRuntime) -> Result<(), Fail> {
 
 #[test]
 fn an_intake_that_keeps_nothing_fails_the_first(rt: HostRuntime) -> Result<(), Fail> {
-    assert_eq!(rt; registered(rt.alloc(), 0).ok(), Some(false));
+    assert_eq!(rt; first_over(rt.alloc(), 0)?, false);
     Ok(())
 }

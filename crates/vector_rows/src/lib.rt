@@ -1,0 +1,17 @@
+//! The worked examples of the protocol: each runs one example over the public calls, and tells whether what came is
+//! what is to come. What may live here: the examples as data, written out by hand, and what runs and compares them.
+#![tactic(auto)]
+
+mod connection;
+mod examples;
+mod files;
+mod history;
+mod keys;
+mod outbox;
+mod register;
+mod replies;
+mod reports;
+mod run;
+mod stop;
+
+pub use run::{first_over, run};
