@@ -41,7 +41,7 @@ set_same [] i x e = absurd (cc)
 set_same (y ∷ xs) zero x e = let same : x ≡ y = cc in ap (λ z. z ∷ xs) same
 set_same (y ∷ xs) (suc i) x e = ap (λ ys. y ∷ ys) (set_same xs i x e)
 
-renewed_same : {X : Type 0} (xs : List X) (i : ℕ) (x : X) → numbered xs i ≡ Some x → renewed xs i x ≡ xs
+pub renewed_same : {X : Type 0} (xs : List X) (i : ℕ) (x : X) → numbered xs i ≡ Some x → renewed xs i x ≡ xs
 renewed_same xs zero x e = refl
 renewed_same xs (suc i) x e = set_same xs i x e
 
@@ -53,7 +53,7 @@ states_set from (box ∷ boxes) zero old new here same =
     ap (λ entries. states_of from 1 entries ++ states_from (suc from) boxes) (same ∙ ap (λ (b : Outbox). b.entries) is)
 states_set from (box ∷ boxes) (suc i) old new here same = ap (λ rest. states_of from 1 box.entries ++ rest) (states_set (suc from) boxes i old new here same)
 
-states_renewed : (boxes : List Outbox) (i : ℕ) (old new : Outbox) → numbered boxes i ≡ Some old → new.entries ≡ old.entries → states_from 1 (renewed boxes i new) ≡ states_from 1 boxes
+pub states_renewed : (boxes : List Outbox) (i : ℕ) (old new : Outbox) → numbered boxes i ≡ Some old → new.entries ≡ old.entries → states_from 1 (renewed boxes i new) ≡ states_from 1 boxes
 states_renewed boxes zero old new here same = refl
 states_renewed boxes (suc i) old new here same = states_set 1 boxes i old new here same
 

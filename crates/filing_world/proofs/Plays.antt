@@ -24,7 +24,7 @@ use Rattle.filing_model.proofs.Lists.{append_nil, prefix_trans, take_within}
 use Rattle.filing_world.specs.World.{Output, World, Put, Send, Deliver, Hand, RestartOutbox, numbered, renewed, new_outbox}
 use Rattle.filing_world.specs.Schedules.{entry_with, outbox_with, item_of}
 use Rattle.filing_world.specs.Step.{Step}
-use Rattle.filing_world.proofs.Posting.{posted, head_is, never_refused}
+use Rattle.filing_world.proofs.Posting.{posted, head_is, never_refused, never_whole}
 use Rattle.filing_world.specs.Posting.{IsPosted}
 
 -- ---- the ends
@@ -72,18 +72,10 @@ module _ (r : Request) (sendable : IsSendable r) where
   places_part : (n : ℕ) → n < length bytes → HasPlaces (take n bytes) [] (Rest false)
   places_part n short = (
     false,
-    record { none = none; refused = never_refused r is n },
+    record { none = never_whole r is n short; refused = never_refused r is n },
     λ parts k h. ap awaits (head_is r is n parts k h) ∙ is.alone.silent,
     refl,
   )
-    where
-      none : (m : Message) (k : ℕ) → ¬ (BeginsRequest (take n bytes) m k)
-      none m k b =
-          let whole : take n bytes ++ drop n bytes ≡ bytes = grind (arith, common_steps) in
-          let long = subst (λ bs. BeginsRequest bs m k) whole (BeginsRequest-more (take n bytes) (drop n bytes) m k b) in
-          let all = (BeginsRequest-unique bytes m is.message k (length bytes) long is.spells).1 in
-          let size : length (take n bytes) ≤ n = grind (arith, common_steps) in
-          omega (arith, b.whole, all, size, short)
 
   completed_one : completed (Read is.message ∷ []) (Done ∷ []) ≡ r ∷ []
   unfolding completed
