@@ -56,6 +56,13 @@ after_outbox old outbox r state = record old { outboxes = renewed old.outboxes o
 pub plays_outbox : (old : World) (outbox : ℕ) (r : Request) (state : State) → numbered old.outboxes outbox ≡ Some (outbox_with r state) → Step old (RestartOutbox outbox) (after_outbox old outbox r state)
 plays_outbox old outbox r state here = record { box = outbox_with r state; here = here; becomes = refl }
 
+-- the same where the outbox is down
+abbrev pub after_fall : World → ℕ → Request → State → World
+after_fall old outbox r state = record old { outboxes = renewed old.outboxes outbox (record (outbox_with r state) { up = false }) }
+
+pub plays_rise : (old : World) (outbox : ℕ) (r : Request) (state : State) → numbered old.outboxes outbox ≡ Some (record (outbox_with r state) { up = false }) → Step old (RestartOutbox outbox) (after_outbox old outbox r state)
+plays_rise old outbox r state here = record { box = record (outbox_with r state) { up = false }; here = here; becomes = refl }
+
 -- ---- a delivery
 
 module _ (r : Request) (sendable : IsSendable r) where
@@ -262,6 +269,46 @@ module _ (old : World) (output outbox given : ℕ) (r : Request) (state : State)
     heard = Some reply;
     hears = gives;
     becomes = ap (after_outbox old outbox r) (sym moves);
+  }
+
+  -- it is heard, and the outbox stops
+  pub plays_heard : (reply : ReplyParts) (to : State) → GivesReply (take given from.bytes) reply → moved state reply ≡ to → Step old (Hand output given (After 1)) (after_fall old outbox r to)
+  plays_heard reply to gives moves = record {
+    from = from;
+    here = here;
+    item = item_of outbox r;
+    item_here = item_here;
+    outbox = outbox;
+    number = 1;
+    sender = refl;
+    box = outbox_with r state;
+    box_here = box_here;
+    up = refl;
+    entry = entry_with r state;
+    entry_here = refl;
+    heard = Some reply;
+    hears = gives;
+    becomes = ap (after_fall old outbox r) (sym moves);
+  }
+
+  -- the outbox stops before
+  pub plays_unheard : Step old (Hand output given (Before 1)) (after_fall old outbox r state)
+  plays_unheard = record {
+    from = from;
+    here = here;
+    item = item_of outbox r;
+    item_here = item_here;
+    outbox = outbox;
+    number = 1;
+    sender = refl;
+    box = outbox_with r state;
+    box_here = box_here;
+    up = refl;
+    entry = entry_with r state;
+    entry_here = refl;
+    heard = None;
+    hears = tt;
+    becomes = refl;
   }
 
   -- none is heard

@@ -7,7 +7,7 @@ use Rattle.filing_model.specs.Register.{Filing, register}
 use Rattle.filing_model.specs.Answer.{Answer}
 use Rattle.filing_model.specs.Reply.{reply_of}
 use Rattle.filing_model.specs.Outbox.{State, Entry, bytes_of, IsSendable}
-use Rattle.filing_model.specs.Stopping.{No, Before, After}
+use Rattle.filing_model.specs.Stopping.{Crash, No, Before, After}
 use Rattle.filing_world.specs.World.{Outbox, Sent, World, Event, Put, Send, Deliver, Hand, RestartServer, RestartOutbox}
 use Rattle.filing_world.specs.Headline.{states}
 use Rattle.filing_world.specs.Step.{Run}
@@ -89,6 +89,10 @@ stopped_before r all = sent_once r (Deliver 1 all (Before 1) ∷ RestartServer �
 -- it stops after the request is completed
 abbrev pub stopped_after : Request → ℕ → List Event
 stopped_after r all = sent_once r (Deliver 1 all (After 1) ∷ [])
+
+-- the outbox stops before or after it has heard the whole reply, is restarted, and the reply is handed over again
+abbrev pub stopped_hearing : Request → ℕ → Crash → List Event
+stopped_hearing r all crash = sent_once r (Deliver 1 all No ∷ Hand 1 all crash ∷ RestartOutbox 1 ∷ Hand 1 all No ∷ [])
 
 -- two outboxes file under one key; the second's request comes first, and its reply is handed over twice
 abbrev pub two_outboxes : Request → Request → ℕ → List Event
