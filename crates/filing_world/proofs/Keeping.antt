@@ -22,11 +22,11 @@ use Rattle.filing_model.proofs.Answers.{registered_grows, registered_number}
 use Rattle.filing_model.proofs.Keeping.{register_numbered}
 use Rattle.filing_model.proofs.Valid.{register_valid}
 use Rattle.filing_world.specs.World.{Outbox, Sent, Output, World, Event, Put, Send, Stranger, Deliver, Hand, RestartServer, RestartOutbox, numbered, renewed, new_outbox}
-use Rattle.filing_world.specs.Step.{is_no, with_entry, Puts, Sends, Delivers, Hears, heard_by, Hands, Restarts, Step, Run}
+use Rattle.filing_world.specs.Step.{is_no, takes, with_entry, Puts, Sends, Delivers, Hears, heard_by, box_after, Hands, Restarts, Step, Run}
 use Rattle.filing_world.specs.Headline.{AreFilers, start, IsOutput, CompleteInTurn, HaveOwnKeys, IsOwn, Holds}
 use Rattle.filing_world.specs.Invariant.{IsSound, IsSoundBox, AllBoxes, AllOutputs, AllOwn, Keeps}
 use Rattle.filing_world.proofs.Lists.{numbered_renewed, renewed_numbered, renewed_other, numbered_push, numbered_last, numbered_grows, get_push, same_element, any_at}
-use Rattle.filing_world.proofs.Hearing.{hears}
+use Rattle.filing_world.proofs.Hearing.{hears, hears_gives}
 use Rattle.filing_world.proofs.Stability.{answers_stand}
 
 -- ---- a changed outbox
@@ -127,13 +127,10 @@ turn_push limit done more before sent (output ∷ outputs) last out begins adds 
 
 puts_box : (done : List Request) (box : Outbox) (entry : Entry) → IsKey entry.key → entry.state ≡ Open → IsSoundBox done box → IsSoundBox done (with_entry box entry) × KeepsBox box (with_entry box entry)
 puts_box done box entry is_key open' sound = ⊎_elim
-    (λ (h : test ≡ true). rw h (added (leb-true _ _ (and_parts _ _ h).0) (and_parts _ _ h).1))
-    (λ (h : test ≡ false). rw h (sound, λ number which here. (which, here, refl)))
-    (cases_Bool test)
+    (λ (h : takes box entry ≡ true). rw h (added (leb-true _ _ (and_parts _ _ h).0) (and_parts _ _ h).1))
+    (λ (h : takes box entry ≡ false). rw h (sound, λ number which here. (which, here, refl)))
+    (cases_Bool (takes box entry))
   where
-    test : Bool
-    test = nat_le (length entry.body) max_body_len && not (list_any (λ e. bytes_eq e.key entry.key) box.entries)
-
     more : Outbox
     more = record box { entries = box.entries ++ entry ∷ [] }
 
@@ -274,7 +271,7 @@ own_numbered boxes sent all (suc k) item outbox entry here from = all k outbox e
 -- what was heard confirms only what is registered
 heard_sound : (done : List Request) (filer : List ℕ) (entry : Entry) (bytes : List ℕ) (crash : Crash) (heard : Option ReplyParts) → IsSound done filer entry → ((reply : ReplyParts) → GivesReply bytes reply → (n : ℕ) → moved Open reply ≡ Confirmed n → IsRegistered done (request_of filer entry) n) → Hears bytes crash heard → IsSound done filer (record entry { state = heard_by entry.state heard })
 unfolding moved
-heard_sound done filer entry bytes crash heard sound tells hears = record { sendable = sound.sendable; registered = registered crash heard hears entry.state refl }
+heard_sound done filer entry bytes crash heard sound tells hears = record { sendable = sound.sendable; registered = registered heard hears }
   where
     by_reply : (reply : ReplyParts) → GivesReply bytes reply → (state : State) → entry.state ≡ state → (n : ℕ) → moved state reply ≡ Confirmed n → IsRegistered done (request_of filer entry) n
     by_reply reply gives Open was n e = tells reply gives n e
@@ -282,13 +279,9 @@ heard_sound done filer entry bytes crash heard sound tells hears = record { send
     by_reply reply gives Refused was n e = absurd (cc)
     by_reply reply gives Clashed was n e = absurd (cc)
 
-    registered : (crash : Crash) (heard : Option ReplyParts) → Hears bytes crash heard → (state : State) → entry.state ≡ state → (n : ℕ) → heard_by state heard ≡ Confirmed n → IsRegistered done (request_of filer entry) n
-    registered No None hears state was n e = sound.registered n (was ∙ e)
-    registered (Before j) None hears state was n e = sound.registered n (was ∙ e)
-    registered (After j) None hears state was n e = sound.registered n (was ∙ e)
-    registered No (Some reply) hears state was n e = by_reply reply hears state was n e
-    registered (Before j) (Some reply) hears state was n e = absurd hears
-    registered (After j) (Some reply) hears state was n e = by_reply reply hears state was n e
+    registered : (heard : Option ReplyParts) → Hears bytes crash heard → (n : ℕ) → heard_by entry.state heard ≡ Confirmed n → IsRegistered done (request_of filer entry) n
+    registered None hears n e = sound.registered n e
+    registered (Some reply) hears n e = by_reply reply (hears_gives bytes crash reply hears) entry.state refl n e
 
 pub keeps_hand : (old : World) (output given : ℕ) (crash : Crash) (new : World) → Keeps old → Hands old output given crash new → Keeps new
 keeps_hand old output given crash new keeps step = subst Keeps (sym step.becomes) after
@@ -297,7 +290,7 @@ keeps_hand old output given crash new keeps step = subst Keeps (sym step.becomes
     entry = record step.entry { state = heard_by step.entry.state step.heard }
 
     box : Outbox
-    box = record step.box { entries = renewed step.box.entries step.number entry; up = is_no crash }
+    box = box_after step.box step.number step.entry step.heard crash
 
     was : IsSoundBox old.done step.box
     was = keeps.boxes step.outbox step.box step.box_here

@@ -25,10 +25,11 @@ use Rattle.filing_model.proofs.Keeping.{register_numbered}
 use Rattle.filing_model.proofs.Lists.{append_nil, take_prefix, take_all}
 use Rattle.filing_model.proofs.Stopping.{serves_begin, serves_front}
 use Rattle.filing_world.specs.World.{World, Outbox, Output, Sent, Deliver, Hand, numbered, renewed}
-use Rattle.filing_world.specs.Step.{is_no, Hears, heard_by, Step}
+use Rattle.filing_world.specs.Step.{Hears, heard_by, box_after, Hands, Step}
 use Rattle.filing_world.specs.Headline.{IsReached, IsConfirmed, start, states, states_from, states_of}
 use Rattle.filing_world.specs.Invariant.{Keeps}
 use Rattle.filing_world.specs.Posting.{IsAlone, FilesAlone}
+use Rattle.filing_world.proofs.Hearing.{hears_gives}
 use Rattle.filing_world.proofs.Keeping.{keeps_start, keeps_run, holds}
 use Rattle.filing_world.proofs.Lists.{same_element}
 use Rattle.filing_world.proofs.Plays.{gives_none}
@@ -41,7 +42,7 @@ set_same [] i x e = absurd (cc)
 set_same (y ∷ xs) zero x e = let same : x ≡ y = cc in ap (λ z. z ∷ xs) same
 set_same (y ∷ xs) (suc i) x e = ap (λ ys. y ∷ ys) (set_same xs i x e)
 
-pub renewed_same : {X : Type 0} (xs : List X) (i : ℕ) (x : X) → numbered xs i ≡ Some x → renewed xs i x ≡ xs
+renewed_same : {X : Type 0} (xs : List X) (i : ℕ) (x : X) → numbered xs i ≡ Some x → renewed xs i x ≡ xs
 renewed_same xs zero x e = refl
 renewed_same xs (suc i) x e = set_same xs i x e
 
@@ -53,15 +54,21 @@ states_set from (box ∷ boxes) zero old new here same =
     ap (λ entries. states_of from 1 entries ++ states_from (suc from) boxes) (same ∙ ap (λ (b : Outbox). b.entries) is)
 states_set from (box ∷ boxes) (suc i) old new here same = ap (λ rest. states_of from 1 box.entries ++ rest) (states_set (suc from) boxes i old new here same)
 
-pub states_renewed : (boxes : List Outbox) (i : ℕ) (old new : Outbox) → numbered boxes i ≡ Some old → new.entries ≡ old.entries → states_from 1 (renewed boxes i new) ≡ states_from 1 boxes
+states_renewed : (boxes : List Outbox) (i : ℕ) (old new : Outbox) → numbered boxes i ≡ Some old → new.entries ≡ old.entries → states_from 1 (renewed boxes i new) ≡ states_from 1 boxes
 states_renewed boxes zero old new here same = refl
 states_renewed boxes (suc i) old new here same = states_set 1 boxes i old new here same
 
 deaf : (bytes : List ℕ) (crash : Crash) (heard : Option ReplyParts) (state : State) → ((reply : ReplyParts) → ¬ (GivesReply bytes reply)) → Hears bytes crash heard → heard_by state heard ≡ state
 deaf bytes crash None state silent hears = refl
-deaf bytes No (Some reply) state silent hears = absurd (silent reply hears)
-deaf bytes (Before j) (Some reply) state silent hears = absurd hears
-deaf bytes (After j) (Some reply) state silent hears = absurd (silent reply hears)
+deaf bytes crash (Some reply) state silent hears = absurd (silent reply (hears_gives bytes crash reply hears))
+
+-- an entry that is not moved leaves all states as they are
+pub still : (old new : World) (output given : ℕ) (crash : Crash) (step : Hands old output given crash new) → heard_by step.entry.state step.heard ≡ step.entry.state → states new ≡ states old
+still old new output given crash step deaf =
+    let entry : record step.entry { state = heard_by step.entry.state step.heard } ≡ step.entry = ap (λ s. record step.entry { state = s }) deaf in
+    ap states step.becomes
+    ∙ states_renewed old.outboxes step.outbox step.box (box_after step.box step.number step.entry step.heard crash) step.box_here
+    (ap (renewed step.box.entries step.number) entry ∙ renewed_same step.box.entries step.number step.entry step.entry_here)
 
 -- what is handed over of a reply, unless it is the whole, moves no entry
 pub part_moves_nothing : (old new : World) (output given : ℕ) (crash : Crash) (from : Output) (reply : ReplyParts) (close : Bool)
@@ -69,14 +76,7 @@ pub part_moves_nothing : (old new : World) (output given : ℕ) (crash : Crash) 
 part_moves_nothing old new output given crash from reply close here readable begins short step =
     let is : step.from ≡ from = same_element (numbered old.outputs output) step.from from step.here here in
     let hears = subst (λ (o : Output). Hears (take given o.bytes) crash step.heard) is step.hears in
-    let still = deaf (take given from.bytes) crash step.heard step.entry.state (λ other. gives_none reply other close (take given from.bytes) readable begins short) hears in
-    let entry : record step.entry { state = heard_by step.entry.state step.heard } ≡ step.entry = ap (λ s. record step.entry { state = s }) still in
-    let entries : renewed step.box.entries step.number (record step.entry { state = heard_by step.entry.state step.heard }) ≡ step.box.entries
-    = ap (renewed step.box.entries step.number) entry ∙ renewed_same step.box.entries step.number step.entry step.entry_here in
-    ap states step.becomes
-    ∙ states_renewed old.outboxes step.outbox step.box
-    (record step.box { entries = renewed step.box.entries step.number (record step.entry { state = heard_by step.entry.state step.heard }); up = is_no crash })
-    step.box_here entries
+    still old new output given crash step (deaf (take given from.bytes) crash step.heard step.entry.state (λ other. gives_none reply other close (take given from.bytes) readable begins short) hears)
 
 -- ---- a number
 

@@ -6,8 +6,9 @@ use Rattle.std.proofs.lemmas.Bool.{cases_Bool}
 use Rattle.http_wire.specs.Head.{max_body_len}
 use Rattle.http_wire.specs.Reply.{ReplyParts}
 use Rattle.filing_model.specs.Outbox.{State, Open, Confirmed, Refused, Clashed, moved, Entry}
+use Rattle.filing_model.specs.Stopping.{Crash}
 use Rattle.filing_world.specs.World.{Outbox, World, Event, Put, Send, Stranger, Deliver, Hand, RestartServer, RestartOutbox, numbered, renewed}
-use Rattle.filing_world.specs.Step.{is_no, with_entry, heard_by, Hands, Step, Run}
+use Rattle.filing_world.specs.Step.{takes, with_entry, heard_by, box_after, Step, Run}
 use Rattle.filing_world.specs.Laws.{Remains}
 use Rattle.filing_world.proofs.Lists.{renewed_numbered, renewed_other, numbered_grows, same_element}
 
@@ -37,16 +38,12 @@ IsLater old new = (new.filer ≡ old.filer) × ((number : ℕ) (entry : Entry) �
 
 later_put : (box : Outbox) (entry : Entry) → IsLater box (with_entry box entry)
 later_put box entry = ⊎_elim
-    (λ (h : test ≡ true). rw h (refl, λ number which here. (which, numbered_grows box.entries (entry ∷ []) number which here, same_entry which)))
-    (λ (h : test ≡ false). rw h (refl, λ number which here. (which, here, same_entry which)))
-    (cases_Bool test)
-  where
-    test : Bool
-    test = nat_le (length entry.body) max_body_len && not (list_any (λ e. bytes_eq e.key entry.key) box.entries)
+    (λ (h : takes box entry ≡ true). rw h (refl, λ number which here. (which, numbered_grows box.entries (entry ∷ []) number which here, same_entry which)))
+    (λ (h : takes box entry ≡ false). rw h (refl, λ number which here. (which, here, same_entry which)))
+    (cases_Bool (takes box entry))
 
-later_heard : (box : Outbox) (number : ℕ) (entry : Entry) (heard : Option ReplyParts) (up : Bool) → numbered box.entries number ≡ Some entry
-    → IsLater box (record box { entries = renewed box.entries number (record entry { state = heard_by entry.state heard }); up = up })
-later_heard box number entry heard up here = (refl, each)
+later_heard : (box : Outbox) (number : ℕ) (entry : Entry) (heard : Option ReplyParts) (crash : Crash) → numbered box.entries number ≡ Some entry → IsLater box (box_after box number entry heard crash)
+later_heard box number entry heard crash here = (refl, each)
   where
     now : Entry
     now = record entry { state = heard_by entry.state heard }
@@ -105,9 +102,8 @@ step_remains old (Send outbox entry) new step = all_same old.outboxes new (ap (�
 step_remains old (Stranger bytes) new step = all_same old.outboxes new (ap (λ (w : World). w.outboxes) step)
 step_remains old (Deliver item given crash) new step = all_same old.outboxes new (ap (λ (w : World). w.outboxes) step.becomes)
 step_remains old (Hand output given crash) new step =
-    one_later old.outboxes step.outbox step.box
-    (record step.box { entries = renewed step.box.entries step.number (record step.entry { state = heard_by step.entry.state step.heard }); up = is_no crash })
-    new step.box_here (later_heard step.box step.number step.entry step.heard (is_no crash) step.entry_here) (ap (λ (w : World). w.outboxes) step.becomes)
+    one_later old.outboxes step.outbox step.box (box_after step.box step.number step.entry step.heard crash) new step.box_here
+    (later_heard step.box step.number step.entry step.heard crash step.entry_here) (ap (λ (w : World). w.outboxes) step.becomes)
 step_remains old RestartServer new step = all_same old.outboxes new (ap (λ (w : World). w.outboxes) step)
 step_remains old (RestartOutbox outbox) new step =
     one_later old.outboxes outbox step.box (record step.box { up = true }) new step.here (refl, λ number entry here. (entry, here, same_entry entry)) (ap (λ (w : World). w.outboxes) step.becomes)

@@ -20,12 +20,13 @@ use Rattle.filing_model.specs.Text.{Route, Told, Listed, Filed, route, requests_
 use Rattle.filing_model.proofs.Lists.{append_nil}
 use Rattle.filing_model.proofs.Stopping.{serves_begin}
 use Rattle.filing_world.specs.World.{World, Outbox, Output, Sent, Put, Send, Deliver, Hand, numbered, renewed}
-use Rattle.filing_world.specs.Step.{is_no, Hears, heard_by, Hands, Step, IsAway, CannotPlay}
+use Rattle.filing_world.specs.Step.{is_no, Hears, heard_by, box_after, Step, IsAway, CannotPlay}
 use Rattle.filing_world.specs.Headline.{HasEntry, states}
 use Rattle.filing_world.specs.Laws.{AddsAtMost, IsAnswerTo, IsDown}
 use Rattle.filing_world.specs.Posting.{IsAlone, FilesAlone}
+use Rattle.filing_world.proofs.Hearing.{hears_gives}
 use Rattle.filing_world.proofs.Lists.{renewed_numbered, same_element}
-use Rattle.filing_world.proofs.Never.{renewed_same, states_renewed}
+use Rattle.filing_world.proofs.Never.{still}
 use Rattle.filing_world.proofs.Posting.{posted, own_front, never_whole, never_refused}
 
 -- ---- what a delivery completes
@@ -174,16 +175,6 @@ tells old new item given crash from here step =
 
 -- ---- a reply that is handed over
 
--- what nothing was heard of leaves the states as they are
-still : (old new : World) (output given : ℕ) (crash : Crash) (step : Hands old output given crash new) → heard_by step.entry.state step.heard ≡ step.entry.state → states new ≡ states old
-still old new output given crash step deaf =
-    let entry : record step.entry { state = heard_by step.entry.state step.heard } ≡ step.entry = ap (λ s. record step.entry { state = s }) deaf in
-    ap states step.becomes
-    ∙ states_renewed old.outboxes step.outbox step.box
-    (record step.box { entries = renewed step.box.entries step.number (record step.entry { state = heard_by step.entry.state step.heard }); up = is_no crash })
-    step.box_here
-    (ap (renewed step.box.entries step.number) entry ∙ renewed_same step.box.entries step.number step.entry step.entry_here)
-
 deaf_before : (bytes : List ℕ) (j : ℕ) (heard : Option ReplyParts) (state : State) → Hears bytes (Before j) heard → heard_by state heard ≡ state
 deaf_before bytes j None state hears = refl
 deaf_before bytes j (Some reply) state hears = absurd hears
@@ -207,9 +198,8 @@ not_deaf bytes reply gives few deaf = ⊎_elim
 
 -- and are heard as it
 hears_that : (bytes : List ℕ) (crash : Crash) (heard : Option ReplyParts) (reply : ReplyParts) → ((j : ℕ) → crash ≢ Before j) → GivesReply bytes reply → length bytes < max_reads → Hears bytes crash heard → heard ≡ Some reply
-hears_that bytes No (Some heard) reply on gives few hears = ap Some (one_reply bytes heard reply hears gives)
-hears_that bytes (After j) (Some heard) reply on gives few hears = ap Some (one_reply bytes heard reply hears gives)
-hears_that bytes (Before j) heard reply on gives few hears = absurd (on j refl)
+hears_that bytes crash (Some heard) reply on gives few hears = ap Some (one_reply bytes heard reply (hears_gives bytes crash heard hears) gives)
+hears_that bytes (Before j) None reply on gives few hears = absurd (on j refl)
 hears_that bytes No None reply on gives few hears = absurd (not_deaf bytes reply gives few hears)
 hears_that bytes (After j) None reply on gives few hears = absurd (not_deaf bytes reply gives few hears)
 
@@ -222,17 +212,17 @@ module _ (old new : World) (output given outbox number : ℕ) (crash : Crash) (f
       let item : step.item ≡ answers.item = same_element (numbered old.sent from.item) step.item answers.item (subst (λ (o : Output). numbered old.sent o.item ≡ Some step.item) same_from step.item_here) answers.item_here in
       some_pair_parts step.outbox outbox step.number number (sym step.sender ∙ ap (λ (x : Sent). x.from) item ∙ answers.sender)
 
-  abbrev entry_after : Entry
-  entry_after = record step.entry { state = heard_by step.entry.state step.heard }
+  abbrev moved_entry : Entry
+  moved_entry = record step.entry { state = heard_by step.entry.state step.heard }
 
-  abbrev box_after : Outbox
-  box_after = record step.box { entries = renewed step.box.entries step.number entry_after; up = is_no crash }
+  abbrev moved_box : Outbox
+  moved_box = box_after step.box step.number step.entry step.heard crash
 
-  after_here : numbered new.outboxes step.outbox ≡ Some box_after
-  after_here = ap (λ (w : World). numbered w.outboxes step.outbox) step.becomes ∙ renewed_numbered old.outboxes step.outbox box_after step.box step.box_here
+  box_there : numbered new.outboxes step.outbox ≡ Some moved_box
+  box_there = ap (λ (w : World). numbered w.outboxes step.outbox) step.becomes ∙ renewed_numbered old.outboxes step.outbox moved_box step.box step.box_here
 
   pub moves : (state : State) (reply : ReplyParts) → HasEntry old outbox number state → ((j : ℕ) → crash ≢ Before j) → GivesReply (take given from.bytes) reply → length (take given from.bytes) < max_reads → HasEntry new outbox number (moved state reply)
-  moves state reply has on gives few = subst (λ (at : ℕ × ℕ). HasEntry new at.0 at.1 (moved state reply)) (λ i. (sender.0 i, sender.1 i)) (box_after, entry_after, after_here, renewed_numbered step.box.entries step.number entry_after step.entry step.entry_here, moved_by)
+  moves state reply has on gives few = subst (λ (at : ℕ × ℕ). HasEntry new at.0 at.1 (moved state reply)) (λ i. (sender.0 i, sender.1 i)) (moved_box, moved_entry, box_there, renewed_numbered step.box.entries step.number moved_entry step.entry step.entry_here, moved_by)
     where
       heard : step.heard ≡ Some reply
       heard = hears_that (take given from.bytes) crash step.heard reply on gives few (subst (λ (o : Output). Hears (take given o.bytes) crash step.heard) same_from step.hears)
@@ -250,7 +240,7 @@ module _ (old new : World) (output given outbox number : ℕ) (crash : Crash) (f
 
   pub outbox_up : (box : Outbox) → numbered new.outboxes outbox ≡ Some box → (box.up ≡ true) ↔ (crash ≡ No)
   outbox_up box here =
-      let is : box ≡ box_after = same_element (numbered new.outboxes outbox) box box_after here (subst (λ o. numbered new.outboxes o ≡ Some box_after) sender.0 after_here) in
+      let is : box ≡ moved_box = same_element (numbered new.outboxes outbox) box moved_box here (subst (λ o. numbered new.outboxes o ≡ Some moved_box) sender.0 box_there) in
       subst (λ (b : Bool). (b ≡ true) ↔ (crash ≡ No)) (ap (λ (b : Outbox). b.up) (sym is)) (up_unless crash)
 
   pub outbox_down : crash ≢ No → IsDown new outbox
