@@ -17,12 +17,12 @@ use Rattle.filing_model.specs.Request.{Request}
 use Rattle.filing_model.specs.Outbox.{State, moved, Entry, IsSendable, bytes_of}
 use Rattle.filing_model.specs.Stopping.{Crash, No, Before, After, marked, BeginsPlaces, IsWhole, IsCut, ServesUntil}
 use Rattle.filing_model.specs.Text.{Route, Told, Listed, Filed, route, requests_of_route, completed, completed_at}
-use Rattle.filing_model.proofs.Lists.{append_nil}
+use Rattle.filing_model.proofs.Lists.{append_nil, take_take}
 use Rattle.filing_model.proofs.Stopping.{serves_begin}
 use Rattle.filing_world.specs.World.{World, Outbox, Output, Sent, Put, Send, Deliver, Hand, numbered, renewed}
 use Rattle.filing_world.specs.Step.{is_no, Hears, heard_by, box_after, Step, IsAway, CannotPlay}
 use Rattle.filing_world.specs.Headline.{HasEntry, states}
-use Rattle.filing_world.specs.Laws.{AddsAtMost, IsAnswerTo, IsDown}
+use Rattle.filing_world.specs.Laws.{AddsAtMost, IsDelivered, IsAnswerTo, IsDown}
 use Rattle.filing_world.specs.Posting.{IsAlone, FilesAlone}
 use Rattle.filing_world.proofs.Hearing.{hears_gives}
 use Rattle.filing_world.proofs.Lists.{renewed_numbered, same_element}
@@ -164,14 +164,22 @@ length-take : (n : ℕ) (xs : List ℕ) → length (take n xs) ≡ min n (length
 length-take n xs = grind (arith, common_steps)
 
 pub tells : (old new : World) (item given : ℕ) (crash : Crash) (from : Sent) → numbered old.sent item ≡ Some from → Step old (Deliver item given crash) new
-    → (output : Output) × (new.outputs ≡ old.outputs ++ output ∷ []) × (output.item ≡ item) × (output.given ≡ min given (length from.bytes))
-tells old new item given crash from here step =
-    let is : step.from ≡ from = same_element (numbered old.sent item) step.from from step.here here in (
-      _,
-      ap (λ (w : World). w.outputs) step.becomes,
-      refl,
-      length-take given step.from.bytes ∙ ap (λ (x : Sent). min given (length x.bytes)) is,
-    )
+    → (output : Output) × IsDelivered old item given crash from output new
+tells old new item given crash from here step = subst (λ (x : Sent). (output : Output) × IsDelivered old item given crash x output new) is (
+  record { item = item; given = length (take given step.from.bytes); before = length old.done; marks = step.marks; ended = step.ended; bytes = step.out },
+  record {
+    adds = ap (λ (w : World). w.outputs) step.becomes;
+    which = refl;
+    came = length-take given step.from.bytes;
+    after = refl;
+    places = step.places;
+    serves = subst (λ bytes. ServesUntil old.limit old.done bytes crash step.places step.marks step.ended step.out) (sym (take_take given step.from.bytes)) step.serves;
+    completes = ap (λ (w : World). w.done) step.becomes;
+  },
+)
+  where
+    is : step.from ≡ from
+    is = same_element (numbered old.sent item) step.from from step.here here
 
 -- ---- a reply that is handed over
 

@@ -1,8 +1,10 @@
 -- What the laws over every step and every run say.
-use Rattle.std.specs.Prelude.{◌≡◌, ◌≢◌, ◌≤◌, ℕ, List, ◌++◌, length, Some}
+use Rattle.std.specs.Prelude.{◌≡◌, ◌≢◌, ◌≤◌, ℕ, List, [], ◌∷◌, ◌++◌, length, take, min, Some}
+use Rattle.http_wire.specs.Message.{Place}
 use Rattle.filing_model.specs.Request.{Request}
 use Rattle.filing_model.specs.Outbox.{Open, Entry}
-use Rattle.filing_model.specs.Stopping.{Crash}
+use Rattle.filing_model.specs.Stopping.{Crash, ServesUntil}
+use Rattle.filing_model.specs.Text.{completed}
 use Rattle.filing_world.specs.World.{Outbox, Sent, Output, World, Put, Send, Hand, numbered}
 use Rattle.filing_world.specs.Step.{CannotPlay}
 
@@ -22,6 +24,17 @@ pub record AddsAtMost (n : ℕ) (old new : World) : Type 0 where
   pub more : List Request
   pub adds : new.done ≡ old.done ++ more
   pub few : length more ≤ n
+
+-- The output is added, and tells its delivery: of which item, how many bytes of it came, after how many completed requests,
+-- and what serving these bytes marked, wrote and ended with. What it marked as completed is added, and nothing else.
+pub record IsDelivered (old : World) (item given : ℕ) (crash : Crash) (from : Sent) (output : Output) (new : World) : Type 0 where
+  pub adds : new.outputs ≡ old.outputs ++ output ∷ []
+  pub which : output.item ≡ item
+  pub came : output.given ≡ min given (length from.bytes)
+  pub after : output.before ≡ length old.done
+  pub places : List Place
+  pub serves : ServesUntil old.limit old.done (take output.given from.bytes) crash places output.marks output.ended output.bytes
+  pub completes : new.done ≡ old.done ++ completed places output.marks
 
 -- the output answers what the entry sent
 pub record IsAnswerTo (world : World) (output : ℕ) (from : Output) (outbox number : ℕ) : Type 0 where

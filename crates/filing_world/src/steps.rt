@@ -1,7 +1,7 @@
 //! Laws over every step. What may live here: functions that do nothing, each with a law as its
 //! contract that holds of a step of any world, reached or not.
 
-ghost use Rattle.std.specs.Prelude.{◌≡◌, ◌≢◌, ◌⊎◌, ◌↔◌, ◌<◌, ◌≤◌, ◌-◌, ℕ, List, [], ◌∷◌, ◌++◌, length, take, min, max, true, Some};
+ghost use Rattle.std.specs.Prelude.{◌≡◌, ◌≢◌, ◌⊎◌, ◌↔◌, ◌<◌, ◌≤◌, ◌-◌, ℕ, List, [], ◌∷◌, ◌++◌, length, take, max, true, Some};
 ghost use Rattle.http_wire.specs.Received.{max_reads};
 ghost use Rattle.http_wire.specs.Reply.{ReplyParts};
 ghost use Rattle.http_wire.specs.Response.{GivesReply};
@@ -11,7 +11,7 @@ ghost use Rattle.filing_model.specs.Stopping.{Crash, No, Before, After};
 ghost use Rattle.filing_world.specs.World.{World, Outbox, Output, Sent, Deliver, Hand, numbered};
 ghost use Rattle.filing_world.specs.Step.{Step, CannotPlay};
 ghost use Rattle.filing_world.specs.Headline.{HasEntry, states};
-ghost use Rattle.filing_world.specs.Laws.{AddsAtMost, IsAnswerTo, IsDown};
+ghost use Rattle.filing_world.specs.Laws.{AddsAtMost, IsDelivered, IsAnswerTo, IsDown};
 
 /// What a delivery completes. Of an entry's request it is that one request or nothing, and nothing
 /// where the delivery is cut before its last byte. Of any bytes, a stop before the first place lets
@@ -29,11 +29,11 @@ pub fn completes_no_more_than_came()
     ensures after { (old new : World) (item given j : ℕ) → Step old (Deliver item given (After j)) new → AddsAtMost (max 1 j) old new }
 {}
 
-/// A delivery adds one output, which tells its item and how many bytes of it came: as many as were to
-/// be given, or all where there are fewer.
+/// A delivery adds one output, which tells what was served: of which item, how many bytes of it came,
+/// as many as were to be given, or all where there are fewer, and what became of them.
 pub fn tells_what_came()
     ensures { (old new : World) (item given : ℕ) (crash : Crash) (from : Sent) → numbered old.sent item ≡ Some from → Step old (Deliver item given crash) new
-        → (output : Output) × (new.outputs ≡ old.outputs ++ output ∷ []) × (output.item ≡ item) × (output.given ≡ min given (length from.bytes)) }
+        → (output : Output) × IsDelivered old item given crash from output new }
 {}
 
 /// An outbox that stops before it has heard a reply leaves every entry in its state.
