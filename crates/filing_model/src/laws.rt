@@ -2,7 +2,7 @@
 //! live here: functions that do nothing, each with a law about the definitions as its contract. The
 //! code that decides requests has contracts by the same definitions.
 
-ghost use Rattle.std.specs.Prelude.{◌≡◌, ◌≢◌, ℕ, ◌^◌, ◌<◌, ◌≤◌, Bool, true, List, [], ◌++◌, length, codes, Some};
+ghost use Rattle.std.specs.Prelude.{◌≡◌, ◌≢◌, ℕ, ◌^◌, ◌<◌, ◌≤◌, Bool, true, List, [], ◌++◌, length, codes, Option, Some};
 ghost use Rattle.http_wire.specs.declared.refusal.ConnFault.{ConnFault};
 ghost use Rattle.http_wire.specs.Head.{closes};
 ghost use Rattle.http_wire.specs.Message.{Place};
@@ -19,7 +19,7 @@ ghost use Rattle.filing_model.specs.Answer.Answer.{Registered};
 ghost use Rattle.filing_model.specs.Outbox.{Open, Confirmed, moved};
 ghost use Rattle.filing_model.specs.Reply.{reply_of, unavailable};
 ghost use Rattle.filing_model.specs.Serving.{Serves};
-ghost use Rattle.filing_model.specs.Stopping.{Crash, No, IsEndOf, ServesUntil};
+ghost use Rattle.filing_model.specs.Stopping.{Crash, No, IsEndOf, IsEndOrStopOf, ServesUntil, StopsOrServes};
 ghost use Rattle.filing_model.specs.Text.{MarkFits, completed, reply, reply_text};
 ghost use Rattle.filing_model.specs.Laws.{IsAnswered, IsRegisterOf, RepeatChangesNothing, RegisterGrows, RepeatGetsTheFirst, StaysRegistered};
 
@@ -72,6 +72,14 @@ pub fn serves_as_the_model_says()
     ensures { (limit : ℕ) (done before after : List Request) (read more : List ℕ) (marks : List Mark) (ended : Ended) (out : List ℕ)
         → before ≡ firsts done → IsEndOf read more ended → Serves limit before after read marks ended out
         → (places : List Place) × ServesUntil limit done (read ++ more) No places marks (Some ended) out × (after ≡ firsts (done ++ completed places marks)) }
+{}
+
+/// So it is where serving may stop at a place. What was stopped tells no end, and the places that it
+/// tells are the first ones, up to the one where it stopped.
+pub fn serves_until_as_the_model_says()
+    ensures { (limit : ℕ) (done before after : List Request) (read more : List ℕ) (crash : Crash) (marks : List Mark) (ended : Option Ended) (out : List ℕ)
+        → before ≡ firsts done → IsEndOrStopOf read more ended → StopsOrServes limit before after read crash marks ended out
+        → (places : List Place) × ServesUntil limit done (read ++ more) crash places marks ended out × (after ≡ firsts (done ++ completed places marks)) }
 {}
 
 /// Where a connection ended by itself, neither by a fault nor by a stop, each of its places has its

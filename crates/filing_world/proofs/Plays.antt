@@ -21,6 +21,7 @@ use Rattle.filing_model.specs.Outbox.{State, Open, moved, bytes_of, IsSendable}
 use Rattle.filing_model.specs.Stopping.{No, Before, After, ServesUntil}
 use Rattle.filing_model.specs.Text.{RouteFits, requests_of_route, completed, MarksFit, interim_of, reply_text, text}
 use Rattle.filing_model.proofs.Lists.{append_nil, prefix_trans, take_within}
+use Rattle.filing_model.proofs.Stopping.{HasPlaces-begins}
 use Rattle.filing_world.specs.World.{Output, World, Put, Send, Deliver, Hand, RestartOutbox, numbered, renewed, new_outbox}
 use Rattle.filing_world.specs.Schedules.{entry_with, outbox_with, item_of}
 use Rattle.filing_world.specs.Step.{Step}
@@ -121,14 +122,14 @@ module _ (r : Request) (sendable : IsSendable r) where
   serves_after limit done room = record {
     ending = Ending.Closed;
     fit = fit_one limit done room;
-    gives = inl (record { splits = places_whole; all = refl; written = text_none done; end = refl });
+    gives = inl (record { splits = HasPlaces-begins bytes (Read is.message ∷ []) Ending.Closed places_whole; all = refl; written = text_none done; end = refl });
   }
 
   serves_before : (limit : ℕ) (done : List Request) → ServesUntil limit done bytes (Before 1) (Read is.message ∷ []) [] None []
   serves_before limit done = record {
     ending = Ending.Closed;
     fit = fit_none limit done;
-    gives = inl (record { splits = places_whole; all = refl; written = text_none done; end = refl });
+    gives = inl (record { splits = HasPlaces-begins bytes (Read is.message ∷ []) Ending.Closed places_whole; all = refl; written = text_none done; end = refl });
   }
 
   serves_part : (limit : ℕ) (done : List Request) (n : ℕ) → n < length bytes → ServesUntil limit done (take n bytes) No [] [] (Some InputEnded) []
