@@ -1,5 +1,5 @@
 -- Events on outboxes of one entry each, and what the world is after them.
-use Rattle.std.proofs.Common.{◌≡◌, ◌⊎◌, ℕ, ◌<◌, ◌≤◌, Bool, true, false, List, [], ◌∷◌, ◌++◌, length, take, drop, Some, None, refl, sym, ap, ◌∙◌, subst, inl, arith}
+use Rattle.std.proofs.Common.{◌≡◌, ◌⊎◌, ℕ, ◌<◌, ◌≤◌, Bool, true, false, List, [], ◌∷◌, ◌++◌, length, take, drop, Option, Some, None, refl, sym, ap, ◌∙◌, subst, inl, arith}
 use Rattle.std.proofs.lemmas.Bool.{both_ways, le-leb}
 use Rattle.std.proofs.lemmas.Grind.{common_steps}
 use Rattle.http_wire.specs.Head.{closes, max_body_len}
@@ -23,7 +23,7 @@ use Rattle.filing_model.specs.Text.{RouteFits, requests_of_route, completed, Mar
 use Rattle.filing_model.proofs.Lists.{append_nil, prefix_trans, take_within}
 use Rattle.filing_model.proofs.Stopping.{HasPlaces-begins}
 use Rattle.filing_world.specs.World.{Output, World, Put, Send, Deliver, Hand, RestartOutbox, numbered, renewed, new_outbox}
-use Rattle.filing_world.specs.Schedules.{entry_with, outbox_with, item_of}
+use Rattle.filing_world.specs.Schedules.{entry_with, outbox_with, sent_by, item_of}
 use Rattle.filing_world.specs.Step.{Step}
 use Rattle.filing_world.proofs.Posting.{posted, head_is, never_refused, never_whole}
 use Rattle.filing_world.specs.Posting.{IsPosted}
@@ -47,6 +47,10 @@ after_send old outbox r = record old { sent = old.sent ++ item_of outbox r ∷ [
 
 pub plays_send : (old : World) (outbox : ℕ) (r : Request) (state : State) → numbered old.outboxes outbox ≡ Some (outbox_with r state) → Step old (Send outbox 1) (after_send old outbox r)
 plays_send old outbox r state here = record { box = outbox_with r state; here = here; up = refl; what = entry_with r state; there = refl; becomes = refl }
+
+-- a stranger sends the request
+abbrev pub after_stranger : World → Request → World
+after_stranger old r = record old { sent = old.sent ++ sent_by None r ∷ [] }
 
 abbrev pub after_restart : World → World
 after_restart old = record old { up = true }
@@ -178,11 +182,11 @@ after_part old item n = record old {
   up = true;
 }
 
-module _ (old : World) (item outbox all : ℕ) (r : Request) (sendable : IsSendable r) (up : old.up ≡ true) (here : numbered old.sent item ≡ Some (item_of outbox r)) where
+module _ (old : World) (item : ℕ) (sender : Option (ℕ × ℕ)) (all : ℕ) (r : Request) (sendable : IsSendable r) (up : old.up ≡ true) (here : numbered old.sent item ≡ Some (sent_by sender r)) where
   pub plays_done : length (bytes_of r) ≤ all → (has_key old.done r ≡ true) ⊎ (length (firsts old.done) < old.limit) → Step old (Deliver item all No) (after_done old item r)
   plays_done enough room = record {
     up = up;
-    from = item_of outbox r;
+    from = sent_by sender r;
     here = here;
     places = Read (is r sendable).message ∷ [];
     marks = Done ∷ [];
@@ -199,7 +203,7 @@ module _ (old : World) (item outbox all : ℕ) (r : Request) (sendable : IsSenda
   pub plays_commit : length (bytes_of r) ≤ all → (has_key old.done r ≡ true) ⊎ (length (firsts old.done) < old.limit) → Step old (Deliver item all (After 1)) (after_commit old item r)
   plays_commit enough room = record {
     up = up;
-    from = item_of outbox r;
+    from = sent_by sender r;
     here = here;
     places = Read (is r sendable).message ∷ [];
     marks = Done ∷ [];
@@ -217,7 +221,7 @@ module _ (old : World) (item outbox all : ℕ) (r : Request) (sendable : IsSenda
   unfolding completed
   plays_stop enough = record {
     up = up;
-    from = item_of outbox r;
+    from = sent_by sender r;
     here = here;
     places = Read (is r sendable).message ∷ [];
     marks = [];
@@ -235,7 +239,7 @@ module _ (old : World) (item outbox all : ℕ) (r : Request) (sendable : IsSenda
   unfolding completed
   plays_part n short = record {
     up = up;
-    from = item_of outbox r;
+    from = sent_by sender r;
     here = here;
     places = [];
     marks = [];

@@ -4,6 +4,7 @@ use Rattle.std.proofs.lemmas.Option.{some_pair_parts}
 use Rattle.std.proofs.lemmas.Bool.Decides.{nat_tests}
 use Rattle.std.proofs.lemmas.Grind.{common_steps}
 use Rattle.std.proofs.lemmas.List.{take-append-drop}
+use Rattle.key_string.specs.Key.{IsKey}
 use Rattle.http_wire.specs.Message.{Place, Ending, BeginsRequest}
 use Rattle.http_wire.specs.Received.{max_reads}
 use Rattle.http_wire.specs.Reply.{ReplyParts}
@@ -14,13 +15,13 @@ use Rattle.filing_model.specs.declared.served.Mark.{Mark}
 use Rattle.filing_model.specs.declared.served.Mark.TheVariants.{Done, Unavailable, NotFiled}
 use Rattle.filing_model.specs.declared.served.Ended.{Ended}
 use Rattle.filing_model.specs.Request.{Request}
-use Rattle.filing_model.specs.Outbox.{State, moved, Entry, IsSendable, bytes_of}
+use Rattle.filing_model.specs.Outbox.{State, Open, moved, Entry, IsSendable, request_of, bytes_of}
 use Rattle.filing_model.specs.Stopping.{Crash, No, Before, After, marked, BeginsPlaces, IsWhole, IsCut, ServesUntil}
 use Rattle.filing_model.specs.Text.{Route, Told, Listed, Filed, route, requests_of_route, completed, completed_at}
 use Rattle.filing_model.proofs.Lists.{append_nil, take_take}
 use Rattle.filing_model.proofs.Stopping.{serves_begin}
-use Rattle.filing_world.specs.World.{World, Outbox, Output, Sent, Put, Send, Deliver, Hand, numbered, renewed}
-use Rattle.filing_world.specs.Step.{is_no, Hears, heard_by, box_after, Step, IsAway, CannotPlay}
+use Rattle.filing_world.specs.World.{World, Outbox, Output, Sent, Put, Send, Deliver, Hand, RestartOutbox, numbered, renewed}
+use Rattle.filing_world.specs.Step.{is_no, with_entry, Hears, heard_by, box_after, Step, IsAway, CannotPlay}
 use Rattle.filing_world.specs.Headline.{HasEntry, states}
 use Rattle.filing_world.specs.Laws.{AddsAtMost, IsDelivered, IsAnswerTo, IsDown}
 use Rattle.filing_world.specs.Posting.{IsAlone, FilesAlone}
@@ -28,6 +29,29 @@ use Rattle.filing_world.proofs.Hearing.{hears_gives}
 use Rattle.filing_world.proofs.Lists.{renewed_numbered, same_element}
 use Rattle.filing_world.proofs.Never.{still}
 use Rattle.filing_world.proofs.Posting.{posted, own_front, never_whole, never_refused}
+
+-- ---- what can be played
+
+pub can_put : (old : World) (outbox : ℕ) (box : Outbox) (key body : List ℕ) → numbered old.outboxes outbox ≡ Some box → box.up ≡ true → IsKey key → (new : World) × Step old (Put outbox key body) new
+can_put old outbox box key body here up is_key = (
+  record old { outboxes = renewed old.outboxes outbox (with_entry box (record { key = key; body = body; state = Open })) },
+  record { is_key = is_key; box = box; here = here; up = up; becomes = refl },
+)
+
+pub can_send : (old : World) (outbox number : ℕ) (box : Outbox) (entry : Entry) → numbered old.outboxes outbox ≡ Some box → box.up ≡ true → numbered box.entries number ≡ Some entry → (new : World) × Step old (Send outbox number) new
+    × (new.sent ≡ old.sent ++ record { from = Some (outbox, number); bytes = bytes_of (request_of box.filer entry) } ∷ [])
+can_send old outbox number box entry here up there = (
+  record old { sent = old.sent ++ record { from = Some (outbox, number); bytes = bytes_of (request_of box.filer entry) } ∷ [] },
+  record { box = box; here = here; up = up; what = entry; there = there; becomes = refl },
+  refl,
+)
+
+pub can_restart : (old : World) (outbox : ℕ) (box : Outbox) → numbered old.outboxes outbox ≡ Some box → (new : World) × Step old (RestartOutbox outbox) new × (numbered new.outboxes outbox ≡ Some (record box { up = true }))
+can_restart old outbox box here = (
+  record old { outboxes = renewed old.outboxes outbox (record box { up = true }) },
+  record { box = box; here = here; becomes = refl },
+  renewed_numbered old.outboxes outbox (record box { up = true }) box here,
+)
 
 -- ---- what a delivery completes
 

@@ -15,7 +15,7 @@ ghost use Rattle.filing_world.specs.World.{World, Output, Sent, Deliver, Hand, n
 ghost use Rattle.filing_world.specs.Step.{Step};
 ghost use Rattle.filing_world.specs.Headline.{IsReached, IsConfirmed, start, states};
 ghost use Rattle.filing_world.specs.Schedules.{IsGood, IsAll, AreRivals, MayLeave, filing_of, registered_bytes, clash_bytes, small};
-ghost use Rattle.filing_world.specs.Schedules.{stopped_and_sent_again, lost_reply, late_reply, cut_delivery, stopped_before, stopped_after, stopped_hearing, two_outboxes};
+ghost use Rattle.filing_world.specs.Schedules.{stopped_and_sent_again, lost_reply, late_reply, cut_delivery, stopped_before, stopped_after, stopped_hearing, stranger_first, two_outboxes};
 
 /// The intake stops after its commit, before the first byte of the reply. Both ends are restarted, and
 /// the entry is sent again. A part of the reply leaves it open; the whole reply confirms it, under the
@@ -87,6 +87,13 @@ pub fn stays_confirmed_after_a_stop()
         → MayLeave (start (r.filer ∷ []) limit) (take 4 (stopped_hearing r all (After 1))) 1 (filing_of r ∷ []) (registered_bytes ∷ []) ((1, 1, Confirmed 1) ∷ []) }
     ensures again { (r : Request) (limit all : ℕ) → IsGood r → 0 < limit → IsAll all r
         → MayLeave (start (r.filer ∷ []) limit) (stopped_hearing r all (After 1)) 1 (filing_of r ∷ []) (registered_bytes ∷ []) ((1, 1, Confirmed 1) ∷ []) }
+{}
+
+/// A stranger sends the very request of an entry before the outbox does. Its bytes are served like any
+/// other, and the entry's own request, which comes later, gets the same bytes and shares the filing.
+pub fn confirms_after_a_stranger()
+    ensures { (r : Request) (limit all : ℕ) → IsGood r → 0 < limit → IsAll all r
+        → MayLeave (start (r.filer ∷ []) limit) (stranger_first r all) 2 (filing_of r ∷ []) (registered_bytes ∷ registered_bytes ∷ []) ((1, 1, Confirmed 1) ∷ []) }
 {}
 
 /// There are such reports: nothing is found in this one, which takes 84 bytes, and 227 with the head of

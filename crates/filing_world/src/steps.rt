@@ -1,17 +1,32 @@
 //! Laws over every step. What may live here: functions that do nothing, each with a law as its
 //! contract that holds of a step of any world, reached or not.
 
-ghost use Rattle.std.specs.Prelude.{◌≡◌, ◌≢◌, ◌⊎◌, ◌↔◌, ◌<◌, ◌≤◌, ◌-◌, ℕ, List, [], ◌∷◌, ◌++◌, length, take, max, true, Some};
+ghost use Rattle.std.specs.Prelude.{◌≡◌, ◌≢◌, ◌⊎◌, ◌↔◌, ◌<◌, ◌≤◌, ◌-◌, ℕ, List, [], ◌∷◌, ◌++◌, length, take, max, true, Some, None};
+ghost use Rattle.key_string.specs.Key.{IsKey};
 ghost use Rattle.http_wire.specs.Received.{max_reads};
 ghost use Rattle.http_wire.specs.Reply.{ReplyParts};
 ghost use Rattle.http_wire.specs.Response.{GivesReply};
 ghost use Rattle.filing_model.specs.Request.{Request};
-ghost use Rattle.filing_model.specs.Outbox.{State, moved, IsSendable, bytes_of};
+ghost use Rattle.filing_model.specs.Outbox.{State, Entry, moved, IsSendable, request_of, bytes_of};
 ghost use Rattle.filing_model.specs.Stopping.{Crash, No, Before, After};
-ghost use Rattle.filing_world.specs.World.{World, Outbox, Output, Sent, Deliver, Hand, numbered};
+ghost use Rattle.filing_world.specs.World.{World, Outbox, Output, Sent, Put, Send, Stranger, Deliver, Hand, RestartServer, RestartOutbox, numbered};
 ghost use Rattle.filing_world.specs.Step.{Step, CannotPlay};
 ghost use Rattle.filing_world.specs.Headline.{HasEntry, states};
 ghost use Rattle.filing_world.specs.Laws.{AddsAtMost, IsDelivered, IsAnswerTo, IsDown};
+
+/// What can be played where its end is up: a key and a body are put, a request is sent for any entry,
+/// whatever its state, and a stranger sends any bytes. An end that is down, or up, is restarted.
+pub fn can_be_played()
+    ensures puts { (old : World) (outbox : ℕ) (box : Outbox) (key body : List ℕ)
+        → numbered old.outboxes outbox ≡ Some box → box.up ≡ true → IsKey key → (new : World) × Step old (Put outbox key body) new }
+    ensures sends { (old : World) (outbox number : ℕ) (box : Outbox) (entry : Entry)
+        → numbered old.outboxes outbox ≡ Some box → box.up ≡ true → numbered box.entries number ≡ Some entry → (new : World) × Step old (Send outbox number) new
+        × (new.sent ≡ old.sent ++ record { from = Some (outbox, number); bytes = bytes_of (request_of box.filer entry) } ∷ []) }
+    ensures stranger { (old : World) (bytes : List ℕ) → (new : World) × Step old (Stranger bytes) new × (new.sent ≡ old.sent ++ record { from = None; bytes = bytes } ∷ []) }
+    ensures server { (old : World) → (new : World) × Step old RestartServer new × (new.up ≡ true) }
+    ensures outbox { (old : World) (outbox : ℕ) (box : Outbox) → numbered old.outboxes outbox ≡ Some box
+        → (new : World) × Step old (RestartOutbox outbox) new × (numbered new.outboxes outbox ≡ Some (record box { up = true })) }
+{}
 
 /// What a delivery completes. Of an entry's request it is that one request or nothing, and nothing
 /// where the delivery is cut before its last byte. Of any bytes, a stop before the first place lets
