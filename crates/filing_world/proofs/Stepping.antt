@@ -1,7 +1,12 @@
 -- What every step does.
 use Rattle.std.proofs.Common.{◌≡◌, ◌≢◌, ◌⊎◌, ◌↔◌, ℕ, ◌<◌, ◌≤◌, ◌-◌, ◌+◌, Bool, true, false, List, [], ◌∷◌, ◌++◌, length, take, drop, min, max, Option, Some, None, refl, sym, ap, ◌∙◌, subst, ⊎_elim, inl, inr, arith, length-append}
 use Rattle.std.proofs.lemmas.Option.{some_pair_parts}
+use Rattle.std.specs.Prelude.{bytes_eq}
+use Rattle.std.specs.List.{list_any}
+use Rattle.std.proofs.lemmas.Bool.{le-leb}
 use Rattle.std.proofs.lemmas.Bool.Decides.{nat_tests}
+use Rattle.std.proofs.lemmas.Slice.Eq.{bytes_eq-Decides}
+use Rattle.http_wire.specs.Head.{max_body_len}
 use Rattle.std.proofs.lemmas.Grind.{common_steps}
 use Rattle.std.proofs.lemmas.List.{take-append-drop}
 use Rattle.key_string.specs.Key.{IsKey}
@@ -26,7 +31,7 @@ use Rattle.filing_world.specs.Headline.{HasEntry, states}
 use Rattle.filing_world.specs.Laws.{AddsAtMost, IsDelivered, IsAnswerTo, IsDown}
 use Rattle.filing_world.specs.Posting.{IsAlone, FilesAlone}
 use Rattle.filing_world.proofs.Hearing.{hears_gives}
-use Rattle.filing_world.proofs.Lists.{renewed_numbered, same_element}
+use Rattle.filing_world.proofs.Lists.{renewed_numbered, same_element, any_none}
 use Rattle.filing_world.proofs.Never.{still}
 use Rattle.filing_world.proofs.Posting.{posted, own_front, never_whole, never_refused}
 
@@ -52,6 +57,25 @@ can_restart old outbox box here = (
   record { box = box; here = here; becomes = refl },
   renewed_numbered old.outboxes outbox (record box { up = true }) box here,
 )
+
+pub put_adds : (old new : World) (outbox : ℕ) (box : Outbox) (key body : List ℕ) → numbered old.outboxes outbox ≡ Some box → length body ≤ max_body_len → ((number : ℕ) (entry : Entry) → numbered box.entries number ≡ Some entry → entry.key ≢ key)
+    → Step old (Put outbox key body) new → numbered new.outboxes outbox ≡ Some (record box { entries = box.entries ++ record { key = key; body = body; state = Open } ∷ [] })
+put_adds old new outbox box key body here short unused step = there ∙ ap Some with_it
+  where
+    entry : Entry
+    entry = record { key = key; body = body; state = Open }
+
+    is : step.box ≡ box
+    is = same_element (numbered old.outboxes outbox) step.box box step.here here
+
+    there : numbered new.outboxes outbox ≡ Some (with_entry box entry)
+    there = ap (λ (w : World). numbered w.outboxes outbox) step.becomes ∙ renewed_numbered old.outboxes outbox (with_entry step.box entry) step.box step.here ∙ ap (λ b. Some (with_entry b entry)) is
+
+    none : list_any (λ e. bytes_eq e.key key) box.entries ≡ false
+    none = any_none (λ e. bytes_eq e.key key) box.entries (λ number which at same. unused number which at ((bytes_eq-Decides which.key key).0 same))
+
+    with_it : with_entry box entry ≡ record box { entries = box.entries ++ entry ∷ [] }
+    with_it = rw (le-leb (length body) max_body_len short, none) refl
 
 -- ---- what a delivery completes
 

@@ -3,11 +3,12 @@
 
 ghost use Rattle.std.specs.Prelude.{◌≡◌, ◌≢◌, ◌⊎◌, ◌↔◌, ◌<◌, ◌≤◌, ◌-◌, ℕ, List, [], ◌∷◌, ◌++◌, length, take, max, true, Some, None};
 ghost use Rattle.key_string.specs.Key.{IsKey};
+ghost use Rattle.http_wire.specs.Head.{max_body_len};
 ghost use Rattle.http_wire.specs.Received.{max_reads};
 ghost use Rattle.http_wire.specs.Reply.{ReplyParts};
 ghost use Rattle.http_wire.specs.Response.{GivesReply};
 ghost use Rattle.filing_model.specs.Request.{Request};
-ghost use Rattle.filing_model.specs.Outbox.{State, Entry, moved, IsSendable, request_of, bytes_of};
+ghost use Rattle.filing_model.specs.Outbox.{State, Open, Entry, moved, IsSendable, request_of, bytes_of};
 ghost use Rattle.filing_model.specs.Stopping.{Crash, No, Before, After};
 ghost use Rattle.filing_world.specs.World.{World, Outbox, Output, Sent, Put, Send, Stranger, Deliver, Hand, RestartServer, RestartOutbox, numbered};
 ghost use Rattle.filing_world.specs.Step.{Step, CannotPlay};
@@ -26,6 +27,15 @@ pub fn can_be_played()
     ensures server { (old : World) → (new : World) × Step old RestartServer new × (new.up ≡ true) }
     ensures outbox { (old : World) (outbox : ℕ) (box : Outbox) → numbered old.outboxes outbox ≡ Some box
         → (new : World) × Step old (RestartOutbox outbox) new × (numbered new.outboxes outbox ≡ Some (record box { up = true })) }
+{}
+
+/// A report that is put stands behind the entries of its outbox, and is open, unless its body is too
+/// long or its key is used.
+pub fn adds_what_is_put()
+    ensures { (old new : World) (outbox : ℕ) (box : Outbox) (key body : List ℕ)
+        → numbered old.outboxes outbox ≡ Some box → length body ≤ max_body_len → ((number : ℕ) (entry : Entry) → numbered box.entries number ≡ Some entry → entry.key ≢ key)
+        → Step old (Put outbox key body) new
+        → numbered new.outboxes outbox ≡ Some (record box { entries = box.entries ++ record { key = key; body = body; state = Open } ∷ [] }) }
 {}
 
 /// What a delivery completes. Of an entry's request it is that one request or nothing, and nothing
