@@ -1,14 +1,14 @@
 -- What a HEAD is answered.
-use Rattle.std.proofs.Common.{◌≡◌, ℕ, true, false, List, [], Option, Some, None, refl, ap, ◌∙◌, subst}
+use Rattle.std.proofs.Common.{◌≡◌, ℕ, true, List, [], Option, Some, None, refl, ap, ◌∙◌, subst}
 use Rattle.std.specs.Prelude.{codes, bytes_eq}
 use Rattle.http_wire.specs.Head.{closes}
 use Rattle.http_wire.specs.Message.{Place}
 use Rattle.http_wire.specs.Request.{Request as Message}
-use Rattle.http_wire.specs.Reply.{ReplyParts, render}
+use Rattle.http_wire.specs.Reply.{render}
 use Rattle.filing_model.specs.declared.served.Mark.{Mark}
 use Rattle.filing_model.specs.declared.served.Mark.TheVariants.{Done, Unavailable, NotFiled}
 use Rattle.filing_model.specs.Request.{Request}
-use Rattle.filing_model.specs.Text.{Route, Told, Listed, Filed, filer_of_path, route_by_method, route_by_filer, bare, is_head, route, reply_on, reply, MarkFits, RouteFits, reply_text}
+use Rattle.filing_model.specs.Text.{Route, Told, filer_of_path, route_by_method, route_by_filer, bare, is_head, route, reply_on, reply, MarkFits, RouteFits, reply_text}
 
 -- a route that tells a status, and no content
 abbrev IsBare : Route → Type 0

@@ -18,7 +18,7 @@ use Rattle.filing_model.specs.Register.{Filing, register, numbers_of}
 use Rattle.filing_model.specs.Answer.{Answer, answer}
 use Rattle.filing_model.specs.Reply.{reply_of, unavailable}
 use Rattle.filing_model.specs.Outbox.{State, bytes_of, IsSendable}
-use Rattle.filing_model.specs.Stopping.{Crash, No, Before, After, BeginsPlaces}
+use Rattle.filing_model.specs.Stopping.{Crash, BeginsPlaces}
 use Rattle.filing_model.specs.Text.{Filed, MarksFit, completed, requests_of_route, interim_of, reply_text, text}
 use Rattle.filing_model.proofs.Finals.{answer-readable, unavailable-readable}
 use Rattle.filing_model.proofs.Keeping.{register_numbered}

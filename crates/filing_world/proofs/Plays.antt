@@ -1,16 +1,13 @@
 -- Events on outboxes of one entry each, and what the world is after them.
-use Rattle.std.proofs.Common.{◌≡◌, ◌⊎◌, ℕ, ◌<◌, ◌≤◌, Bool, true, false, List, [], ◌∷◌, ◌++◌, length, take, drop, Option, Some, None, refl, sym, ap, ◌∙◌, subst, inl, arith}
+use Rattle.std.proofs.Common.{◌≡◌, ◌⊎◌, ℕ, ◌<◌, ◌≤◌, Bool, true, false, List, [], ◌∷◌, ◌++◌, length, take, Option, Some, None, refl, sym, ap, ◌∙◌, subst, inl, arith}
 use Rattle.std.proofs.lemmas.Bool.{both_ways, le-leb}
 use Rattle.std.proofs.lemmas.Grind.{common_steps}
 use Rattle.http_wire.specs.Head.{closes, max_body_len}
-use Rattle.http_wire.specs.Message.{Read, Ending, Rest, BeginsRequest, HasPlaces, awaits}
-use Rattle.http_wire.specs.Request.{Request as Message}
+use Rattle.http_wire.specs.Message.{Read, Ending, Rest, HasPlaces, awaits}
 use Rattle.http_wire.specs.Reply.{ReplyParts, render}
 use Rattle.http_wire.specs.Response.{BeginsReply, SpellsReply, GivesReply, IsReadable}
 use Rattle.http_wire.proofs.ReplyRead.{reply-spells}
 use Rattle.http_wire.proofs.UniqueReply.{BeginsReply-more, BeginsReply-unique}
-use Rattle.http_wire.proofs.Unique.{BeginsRequest-unique}
-use Rattle.http_wire.proofs.MoreBytes.{BeginsRequest-more}
 use Rattle.filing_model.specs.declared.served.Mark.TheVariants.{Done}
 use Rattle.filing_model.specs.declared.served.Ended.TheVariants.{Closed, InputEnded}
 use Rattle.filing_model.specs.Prefix.{IsPrefixOf}

@@ -1,5 +1,5 @@
 -- What every step does.
-use Rattle.std.proofs.Common.{◌≡◌, ◌≢◌, ◌⊎◌, ◌↔◌, ℕ, ◌<◌, ◌≤◌, ◌-◌, ◌+◌, Bool, true, false, List, [], ◌∷◌, ◌++◌, length, take, drop, min, max, Option, Some, None, refl, sym, ap, ◌∙◌, subst, ⊎_elim, inl, inr, arith, length-append}
+use Rattle.std.proofs.Common.{◌≡◌, ◌≢◌, ◌⊎◌, ◌↔◌, ℕ, ◌<◌, ◌≤◌, ◌-◌, Bool, true, false, List, [], ◌∷◌, ◌++◌, length, take, drop, min, max, Option, Some, None, refl, sym, ap, ◌∙◌, subst, ⊎_elim, inl, inr, arith, length-append}
 use Rattle.std.proofs.lemmas.Option.{some_pair_parts}
 use Rattle.std.specs.Prelude.{bytes_eq}
 use Rattle.std.specs.List.{list_any}
@@ -10,7 +10,7 @@ use Rattle.http_wire.specs.Head.{max_body_len}
 use Rattle.std.proofs.lemmas.Grind.{common_steps}
 use Rattle.std.proofs.lemmas.List.{take-append-drop}
 use Rattle.key_string.specs.Key.{IsKey}
-use Rattle.http_wire.specs.Message.{Place, Ending, BeginsRequest}
+use Rattle.http_wire.specs.Message.{Place, Ending}
 use Rattle.http_wire.specs.Received.{max_reads}
 use Rattle.http_wire.specs.Reply.{ReplyParts}
 use Rattle.http_wire.specs.Request.{Request as Message}
@@ -29,7 +29,7 @@ use Rattle.filing_world.specs.World.{World, Outbox, Output, Sent, Put, Send, Del
 use Rattle.filing_world.specs.Step.{is_no, with_entry, Hears, heard_by, box_after, Step, IsAway, CannotPlay}
 use Rattle.filing_world.specs.Headline.{HasEntry, states}
 use Rattle.filing_world.specs.Laws.{AddsAtMost, IsDelivered, IsAnswerTo, IsDown}
-use Rattle.filing_world.specs.Posting.{IsAlone, FilesAlone}
+use Rattle.filing_world.specs.Posting.{FilesAlone}
 use Rattle.filing_world.proofs.Hearing.{hears_gives}
 use Rattle.filing_world.proofs.Lists.{renewed_numbered, same_element, any_none}
 use Rattle.filing_world.proofs.Never.{still}
