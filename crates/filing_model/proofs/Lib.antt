@@ -8,6 +8,8 @@ pub mod Alike
 pub mod Appending
 pub mod Valid
 pub mod Stopping
+pub mod Answered
+pub mod Bare
 pub mod Contents
 pub mod Sizes
 pub mod Finals

@@ -3,11 +3,16 @@ use Rattle.std.specs.Prelude.{◌≡◌, ℕ, Bool, List, [], ◌∷◌, ◌++�
 use Rattle.std.specs.List.{range_with_len}
 use Rattle.xbrl_report.specs.Findings.{findings}
 use Rattle.xbrl_report.specs.Pair.{Pair}
+use Rattle.http_wire.specs.Message.{Place, Ending, HasPlaces}
+use Rattle.filing_model.specs.declared.served.Ended.{Ended}
+use Rattle.filing_model.specs.declared.served.Mark.{Mark}
 use Rattle.filing_model.specs.Prefix.{IsPrefixOf}
 use Rattle.filing_model.specs.Request.{Request, firsts}
 use Rattle.filing_model.specs.Register.{Filing, register, numbers_of}
 use Rattle.filing_model.specs.Answer.{answer, as_repeat}
 use Rattle.filing_model.specs.Reply.{reply_of}
+use Rattle.filing_model.specs.Serving.{end_of}
+use Rattle.filing_model.specs.Text.{text}
 
 -- whether there is no finding
 abbrev pub is_nothing : List Pair → Bool
@@ -40,3 +45,11 @@ pub record RepeatGetsTheFirst (requests : List Request) (r : Request) (more : Li
 -- whatever comes later, the request stands in the register under this number alone
 abbrev pub StaysRegistered : List Request → Request → ℕ → Type 0
 StaysRegistered requests r number = (more : List Request) → numbers_of r (register ((requests ++ r ∷ []) ++ more)) ≡ number ∷ []
+
+-- each place has its mark, the whole text was written, and it ended as the places end
+pub record IsAnswered (done : List Request) (bytes : List ℕ) (places : List Place) (marks : List Mark) (ended : Ended) (out : List ℕ) : Type 0 where
+  pub ending : Ending
+  pub splits : HasPlaces bytes places ending
+  pub all : length marks ≡ length places
+  pub written : out ≡ text done places ending marks
+  pub end : ended ≡ end_of ending

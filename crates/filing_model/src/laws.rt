@@ -2,10 +2,15 @@
 //! live here: functions that do nothing, each with a law about the definitions as its contract. The
 //! code that decides requests has contracts by the same definitions.
 
-ghost use Rattle.std.specs.Prelude.{◌≡◌, ℕ, ◌^◌, ◌<◌, ◌≤◌, Bool, true, List, ◌++◌, length, Some};
+ghost use Rattle.std.specs.Prelude.{◌≡◌, ◌≢◌, ℕ, ◌^◌, ◌<◌, ◌≤◌, Bool, true, List, [], ◌++◌, length, codes, Option, Some};
+ghost use Rattle.http_wire.specs.declared.refusal.ConnFault.{ConnFault};
+ghost use Rattle.http_wire.specs.Head.{closes};
 ghost use Rattle.http_wire.specs.Message.{Place};
+ghost use Rattle.http_wire.specs.Reply.{render};
+ghost use Rattle.http_wire.specs.Request.{Request as Message};
 ghost use Rattle.http_wire.specs.Response.{IsReadable};
 ghost use Rattle.filing_model.specs.declared.served.Ended.{Ended};
+ghost use Rattle.filing_model.specs.declared.served.Ended.TheVariants.{Fault};
 ghost use Rattle.filing_model.specs.declared.served.Mark.{Mark};
 ghost use Rattle.filing_model.specs.Request.{Request, has_key, firsts};
 ghost use Rattle.filing_model.specs.Register.{register};
@@ -14,9 +19,9 @@ ghost use Rattle.filing_model.specs.Answer.Answer.{Registered};
 ghost use Rattle.filing_model.specs.Outbox.{Open, Confirmed, moved};
 ghost use Rattle.filing_model.specs.Reply.{reply_of, unavailable};
 ghost use Rattle.filing_model.specs.Serving.{Serves};
-ghost use Rattle.filing_model.specs.Stopping.{No, IsEndOf, ServesUntil};
-ghost use Rattle.filing_model.specs.Text.{completed};
-ghost use Rattle.filing_model.specs.Laws.{IsRegisterOf, RepeatChangesNothing, RegisterGrows, RepeatGetsTheFirst, StaysRegistered};
+ghost use Rattle.filing_model.specs.Stopping.{Crash, No, IsEndOf, IsEndOrStopOf, ServesUntil, StopsOrServes};
+ghost use Rattle.filing_model.specs.Text.{MarkFits, completed, reply, reply_text};
+ghost use Rattle.filing_model.specs.Laws.{IsAnswered, IsRegisterOf, RepeatChangesNothing, RegisterGrows, RepeatGetsTheFirst, StaysRegistered};
 
 /// The register is the valid ones among the first request of each filer and key, numbered 1, 2, ..
 /// in the order in which they came, without a gap.
@@ -67,4 +72,27 @@ pub fn serves_as_the_model_says()
     ensures { (limit : ℕ) (done before after : List Request) (read more : List ℕ) (marks : List Mark) (ended : Ended) (out : List ℕ)
         → before ≡ firsts done → IsEndOf read more ended → Serves limit before after read marks ended out
         → (places : List Place) × ServesUntil limit done (read ++ more) No places marks (Some ended) out × (after ≡ firsts (done ++ completed places marks)) }
+{}
+
+/// So it is where serving may stop at a place. What was stopped tells no end, and the places that it
+/// tells are the first ones, up to the one where it stopped.
+pub fn serves_until_as_the_model_says()
+    ensures { (limit : ℕ) (done before after : List Request) (read more : List ℕ) (crash : Crash) (marks : List Mark) (ended : Option Ended) (out : List ℕ)
+        → before ≡ firsts done → IsEndOrStopOf read more ended → StopsOrServes limit before after read crash marks ended out
+        → (places : List Place) × ServesUntil limit done (read ++ more) crash places marks ended out × (after ≡ firsts (done ++ completed places marks)) }
+{}
+
+/// Where a connection ended by itself, neither by a fault nor by a stop, each of its places has its
+/// mark and its whole text was written. Only a fault leaves less.
+pub fn serves_all_without_a_fault()
+    ensures { (limit : ℕ) (done : List Request) (bytes : List ℕ) (crash : Crash) (places : List Place) (marks : List Mark) (ended : Ended) (out : List ℕ)
+        → ServesUntil limit done bytes crash places marks (Some ended) out → ((fault : ConnFault) → ended ≢ Fault fault) → IsAnswered done bytes places marks ended out }
+{}
+
+/// The reply to a HEAD has no content (RFC 9110, section 9.3.2), whatever its path, and so whatever
+/// mark its place may have.
+pub fn head_is_answered_without_content()
+    ensures reply { (requests : List Request) (m : Message) → m.head.method ≡ codes "HEAD" → (reply requests m).content ≡ [] }
+    ensures written { (limit : ℕ) (requests : List Request) (m : Message) (mark : Mark) → m.head.method ≡ codes "HEAD" → MarkFits limit requests (Place.Read m) mark
+        → reply_text requests (Place.Read m) mark ≡ render (record { status = (reply requests m).status; content = [] }) (closes m.head) }
 {}

@@ -18,16 +18,23 @@ use Rattle.filing_model.specs.Request.{Request, firsts}
 use Rattle.filing_model.specs.Answer.{Answer, answer, IsRegistered}
 use Rattle.filing_model.specs.Reply.{reply_of, unavailable, refused_status}
 use Rattle.filing_model.specs.Outbox.{Open, Confirmed, Refused, Clashed, moved, state_told, IsSendable, bytes_of}
-use Rattle.filing_model.specs.Stopping.{BeginsPlaces}
+use Rattle.filing_model.specs.Stopping.{Crash, No, Before, After, BeginsPlaces}
 use Rattle.filing_model.specs.Text.{Filed, RouteFits, MarksFit, completed, completed_at, requests_of_route, reply, reply_on, reply_text, text, interim_of, next_interim}
 use Rattle.filing_model.proofs.Answers.{answer_registered, registered_grows}
 use Rattle.filing_model.proofs.Lists.{append_nil, prefix_nil, take_prefix, take_within, take_all, prefix_trans}
 use Rattle.filing_model.proofs.Finals.{answer-readable, unavailable-readable, told-exactly, answer_number}
 use Rattle.filing_model.proofs.Firsts.{firsts_more}
 use Rattle.filing_world.specs.World.{Sent, Output}
+use Rattle.filing_world.specs.Step.{Hears}
 use Rattle.filing_world.specs.Headline.{IsOutput}
 use Rattle.filing_world.specs.Posting.{IsAlone, FilesAlone}
 use Rattle.filing_world.proofs.Posting.{posted, own_front}
+
+-- only what the bytes give is heard
+pub hears_gives : (bytes : List ℕ) (crash : Crash) (reply : ReplyParts) → Hears bytes crash (Some reply) → GivesReply bytes reply
+hears_gives bytes No reply hears = hears
+hears_gives bytes (Before j) reply hears = absurd hears
+hears_gives bytes (After j) reply hears = hears
 
 -- ---- statuses other than 201 confirm nothing
 

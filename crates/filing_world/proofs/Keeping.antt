@@ -1,8 +1,9 @@
 -- Every event keeps what the headline says.
-use Rattle.std.proofs.Common.{◌≡◌, ℕ, zero, suc, ◌^◌, ◌≤◌, Bool, true, false, not, ◌&&◌, List, [], ◌∷◌, ◌++◌, map, length, take, Option, Some, None, refl, sym, ap, ◌∙◌, subst, ⊎_elim, arith, append_assoc}
-use Rattle.std.specs.Prelude.{slice_get, nat_le, bytes_eq}
+use Rattle.std.proofs.Common.{◌≡◌, ℕ, zero, suc, ◌^◌, ◌≤◌, true, false, not, List, [], ◌∷◌, ◌++◌, map, length, take, Option, Some, None, refl, sym, ap, ◌∙◌, subst, ⊎_elim, arith, append_assoc}
+use Rattle.std.specs.Prelude.{slice_get, bytes_eq}
 use Rattle.std.specs.List.{list_any}
-use Rattle.std.proofs.lemmas.Bool.{cases_Bool, and_parts, leb-true}
+use Rattle.std.proofs.lemmas.Bool.{cases_Bool, and_parts, both_ways, leb-true, not-true}
+use Rattle.std.proofs.lemmas.Slice.Eq.{bytes_eq-Decides}
 use Rattle.std.proofs.lemmas.Option.{some_pair_parts}
 use Rattle.key_string.specs.Key.{IsKey}
 use Rattle.http_wire.specs.Head.{max_body_len}
@@ -11,7 +12,7 @@ use Rattle.http_wire.specs.Response.{GivesReply}
 use Rattle.filing_model.specs.Request.{Request, firsts}
 use Rattle.filing_model.specs.Answer.{IsRegistered}
 use Rattle.filing_model.specs.Outbox.{State, Open, Confirmed, Refused, Clashed, moved, Entry, request_of, bytes_of}
-use Rattle.filing_model.specs.Stopping.{Crash, No, Before, After, BeginsPlaces}
+use Rattle.filing_model.specs.Stopping.{Crash, BeginsPlaces}
 use Rattle.filing_model.specs.Text.{completed}
 use Rattle.filing_model.proofs.Lists.{append_nil, take_take}
 use Rattle.filing_model.proofs.Firsts.{firsts_none}
@@ -21,11 +22,11 @@ use Rattle.filing_model.proofs.Answers.{registered_grows, registered_number}
 use Rattle.filing_model.proofs.Keeping.{register_numbered}
 use Rattle.filing_model.proofs.Valid.{register_valid}
 use Rattle.filing_world.specs.World.{Outbox, Sent, Output, World, Event, Put, Send, Stranger, Deliver, Hand, RestartServer, RestartOutbox, numbered, renewed, new_outbox}
-use Rattle.filing_world.specs.Step.{is_no, with_entry, Puts, Sends, Delivers, Hears, heard_by, Hands, Restarts, Step, Run}
-use Rattle.filing_world.specs.Headline.{AreFilers, start, IsOutput, IsOwn, Holds}
+use Rattle.filing_world.specs.Step.{is_no, takes, with_entry, Puts, Sends, Delivers, Hears, heard_by, box_after, Hands, Restarts, Step, Run}
+use Rattle.filing_world.specs.Headline.{AreFilers, start, IsOutput, CompleteInTurn, HaveOwnKeys, IsOwn, Holds}
 use Rattle.filing_world.specs.Invariant.{IsSound, IsSoundBox, AllBoxes, AllOutputs, AllOwn, Keeps}
-use Rattle.filing_world.proofs.Lists.{numbered_renewed, renewed_numbered, renewed_other, numbered_push, numbered_grows, get_push, same_element}
-use Rattle.filing_world.proofs.Hearing.{hears}
+use Rattle.filing_world.proofs.Lists.{numbered_renewed, renewed_numbered, renewed_other, numbered_push, numbered_last, numbered_grows, get_push, same_element, any_at}
+use Rattle.filing_world.proofs.Hearing.{hears, hears_gives}
 use Rattle.filing_world.proofs.Stability.{answers_stand}
 
 -- ---- a changed outbox
@@ -103,19 +104,33 @@ sound_done done more box sound = record {
   entries = λ number entry here.
       let was = sound.entries number entry here in
       record { sendable = was.sendable; registered = λ n e. registered_grows done more (request_of box.filer entry) n (was.registered n e) };
+  keys = sound.keys;
 }
+
+-- ---- what the outputs completed, where the requests or what was sent go on
+
+turn_sent : (limit : ℕ) (done before : List Request) (sent more : List Sent) (outputs : List Output) → CompleteInTurn limit done sent before outputs → CompleteInTurn limit done (sent ++ more) before outputs
+unfolding output_sent
+turn_sent limit done before sent more [] all = all
+turn_sent limit done before sent more (output ∷ outputs) all =
+    (output_sent limit done sent more output all.0, all.1, turn_sent limit done (before ++ completed all.0.places output.marks) sent more outputs all.2)
+
+-- an output more, which completed what was added
+turn_push : (limit : ℕ) (done more before : List Request) (sent : List Sent) (outputs : List Output) (last : Output) (out : IsOutput limit (done ++ more) sent last) → out.before ≡ done → completed out.places last.marks ≡ more
+    → CompleteInTurn limit done sent before outputs → CompleteInTurn limit (done ++ more) sent before (outputs ++ last ∷ [])
+unfolding output_done
+turn_push limit done more before sent [] last out begins adds all = (out, begins ∙ all, ap (λ requests. requests ++ more) all ∙ ap (λ requests. before ++ requests) (sym adds))
+turn_push limit done more before sent (output ∷ outputs) last out begins adds all =
+    (output_done limit done more sent output all.0, all.1, turn_push limit done more (before ++ completed all.0.places output.marks) sent outputs last out begins adds all.2)
 
 -- ---- the events
 
 puts_box : (done : List Request) (box : Outbox) (entry : Entry) → IsKey entry.key → entry.state ≡ Open → IsSoundBox done box → IsSoundBox done (with_entry box entry) × KeepsBox box (with_entry box entry)
 puts_box done box entry is_key open' sound = ⊎_elim
-    (λ (h : test ≡ true). rw h (added (leb-true _ _ (and_parts _ _ h).0)))
-    (λ (h : test ≡ false). rw h (sound, λ number which here. (which, here, refl)))
-    (cases_Bool test)
+    (λ (h : takes box entry ≡ true). rw h (added (leb-true _ _ (and_parts _ _ h).0) (and_parts _ _ h).1))
+    (λ (h : takes box entry ≡ false). rw h (sound, λ number which here. (which, here, refl)))
+    (cases_Bool (takes box entry))
   where
-    test : Bool
-    test = nat_le (length entry.body) max_body_len && not (list_any (λ e. bytes_eq e.key entry.key) box.entries)
-
     more : Outbox
     more = record box { entries = box.entries ++ entry ∷ [] }
 
@@ -128,14 +143,33 @@ puts_box done box entry is_key open' sound = ⊎_elim
         unconfirmed : (n : ℕ) → Open ≡ Confirmed n → ⊥
         unconfirmed n e = cc
 
-    added : length entry.body ≤ max_body_len → IsSoundBox done more × KeepsBox box more
-    added short = (
+    -- the key is no entry's
+    unused : not (list_any (λ e. bytes_eq e.key entry.key) box.entries) ≡ true → (number : ℕ) (which : Entry) → numbered box.entries number ≡ Some which → which.key ≡ entry.key → ⊥
+    unused none number which here same =
+        both_ways (list_any (λ e. bytes_eq e.key entry.key) box.entries) (not-true _ none)
+        (any_at (λ e. bytes_eq e.key entry.key) box.entries number which here ((bytes_eq-Decides which.key entry.key).1 same))
+
+    own_keys : not (list_any (λ e. bytes_eq e.key entry.key) box.entries) ≡ true → HaveOwnKeys more.entries
+    own_keys none one other first second here there same = ⊎_elim
+        (λ (h : numbered box.entries one ≡ Some first). ⊎_elim
+        (λ (t : numbered box.entries other ≡ Some second). sound.keys one other first second h t same)
+        (λ (t : (other ≡ suc (length box.entries)) × (second ≡ entry)). absurd (unused none one first h (same ∙ ap (λ (e : Entry). e.key) t.1)))
+        (numbered_last box.entries entry other second there))
+        (λ (h : (one ≡ suc (length box.entries)) × (first ≡ entry)). ⊎_elim
+        (λ (t : numbered box.entries other ≡ Some second). absurd (unused none other second t (sym same ∙ ap (λ (e : Entry). e.key) h.1)))
+        (λ (t : (other ≡ suc (length box.entries)) × (second ≡ entry)). h.0 ∙ sym t.0)
+        (numbered_last box.entries entry other second there))
+        (numbered_last box.entries entry one first here)
+
+    added : length entry.body ≤ max_body_len → not (list_any (λ e. bytes_eq e.key entry.key) box.entries) ≡ true → IsSoundBox done more × KeepsBox box more
+    added short none = (
       record {
         is_filer' = sound.is_filer';
         entries = λ number which here. ⊎_elim
             (λ (e : numbered box.entries number ≡ Some which). sound.entries number which e)
             (λ (e : which ≡ entry). subst (IsSound done box.filer) (sym e) (fresh short))
             (numbered_push box.entries entry number which here);
+        keys = own_keys none;
       },
       λ number which here. (which, numbered_grows box.entries (entry ∷ []) number which here, refl),
     )
@@ -149,6 +183,7 @@ keeps_put old outbox entry new open' keeps step = subst Keeps (sym step.becomes)
     after : Keeps (record old { outboxes = renewed old.outboxes outbox (with_entry step.box entry) })
     after = record {
       outputs = keeps.outputs;
+      completed = keeps.completed;
       own = own_renewed old.outboxes old.sent outbox step.box (with_entry step.box entry) step.here parts.1 keeps.own;
       boxes = boxes_renewed old.done old.outboxes outbox (with_entry step.box entry) keeps.boxes parts.0;
       few = keeps.few;
@@ -159,6 +194,7 @@ keeps_put old outbox entry new open' keeps step = subst Keeps (sym step.becomes)
 pub keeps_sent : (old : World) (item : Sent) → Keeps old → ((outbox number : ℕ) → item.from ≡ Some (outbox, number) → IsOwn old.outboxes item outbox number) → Keeps (record old { sent = old.sent ++ item ∷ [] })
 keeps_sent old item keeps own = record {
   outputs = λ k output there. output_sent old.limit old.done old.sent (item ∷ []) output (keeps.outputs k output there);
+  completed = turn_sent old.limit old.done [] old.sent (item ∷ []) old.outputs keeps.completed;
   own = λ k outbox number which there from. ⊎_elim
       (λ (e : slice_get old.sent k ≡ Some which). keeps.own k outbox number which e from)
       (λ (e : which ≡ item). subst (λ x. IsOwn old.outboxes x outbox number) (sym e) (own outbox number (subst (λ (x : Sent). x.from ≡ Some (outbox, number)) e from)))
@@ -217,6 +253,7 @@ keeps_deliver old item given crash new keeps step = subst Keeps (sym step.become
           (λ (e : slice_get old.outputs k ≡ Some which). output_done old.limit old.done more old.sent which (keeps.outputs k which e))
           (λ (e : which ≡ output). subst (IsOutput old.limit (old.done ++ more) old.sent) (sym e) it_is)
           (get_push old.outputs output k which there);
+      completed = turn_push old.limit old.done more [] old.sent old.outputs output it_is refl refl keeps.completed;
       own = keeps.own;
       boxes = λ outbox box here. sound_done old.done more box (keeps.boxes outbox box here);
       few = completed_within old.limit old.done step.places step.marks step.serves.fit keeps.few;
@@ -234,7 +271,7 @@ own_numbered boxes sent all (suc k) item outbox entry here from = all k outbox e
 -- what was heard confirms only what is registered
 heard_sound : (done : List Request) (filer : List ℕ) (entry : Entry) (bytes : List ℕ) (crash : Crash) (heard : Option ReplyParts) → IsSound done filer entry → ((reply : ReplyParts) → GivesReply bytes reply → (n : ℕ) → moved Open reply ≡ Confirmed n → IsRegistered done (request_of filer entry) n) → Hears bytes crash heard → IsSound done filer (record entry { state = heard_by entry.state heard })
 unfolding moved
-heard_sound done filer entry bytes crash heard sound tells hears = record { sendable = sound.sendable; registered = registered crash heard hears entry.state refl }
+heard_sound done filer entry bytes crash heard sound tells hears = record { sendable = sound.sendable; registered = registered heard hears }
   where
     by_reply : (reply : ReplyParts) → GivesReply bytes reply → (state : State) → entry.state ≡ state → (n : ℕ) → moved state reply ≡ Confirmed n → IsRegistered done (request_of filer entry) n
     by_reply reply gives Open was n e = tells reply gives n e
@@ -242,13 +279,9 @@ heard_sound done filer entry bytes crash heard sound tells hears = record { send
     by_reply reply gives Refused was n e = absurd (cc)
     by_reply reply gives Clashed was n e = absurd (cc)
 
-    registered : (crash : Crash) (heard : Option ReplyParts) → Hears bytes crash heard → (state : State) → entry.state ≡ state → (n : ℕ) → heard_by state heard ≡ Confirmed n → IsRegistered done (request_of filer entry) n
-    registered No None hears state was n e = sound.registered n (was ∙ e)
-    registered (Before j) None hears state was n e = sound.registered n (was ∙ e)
-    registered (After j) None hears state was n e = sound.registered n (was ∙ e)
-    registered No (Some reply) hears state was n e = by_reply reply hears state was n e
-    registered (Before j) (Some reply) hears state was n e = absurd hears
-    registered (After j) (Some reply) hears state was n e = by_reply reply hears state was n e
+    registered : (heard : Option ReplyParts) → Hears bytes crash heard → (n : ℕ) → heard_by entry.state heard ≡ Confirmed n → IsRegistered done (request_of filer entry) n
+    registered None hears n e = sound.registered n e
+    registered (Some reply) hears n e = by_reply reply (hears_gives bytes crash reply hears) entry.state refl n e
 
 pub keeps_hand : (old : World) (output given : ℕ) (crash : Crash) (new : World) → Keeps old → Hands old output given crash new → Keeps new
 keeps_hand old output given crash new keeps step = subst Keeps (sym step.becomes) after
@@ -257,7 +290,7 @@ keeps_hand old output given crash new keeps step = subst Keeps (sym step.becomes
     entry = record step.entry { state = heard_by step.entry.state step.heard }
 
     box : Outbox
-    box = record step.box { entries = renewed step.box.entries step.number entry; up = is_no crash }
+    box = box_after step.box step.number step.entry step.heard crash
 
     was : IsSoundBox old.done step.box
     was = keeps.boxes step.outbox step.box step.box_here
@@ -284,6 +317,19 @@ keeps_hand old output given crash new keeps step = subst Keeps (sym step.becomes
     new_entry : IsSound old.done step.box.filer entry
     new_entry = heard_sound old.done step.box.filer step.entry (take given step.from.bytes) crash step.heard sound tells step.hears
 
+    -- each entry has the key that stood there
+    key_at : (number : ℕ) (which : Entry) → numbered box.entries number ≡ Some which → (was : Entry) × (numbered step.box.entries number ≡ Some was) × (was.key ≡ which.key)
+    key_at number which here = ⊎_elim
+        (λ (e : (number ≡ step.number) × (which ≡ entry)). (step.entry, subst (λ k. numbered step.box.entries k ≡ Some step.entry) (sym e.0) step.entry_here, ap (λ (x : Entry). x.key) (sym e.1)))
+        (λ (e : numbered step.box.entries number ≡ Some which). (which, e, refl))
+        (numbered_renewed step.box.entries step.number number entry which here)
+
+    own_keys : HaveOwnKeys box.entries
+    own_keys one other first second here there same =
+        let a = key_at one first here in
+        let b = key_at other second there in
+        was.keys one other a.0 b.0 a.1 b.1 (a.2 ∙ same ∙ sym b.2)
+
     new_box : IsSoundBox old.done box
     new_box = record {
       is_filer' = was.is_filer';
@@ -291,6 +337,7 @@ keeps_hand old output given crash new keeps step = subst Keeps (sym step.becomes
           (λ (e : (number ≡ step.number) × (which ≡ entry)). subst (IsSound old.done step.box.filer) (sym e.1) new_entry)
           (λ (e : numbered step.box.entries number ≡ Some which). was.entries number which e)
           (numbered_renewed step.box.entries step.number number entry which here);
+      keys = own_keys;
     }
 
     keeps_box : KeepsBox step.box box
@@ -304,6 +351,7 @@ keeps_hand old output given crash new keeps step = subst Keeps (sym step.becomes
     after : Keeps (record old { outboxes = renewed old.outboxes step.outbox box })
     after = record {
       outputs = keeps.outputs;
+      completed = keeps.completed;
       own = own_renewed old.outboxes old.sent step.outbox step.box box step.box_here keeps_box keeps.own;
       boxes = boxes_renewed old.done old.outboxes step.outbox box keeps.boxes new_box;
       few = keeps.few;
@@ -322,8 +370,9 @@ keeps_restart old outbox new keeps step = subst Keeps (sym step.becomes) after
     after : Keeps (record old { outboxes = renewed old.outboxes outbox box })
     after = record {
       outputs = keeps.outputs;
+      completed = keeps.completed;
       own = own_renewed old.outboxes old.sent outbox step.box box step.here ((λ number which here. (which, here, refl))) keeps.own;
-      boxes = boxes_renewed old.done old.outboxes outbox box keeps.boxes (record { is_filer' = was.is_filer'; entries = was.entries });
+      boxes = boxes_renewed old.done old.outboxes outbox box keeps.boxes (record { is_filer' = was.is_filer'; entries = was.entries; keys = was.keys });
       few = keeps.few;
       limit = keeps.limit;
     }
@@ -335,7 +384,7 @@ keeps_step old (Send outbox entry) new keeps step = keeps_send old outbox entry 
 keeps_step old (Stranger bytes) new keeps step = subst Keeps (sym step) (keeps_sent old (record { from = None; bytes = bytes }) keeps (λ outbox number from. absurd (cc)))
 keeps_step old (Deliver item given crash) new keeps step = keeps_deliver old item given crash new keeps step
 keeps_step old (Hand output given crash) new keeps step = keeps_hand old output given crash new keeps step
-keeps_step old RestartServer new keeps step = subst Keeps (sym step) (record { outputs = keeps.outputs; own = keeps.own; boxes = keeps.boxes; few = keeps.few; limit = keeps.limit })
+keeps_step old RestartServer new keeps step = subst Keeps (sym step) (record { outputs = keeps.outputs; completed = keeps.completed; own = keeps.own; boxes = keeps.boxes; few = keeps.few; limit = keeps.limit })
 keeps_step old (RestartOutbox outbox) new keeps step = keeps_restart old outbox new keeps step
 
 pub keeps_run : (old : World) (events : List Event) (new : World) → Keeps old → Run old events new → Keeps new
@@ -348,7 +397,7 @@ boxes_at_first : (filers : List (List ℕ)) → AreFilers filers → (k : ℕ) (
 boxes_at_first [] are k box here = absurd (cc)
 boxes_at_first (filer ∷ filers) are zero box here =
     let new : new_outbox filer ≡ box = cc in
-    subst (IsSoundBox []) new (record { is_filer' = (and_parts _ _ are).0; entries = λ number entry there. absurd (none number entry there) })
+    subst (IsSoundBox []) new (record { is_filer' = (and_parts _ _ are).0; entries = λ number entry there. absurd (none number entry there); keys = λ one other entry again here. absurd (none one entry here) })
   where
     none : (number : ℕ) (entry : Entry) → numbered [] number ≡ Some entry → ⊥
     none zero entry e = cc
@@ -358,6 +407,7 @@ boxes_at_first (filer ∷ filers) are (suc k) box here = boxes_at_first filers (
 pub keeps_start : (filers : List (List ℕ)) (limit : ℕ) → AreFilers filers → limit ≤ 2 ^ 62 → Keeps (start filers limit)
 keeps_start filers limit are small = record {
   outputs = λ k output here. absurd (no_output k output here);
+  completed = refl;
   own = λ k outbox number item here from. absurd (no_item k item here);
   boxes = boxes;
   few = none;
@@ -387,6 +437,8 @@ holds world keeps = record {
   confirmed = λ outbox number n box entry here there is.
       registered_number world.done (request_of box.filer entry) n (((keeps.boxes outbox box here).entries number entry there).registered n is);
   sent = keeps.own;
+  completed = keeps.completed;
+  keys = λ outbox box here. (keeps.boxes outbox box here).keys;
 }
 
 pub holds_after : (filers : List (List ℕ)) (limit : ℕ) (events : List Event) (world : World) → AreFilers filers → limit ≤ 2 ^ 62 → Run (start filers limit) events world → Holds world

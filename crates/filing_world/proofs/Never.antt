@@ -18,17 +18,18 @@ use Rattle.filing_model.specs.Register.{Filing, register, numbers_of}
 use Rattle.filing_model.specs.Answer.{Answer, answer}
 use Rattle.filing_model.specs.Reply.{reply_of, unavailable}
 use Rattle.filing_model.specs.Outbox.{State, bytes_of, IsSendable}
-use Rattle.filing_model.specs.Stopping.{Crash, No, Before, After, BeginsPlaces}
+use Rattle.filing_model.specs.Stopping.{Crash, BeginsPlaces}
 use Rattle.filing_model.specs.Text.{Filed, MarksFit, completed, requests_of_route, interim_of, reply_text, text}
 use Rattle.filing_model.proofs.Finals.{answer-readable, unavailable-readable}
 use Rattle.filing_model.proofs.Keeping.{register_numbered}
 use Rattle.filing_model.proofs.Lists.{append_nil, take_prefix, take_all}
 use Rattle.filing_model.proofs.Stopping.{serves_begin, serves_front}
 use Rattle.filing_world.specs.World.{World, Outbox, Output, Sent, Deliver, Hand, numbered, renewed}
-use Rattle.filing_world.specs.Step.{is_no, Hears, heard_by, Step}
+use Rattle.filing_world.specs.Step.{Hears, heard_by, box_after, Hands, Step}
 use Rattle.filing_world.specs.Headline.{IsReached, IsConfirmed, start, states, states_from, states_of}
 use Rattle.filing_world.specs.Invariant.{Keeps}
 use Rattle.filing_world.specs.Posting.{IsAlone, FilesAlone}
+use Rattle.filing_world.proofs.Hearing.{hears_gives}
 use Rattle.filing_world.proofs.Keeping.{keeps_start, keeps_run, holds}
 use Rattle.filing_world.proofs.Lists.{same_element}
 use Rattle.filing_world.proofs.Plays.{gives_none}
@@ -59,9 +60,15 @@ states_renewed boxes (suc i) old new here same = states_set 1 boxes i old new he
 
 deaf : (bytes : List ℕ) (crash : Crash) (heard : Option ReplyParts) (state : State) → ((reply : ReplyParts) → ¬ (GivesReply bytes reply)) → Hears bytes crash heard → heard_by state heard ≡ state
 deaf bytes crash None state silent hears = refl
-deaf bytes No (Some reply) state silent hears = absurd (silent reply hears)
-deaf bytes (Before j) (Some reply) state silent hears = absurd hears
-deaf bytes (After j) (Some reply) state silent hears = absurd (silent reply hears)
+deaf bytes crash (Some reply) state silent hears = absurd (silent reply (hears_gives bytes crash reply hears))
+
+-- an entry that is not moved leaves all states as they are
+pub still : (old new : World) (output given : ℕ) (crash : Crash) (step : Hands old output given crash new) → heard_by step.entry.state step.heard ≡ step.entry.state → states new ≡ states old
+still old new output given crash step deaf =
+    let entry : record step.entry { state = heard_by step.entry.state step.heard } ≡ step.entry = ap (λ s. record step.entry { state = s }) deaf in
+    ap states step.becomes
+    ∙ states_renewed old.outboxes step.outbox step.box (box_after step.box step.number step.entry step.heard crash) step.box_here
+    (ap (renewed step.box.entries step.number) entry ∙ renewed_same step.box.entries step.number step.entry step.entry_here)
 
 -- what is handed over of a reply, unless it is the whole, moves no entry
 pub part_moves_nothing : (old new : World) (output given : ℕ) (crash : Crash) (from : Output) (reply : ReplyParts) (close : Bool)
@@ -69,14 +76,7 @@ pub part_moves_nothing : (old new : World) (output given : ℕ) (crash : Crash) 
 part_moves_nothing old new output given crash from reply close here readable begins short step =
     let is : step.from ≡ from = same_element (numbered old.outputs output) step.from from step.here here in
     let hears = subst (λ (o : Output). Hears (take given o.bytes) crash step.heard) is step.hears in
-    let still = deaf (take given from.bytes) crash step.heard step.entry.state (λ other. gives_none reply other close (take given from.bytes) readable begins short) hears in
-    let entry : record step.entry { state = heard_by step.entry.state step.heard } ≡ step.entry = ap (λ s. record step.entry { state = s }) still in
-    let entries : renewed step.box.entries step.number (record step.entry { state = heard_by step.entry.state step.heard }) ≡ step.box.entries
-    = ap (renewed step.box.entries step.number) entry ∙ renewed_same step.box.entries step.number step.entry step.entry_here in
-    ap states step.becomes
-    ∙ states_renewed old.outboxes step.outbox step.box
-    (record step.box { entries = renewed step.box.entries step.number (record step.entry { state = heard_by step.entry.state step.heard }); up = is_no crash })
-    step.box_here entries
+    still old new output given crash step (deaf (take given from.bytes) crash step.heard step.entry.state (λ other. gives_none reply other close (take given from.bytes) readable begins short) hears)
 
 -- ---- a number
 

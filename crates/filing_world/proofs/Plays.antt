@@ -1,16 +1,13 @@
 -- Events on outboxes of one entry each, and what the world is after them.
-use Rattle.std.proofs.Common.{◌≡◌, ◌⊎◌, ℕ, ◌<◌, ◌≤◌, Bool, true, false, List, [], ◌∷◌, ◌++◌, length, take, drop, Some, None, refl, sym, ap, ◌∙◌, subst, inl, arith}
+use Rattle.std.proofs.Common.{◌≡◌, ◌⊎◌, ℕ, ◌<◌, ◌≤◌, Bool, true, false, List, [], ◌∷◌, ◌++◌, length, take, Option, Some, None, refl, sym, ap, ◌∙◌, subst, inl, arith}
 use Rattle.std.proofs.lemmas.Bool.{both_ways, le-leb}
 use Rattle.std.proofs.lemmas.Grind.{common_steps}
 use Rattle.http_wire.specs.Head.{closes, max_body_len}
-use Rattle.http_wire.specs.Message.{Read, Ending, Rest, BeginsRequest, HasPlaces, awaits}
-use Rattle.http_wire.specs.Request.{Request as Message}
+use Rattle.http_wire.specs.Message.{Read, Ending, Rest, HasPlaces, awaits}
 use Rattle.http_wire.specs.Reply.{ReplyParts, render}
 use Rattle.http_wire.specs.Response.{BeginsReply, SpellsReply, GivesReply, IsReadable}
 use Rattle.http_wire.proofs.ReplyRead.{reply-spells}
 use Rattle.http_wire.proofs.UniqueReply.{BeginsReply-more, BeginsReply-unique}
-use Rattle.http_wire.proofs.Unique.{BeginsRequest-unique}
-use Rattle.http_wire.proofs.MoreBytes.{BeginsRequest-more}
 use Rattle.filing_model.specs.declared.served.Mark.TheVariants.{Done}
 use Rattle.filing_model.specs.declared.served.Ended.TheVariants.{Closed, InputEnded}
 use Rattle.filing_model.specs.Prefix.{IsPrefixOf}
@@ -21,10 +18,11 @@ use Rattle.filing_model.specs.Outbox.{State, Open, moved, bytes_of, IsSendable}
 use Rattle.filing_model.specs.Stopping.{No, Before, After, ServesUntil}
 use Rattle.filing_model.specs.Text.{RouteFits, requests_of_route, completed, MarksFit, interim_of, reply_text, text}
 use Rattle.filing_model.proofs.Lists.{append_nil, prefix_trans, take_within}
+use Rattle.filing_model.proofs.Stopping.{HasPlaces-begins}
 use Rattle.filing_world.specs.World.{Output, World, Put, Send, Deliver, Hand, RestartOutbox, numbered, renewed, new_outbox}
-use Rattle.filing_world.specs.Schedules.{entry_with, outbox_with, item_of}
+use Rattle.filing_world.specs.Schedules.{entry_with, outbox_with, sent_by, item_of}
 use Rattle.filing_world.specs.Step.{Step}
-use Rattle.filing_world.proofs.Posting.{posted, head_is, never_refused}
+use Rattle.filing_world.proofs.Posting.{posted, head_is, never_refused, never_whole}
 use Rattle.filing_world.specs.Posting.{IsPosted}
 
 -- ---- the ends
@@ -47,6 +45,10 @@ after_send old outbox r = record old { sent = old.sent ++ item_of outbox r ∷ [
 pub plays_send : (old : World) (outbox : ℕ) (r : Request) (state : State) → numbered old.outboxes outbox ≡ Some (outbox_with r state) → Step old (Send outbox 1) (after_send old outbox r)
 plays_send old outbox r state here = record { box = outbox_with r state; here = here; up = refl; what = entry_with r state; there = refl; becomes = refl }
 
+-- a stranger sends the request
+abbrev pub after_stranger : World → Request → World
+after_stranger old r = record old { sent = old.sent ++ sent_by None r ∷ [] }
+
 abbrev pub after_restart : World → World
 after_restart old = record old { up = true }
 
@@ -55,6 +57,13 @@ after_outbox old outbox r state = record old { outboxes = renewed old.outboxes o
 
 pub plays_outbox : (old : World) (outbox : ℕ) (r : Request) (state : State) → numbered old.outboxes outbox ≡ Some (outbox_with r state) → Step old (RestartOutbox outbox) (after_outbox old outbox r state)
 plays_outbox old outbox r state here = record { box = outbox_with r state; here = here; becomes = refl }
+
+-- the same where the outbox is down
+abbrev pub after_fall : World → ℕ → Request → State → World
+after_fall old outbox r state = record old { outboxes = renewed old.outboxes outbox (record (outbox_with r state) { up = false }) }
+
+pub plays_rise : (old : World) (outbox : ℕ) (r : Request) (state : State) → numbered old.outboxes outbox ≡ Some (record (outbox_with r state) { up = false }) → Step old (RestartOutbox outbox) (after_outbox old outbox r state)
+plays_rise old outbox r state here = record { box = record (outbox_with r state) { up = false }; here = here; becomes = refl }
 
 -- ---- a delivery
 
@@ -72,18 +81,10 @@ module _ (r : Request) (sendable : IsSendable r) where
   places_part : (n : ℕ) → n < length bytes → HasPlaces (take n bytes) [] (Rest false)
   places_part n short = (
     false,
-    record { none = none; refused = never_refused r is n },
+    record { none = never_whole r is n short; refused = never_refused r is n },
     λ parts k h. ap awaits (head_is r is n parts k h) ∙ is.alone.silent,
     refl,
   )
-    where
-      none : (m : Message) (k : ℕ) → ¬ (BeginsRequest (take n bytes) m k)
-      none m k b =
-          let whole : take n bytes ++ drop n bytes ≡ bytes = grind (arith, common_steps) in
-          let long = subst (λ bs. BeginsRequest bs m k) whole (BeginsRequest-more (take n bytes) (drop n bytes) m k b) in
-          let all = (BeginsRequest-unique bytes m is.message k (length bytes) long is.spells).1 in
-          let size : length (take n bytes) ≤ n = grind (arith, common_steps) in
-          omega (arith, b.whole, all, size, short)
 
   completed_one : completed (Read is.message ∷ []) (Done ∷ []) ≡ r ∷ []
   unfolding completed
@@ -122,14 +123,14 @@ module _ (r : Request) (sendable : IsSendable r) where
   serves_after limit done room = record {
     ending = Ending.Closed;
     fit = fit_one limit done room;
-    gives = inl (record { splits = places_whole; all = refl; written = text_none done; end = refl });
+    gives = inl (record { splits = HasPlaces-begins bytes (Read is.message ∷ []) Ending.Closed places_whole; all = refl; written = text_none done; end = refl });
   }
 
   serves_before : (limit : ℕ) (done : List Request) → ServesUntil limit done bytes (Before 1) (Read is.message ∷ []) [] None []
   serves_before limit done = record {
     ending = Ending.Closed;
     fit = fit_none limit done;
-    gives = inl (record { splits = places_whole; all = refl; written = text_none done; end = refl });
+    gives = inl (record { splits = HasPlaces-begins bytes (Read is.message ∷ []) Ending.Closed places_whole; all = refl; written = text_none done; end = refl });
   }
 
   serves_part : (limit : ℕ) (done : List Request) (n : ℕ) → n < length bytes → ServesUntil limit done (take n bytes) No [] [] (Some InputEnded) []
@@ -178,11 +179,11 @@ after_part old item n = record old {
   up = true;
 }
 
-module _ (old : World) (item outbox all : ℕ) (r : Request) (sendable : IsSendable r) (up : old.up ≡ true) (here : numbered old.sent item ≡ Some (item_of outbox r)) where
+module _ (old : World) (item : ℕ) (sender : Option (ℕ × ℕ)) (all : ℕ) (r : Request) (sendable : IsSendable r) (up : old.up ≡ true) (here : numbered old.sent item ≡ Some (sent_by sender r)) where
   pub plays_done : length (bytes_of r) ≤ all → (has_key old.done r ≡ true) ⊎ (length (firsts old.done) < old.limit) → Step old (Deliver item all No) (after_done old item r)
   plays_done enough room = record {
     up = up;
-    from = item_of outbox r;
+    from = sent_by sender r;
     here = here;
     places = Read (is r sendable).message ∷ [];
     marks = Done ∷ [];
@@ -199,7 +200,7 @@ module _ (old : World) (item outbox all : ℕ) (r : Request) (sendable : IsSenda
   pub plays_commit : length (bytes_of r) ≤ all → (has_key old.done r ≡ true) ⊎ (length (firsts old.done) < old.limit) → Step old (Deliver item all (After 1)) (after_commit old item r)
   plays_commit enough room = record {
     up = up;
-    from = item_of outbox r;
+    from = sent_by sender r;
     here = here;
     places = Read (is r sendable).message ∷ [];
     marks = Done ∷ [];
@@ -217,7 +218,7 @@ module _ (old : World) (item outbox all : ℕ) (r : Request) (sendable : IsSenda
   unfolding completed
   plays_stop enough = record {
     up = up;
-    from = item_of outbox r;
+    from = sent_by sender r;
     here = here;
     places = Read (is r sendable).message ∷ [];
     marks = [];
@@ -235,7 +236,7 @@ module _ (old : World) (item outbox all : ℕ) (r : Request) (sendable : IsSenda
   unfolding completed
   plays_part n short = record {
     up = up;
-    from = item_of outbox r;
+    from = sent_by sender r;
     here = here;
     places = [];
     marks = [];
@@ -270,6 +271,46 @@ module _ (old : World) (output outbox given : ℕ) (r : Request) (state : State)
     heard = Some reply;
     hears = gives;
     becomes = ap (after_outbox old outbox r) (sym moves);
+  }
+
+  -- it is heard, and the outbox stops
+  pub plays_heard : (reply : ReplyParts) (to : State) → GivesReply (take given from.bytes) reply → moved state reply ≡ to → Step old (Hand output given (After 1)) (after_fall old outbox r to)
+  plays_heard reply to gives moves = record {
+    from = from;
+    here = here;
+    item = item_of outbox r;
+    item_here = item_here;
+    outbox = outbox;
+    number = 1;
+    sender = refl;
+    box = outbox_with r state;
+    box_here = box_here;
+    up = refl;
+    entry = entry_with r state;
+    entry_here = refl;
+    heard = Some reply;
+    hears = gives;
+    becomes = ap (after_fall old outbox r) (sym moves);
+  }
+
+  -- the outbox stops before
+  pub plays_unheard : Step old (Hand output given (Before 1)) (after_fall old outbox r state)
+  plays_unheard = record {
+    from = from;
+    here = here;
+    item = item_of outbox r;
+    item_here = item_here;
+    outbox = outbox;
+    number = 1;
+    sender = refl;
+    box = outbox_with r state;
+    box_here = box_here;
+    up = refl;
+    entry = entry_with r state;
+    entry_here = refl;
+    heard = None;
+    hears = tt;
+    becomes = refl;
   }
 
   -- none is heard

@@ -1,6 +1,7 @@
 -- The front of an entry's request holds no place, or the one that files it.
-use Rattle.std.proofs.Common.{◌≡◌, ℕ, true, false, List, [], ◌∷◌, ◌++◌, length, take, drop, refl, sym, ap, ◌∙◌, subst, inl, inr}
+use Rattle.std.proofs.Common.{◌≡◌, ℕ, true, false, List, [], ◌∷◌, ◌++◌, length, take, drop, refl, sym, ap, ◌∙◌, subst, inl, inr, arith, ◌<◌, ◌≤◌}
 use Rattle.std.proofs.lemmas.Bool.{both_ways}
+use Rattle.std.proofs.lemmas.Grind.{common_steps}
 use Rattle.std.proofs.lemmas.List.{take-append-drop}
 use Rattle.http_wire.specs.Head.{RequestParts, closes}
 use Rattle.http_wire.specs.Message.{Place, Read, Refused, Ending, Rest, BeginsHead, BeginsRequest, IsRefused, awaits}
@@ -50,6 +51,14 @@ module _ (r : Request) (is : IsPosted r) (n : ℕ) where
   message_is m k b =
       let long = subst (λ bytes. BeginsRequest bytes m k) whole (BeginsRequest-more front (drop n (bytes_of r)) m k b) in
       (BeginsRequest-unique (bytes_of r) m is.message k (length (bytes_of r)) long is.spells).0
+
+  -- a front that is not the whole is no request
+  pub never_whole : n < length (bytes_of r) → (m : Message) (k : ℕ) → ¬ (BeginsRequest front m k)
+  never_whole short m k b =
+      let long = subst (λ bytes. BeginsRequest bytes m k) whole (BeginsRequest-more front (drop n (bytes_of r)) m k b) in
+      let all = (BeginsRequest-unique (bytes_of r) m is.message k (length (bytes_of r)) long is.spells).1 in
+      let size : length front ≤ n = grind (arith, common_steps) in
+      omega (arith, b.whole, all, size, short)
 
   pub never_refused : (refusal : Refusal) → ¬ (IsRefused front refusal)
   never_refused refusal refused =

@@ -1,5 +1,5 @@
 -- Worked schedules: a few events each, with one entry in each outbox.
-use Rattle.std.specs.Prelude.{◌≡◌, ◌≢◌, ℕ, ◌≤◌, true, false, List, [], ◌∷◌, length, map, codes, Some}
+use Rattle.std.specs.Prelude.{◌≡◌, ◌≢◌, ℕ, ◌≤◌, true, false, List, [], ◌∷◌, length, map, codes, Option, Some}
 use Rattle.xbrl_report.specs.Findings.{findings}
 use Rattle.http_wire.specs.Reply.{render}
 use Rattle.filing_model.specs.Request.{Request}
@@ -7,8 +7,8 @@ use Rattle.filing_model.specs.Register.{Filing, register}
 use Rattle.filing_model.specs.Answer.{Answer}
 use Rattle.filing_model.specs.Reply.{reply_of}
 use Rattle.filing_model.specs.Outbox.{State, Entry, bytes_of, IsSendable}
-use Rattle.filing_model.specs.Stopping.{No, Before, After}
-use Rattle.filing_world.specs.World.{Outbox, Sent, World, Event, Put, Send, Deliver, Hand, RestartServer, RestartOutbox}
+use Rattle.filing_model.specs.Stopping.{Crash, No, Before, After}
+use Rattle.filing_world.specs.World.{Outbox, Sent, World, Event, Put, Send, Stranger, Deliver, Hand, RestartServer, RestartOutbox}
 use Rattle.filing_world.specs.Headline.{states}
 use Rattle.filing_world.specs.Step.{Run}
 
@@ -19,9 +19,13 @@ entry_with r state = record { key = r.key; body = r.body; state = state }
 abbrev pub outbox_with : Request → State → Outbox
 outbox_with r state = record { filer = r.filer; entries = entry_with r state ∷ []; up = true }
 
+-- the request as it was sent for an entry, or by a stranger
+abbrev pub sent_by : Option (ℕ × ℕ) → Request → Sent
+sent_by sender r = record { from = sender; bytes = bytes_of r }
+
 -- the request as that entry sent it
 abbrev pub item_of : ℕ → Request → Sent
-item_of outbox r = record { from = Some (outbox, 1); bytes = bytes_of r }
+item_of outbox r = sent_by (Some (outbox, 1)) r
 
 -- a report that can be sent, and in which nothing is found
 pub record IsGood (r : Request) : Type 0 where
@@ -89,6 +93,15 @@ stopped_before r all = sent_once r (Deliver 1 all (Before 1) ∷ RestartServer �
 -- it stops after the request is completed
 abbrev pub stopped_after : Request → ℕ → List Event
 stopped_after r all = sent_once r (Deliver 1 all (After 1) ∷ [])
+
+-- the outbox stops before or after it has heard the whole reply, is restarted, and the reply is handed over again
+abbrev pub stopped_hearing : Request → ℕ → Crash → List Event
+stopped_hearing r all crash = sent_once r (Deliver 1 all No ∷ Hand 1 all crash ∷ RestartOutbox 1 ∷ Hand 1 all No ∷ [])
+
+-- a stranger sends the very request first, and it is completed before the entry's
+abbrev pub stranger_first : Request → ℕ → List Event
+stranger_first r all =
+    Stranger (bytes_of r) ∷ Deliver 1 all No ∷ Put 1 r.key r.body ∷ Send 1 1 ∷ Deliver 2 all No ∷ Hand 2 all No ∷ []
 
 -- two outboxes file under one key; the second's request comes first, and its reply is handed over twice
 abbrev pub two_outboxes : Request → Request → ℕ → List Event

@@ -22,12 +22,13 @@ is_no (After j) = false
 
 -- ---- the ends
 
--- an entry more, unless the body is too long or the key is used
+-- whether an outbox takes an entry: not with a body that is too long, nor under a key that is used
+abbrev pub takes : Outbox → Entry → Bool
+takes box entry = nat_le (length entry.body) max_body_len && not (list_any (λ e. bytes_eq e.key entry.key) box.entries)
+
+-- an entry more, where it is taken
 abbrev pub with_entry : Outbox → Entry → Outbox
-with_entry box entry =
-    if nat_le (length entry.body) max_body_len && not (list_any (λ e. bytes_eq e.key entry.key) box.entries)
-    then record box { entries = box.entries ++ entry ∷ [] }
-    else box
+with_entry box entry = if takes box entry then record box { entries = box.entries ++ entry ∷ [] } else box
 
 -- a report is put into an outbox that is up
 pub record Puts (old : World) (outbox : ℕ) (entry : Entry) (new : World) : Type 0 where
@@ -80,6 +81,10 @@ abbrev pub heard_by : State → Option ReplyParts → State
 heard_by state None = state
 heard_by state (Some reply) = moved state reply
 
+-- the outbox after that, which is up unless it stopped
+abbrev pub box_after : Outbox → ℕ → Entry → Option ReplyParts → Crash → Outbox
+box_after box number entry heard crash = record box { entries = renewed box.entries number (record entry { state = heard_by entry.state heard }); up = is_no crash }
+
 -- The first bytes of an output are handed to the entry whose request was delivered, and what they say moves its state alone.
 pub record Hands (old : World) (output given : ℕ) (crash : Crash) (new : World) : Type 0 where
   pub from : Output
@@ -96,12 +101,7 @@ pub record Hands (old : World) (output given : ℕ) (crash : Crash) (new : World
   pub entry_here : numbered box.entries number ≡ Some entry
   pub heard : Option ReplyParts
   pub hears : Hears (take given from.bytes) crash heard
-  pub becomes : new ≡ record old {
-    outboxes = renewed old.outboxes outbox (record box {
-      entries = renewed box.entries number (record entry { state = heard_by entry.state heard });
-      up = is_no crash;
-    });
-  }
+  pub becomes : new ≡ record old { outboxes = renewed old.outboxes outbox (box_after box number entry heard crash) }
 
 -- an outbox is up again, with the entries that it had
 pub record Restarts (old : World) (outbox : ℕ) (new : World) : Type 0 where

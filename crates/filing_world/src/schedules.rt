@@ -10,12 +10,12 @@ ghost use Rattle.filing_model.specs.Request.{Request};
 ghost use Rattle.filing_model.specs.Register.{Filing, register};
 ghost use Rattle.filing_model.specs.Reply.{unavailable};
 ghost use Rattle.filing_model.specs.Outbox.{Open, Confirmed, Clashed, IsSendable, bytes_of};
-ghost use Rattle.filing_model.specs.Stopping.{Crash};
+ghost use Rattle.filing_model.specs.Stopping.{Crash, Before, After};
 ghost use Rattle.filing_world.specs.World.{World, Output, Sent, Deliver, Hand, numbered};
 ghost use Rattle.filing_world.specs.Step.{Step};
 ghost use Rattle.filing_world.specs.Headline.{IsReached, IsConfirmed, start, states};
 ghost use Rattle.filing_world.specs.Schedules.{IsGood, IsAll, AreRivals, MayLeave, filing_of, registered_bytes, clash_bytes, small};
-ghost use Rattle.filing_world.specs.Schedules.{stopped_and_sent_again, lost_reply, late_reply, cut_delivery, stopped_before, stopped_after, two_outboxes};
+ghost use Rattle.filing_world.specs.Schedules.{stopped_and_sent_again, lost_reply, late_reply, cut_delivery, stopped_before, stopped_after, stopped_hearing, stranger_first, two_outboxes};
 
 /// The intake stops after its commit, before the first byte of the reply. Both ends are restarted, and
 /// the entry is sent again. A part of the reply leaves it open; the whole reply confirms it, under the
@@ -69,6 +69,31 @@ pub fn completes_nothing_before_a_stop()
 pub fn registers_before_a_stop()
     ensures { (r : Request) (limit all : ℕ) → IsGood r → 0 < limit → IsAll all r
         → MayLeave (start (r.filer ∷ []) limit) (stopped_after r all) 1 (filing_of r ∷ []) ([] ∷ []) ((1, 1, Open) ∷ []) }
+{}
+
+/// The outbox stops before it hears the reply, and is restarted. The entry is open until the reply is
+/// handed over again.
+pub fn confirms_after_a_stop_before_the_reply()
+    ensures open_before { (r : Request) (limit all : ℕ) → IsGood r → 0 < limit → IsAll all r
+        → MayLeave (start (r.filer ∷ []) limit) (take 5 (stopped_hearing r all (Before 1))) 1 (filing_of r ∷ []) (registered_bytes ∷ []) ((1, 1, Open) ∷ []) }
+    ensures confirmed { (r : Request) (limit all : ℕ) → IsGood r → 0 < limit → IsAll all r
+        → MayLeave (start (r.filer ∷ []) limit) (stopped_hearing r all (Before 1)) 1 (filing_of r ∷ []) (registered_bytes ∷ []) ((1, 1, Confirmed 1) ∷ []) }
+{}
+
+/// It stops after it has heard the reply. The entry is confirmed at once, and the same reply handed
+/// over again changes nothing.
+pub fn stays_confirmed_after_a_stop()
+    ensures at_once { (r : Request) (limit all : ℕ) → IsGood r → 0 < limit → IsAll all r
+        → MayLeave (start (r.filer ∷ []) limit) (take 4 (stopped_hearing r all (After 1))) 1 (filing_of r ∷ []) (registered_bytes ∷ []) ((1, 1, Confirmed 1) ∷ []) }
+    ensures again { (r : Request) (limit all : ℕ) → IsGood r → 0 < limit → IsAll all r
+        → MayLeave (start (r.filer ∷ []) limit) (stopped_hearing r all (After 1)) 1 (filing_of r ∷ []) (registered_bytes ∷ []) ((1, 1, Confirmed 1) ∷ []) }
+{}
+
+/// A stranger sends the very request of an entry before the outbox does. Its bytes are served like any
+/// other, and the entry's own request, which comes later, gets the same bytes and shares the filing.
+pub fn confirms_after_a_stranger()
+    ensures { (r : Request) (limit all : ℕ) → IsGood r → 0 < limit → IsAll all r
+        → MayLeave (start (r.filer ∷ []) limit) (stranger_first r all) 2 (filing_of r ∷ []) (registered_bytes ∷ registered_bytes ∷ []) ((1, 1, Confirmed 1) ∷ []) }
 {}
 
 /// There are such reports: nothing is found in this one, which takes 84 bytes, and 227 with the head of
