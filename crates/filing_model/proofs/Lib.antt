@@ -3,7 +3,6 @@ pub mod Firsts
 pub mod Keeping
 pub mod Answers
 pub mod Marks
-pub mod Scans
 pub mod Alike
 pub mod Appending
 pub mod Valid

@@ -1,13 +1,12 @@
 //! What a register is, said of lists, and what a connection is answered. What may live here: the
-//! definitions that the layers above cite, their laws, and the plain program over a list that
-//! computes an answer.
+//! definitions that the layers above cite, their laws, and the types in which answers, lists and marks are told.
 #![tactic(auto)]
 
+mod answer;
 pub mod laws;
-pub mod plain;
+mod listing;
 mod served;
 
+pub use answer::Answer;
+pub use listing::FilingRow;
 pub use served::{Ended, Mark};
-
-#[cfg(test)]
-mod tests;

@@ -1,0 +1,14 @@
+//! The answer to a request.
+
+use xbrl_report::Findings;
+
+/// The answer to a request. `repeat` says that the same filer, key and body came before.
+#[derive(Drop)]
+pub enum Answer {
+    /// The report is registered under this number, which counts from 1.
+    Registered { number: u64, repeat: bool },
+    /// The report was refused.
+    Refused { findings: Findings, repeat: bool },
+    /// The filer used the key before, for another body.
+    KeyReused,
+}
