@@ -10,7 +10,7 @@ ghost use Rattle.filing_model.specs.Answer.{kept_for};
 ghost use Rattle.filing_model.specs.Views.{the_request};
 ghost use Rattle.sqlite.specs.Held.{state};
 ghost use Rattle.sqlite.specs.Tree.{Trees};
-ghost use Rattle.sqlite.specs.State.{HasCleanDisk, IsUnchanged, Survives};
+ghost use Rattle.sqlite.specs.State.{HasCleanDisk, IsUnchanged, KeepsCommit, Survives};
 ghost use Rattle.table_rows.specs.Tables.{no_schema};
 ghost use Rattle.register_store.specs.Schema.{is_taken};
 
@@ -18,7 +18,7 @@ use crate::create::make;
 use crate::fault::{CreateFault, OpenFault, StoreFault};
 use crate::found::find_kept;
 use crate::names;
-use crate::opening::{Counts, find};
+use crate::opening::{Counts, read_register};
 use crate::outcome::{KeptRow, NewRow, Outcome};
 use crate::write::keep;
 use key_string::KeyText;
@@ -110,20 +110,21 @@ impl<S: Alter + Drop> Store<S> {
         ensures opened { IfOk result (λ store. HasCleanDisk (shows S.Store store) → IsDeclared (state S.Store conn).now.schema
             → (F : List Request) × IsRegisterOf F (state S.Store conn).now × HasRequests S.Store store F) }
         ensures only { IfOk result (λ store. HasCleanDisk (shows S.Store store) → (F : List Request) → IsRegisterOf F (state S.Store conn).now → HasRequests S.Store store F) }
-        ensures same { IfOk result (λ store. HasCleanDisk (shows S.Store store) → IsDeclared (state S.Store conn).now.schema → IsUnchanged (state S.Store conn) (shows S.Store store)) }
+        ensures same { IfOk result (λ store. HasCleanDisk (shows S.Store store) → IsUnchanged (state S.Store conn) (shows S.Store store)) }
 
-        // A refusal says why, of the connection as it was given up; where the rows stand for requests, it is by memory or disk.
-        ensures refused { IfErr result (λ fault. (last : Held S) × Survives (state S.Store conn) (state S.Store last) (λ _. IsDeclared (state S.Store conn).now.schema → ⊥)
-            × (HasCleanDisk (state S.Store last) → IsRefused S.Store fault conn last)
+        // A refusal says why, of the connection as it was given up (`read_register` names it); where the rows stand for requests,
+        // it is by memory or disk.
+        ensures refused { IfErr result (λ fault. (last : Held S) × Survives (state S.Store conn) (state S.Store last) (λ _. ⊥)
+            × (HasCleanDisk (state S.Store last) → KeepsCommit (state S.Store conn) (state S.Store last) × IsRefused S.Store fault conn last)
             × (HasCleanDisk (state S.Store last) → (F : List Request) → IsRegisterOf F (state S.Store conn).now → (fault ≡ OpenFault.Memory) ⊎ (fault ≡ OpenFault.Disk))) }
 
         // A crash leaves what it could leave before, and after the call these requests alone.
-        ensures crash { IfOk result (λ store. Survives (state S.Store conn) (shows S.Store store) (λ _. IsDeclared (state S.Store conn).now.schema → ⊥)) }
+        ensures crash { IfOk result (λ store. Survives (state S.Store conn) (shows S.Store store) (λ _. ⊥)) }
         ensures durable { IfOk result (λ store. HasCleanDisk (shows S.Store store) → (F : List Request) → IsRegisterOf F (state S.Store conn).now
             → IsTrue (shows S.Store store).is_open × ((trees : Trees) → (shows S.Store store).may_leave trees → Leaves F trees)) }
     {
         let mut conn = conn;
-        match find(&mut conn, alloc) {
+        match read_register(alloc, &mut conn) {
             Ok(Counts { kept, filings }) => Ok(Store {
                 alloc,
                 conn,
@@ -147,7 +148,7 @@ impl<S: Alter> Store<S> {
         // The rows are those of before, whatever the answer is, and a crash leaves what it could leave before.
         ensures same { HasCleanDisk (shows S.Store self.new) → (F : List Request) → HasRequests S.Store self.old F → HasRequests S.Store self.new F }
         ensures counts { (self.new.kept ≡ self.old.kept) × (self.new.filings ≡ self.old.filings) }
-        ensures crash { Survives (shows S.Store self.old) (shows S.Store self.new) (λ _. (F : List Request) → HasRequests S.Store self.old F → IsTrue (shows S.Store self.old).is_open → ⊥) }
+        ensures crash { Survives (shows S.Store self.old) (shows S.Store self.new) (λ _. ⊥) }
         ensures durable { HasCleanDisk (shows S.Store self.new) → (F : List Request) → HasRequests S.Store self.old F
             → OnOk result (IsTrue (shows S.Store self.new).is_open × ((trees : Trees) → (shows S.Store self.new).may_leave trees → Leaves F trees)) }
     {
