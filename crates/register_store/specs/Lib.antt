@@ -5,6 +5,7 @@ pub mod Columns
 pub mod Faults
 pub mod Found
 pub mod Numbered
+pub mod Making
 pub mod Opening
 pub mod Outcomes
 pub mod Reads

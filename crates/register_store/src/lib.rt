@@ -26,6 +26,7 @@ mod write;
 
 pub use completed::{Completed, Registered};
 pub use content::findings_value;
+pub use create::make_register;
 pub use fault::{CreateFault, OpenFault, StoreFault};
 pub use opening::{Counts, read_register};
 pub use outcome::{KeptRow, NewRow, Outcome};

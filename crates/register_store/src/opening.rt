@@ -143,7 +143,7 @@ fn count(
 }
 
 /// Whether no transaction is under way.
-fn is_settled<S: Alter>(conn: &Connection<S>) -> bool
+pub(crate) fn is_settled<S: Alter>(conn: &Connection<S>) -> bool
     ensures value { result ≡ not conn.now.in_transaction }
     ensures live { IsLive (state S.Store conn.now) }
     ensures settled { IsTrue result → IsTrue (state S.Store conn.now).is_open → (state S.Store conn.now).now ≡ (state S.Store conn.now).committed }
