@@ -3,9 +3,10 @@ pub mod Cells
 pub mod Changes
 pub mod Columns
 pub mod Faults
+pub mod Files
 pub mod Found
-pub mod Numbered
 pub mod Making
+pub mod Numbered
 pub mod Opening
 pub mod Outcomes
 pub mod Reads
