@@ -27,7 +27,7 @@ impl<D: Disk + Drop> Store<FileStore<D>> {
         ensures left { IfErr result (λ e. AreLeft self.conn e.0 e.1) }
     {
         match self.into_conn().close_files() {
-            Ok(files) => Ok(files),
+            Ok(copied) => Ok(copied),
             Err((error, store)) => Err((StoreFault::from(error), store.close())),
         }
     }

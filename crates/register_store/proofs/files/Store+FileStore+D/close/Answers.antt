@@ -4,7 +4,7 @@ use Rattle.register_store.specs.Files.{AreLeft}
 use Rattle.register_store.proofs.files.Store+FileStore+D.close.Goals as goal
 
 pub returns-in-Ok-clause-kept : goal.returns-in-Ok-clause-kept
-returns-in-Ok-clause-kept g c clean F has = closed_register c.args.self F c.in-Ok.files has (rw c.into_conn.ensures at c.in-Ok.ensures.copied clean) (record { log = c.in-Ok.ensures.usable.0; db = c.in-Ok.ensures.usable.1 })
+returns-in-Ok-clause-kept g c clean F has = closed_register c.args.self F c.in-Ok.copied has (rw c.into_conn.ensures at c.in-Ok.ensures.copied clean) (record { log = c.in-Ok.ensures.usable.0; db = c.in-Ok.ensures.usable.1 })
 
 pub returns-in-Err-clause-left : goal.returns-in-Err-clause-left
 returns-in-Err-clause-left g c =
