@@ -30,9 +30,9 @@ pub(crate) fn answer<W: Sink, S: Alter>(
     marks: &mut Vec<Mark>,
 ) -> Result<(), ConnFault>
     requires { length message.now.body.now ≤ max_body_len }
-    ensures answers { Turns intake.old intake.new (λ before after. Answers (limit_of intake.old) before after (ReadPlace (view_message message.now)) marks.old.items marks.new.items (W.written writer.old) (W.written writer.new) result) }
+    ensures answers { Turns S.Store intake.old intake.new (λ before after. Answers (limit_of intake.old) before after (ReadPlace (view_message message.now)) marks.old.items marks.new.items (W.written writer.old) (W.written writer.new) result) }
     ensures counted { OnOk result (vec_len marks.new ≡ vec_len marks.old + 1) }
-    ensures clean { IsClean intake.new → IsClean intake.old }
+    ensures clean { IsClean S.Store intake.new → IsClean S.Store intake.old }
     ensures limit { limit_of intake.new ≡ limit_of intake.old }
     ensures fine { OnOk result (W.write_failures writer.new ≡ W.write_failures writer.old) }
     ensures fault { IfErr result (IsReplyFault (HasFailed (W.write_failures writer.old) (W.write_failures writer.new))) }
@@ -55,9 +55,9 @@ fn answer_route<W: Sink, S: Alter>(
     requires body { length message.now.body.now ≤ max_body_len }
     requires filer { HasFiler asked }
     requires asked { route (view_message message.now) ≡ bare (is_head (view_message message.now)) (view_route asked message.now.body.now) }
-    ensures answers { Turns intake.old intake.new (λ before after. Answers (limit_of intake.old) before after (ReadPlace (view_message message.now)) marks.old.items marks.new.items (W.written writer.old) (W.written writer.new) result) }
+    ensures answers { Turns S.Store intake.old intake.new (λ before after. Answers (limit_of intake.old) before after (ReadPlace (view_message message.now)) marks.old.items marks.new.items (W.written writer.old) (W.written writer.new) result) }
     ensures counted { OnOk result (vec_len marks.new ≡ vec_len marks.old + 1) }
-    ensures clean { IsClean intake.new → IsClean intake.old }
+    ensures clean { IsClean S.Store intake.new → IsClean S.Store intake.old }
     ensures limit { limit_of intake.new ≡ limit_of intake.old }
     ensures fine { OnOk result (W.write_failures writer.new ≡ W.write_failures writer.old) }
     ensures fault { IfErr result (IsReplyFault (HasFailed (W.write_failures writer.old) (W.write_failures writer.new))) }

@@ -35,9 +35,9 @@ pub(crate) fn decide<S: Alter>(
 ) -> Decided
     requires filer { HasFiler route }
     requires body { length body.now ≤ max_body_len }
-    ensures decided { Turns intake.old intake.new (λ before after. Decides (limit_of intake.old) before after (bare is_bare (view_route route.entry body.now)) result) }
+    ensures decided { Turns S.Store intake.old intake.new (λ before after. Decides (limit_of intake.old) before after (bare is_bare (view_route route.entry body.now)) result) }
     ensures phrase { IsPhrased result }
-    ensures clean { IsClean intake.new → IsClean intake.old }
+    ensures clean { IsClean S.Store intake.new → IsClean S.Store intake.old }
     ensures limit { limit_of intake.new ≡ limit_of intake.old }
 {
     match route {
@@ -64,9 +64,9 @@ fn told_reply(alloc: Global, why: Told, is_bare: bool) -> Result<Reply, AllocErr
 }
 
 fn list<S: Alter>(alloc: Global, intake: &mut Intake<S>, filer: &str) -> Decided
-    ensures decided { Turns intake.old intake.new (λ before after. Decides (limit_of intake.old) before after (AsksList filer.now) result) }
+    ensures decided { Turns S.Store intake.old intake.new (λ before after. Decides (limit_of intake.old) before after (AsksList filer.now) result) }
     ensures phrase { IsPhrased result }
-    ensures clean { IsClean intake.new → IsClean intake.old }
+    ensures clean { IsClean S.Store intake.new → IsClean S.Store intake.old }
     ensures limit { limit_of intake.new ≡ limit_of intake.old }
 {
     match intake.list(filer) {
@@ -87,9 +87,9 @@ fn file<S: Alter>(
 ) -> Decided
     requires filer { is_filer filer.now ≡ true }
     requires body { length body.now ≤ max_body_len }
-    ensures decided { Turns intake.old intake.new (λ before after. Decides (limit_of intake.old) before after (AsksFiling (the_request filer.now key.now body.now)) result) }
+    ensures decided { Turns S.Store intake.old intake.new (λ before after. Decides (limit_of intake.old) before after (AsksFiling (the_request filer.now key.now body.now)) result) }
     ensures phrase { IsPhrased result }
-    ensures clean { IsClean intake.new → IsClean intake.old }
+    ensures clean { IsClean S.Store intake.new → IsClean S.Store intake.old }
     ensures limit { limit_of intake.new ≡ limit_of intake.old }
 {
     match intake.submit(filer, key, body) {

@@ -31,8 +31,8 @@ pub fn serve<R: Source, W: Sink, S: Alter>(
     writer: &mut W,
     intake: &mut Intake<S>,
 ) -> Served
-    ensures serves { Turns intake.old intake.new (λ before after. ServesConnection (limit_of intake.old) before after (R.left reader.old) (R.left reader.new) (W.written writer.old) (W.written writer.new) result.marks.items result.ended) }
-    ensures clean { IsClean intake.new → IsClean intake.old }
+    ensures serves { Turns S.Store intake.old intake.new (λ before after. ServesConnection (limit_of intake.old) before after (R.left reader.old) (R.left reader.new) (W.written writer.old) (W.written writer.new) result.marks.items result.ended) }
+    ensures clean { IsClean S.Store intake.new → IsClean S.Store intake.old }
     ensures limit { limit_of intake.new ≡ limit_of intake.old }
     ensures fault { IsEndedBy (HasFailed (R.read_failures reader.old) (R.read_failures reader.new)) (HasFailed (W.write_failures writer.old) (W.write_failures writer.new)) result.ended }
 {
@@ -59,8 +59,8 @@ fn serve_places<R: Source, W: Sink, S: Alter>(
     marks: &mut Vec<Mark>,
 ) -> Ended
     requires { is_over inbox.old ≡ false }
-    ensures serves { Turns intake.old intake.new (λ now after. (before : List Request) (left written : Option (List ℕ)) → GoesOn (limit_of intake.old) before now left (R.left reader.old) written (W.written writer.old) inbox.old marks.old.items → ServesConnection (limit_of intake.old) before after left (R.left reader.new) written (W.written writer.new) marks.new.items result) }
-    ensures clean { IsClean intake.new → IsClean intake.old }
+    ensures serves { Turns S.Store intake.old intake.new (λ now after. (before : List Request) (left written : Option (List ℕ)) → GoesOn (limit_of intake.old) before now left (R.left reader.old) written (W.written writer.old) inbox.old marks.old.items → ServesConnection (limit_of intake.old) before after left (R.left reader.new) written (W.written writer.new) marks.new.items result) }
+    ensures clean { IsClean S.Store intake.new → IsClean S.Store intake.old }
     ensures limit { limit_of intake.new ≡ limit_of intake.old }
     ensures fault { IsEndedBy (HasFailed (R.read_failures reader.old) (R.read_failures reader.new)) (HasFailed (W.write_failures writer.old) (W.write_failures writer.new)) result }
 {
@@ -81,10 +81,10 @@ fn serve_place<R: Source, W: Sink, S: Alter>(
     marks: &mut Vec<Mark>,
 ) -> Option<Ended>
     requires { is_over inbox.old ≡ false }
-    ensures serves { Turns intake.old intake.new (λ now after. (before : List Request) (left written : Option (List ℕ)) → GoesOn (limit_of intake.old) before now left (R.left reader.old) written (W.written writer.old) inbox.old marks.old.items → Continues (limit_of intake.old) before after left (R.left reader.new) written (W.written writer.new) inbox.new marks.new.items result) }
+    ensures serves { Turns S.Store intake.old intake.new (λ now after. (before : List Request) (left written : Option (List ℕ)) → GoesOn (limit_of intake.old) before now left (R.left reader.old) written (W.written writer.old) inbox.old marks.old.items → Continues (limit_of intake.old) before after left (R.left reader.new) written (W.written writer.new) inbox.new marks.new.items result) }
     ensures more { result ≡ None → is_over inbox.new ≡ false }
     ensures counted { result ≡ None → vec_len marks.new ≡ vec_len marks.old + 1 }
-    ensures clean { IsClean intake.new → IsClean intake.old }
+    ensures clean { IsClean S.Store intake.new → IsClean S.Store intake.old }
     ensures limit { limit_of intake.new ≡ limit_of intake.old }
     ensures fine_reads { result ≡ None → R.read_failures reader.new ≡ R.read_failures reader.old }
     ensures fine_writes { result ≡ None → W.write_failures writer.new ≡ W.write_failures writer.old }
@@ -107,10 +107,10 @@ fn serve_message<W: Sink, S: Alter>(
     marks: &mut Vec<Mark>,
 ) -> Option<Ended>
     requires { LendsFirst inbox.now }
-    ensures serves { Turns intake.old intake.new (λ now after. (before : List Request) (left left' written : Option (List ℕ)) → HasMessage (limit_of intake.old) before now left left' written (W.written writer.old) inbox.now marks.old.items → Continues (limit_of intake.old) before after left left' written (W.written writer.new) inbox.now marks.new.items result) }
+    ensures serves { Turns S.Store intake.old intake.new (λ now after. (before : List Request) (left left' written : Option (List ℕ)) → HasMessage (limit_of intake.old) before now left left' written (W.written writer.old) inbox.now marks.old.items → Continues (limit_of intake.old) before after left left' written (W.written writer.new) inbox.now marks.new.items result) }
     ensures more { result ≡ None → is_over inbox.now ≡ false }
     ensures counted { result ≡ None → vec_len marks.new ≡ vec_len marks.old + 1 }
-    ensures clean { IsClean intake.new → IsClean intake.old }
+    ensures clean { IsClean S.Store intake.new → IsClean S.Store intake.old }
     ensures limit { limit_of intake.new ≡ limit_of intake.old }
     ensures fine { result ≡ None → W.write_failures writer.new ≡ W.write_failures writer.old }
     ensures fault { IfSome result (IsEndedBy ⊥ (HasFailed (W.write_failures writer.old) (W.write_failures writer.new))) }

@@ -46,7 +46,7 @@ firsts-more requests r are new = firsts_new requests r new ∙ ap (λ rs. rs ++ 
 
 module _ {S : Type 0} {g : Ghosts S} (requests : List Request) (r : Request) where
   -- after a new request
-  pub Holds-more : (old new : Intake S g) → has_key requests r ≡ false → Holds old requests → new.cache ≡ old.cache → HasRequests g new.store (requests ++ r ∷ []) → Holds new (requests ++ r ∷ [])
+  pub Holds-more : (old new : Intake S) → has_key requests r ≡ false → Holds g old requests → new.cache ≡ old.cache → HasRequests g new.store (requests ++ r ∷ []) → Holds g new (requests ++ r ∷ [])
   Holds-more old new fresh h same rows = record {
     firsts' = firsts-more requests r h.firsts' fresh;
     rows = rows;
@@ -54,13 +54,13 @@ module _ {S : Type 0} {g : Ghosts S} (requests : List Request) (r : Request) whe
   }
 
   -- after a repeat
-  pub Holds-repeat : (new : Intake S g) → has_key requests r ≡ true → Holds new requests → Holds new (firsts (requests ++ r ∷ []))
-  Holds-repeat new known h = subst (Holds new) (sym (firsts_repeat requests r known ∙ h.firsts')) h
+  pub Holds-repeat : (new : Intake S) → has_key requests r ≡ true → Holds g new requests → Holds g new (firsts (requests ++ r ∷ []))
+  Holds-repeat new known h = subst (Holds g new) (sym (firsts_repeat requests r known ∙ h.firsts')) h
 
   -- of a new one it is the same
-  pub Holds-new : (new : Intake S g) → firsts requests ≡ requests → has_key requests r ≡ false → Holds new (requests ++ r ∷ []) → Holds new (firsts (requests ++ r ∷ []))
-  Holds-new new are fresh h = subst (Holds new) (sym (firsts-more requests r are fresh)) h
+  pub Holds-new : (new : Intake S) → firsts requests ≡ requests → has_key requests r ≡ false → Holds g new (requests ++ r ∷ []) → Holds g new (firsts (requests ++ r ∷ []))
+  Holds-new new are fresh h = subst (Holds g new) (sym (firsts-more requests r are fresh)) h
 
 -- the register was asked, and nothing else has changed
-pub Holds-asked : {S : Type 0} {g : Ghosts S} (requests : List Request) (old new : Intake S g) → Holds old requests → new.cache ≡ old.cache → HasRequests g new.store requests → Holds new requests
+pub Holds-asked : {S : Type 0} {g : Ghosts S} (requests : List Request) (old new : Intake S) → Holds g old requests → new.cache ≡ old.cache → HasRequests g new.store requests → Holds g new requests
 Holds-asked requests old new h same rows = record { firsts' = h.firsts'; rows = rows; known = subst (RemembersIfAny requests) (sym same) h.known }

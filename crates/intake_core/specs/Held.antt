@@ -10,35 +10,35 @@ use Rattle.intake_core.specs.declared.intake.Intake.{Intake}
 use Rattle.intake_core.specs.Cache.{RemembersIfAny}
 
 -- its register
-abbrev pub store_of : {S : Type 0} {g : Ghosts S} → Intake S g → StoreParts S
+abbrev pub store_of : {S : Type 0} → Intake S → StoreParts S
 store_of i = i.store
 
 -- what the connection of its register shows
-abbrev pub shows : {S : Type 0} {g : Ghosts S} → Intake S g → State
-shows {S} {g} i = register.shows g i.store
+abbrev pub shows : {S : Type 0} → Ghosts S → Intake S → State
+shows g i = register.shows g i.store
 
 -- how many keys may be kept
-abbrev pub limit_of : {S : Type 0} {g : Ghosts S} → Intake S g → ℕ
-limit_of i = i.limit
+abbrev pub limit_of : {S : Type 0} → Intake S → ℕ
+limit_of i = i.limit.keys
 
 -- the database refused a call for another cause than memory, and nothing is asked of it any more
-abbrev pub has_stopped : {S : Type 0} {g : Ghosts S} → Intake S g → Bool
+abbrev pub has_stopped : {S : Type 0} → Intake S → Bool
 has_stopped i = i.is_down
 
 -- its cache of answers
-abbrev pub cache_of : {S : Type 0} {g : Ghosts S} → Intake S g → Option Cache
+abbrev pub cache_of : {S : Type 0} → Intake S → Option Cache
 cache_of i = i.cache
 
 -- Its register has these requests, each the first of its filer and key, and what it remembers is kept among them.
-pub record Holds {S : Type 0} {g : Ghosts S} (intake : Intake S g) (requests : List Request) : Type 0 where
+pub record Holds {S : Type 0} (g : Ghosts S) (intake : Intake S) (requests : List Request) : Type 0 where
   pub firsts' : firsts requests ≡ requests
   pub rows : HasRequests g intake.store requests
   pub known : RemembersIfAny requests intake.cache
 
 -- So far the disk gave back what was written. What is said of rows holds where it is so at the end.
-abbrev pub IsClean : {S : Type 0} {g : Ghosts S} → Intake S g → Type 0
-IsClean intake = HasCleanDisk (shows intake)
+abbrev pub IsClean : {S : Type 0} → Ghosts S → Intake S → Type 0
+IsClean g intake = HasCleanDisk (shows g intake)
 
 -- Whatever requests it held, where the disk is clean at the end it holds such as this says.
-abbrev pub Turns : {S : Type 0} {g : Ghosts S} → Intake S g → Intake S g → (List Request → List Request → Type 0) → Type 0
-Turns old new Into = IsClean new → (before : List Request) → Holds old before → (after : List Request) × Holds new after × Into before after
+abbrev pub Turns : {S : Type 0} → Ghosts S → Intake S → Intake S → (List Request → List Request → Type 0) → Type 0
+Turns g old new Into = IsClean g new → (before : List Request) → Holds g old before → (after : List Request) × Holds g new after × Into before after

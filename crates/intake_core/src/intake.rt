@@ -62,14 +62,20 @@ impl From<StoreFault> for Unavailable {
     }
 }
 
+/// How many keys may be kept.
+#[derive(Clone, Copy)]
+struct Limit {
+    keys: u64,
+    ghost few: { keys ≤ 2 ^ 62 },
+}
+
 /// A register, how many keys it may keep, and a cache of its answers, which no answer shows.
 pub struct Intake<S: Alter> {
     alloc: Global,
     store: Store<S>,
-    limit: u64,
+    limit: Limit,
     is_down: bool,
     cache: Option<Cache>,
-    ghost few: { limit ≤ 2 ^ 62 },
 }
 
 impl<S: Alter + Drop> Drop for Intake<S> {
@@ -92,13 +98,13 @@ impl<S: Alter> Intake<S> {
         requires { limit ≤ 2 ^ 62 }
         ensures limit { limit_of result ≡ limit }
         ensures store { store_of result ≡ store }
-        ensures holds { (requests : List Request) → firsts requests ≡ requests → HasRequests S.Store store requests → Holds result requests }
+        ensures holds { (requests : List Request) → firsts requests ≡ requests → HasRequests S.Store store requests → Holds S.Store result requests }
         ensures up { has_stopped result ≡ false }
     {
         Intake {
             alloc,
             store,
-            limit,
+            limit: Limit { keys: limit },
             is_down: false,
             cache: None,
         }
@@ -124,25 +130,25 @@ impl<S: Alter> Intake<S> {
     pub fn submit(&mut self, filer: &str, key: &KeyText, body: &[u8]) -> Result<Answer, Unavailable>
         requires filer { is_filer filer.now ≡ true }
         requires body { length body.now ≤ max_body_len }
-        ensures answer { IsClean self.new → (requests : List Request) → Holds self.old requests
-            → IfOk result (λ a. (view_answer a ≡ answer requests (the_request filer.now key.now body.now)) × Holds self.new (firsts (requests ++ the_request filer.now key.now body.now ∷ []))) }
+        ensures answer { IsClean S.Store self.new → (requests : List Request) → Holds S.Store self.old requests
+            → IfOk result (λ a. (view_answer a ≡ answer requests (the_request filer.now key.now body.now)) × Holds S.Store self.new (firsts (requests ++ the_request filer.now key.now body.now ∷ []))) }
 
         // Nothing changes where there is no answer, and the limit never does.
-        ensures err { IsClean self.new → (requests : List Request) → Holds self.old requests → OnErr result (Holds self.new requests) }
-        ensures clean { IsClean self.new → IsClean self.old }
+        ensures err { IsClean S.Store self.new → (requests : List Request) → Holds S.Store self.old requests → OnErr result (Holds S.Store self.new requests) }
+        ensures clean { IsClean S.Store self.new → IsClean S.Store self.old }
         ensures limit { limit_of self.new ≡ limit_of self.old }
 
         // Full comes for a new key alone, and always where the limit is reached.
-        ensures full { IsClean self.new → (requests : List Request) → Holds self.old requests → (k : ℕ) → result ≡ Err (Full k)
+        ensures full { IsClean S.Store self.new → (requests : List Request) → Holds S.Store self.old requests → (k : ℕ) → result ≡ Err (Full k)
             → (has_key requests (the_request filer.now key.now body.now) ≡ false) × (limit_of self.old ≤ k) × (k ≡ length requests) }
-        ensures room { IsClean self.new → (requests : List Request) → Holds self.old requests
+        ensures room { IsClean S.Store self.new → (requests : List Request) → Holds S.Store self.old requests
             → OnOk result (has_key requests (the_request filer.now key.now body.now) ≡ false → length requests < limit_of self.old) }
 
         // A crash leaves what one before the call could leave, or the requests with this one, and after an answer these alone.
-        ensures crash { Survives (shows self.old) (shows self.new) (λ trees. (requests : List Request) → Holds self.old requests → IsTrue (shows self.old).is_open
+        ensures crash { Survives (shows S.Store self.old) (shows S.Store self.new) (λ trees. (requests : List Request) → Holds S.Store self.old requests → IsTrue (shows S.Store self.old).is_open
             → Leaves (firsts (requests ++ the_request filer.now key.now body.now ∷ [])) trees) }
-        ensures durable { IsClean self.new → (requests : List Request) → Holds self.old requests → IsTrue (shows self.old).is_open
-            → OnOk result (IsTrue (shows self.new).is_open × ((trees : Trees) → (shows self.new).may_leave trees → Leaves (firsts (requests ++ the_request filer.now key.now body.now ∷ [])) trees)) }
+        ensures durable { IsClean S.Store self.new → (requests : List Request) → Holds S.Store self.old requests → IsTrue (shows S.Store self.old).is_open
+            → OnOk result (IsTrue (shows S.Store self.new).is_open × ((trees : Trees) → (shows S.Store self.new).may_leave trees → Leaves (firsts (requests ++ the_request filer.now key.now body.now ∷ [])) trees)) }
 
         // After a refusal of the database there is no other answer than that.
         ensures down { has_stopped self.old ≡ true → (result ≡ Err Down) × (self.new ≡ self.old) }
@@ -166,16 +172,16 @@ impl<S: Alter> Intake<S> {
 
     /// The filings of a filer, ascending by number. Full never comes here.
     pub fn list(&mut self, filer: &str) -> Result<Vec<FilingRow>, Unavailable>
-        ensures rows { IsClean self.new → (requests : List Request) → Holds self.old requests → IfOk result (λ rows. map view_row rows.items ≡ listings filer.now (register requests)) }
+        ensures rows { IsClean S.Store self.new → (requests : List Request) → Holds S.Store self.old requests → IfOk result (λ rows. map view_row rows.items ≡ listings filer.now (register requests)) }
 
         // What is held stays, whatever the answer is.
-        ensures kept { IsClean self.new → (requests : List Request) → Holds self.old requests → Holds self.new requests }
-        ensures clean { IsClean self.new → IsClean self.old }
+        ensures kept { IsClean S.Store self.new → (requests : List Request) → Holds S.Store self.old requests → Holds S.Store self.new requests }
+        ensures clean { IsClean S.Store self.new → IsClean S.Store self.old }
         ensures limit { limit_of self.new ≡ limit_of self.old }
 
         // A crash leaves what it could leave before.
-        ensures crash { Survives (shows self.old) (shows self.new) (λ _. (requests : List Request) → Holds self.old requests → IsTrue (shows self.old).is_open → ⊥) }
-        ensures durable { IsClean self.new → (requests : List Request) → Holds self.old requests → OnOk result (IsTrue (shows self.new).is_open × ((trees : Trees) → (shows self.new).may_leave trees → Leaves requests trees)) }
+        ensures crash { Survives (shows S.Store self.old) (shows S.Store self.new) (λ _. ⊥) }
+        ensures durable { IsClean S.Store self.new → (requests : List Request) → Holds S.Store self.old requests → OnOk result (IsTrue (shows S.Store self.new).is_open × ((trees : Trees) → (shows S.Store self.new).may_leave trees → Leaves requests trees)) }
 
         // After a refusal of the database there is no other answer than that.
         ensures down { has_stopped self.old ≡ true → (result ≡ Err Down) × (self.new ≡ self.old) }
@@ -193,16 +199,16 @@ impl<S: Alter> Intake<S> {
 
     /// The registered requests under their numbers, ascending. Full never comes here.
     pub fn register(&mut self) -> Result<Vec<Registered>, Unavailable>
-        ensures rows { IsClean self.new → (requests : List Request) → Holds self.old requests → IfOk result (λ rows. rows.items ≡ register requests) }
+        ensures rows { IsClean S.Store self.new → (requests : List Request) → Holds S.Store self.old requests → IfOk result (λ rows. rows.items ≡ register requests) }
 
         // What is held stays, whatever the answer is.
-        ensures kept { IsClean self.new → (requests : List Request) → Holds self.old requests → Holds self.new requests }
-        ensures clean { IsClean self.new → IsClean self.old }
+        ensures kept { IsClean S.Store self.new → (requests : List Request) → Holds S.Store self.old requests → Holds S.Store self.new requests }
+        ensures clean { IsClean S.Store self.new → IsClean S.Store self.old }
         ensures limit { limit_of self.new ≡ limit_of self.old }
 
         // A crash leaves what it could leave before.
-        ensures crash { Survives (shows self.old) (shows self.new) (λ _. (requests : List Request) → Holds self.old requests → IsTrue (shows self.old).is_open → ⊥) }
-        ensures durable { IsClean self.new → (requests : List Request) → Holds self.old requests → OnOk result (IsTrue (shows self.new).is_open × ((trees : Trees) → (shows self.new).may_leave trees → Leaves requests trees)) }
+        ensures crash { Survives (shows S.Store self.old) (shows S.Store self.new) (λ _. ⊥) }
+        ensures durable { IsClean S.Store self.new → (requests : List Request) → Holds S.Store self.old requests → OnOk result (IsTrue (shows S.Store self.new).is_open × ((trees : Trees) → (shows S.Store self.new).may_leave trees → Leaves requests trees)) }
 
         // After a refusal of the database there is no other answer than that.
         ensures down { has_stopped self.old ≡ true → (result ≡ Err Down) × (self.new ≡ self.old) }
@@ -225,9 +231,9 @@ impl<S: Alter> Intake<S> {
 
     /// The answer to a request that the cache remembers. The cache is made here, where there is memory for it.
     fn recall(&mut self, filer: &str, key: &KeyText, body: &[u8]) -> Option<Answer>
-        ensures answer { (requests : List Request) → Holds self.old requests
+        ensures answer { (requests : List Request) → Holds S.Store self.old requests
             → IfSome result (λ a. (view_answer a ≡ answer requests (the_request filer.now key.now body.now)) × (has_key requests (the_request filer.now key.now body.now) ≡ true)) }
-        ensures same { (requests : List Request) → Holds self.old requests → Holds self.new requests }
+        ensures same { (requests : List Request) → Holds S.Store self.old requests → Holds S.Store self.new requests }
         ensures rest { (store_of self.new ≡ store_of self.old) × (limit_of self.new ≡ limit_of self.old) × (has_stopped self.new ≡ has_stopped self.old) }
     {
         match &mut self.cache {
@@ -241,7 +247,7 @@ impl<S: Alter> Intake<S> {
 
     /// Remembers a kept request.
     fn remember(&mut self, filer: &str, key: &KeyText, body: &[u8], outcome: &Outcome)
-        ensures same { (requests : List Request) → Holds self.old requests → IsKeptIn requests (record { request = the_request filer.now key.now body.now; outcome = view_outcome outcome.now }) → Holds self.new requests }
+        ensures same { (requests : List Request) → Holds S.Store self.old requests → IsKeptIn requests (record { request = the_request filer.now key.now body.now; outcome = view_outcome outcome.now }) → Holds S.Store self.new requests }
         ensures rest { (store_of self.new ≡ store_of self.old) × (limit_of self.new ≡ limit_of self.old) × (has_stopped self.new ≡ has_stopped self.old) }
     {
         if let Some(cache) = &mut self.cache {
@@ -253,19 +259,19 @@ impl<S: Alter> Intake<S> {
     fn decide(&mut self, filer: &str, key: &KeyText, body: &[u8]) -> Result<Answer, Unavailable>
         requires filer { is_filer filer.now ≡ true }
         requires body { length body.now ≤ max_body_len }
-        ensures answer { IsClean self.new → (requests : List Request) → Holds self.old requests
-            → IfOk result (λ a. (view_answer a ≡ answer requests (the_request filer.now key.now body.now)) × Holds self.new (firsts (requests ++ the_request filer.now key.now body.now ∷ []))) }
-        ensures err { IsClean self.new → (requests : List Request) → Holds self.old requests → OnErr result (Holds self.new requests) }
-        ensures clean { IsClean self.new → IsClean self.old }
+        ensures answer { IsClean S.Store self.new → (requests : List Request) → Holds S.Store self.old requests
+            → IfOk result (λ a. (view_answer a ≡ answer requests (the_request filer.now key.now body.now)) × Holds S.Store self.new (firsts (requests ++ the_request filer.now key.now body.now ∷ []))) }
+        ensures err { IsClean S.Store self.new → (requests : List Request) → Holds S.Store self.old requests → OnErr result (Holds S.Store self.new requests) }
+        ensures clean { IsClean S.Store self.new → IsClean S.Store self.old }
         ensures limit { (limit_of self.new ≡ limit_of self.old) × (has_stopped self.new ≡ has_stopped self.old) }
-        ensures full { IsClean self.new → (requests : List Request) → Holds self.old requests → (k : ℕ) → result ≡ Err (Full k)
+        ensures full { IsClean S.Store self.new → (requests : List Request) → Holds S.Store self.old requests → (k : ℕ) → result ≡ Err (Full k)
             → (has_key requests (the_request filer.now key.now body.now) ≡ false) × (limit_of self.old ≤ k) × (k ≡ length requests) }
-        ensures room { IsClean self.new → (requests : List Request) → Holds self.old requests
+        ensures room { IsClean S.Store self.new → (requests : List Request) → Holds S.Store self.old requests
             → OnOk result (has_key requests (the_request filer.now key.now body.now) ≡ false → length requests < limit_of self.old) }
         ensures running { result ≢ Err Down }
-        ensures crash { Survives (shows self.old) (shows self.new) (λ trees. (requests : List Request) → Holds self.old requests → IsTrue (shows self.old).is_open
+        ensures crash { Survives (shows S.Store self.old) (shows S.Store self.new) (λ trees. (requests : List Request) → Holds S.Store self.old requests → IsTrue (shows S.Store self.old).is_open
             → Leaves (firsts (requests ++ the_request filer.now key.now body.now ∷ [])) trees) }
-        ensures open { IsClean self.new → (requests : List Request) → Holds self.old requests → OnOk result (IsTrue (shows self.new).is_open) }
+        ensures open { IsClean S.Store self.new → (requests : List Request) → Holds S.Store self.old requests → OnOk result (IsTrue (shows S.Store self.new).is_open) }
     {
         match self.store.find(filer, key)? {
             Some(row) => Ok(self.repeat(filer, key, body, row)),
@@ -276,7 +282,7 @@ impl<S: Alter> Intake<S> {
     /// Answers a request whose filer and key are kept with this row.
     fn repeat(&mut self, filer: &str, key: &KeyText, body: &[u8], row: KeptRow) -> Answer
         ensures answer { view_answer result ≡ answer_from (Some (kept_as filer.now key.now row)) (the_request filer.now key.now body.now) true }
-        ensures same { (requests : List Request) → Holds self.old requests → IsKeptIn requests (kept_as filer.now key.now row) → Holds self.new requests }
+        ensures same { (requests : List Request) → Holds S.Store self.old requests → IsKeptIn requests (kept_as filer.now key.now row) → Holds S.Store self.new requests }
         ensures rest { (store_of self.new ≡ store_of self.old) × (limit_of self.new ≡ limit_of self.old) × (has_stopped self.new ≡ has_stopped self.old) }
     {
         self.remember(filer, key, &row.body, &row.outcome);
@@ -291,20 +297,20 @@ impl<S: Alter> Intake<S> {
     fn keep(&mut self, filer: &str, key: &KeyText, body: &[u8]) -> Result<Answer, Unavailable>
         requires filer { is_filer filer.now ≡ true }
         requires body { length body.now ≤ max_body_len }
-        ensures answer { IsClean self.new → (requests : List Request) → Holds self.old requests → has_key requests (the_request filer.now key.now body.now) ≡ false
-            → IfOk result (λ a. (view_answer a ≡ answer requests (the_request filer.now key.now body.now)) × Holds self.new (requests ++ the_request filer.now key.now body.now ∷ [])) }
-        ensures err { IsClean self.new → (requests : List Request) → Holds self.old requests → OnErr result (Holds self.new requests) }
-        ensures clean { IsClean self.new → IsClean self.old }
+        ensures answer { IsClean S.Store self.new → (requests : List Request) → Holds S.Store self.old requests → has_key requests (the_request filer.now key.now body.now) ≡ false
+            → IfOk result (λ a. (view_answer a ≡ answer requests (the_request filer.now key.now body.now)) × Holds S.Store self.new (requests ++ the_request filer.now key.now body.now ∷ [])) }
+        ensures err { IsClean S.Store self.new → (requests : List Request) → Holds S.Store self.old requests → OnErr result (Holds S.Store self.new requests) }
+        ensures clean { IsClean S.Store self.new → IsClean S.Store self.old }
         ensures limit { (limit_of self.new ≡ limit_of self.old) × (has_stopped self.new ≡ has_stopped self.old) }
-        ensures full { (requests : List Request) → Holds self.old requests → (k : ℕ) → result ≡ Err (Full k) → (limit_of self.old ≤ k) × (k ≡ length requests) }
-        ensures room { (requests : List Request) → Holds self.old requests → OnOk result (length requests < limit_of self.old) }
+        ensures full { (requests : List Request) → Holds S.Store self.old requests → (k : ℕ) → result ≡ Err (Full k) → (limit_of self.old ≤ k) × (k ≡ length requests) }
+        ensures room { (requests : List Request) → Holds S.Store self.old requests → OnOk result (length requests < limit_of self.old) }
         ensures running { result ≢ Err Down }
-        ensures crash { Survives (shows self.old) (shows self.new) (λ trees. (requests : List Request) → Holds self.old requests → IsTrue (shows self.old).is_open
+        ensures crash { Survives (shows S.Store self.old) (shows S.Store self.new) (λ trees. (requests : List Request) → Holds S.Store self.old requests → IsTrue (shows S.Store self.old).is_open
             → has_key requests (the_request filer.now key.now body.now) ≡ false → Leaves (requests ++ the_request filer.now key.now body.now ∷ []) trees) }
-        ensures open { IsClean self.new → (requests : List Request) → Holds self.old requests → has_key requests (the_request filer.now key.now body.now) ≡ false → OnOk result (IsTrue (shows self.new).is_open) }
+        ensures open { IsClean S.Store self.new → (requests : List Request) → Holds S.Store self.old requests → has_key requests (the_request filer.now key.now body.now) ≡ false → OnOk result (IsTrue (shows S.Store self.new).is_open) }
     {
         let kept = self.store.kept_count()?;
-        if kept >= self.limit {
+        if kept >= self.limit.keys {
             return Err(Unavailable::Full { kept });
         }
         let judged = judge(self.alloc, filer, body)?;

@@ -1,6 +1,7 @@
 //! An intake over a register in memory.
 
 ghost use Rattle.std.specs.Prelude.{◌≡◌, ◌≢◌, ◌≤◌, ◌^◌, [], false, Err, IfOk};
+ghost use Rattle.sqlite.specs.Steps.{over_memory};
 ghost use Rattle.intake_core.specs.Held.{limit_of, has_stopped, Holds};
 
 use crate::intake::Intake;
@@ -13,7 +14,7 @@ impl Intake<MemStore> {
     pub fn in_memory(alloc: Global, limit: u64) -> Result<Intake<MemStore>, CreateFault>
         requires { limit ≤ 2 ^ 62 }
         ensures limit { IfOk result (λ intake. limit_of intake ≡ limit) }
-        ensures empty { IfOk result (λ intake. Holds intake []) }
+        ensures empty { IfOk result (λ intake. Holds over_memory intake []) }
         ensures up { IfOk result (λ intake. has_stopped intake ≡ false) }
         ensures free { result ≢ Err CreateFault.Taken }
     {

@@ -1,5 +1,5 @@
 -- The texts that make the tables of a register, and what they make.
-use Rattle.std.proofs.Common.{◌≡◌, List, [], ◌∷◌, codes, ℕ, refl}
+use Rattle.std.proofs.Common.{◌≡◌, List, [], ◌∷◌, refl}
 use Rattle.sqlite_schema.specs.declared.schema.Index.{Index}
 use Rattle.sqlite.specs.Schema.{Schema}
 use Rattle.sqlite.specs.Change.{created}
@@ -8,22 +8,8 @@ use Rattle.sqlite.specs.Listing.{understood}
 use Rattle.sqlite_catalog.specs.Listing.{automatic}
 use Rattle.table_rows.specs.Tables.{no_schema, schema_with}
 use Rattle.table_rows.proofs.CreateLemmas.{IsCreation}
+use Rattle.register_store.specs.Making.{create_meta, create_kept, create_finding, create_filing, create_fact}
 use Rattle.register_store.specs.Schema.{register_tables, meta_table, kept_table, finding_table, filing_table, fact_table}
-
-abbrev pub create_meta : List ℕ
-create_meta = codes "CREATE TABLE intake_meta (id INTEGER PRIMARY KEY, kind TEXT NOT NULL, form INTEGER NOT NULL) STRICT"
-
-abbrev pub create_kept : List ℕ
-create_kept = codes "CREATE TABLE kept (seq INTEGER PRIMARY KEY, filer TEXT NOT NULL, idem TEXT NOT NULL, body BLOB NOT NULL, number INTEGER, UNIQUE (filer, idem)) STRICT"
-
-abbrev pub create_finding : List ℕ
-create_finding = codes "CREATE TABLE finding (seq INTEGER NOT NULL, pos INTEGER NOT NULL, code INTEGER NOT NULL, place BLOB NOT NULL, PRIMARY KEY (seq, pos)) STRICT"
-
-abbrev pub create_filing : List ℕ
-create_filing = codes "CREATE TABLE filing (number INTEGER PRIMARY KEY, seq INTEGER NOT NULL UNIQUE) STRICT"
-
-abbrev pub create_fact : List ℕ
-create_fact = codes "CREATE TABLE fact (number INTEGER NOT NULL, pos INTEGER NOT NULL, id BLOB NOT NULL, concept BLOB NOT NULL, dimensions BLOB NOT NULL, value BLOB, decimals INTEGER, PRIMARY KEY (number, pos)) STRICT"
 
 abbrev pub first_schema : Schema
 first_schema = created no_schema meta_table

@@ -14,6 +14,7 @@ use Rattle.table_rows.specs.Tables.{schema_with}
 use Rattle.table_rows.proofs.SelectLemmas.{one_table}
 use Rattle.table_rows.proofs.ReadingLemmas.{by_each}
 use Rattle.table_rows.proofs.QueryLemmas.{Asks}
+use Rattle.table_rows.proofs.TextLemmas.{IsQueryText}
 use Rattle.register_store.specs.Schema.{register_tables, IsDeclared}
 use Rattle.register_store.proofs.ReadTexts.{columns, equals}
 
@@ -22,6 +23,14 @@ find_text = codes "SELECT seq, body, number FROM kept WHERE filer = ?1 AND idem 
 
 abbrev pub found_text : List ℕ
 found_text = codes "SELECT code, place FROM finding WHERE seq = ?1 ORDER BY pos"
+
+pub query_key : IsQueryText find_text
+unfolding everything
+query_key = refl
+
+pub query_seq : IsQueryText found_text
+unfolding everything
+query_seq = refl
 
 -- the filer and the key equal the parameters
 abbrev pub same_filer_and_key : List Term

@@ -7,6 +7,7 @@ pub mod CreateTexts
 pub mod DamageLemmas
 pub mod FactLemmas
 pub mod FailLemmas
+pub mod Filed
 pub mod FindLemmas
 pub mod FindReads
 pub mod FindTexts

@@ -22,8 +22,8 @@ pub knows : (F : List Request) (s : State) → Stands (IsRegisterOf F) s → Kno
 knows F s was alive = (was.now alive).rows.rows.declared
 
 -- a call that wrote nothing
-pub stays : (F : List Request) (old new : State) → Stands (IsRegisterOf F) old → (Knows old → Keeps old new) → Stands (IsRegisterOf F) new
-stays F old new was keeps = stands_on (IsRegisterOf F) old new (keeps (knows F old was)) was
+pub stays : (F : List Request) (old new : State) → Stands (IsRegisterOf F) old → Keeps old new → Stands (IsRegisterOf F) new
+stays F old new was keeps = stands_on (IsRegisterOf F) old new keeps was
 
 pub filter_every : (rows : List Row) → filter every rows ≡ rows
 filter_every [] = refl

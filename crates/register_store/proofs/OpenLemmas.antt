@@ -1,5 +1,6 @@
 -- What an opening reads of a database, and what it says of one that stands.
 use Rattle.std.proofs.Common.{◌≡◌, ◌⊎◌, inl, inr, ℕ, false, List, [], ◌∷◌, map, length, None, IsTrue, refl, sym, ap, subst, ◌∙◌, arith, IsPermutation}
+use Rattle.std.specs.List.{AllByRecursion}
 use Rattle.std.proofs.lemmas.List.Sorted.{IsPermutation-refl, IsPermutation-sym}
 use Rattle.sqlite.specs.Order.{Row}
 use Rattle.sqlite.specs.Table.{Table}
@@ -7,21 +8,21 @@ use Rattle.sqlite.specs.Term.{col}
 use Rattle.sqlite.specs.Effect.{Database, IsDatabase}
 use Rattle.sqlite.specs.Store.{Ghosts}
 use Rattle.sqlite.specs.Held.{Held, state}
-use Rattle.sqlite.specs.State.{State, HasCleanDisk, IsLive, Shown, Survives, IsUnchanged}
+use Rattle.sqlite.specs.State.{State, IsLive, Shown, FailsToQuery, IsUnchanged}
 use Rattle.sqlite.proofs.Callers.{unchanged_then}
-use Rattle.sqlite.proofs.StateLemmas.{survives_then}
 use Rattle.filing_model.specs.Request.{Request}
 use Rattle.filing_model.specs.Register.{kept, register}
 use Rattle.filing_model.proofs.Lists.{length-map}
 use Rattle.table_rows.specs.Rows.{Holds, shown}
 use Rattle.table_rows.specs.Reading.{RisesBy, ReadsRows}
-use Rattle.table_rows.specs.Standing.{Stands}
+use Rattle.table_rows.specs.Standing.{Stands, Keeps}
 use Rattle.table_rows.proofs.StandLemmas.{stands_on}
 use Rattle.table_rows.specs.Causes.{cause_of}
 use Rattle.table_rows.specs.declared.cause.Cause.{Cause}
 use Rattle.table_rows.specs.declared.cause.Cause.TheVariants as cause
 use Rattle.sqlite.specs.declared.error.Error.{Error}
-use Rattle.register_store.specs.Faults.{table_fault, table_fault_by}
+use Rattle.register_store.specs.Faults.{meta_fault, meta_fault_by, table_fault, table_fault_by}
+use Rattle.table_rows.proofs.TextLemmas.{IsQueryText, query_same, query_failed, keeps_on}
 use Rattle.table_rows.proofs.OrderLemmas.{counted_rise}
 use Rattle.table_rows.proofs.ReadingLemmas.{reads_rows}
 use Rattle.register_store.specs.declared.audit.Verdict.TheVariants.{Sound, Damaged}
@@ -34,7 +35,7 @@ use Rattle.register_store.specs.Register.{meta_row, kept_row}
 use Rattle.register_store.specs.Store.{IsRegisterOf}
 use Rattle.register_store.specs.Reads.{Knows, every, whole, by_first, by_both}
 use Rattle.register_store.specs.Schema.{IsDeclared, register_tables, meta_table, kept_table, finding_table, filing_table, fact_table}
-use Rattle.register_store.proofs.ReadTexts.{columns, asks_meta, asks_findings, asks_filings, asks_facts}
+use Rattle.register_store.proofs.ReadTexts.{columns, asks_meta, asks_findings, asks_filings, asks_facts, query_meta, query_kept, query_findings, query_filings, query_facts}
 use Rattle.register_store.proofs.ReadLemmas.{reads_kept}
 use Rattle.register_store.proofs.AuditSteps.{requests_first}
 use Rattle.register_store.proofs.ListLemmas.{filter_every, map_whole}
@@ -71,11 +72,7 @@ gets table sort rows old new r = record {
 
 -- ---- one query after another
 
--- what declares the tables before declares them after
-pub silent_then : (old mid new : State) → (HasCleanDisk mid → IsDeclared old.now.schema → IsDeclared mid.now.schema) → Survives old mid (λ _. IsDeclared old.now.schema → ⊥) → Survives mid new (λ _. IsDeclared mid.now.schema → ⊥)
-    → Survives old new (λ _. IsDeclared old.now.schema → ⊥)
-silent_then old mid new on p q = survives_then old mid new _ _ _ (λ _ trees none. none) (λ clean trees none d. none (on (omega (arith, q.clean)) d)) p q
-
+-- while the tables are declared, they stay so
 still : (old new : State) → IsUnchanged old new → IsDeclared old.now.schema → IsDeclared new.now.schema
 still old new same = subst (λ (db : Database). IsDeclared db.schema) (sym same.0.now_is)
 
@@ -96,20 +93,60 @@ module _ (old new : State) (rows : List Row) (d : IsDeclared old.now.schema) whe
   got_facts h = let r = reads_facts old new (λ _. d) rows h in (r.same, gets _ _ rows old new r)
 
 -- and so the next query meets declared tables
-pub next_meta : (old new : State) (rows : List Row) → Shown all_meta [] old new rows → IsDeclared old.now.schema → IsDeclared new.now.schema
+next_meta : (old new : State) (rows : List Row) → Shown all_meta [] old new rows → IsDeclared old.now.schema → IsDeclared new.now.schema
 next_meta old new rows h d = still old new (got_meta old new rows d h).0 d
 
-pub next_kept : (old new : State) (rows : List Row) → Shown all_kept [] old new rows → IsDeclared old.now.schema → IsDeclared new.now.schema
+next_kept : (old new : State) (rows : List Row) → Shown all_kept [] old new rows → IsDeclared old.now.schema → IsDeclared new.now.schema
 next_kept old new rows h d = still old new (got_kept old new rows d h).0 d
 
-pub next_findings : (old new : State) (rows : List Row) → Shown all_findings [] old new rows → IsDeclared old.now.schema → IsDeclared new.now.schema
+next_findings : (old new : State) (rows : List Row) → Shown all_findings [] old new rows → IsDeclared old.now.schema → IsDeclared new.now.schema
 next_findings old new rows h d = still old new (got_findings old new rows d h).0 d
 
-pub next_filings : (old new : State) (rows : List Row) → Shown all_filings [] old new rows → IsDeclared old.now.schema → IsDeclared new.now.schema
+next_filings : (old new : State) (rows : List Row) → Shown all_filings [] old new rows → IsDeclared old.now.schema → IsDeclared new.now.schema
 next_filings old new rows h d = still old new (got_filings old new rows d h).0 d
 
 pub is_read : {S : Type 0} (g : Ghosts S) (text : List ℕ) (old new : Held S) (rows : List Row) → Shown text [] (state g old) (state g new) rows → new.step_limit ≡ old.step_limit → IsRead g text old new rows
 is_read g text old new rows shown limit = record { shown = shown; limit = limit }
+
+-- ---- whatever the tables are, nothing is written
+
+abbrev pub AreQueries : List (List ℕ) → Type 0
+AreQueries = AllByRecursion IsQueryText
+
+pub table_queries : AreQueries table_texts
+table_queries = (query_kept, (query_findings, (query_filings, (query_facts, tt))))
+
+module _ {S : Type 0} (g : Ghosts S) where
+  pub reads_on : (texts : List (List ℕ)) → AreQueries texts → (a b e : Held S) → IsUnchanged (state g a) (state g b) → (rows : List (List Row)) → AreRead g texts b e rows → IsUnchanged (state g a) (state g e)
+  reads_on [] q a b e same [] h = subst (λ x. IsUnchanged (state g a) (state g x)) h same
+  reads_on [] q a b e same (r ∷ rs) h = absurd h
+  reads_on (t ∷ ts) q a b e same [] h = absurd h
+  reads_on (t ∷ ts) q a b e same (r ∷ rs) h =
+      reads_on ts q.1 a h.0 e (unchanged_then (state g a) (state g b) (state g h.0) same (query_same t q.0 [] (state g b) (state g h.0) r h.1.shown)) rs h.2
+
+  all_read : (text : List ℕ) (texts : List (List ℕ)) → AreQueries (text ∷ texts) → (a e : Held S) (rows : List (List Row)) → AreRead g (text ∷ texts) a e rows → IsUnchanged (state g a) (state g e)
+  all_read text texts q a e [] h = absurd h
+  all_read text texts q a e (r ∷ rs) h = reads_on texts q.1 a h.0 e (query_same text q.0 [] (state g a) (state g h.0) r h.1.shown) rs h.2
+
+  stops_keep : (why : Cause) (texts : List (List ℕ)) → AreQueries texts → (a e : Held S) → StopsFor g why texts a e → Keeps (state g a) (state g e)
+  stops_keep why [] q a e h = absurd h
+  stops_keep why (t ∷ ts) q a e (inl h) = query_failed t q.0 [] (state g a) (state g e) h.0 h.1
+  stops_keep why (t ∷ ts) q a e (inr h) = keeps_on (state g a) (state g h.0) (state g e) (query_same t q.0 [] (state g a) (state g h.0) h.1 h.2.shown) (stops_keep why ts q.1 h.0 e h.3)
+
+  -- so does a refusal
+  pub refused_keeps : (why : OpenFault) (a e : Held S) → IsRefused g why a e → Keeps (state g a) (state g e)
+  refused_keeps fault.NotOurs a e (inl stops) = stops_keep cause.Other (all_meta ∷ []) (query_meta, tt) a e stops
+  refused_keeps fault.NotOurs a e (inr h) = inl (query_same all_meta query_meta [] (state g a) (state g e) h.0 h.1.shown)
+  refused_keeps (fault.Damaged row) a e h =
+      let mid = h.0 in
+      let same = query_same all_meta query_meta [] (state g a) (state g mid) (meta_row ∷ []) h.1.shown in
+      elim h.2 [
+        | inl stops ↦ keeps_on (state g a) (state g mid) (state g e) same (stops_keep cause.Other table_texts table_queries mid e stops.1)
+        | inr found ↦ inl (reads_on table_texts table_queries a mid e same (found.0 ∷ found.1.finding ∷ found.1.filing ∷ found.1.fact ∷ []) found.2)
+      ]
+  refused_keeps fault.Memory a e (inl stops) = stops_keep cause.Memory (all_meta ∷ table_texts) (query_meta, table_queries) a e stops
+  refused_keeps fault.Memory a e (inr h) = inl (all_read all_meta table_texts (query_meta, table_queries) a e h.0 h.1)
+  refused_keeps fault.Disk a e stops = stops_keep cause.Disk (all_meta ∷ table_texts) (query_meta, table_queries) a e stops
 
 -- ---- the four tables
 
@@ -235,8 +272,11 @@ module _ {S : Type 0} (g : Ghosts S) (a b e : Held S) (kept_are : List Row) (oth
   damaged row is = (b, one, inr (kept_are, others, more, is))
 
   pub refused_by : (why : OpenFault) → (why ≡ fault.Memory) ⊎ ((row : ℕ) × (why ≡ fault.Damaged row) × IsVerdict kept_are others (Damaged row)) → IsRefused g why a e
-  refused_by why (inl memory) = subst (λ w. IsRefused g w a e) (sym memory) tt
+  refused_by why (inl memory) = subst (λ w. IsRefused g w a e) (sym memory) (inr ((meta_row ∷ []) ∷ kept_are ∷ others.finding ∷ others.filing ∷ others.fact ∷ [], (b, one, more)))
   refused_by why (inr h) = subst (λ w. IsRefused g w a e) (sym h.1) (damaged h.0 h.2)
+
+  pub same_all : IsUnchanged (state g a) (state g e)
+  same_all = reads_on g table_texts table_queries a b e (query_same all_meta query_meta [] (state g a) (state g b) (meta_row ∷ []) one.shown) (kept_are ∷ others.finding ∷ others.filing ∷ others.fact ∷ []) more
 
   module _ (d : IsDeclared (state g a).now.schema) where
     got_one : IsUnchanged (state g a) (state g b) × Gets meta_table by_first (meta_row ∷ []) (state g a).now
@@ -245,26 +285,39 @@ module _ {S : Type 0} (g : Ghosts S) (a b e : Held S) (kept_are : List Row) (oth
     got_more : IsUnchanged (state g b) (state g e) × Four kept_are others (state g b).now
     got_more = got_four g b e kept_are others (still (state g a) (state g b) got_one.0 d) more
 
-    pub same_all : IsUnchanged (state g a) (state g e)
-    same_all = unchanged_then (state g a) (state g b) (state g e) got_one.0 got_more.0
-
     four : Four kept_are others (state g a).now
     four = subst (Four kept_are others) got_one.0.0.now_is got_more.1
 
-    pub finds : IsLive (state g a) → a.in_transaction ≡ false → (IsTrue (state g a).is_open → (state g a).now ≡ (state g a).committed) → (n count : ℕ) → n ≡ length kept_are → IsVerdict kept_are others (Sound count)
-        → (F : List Request) × IsRegisterOf F (state g a).now × Stands (IsRegisterOf F) (state g e) × (n ≡ length F) × (count ≡ length (register F)) × ((G : List Request) → IsRegisterOf G (state g a).now → G ≡ F)
-    finds live idle settled n count many is =
-        let F = is.0 in
-        let here = stands_for (state g a).now kept_are others four F is.1 (live got_one.0.0.was_open).0 d got_one.1 in
-        let stood : Stands (IsRegisterOf F) (state g a) = record { autocommit = idle; now = λ _. here; committed = λ alive. sym (settled alive) } in
-        let as_many = many ∙ sym (length-map request_in kept_are) ∙ ap length (requests_first kept_are F is.1.distinct is.1.kept_is) in
-        (F, here, stands_on (IsRegisterOf F) (state g a) (state g e) (inl same_all) stood, as_many, is.2, no_others (state g a).now kept_are others four F is.1)
+    module _ (live : IsLive (state g a)) (idle : a.in_transaction ≡ false) (settled : IsTrue (state g a).is_open → (state g a).now ≡ (state g a).committed) (n count : ℕ) (many : n ≡ length kept_are) (is : IsVerdict kept_are others (Sound count)) where
+      stood : (F : List Request) → IsRegisterOf F (state g a).now → Stands (IsRegisterOf F) (state g e)
+      stood F here = stands_on (IsRegisterOf F) (state g a) (state g e) (inl same_all) (record { autocommit = idle; now = λ _. here; committed = λ alive. sym (settled alive) })
+
+      as_many : n ≡ length is.0
+      as_many = many ∙ sym (length-map request_in kept_are) ∙ ap length (requests_first kept_are is.0 is.1.distinct is.1.kept_is)
+
+      pub finds : (F : List Request) × IsRegisterOf F (state g a).now × Stands (IsRegisterOf F) (state g e) × (n ≡ length F) × (count ≡ length (register F))
+      finds = let here = stands_for (state g a).now kept_are others four is.0 is.1 (live got_one.0.0.was_open).0 d got_one.1 in (is.0, here, stood is.0 here, as_many, is.2)
+
+      -- it stands for no others
+      pub counts_them : (F : List Request) → IsRegisterOf F (state g a).now → Stands (IsRegisterOf F) (state g e) × (n ≡ length F) × (count ≡ length (register F))
+      counts_them F here =
+          let same : is.0 ≡ F = sym (no_others (state g a).now kept_are others four is.0 is.1 F here) in
+          (stood F here, as_many ∙ ap length same, is.2 ∙ ap (λ H. length (register H)) same)
+
+-- where `intake_meta` cannot be read
+pub unread_meta : {S : Type 0} (g : Ghosts S) (a e : Held S) (error : Error) → FailsToQuery all_meta [] (state g a) (state g e) error → IsRefused g (meta_fault error) a e
+unread_meta g a e error fails = go (cause_of error) refl
+  where
+    go : (why : Cause) → cause_of error ≡ why → IsRefused g (meta_fault_by why) a e
+    go cause.Memory is = inl (inl (error, fails, is))
+    go cause.Disk is = inl (error, fails, is)
+    go cause.Other is = inl (inl (error, fails, is))
 
 -- where one of the four tables cannot be read
 pub unread : {S : Type 0} (g : Ghosts S) (a b e : Held S) → IsRead g all_meta a b (meta_row ∷ []) → (error : Error) → StopsFor g (cause_of error) table_texts b e → IsRefused g (table_fault error) a e
 unread g a b e one error stops = go (cause_of error) stops
   where
     go : (why : Cause) → StopsFor g why table_texts b e → IsRefused g (table_fault_by why) a e
-    go cause.Memory h = tt
+    go cause.Memory h = inl (inr (b, meta_row ∷ [], one, h))
     go cause.Disk h = inr (b, meta_row ∷ [], one, h)
     go cause.Other h = (b, one, inl (refl, h))

@@ -12,7 +12,8 @@ use Rattle.table_rows.proofs.InsertLemmas.{inserts}
 use Rattle.register_store.specs.Schema.{register_tables, IsDeclared, meta_table, kept_table, finding_table, filing_table, fact_table}
 use Rattle.register_store.specs.Register.{meta_row}
 use Rattle.register_store.specs.Changes.{GainsRows}
-use Rattle.register_store.proofs.Texts.{insert_meta, insert_kept, insert_finding, insert_filing, insert_fact, inserts_meta, inserts_kept, inserts_finding, inserts_filing, inserts_fact, plain_inserts}
+use Rattle.register_store.specs.Making.{insert_meta}
+use Rattle.register_store.proofs.Texts.{insert_kept, insert_finding, insert_filing, insert_fact, inserts_meta, inserts_kept, inserts_finding, inserts_filing, inserts_fact, plain_inserts}
 
 module _ (old new : State) where
   pub filing_gains : (number seq : ℤ) (count : ℕ) → ExecutesInside 0 insert_filing (Int number ∷ Int seq ∷ []) old new (Ok count) → GainsRows filing_table ((Int number ∷ Int seq ∷ []) ∷ []) old new

@@ -18,15 +18,6 @@ use Rattle.register_store.specs.Opening.{all_kept}
 use Rattle.register_store.specs.Reads.{Knows, every, whole, by_first, by_second, has_filer, has_number, number_alone, place_alone, said}
 use Rattle.register_store.proofs.ReadTexts.{columns, equals, filer_numbers, fact_places, facts_said, asks_kept, asks_numbers, asks_places, asks_said}
 
--- a query that writes nothing where our tables are declared
-module _ (sql : List ℕ) (plain : (s : Schema) → IsDeclared s → IsPlain (understood s sql)) (params : Row) (old new : State) where
-  pub keeps : {V : Type 0} (items : V → List Row) (r : Result V Error) → IfOk r (λ rows. Shown sql params old new (items rows)) → IfErr r (FailsToQuery sql params old new) → Knows old → Keeps old new
-  keeps items (Ok rows) h fails knows = inl (shown_keeps sql params old new (λ alive. plain old.now.schema (knows alive)) (items rows) h)
-  keeps items (Err e) h fails knows = failure_keeps sql params old new (λ alive. plain old.now.schema (knows alive)) e fails
-
-  pub commits_none : Survives old new (CommitsShowing sql params old) → Survives old new (λ _. IsDeclared old.now.schema → ⊥)
-  commits_none h = survives_weaker old new _ _ (λ _ db commits d. never_commits sql params old db (plain old.now.schema d) commits) h
-
 module _ (old new : State) (knows : Knows old) (rows : List Row) where
   pub reads_kept : Shown all_kept [] old new rows → ReadsRows kept_table every by_first whole rows old new
   reads_kept h = reads_rows register_tables kept_table all_kept [] (columns (0 ∷ 2 ∷ 3 ∷ 4 ∷ 5 ∷ [])) (col 1 0 ∷ []) asks_kept [] old new knows every (λ _. refl) by_first (λ _. refl) whole (λ _. refl) (λ _. refl) rows h

@@ -15,6 +15,7 @@ use Rattle.table_rows.specs.Tables.{schema_with}
 use Rattle.table_rows.proofs.SelectLemmas.{one_table}
 use Rattle.table_rows.proofs.ReadingLemmas.{by_each}
 use Rattle.table_rows.proofs.QueryLemmas.{Asks}
+use Rattle.table_rows.proofs.TextLemmas.{IsQueryText}
 use Rattle.register_store.specs.Opening.{all_meta, all_kept, all_findings, all_filings, all_facts}
 use Rattle.register_store.specs.Schema.{register_tables, IsDeclared}
 
@@ -26,6 +27,40 @@ fact_places = codes "SELECT pos FROM fact WHERE number = ?1 ORDER BY pos"
 
 abbrev pub facts_said : List ℕ
 facts_said = codes "SELECT id, concept, dimensions, value, decimals FROM fact WHERE number = ?1 ORDER BY pos"
+
+-- each is a SELECT
+
+pub query_meta : IsQueryText all_meta
+unfolding everything
+query_meta = refl
+
+pub query_kept : IsQueryText all_kept
+unfolding everything
+query_kept = refl
+
+pub query_findings : IsQueryText all_findings
+unfolding everything
+query_findings = refl
+
+pub query_filings : IsQueryText all_filings
+unfolding everything
+query_filings = refl
+
+pub query_facts : IsQueryText all_facts
+unfolding everything
+query_facts = refl
+
+pub query_numbers : IsQueryText filer_numbers
+unfolding everything
+query_numbers = refl
+
+pub query_places : IsQueryText fact_places
+unfolding everything
+query_places = refl
+
+pub query_said : IsQueryText facts_said
+unfolding everything
+query_said = refl
 
 -- the columns of the row from this place on
 abbrev pub columns : List ℕ → List Term

@@ -12,10 +12,8 @@ use Rattle.sqlite_tied.specs.Compute.{everything}
 use Rattle.sqlite.specs.Listing.{understood}
 use Rattle.sqlite.proofs.Callers.{IsPlain, command_of}
 use Rattle.table_rows.specs.Tables.{schema_with}
+use Rattle.register_store.specs.Making.{insert_meta}
 use Rattle.register_store.specs.Schema.{register_tables}
-
-abbrev pub insert_meta : List ℕ
-insert_meta = codes "INSERT INTO intake_meta VALUES (1, 'register', 2)"
 
 abbrev pub insert_kept : List ℕ
 insert_kept = codes "INSERT INTO kept VALUES (?1, ?2, ?3, ?4, ?5)"

@@ -3,7 +3,9 @@ pub mod Cells
 pub mod Changes
 pub mod Columns
 pub mod Faults
+pub mod Files
 pub mod Found
+pub mod Making
 pub mod Numbered
 pub mod Opening
 pub mod Outcomes

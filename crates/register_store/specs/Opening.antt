@@ -1,5 +1,5 @@
 -- What an opening reads, and why a database is not opened.
-use Rattle.std.specs.Prelude.{◌≡◌, ◌≢◌, ◌⊎◌, ⊤, ℕ, List, [], ◌∷◌, codes}
+use Rattle.std.specs.Prelude.{◌≡◌, ◌≢◌, ◌⊎◌, ℕ, List, [], ◌∷◌, codes}
 use Rattle.sqlite.specs.Order.{Row}
 use Rattle.sqlite.specs.Store.{Ghosts}
 use Rattle.sqlite.specs.Held.{Held, state}
@@ -70,9 +70,14 @@ IsDamagedAt g row old new =
 abbrev pub IsDamaged : {S : Type 0} → Ghosts S → ℕ → Held S → Held S → Type 0
 IsDamaged {S} g row old new = (mid : Held S) × IsRead g all_meta old mid (meta_row ∷ []) × IsDamagedAt g row mid new
 
--- what a refusal says of the database; the disk is blamed where a query of the five failed by it
+-- the five queries show their rows
+abbrev pub AreAllRead : {S : Type 0} → Ghosts S → Held S → Held S → Type 0
+AreAllRead g old new = (rows : List (List Row)) × AreRead g (all_meta ∷ table_texts) old new rows
+
+-- What a refusal says of the database. The disk is blamed where a query of the five failed by it, and memory where one
+-- failed for want of it, or where none failed and the rows were looked through.
 abbrev pub IsRefused : {S : Type 0} → Ghosts S → OpenFault → Held S → Held S → Type 0
 IsRefused g fault.NotOurs old new = IsNoRegister g old new
 IsRefused g (fault.Damaged row) old new = IsDamaged g row old new
-IsRefused g fault.Memory old new = ⊤
+IsRefused g fault.Memory old new = StopsFor g cause.Memory (all_meta ∷ table_texts) old new ⊎ AreAllRead g old new
 IsRefused g fault.Disk old new = StopsFor g cause.Disk (all_meta ∷ table_texts) old new

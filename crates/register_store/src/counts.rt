@@ -7,7 +7,7 @@ ghost use Rattle.filing_model.specs.Register.{register};
 ghost use Rattle.filing_model.specs.Views.{view_row};
 ghost use Rattle.sqlite.specs.Held.{state};
 ghost use Rattle.sqlite.specs.State.{HasCleanDisk, Survives};
-ghost use Rattle.table_rows.specs.Standing.{Stands, Commits};
+ghost use Rattle.table_rows.specs.Standing.{Stands};
 ghost use Rattle.register_store.specs.Numbered.{facts_numbered, counted_under, numbers_under};
 ghost use Rattle.register_store.specs.Store.{IsRegisterOf};
 
@@ -27,7 +27,7 @@ fn count_facts<S: Alter>(conn: &mut Connection<S>, number: u64) -> Result<usize,
     ensures same { HasCleanDisk (state S.Store conn.new) → (F : List Request) → Stands (IsRegisterOf F) (state S.Store conn.old) → Stands (IsRegisterOf F) (state S.Store conn.new) }
     ensures open { HasCleanDisk (state S.Store conn.new) → (F : List Request) → Stands (IsRegisterOf F) (state S.Store conn.old) → OnOk result (IsTrue (state S.Store conn.new).is_open) }
     ensures mode { conn.old.in_transaction ≡ false → conn.new.in_transaction ≡ false }
-    ensures survives { Survives (state S.Store conn.old) (state S.Store conn.new) (Commits IsRegisterOf (state S.Store conn.old) (λ _ _. ⊥)) }
+    ensures survives { Survives (state S.Store conn.old) (state S.Store conn.new) (λ _. ⊥) }
 {
     if number > MAX_NUMBER {
         return Err(StoreFault::Store);
@@ -48,7 +48,7 @@ pub(crate) fn count_each<S: Alter>(
     ensures same { HasCleanDisk (state S.Store conn.new) → (F : List Request) → Stands (IsRegisterOf F) (state S.Store conn.old) → Stands (IsRegisterOf F) (state S.Store conn.new) }
     ensures open { HasCleanDisk (state S.Store conn.new) → (F : List Request) → Stands (IsRegisterOf F) (state S.Store conn.old) → IsTrue (state S.Store conn.old).is_open → OnOk result (IsTrue (state S.Store conn.new).is_open) }
     ensures mode { conn.old.in_transaction ≡ false → conn.new.in_transaction ≡ false }
-    ensures survives { Survives (state S.Store conn.old) (state S.Store conn.new) (Commits IsRegisterOf (state S.Store conn.old) (λ _ _. ⊥)) }
+    ensures survives { Survives (state S.Store conn.old) (state S.Store conn.new) (λ _. ⊥) }
 {
     let mut rows = Vec::new(alloc);
     for &number in numbers {
@@ -68,7 +68,7 @@ fn numbers_of<S: Alter>(
     ensures same { HasCleanDisk (state S.Store conn.new) → (F : List Request) → Stands (IsRegisterOf F) (state S.Store conn.old) → Stands (IsRegisterOf F) (state S.Store conn.new) }
     ensures open { HasCleanDisk (state S.Store conn.new) → (F : List Request) → Stands (IsRegisterOf F) (state S.Store conn.old) → OnOk result (IsTrue (state S.Store conn.new).is_open) }
     ensures mode { conn.old.in_transaction ≡ false → conn.new.in_transaction ≡ false }
-    ensures survives { Survives (state S.Store conn.old) (state S.Store conn.new) (Commits IsRegisterOf (state S.Store conn.old) (λ _ _. ⊥)) }
+    ensures survives { Survives (state S.Store conn.old) (state S.Store conn.new) (λ _. ⊥) }
 {
     match reads::numbers_of_filer(conn, filer) {
         Ok(rows) => read_numbers(alloc, &rows),
@@ -86,7 +86,7 @@ pub(crate) fn filings_of<S: Alter>(
     ensures same { HasCleanDisk (state S.Store conn.new) → (F : List Request) → Stands (IsRegisterOf F) (state S.Store conn.old) → Stands (IsRegisterOf F) (state S.Store conn.new) }
     ensures open { HasCleanDisk (state S.Store conn.new) → (F : List Request) → Stands (IsRegisterOf F) (state S.Store conn.old) → OnOk result (IsTrue (state S.Store conn.new).is_open) }
     ensures mode { conn.old.in_transaction ≡ false → conn.new.in_transaction ≡ false }
-    ensures survives { Survives (state S.Store conn.old) (state S.Store conn.new) (Commits IsRegisterOf (state S.Store conn.old) (λ _ _. ⊥)) }
+    ensures survives { Survives (state S.Store conn.old) (state S.Store conn.new) (λ _. ⊥) }
 {
     match numbers_of(conn, alloc, filer) {
         Ok(numbers) => count_each(conn, alloc, &numbers),

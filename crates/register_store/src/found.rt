@@ -8,7 +8,6 @@ ghost use Rattle.filing_model.specs.Register.{Kept, kept};
 ghost use Rattle.filing_model.specs.Answer.{kept_for};
 ghost use Rattle.filing_model.specs.Views.{the_request};
 ghost use Rattle.table_rows.specs.Standing.{Stands};
-ghost use Rattle.register_store.specs.Schema.{IsDeclared};
 ghost use Rattle.register_store.specs.Register.{findings_of, number_of};
 ghost use Rattle.xbrl_report.specs.CodeNumber.{number_of as code_number};
 ghost use Rattle.register_store.specs.Store.{IsRegisterOf};
@@ -103,7 +102,7 @@ fn look_up<S: Alter>(
     ensures same { HasCleanDisk (state S.Store conn.new) → (F : List Request) → Stands (IsRegisterOf F) (state S.Store conn.old) → Stands (IsRegisterOf F) (state S.Store conn.new) }
     ensures open { HasCleanDisk (state S.Store conn.new) → (F : List Request) → Stands (IsRegisterOf F) (state S.Store conn.old) → OnOk result (IsTrue (state S.Store conn.new).is_open) }
     ensures mode { conn.old.in_transaction ≡ false → conn.new.in_transaction ≡ false }
-    ensures survives { Survives (state S.Store conn.old) (state S.Store conn.new) (λ _. IsDeclared (state S.Store conn.old).now.schema → ⊥) }
+    ensures survives { Survives (state S.Store conn.old) (state S.Store conn.new) (λ _. ⊥) }
 {
     match rows_with_key(conn, filer, key) {
         Ok(rows) => read_first(&rows),
@@ -122,7 +121,7 @@ fn findings_at<S: Alter>(
     ensures same { HasCleanDisk (state S.Store conn.new) → (F : List Request) → Stands (IsRegisterOf F) (state S.Store conn.old) → Stands (IsRegisterOf F) (state S.Store conn.new) }
     ensures open { HasCleanDisk (state S.Store conn.new) → (F : List Request) → Stands (IsRegisterOf F) (state S.Store conn.old) → OnOk result (IsTrue (state S.Store conn.new).is_open) }
     ensures mode { conn.old.in_transaction ≡ false → conn.new.in_transaction ≡ false }
-    ensures survives { Survives (state S.Store conn.old) (state S.Store conn.new) (λ _. IsDeclared (state S.Store conn.old).now.schema → ⊥) }
+    ensures survives { Survives (state S.Store conn.old) (state S.Store conn.new) (λ _. ⊥) }
 {
     match rows_of_findings(conn, seq) {
         Ok(rows) => read_findings(alloc, &rows),
@@ -141,7 +140,7 @@ fn complete<S: Alter>(
     ensures same { HasCleanDisk (state S.Store conn.new) → (F : List Request) → Stands (IsRegisterOf F) (state S.Store conn.old) → Stands (IsRegisterOf F) (state S.Store conn.new) }
     ensures open { HasCleanDisk (state S.Store conn.new) → (F : List Request) → Stands (IsRegisterOf F) (state S.Store conn.old) → IsTrue (state S.Store conn.old).is_open → OnOk result (IsTrue (state S.Store conn.new).is_open) }
     ensures mode { conn.old.in_transaction ≡ false → conn.new.in_transaction ≡ false }
-    ensures survives { Survives (state S.Store conn.old) (state S.Store conn.new) (λ _. IsDeclared (state S.Store conn.old).now.schema → ⊥) }
+    ensures survives { Survives (state S.Store conn.old) (state S.Store conn.new) (λ _. ⊥) }
 {
     let Found { seq, body, number } = found;
     match number {
@@ -171,7 +170,7 @@ pub fn find_kept<S: Alter>(
     ensures same { HasCleanDisk (state S.Store conn.new) → (F : List Request) → Stands (IsRegisterOf F) (state S.Store conn.old) → Stands (IsRegisterOf F) (state S.Store conn.new) }
     ensures open { HasCleanDisk (state S.Store conn.new) → (F : List Request) → Stands (IsRegisterOf F) (state S.Store conn.old) → OnOk result (IsTrue (state S.Store conn.new).is_open) }
     ensures mode { conn.old.in_transaction ≡ false → conn.new.in_transaction ≡ false }
-    ensures crash { Survives (state S.Store conn.old) (state S.Store conn.new) (λ _. (F : List Request) → Stands (IsRegisterOf F) (state S.Store conn.old) → IsTrue (state S.Store conn.old).is_open → ⊥) }
+    ensures crash { Survives (state S.Store conn.old) (state S.Store conn.new) (λ _. ⊥) }
 {
     match look_up(conn, filer, key) {
         Ok(Some(found)) => match complete(conn, alloc, found) {

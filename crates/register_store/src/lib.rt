@@ -26,7 +26,9 @@ mod write;
 
 pub use completed::{Completed, Registered};
 pub use content::findings_value;
+pub use create::make_register;
 pub use fault::{CreateFault, OpenFault, StoreFault};
+pub use opening::{Counts, read_register};
 pub use outcome::{KeptRow, NewRow, Outcome};
 pub use store::Store;
 

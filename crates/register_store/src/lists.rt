@@ -27,7 +27,7 @@ impl<S: Alter> Store<S> {
         ensures rows { HasCleanDisk (shows S.Store self.new) → (F : List Request) → HasRequests S.Store self.old F → IfOk result (λ rows. rows.items ≡ F) }
         ensures same { HasCleanDisk (shows S.Store self.new) → (F : List Request) → HasRequests S.Store self.old F → HasRequests S.Store self.new F }
         ensures counts { (self.new.kept ≡ self.old.kept) × (self.new.filings ≡ self.old.filings) }
-        ensures crash { Survives (shows S.Store self.old) (shows S.Store self.new) (λ _. (F : List Request) → HasRequests S.Store self.old F → IsTrue (shows S.Store self.old).is_open → ⊥) }
+        ensures crash { Survives (shows S.Store self.old) (shows S.Store self.new) (λ _. ⊥) }
         ensures durable { HasCleanDisk (shows S.Store self.new) → (F : List Request) → HasRequests S.Store self.old F
             → OnOk result (IsTrue (shows S.Store self.new).is_open × ((trees : Trees) → (shows S.Store self.new).may_leave trees → Leaves F trees)) }
     {
@@ -42,7 +42,7 @@ impl<S: Alter> Store<S> {
         ensures rows { HasCleanDisk (shows S.Store self.new) → (F : List Request) → HasRequests S.Store self.old F → IfOk result (λ rows. rows.items ≡ register F) }
         ensures same { HasCleanDisk (shows S.Store self.new) → (F : List Request) → HasRequests S.Store self.old F → HasRequests S.Store self.new F }
         ensures counts { (self.new.kept ≡ self.old.kept) × (self.new.filings ≡ self.old.filings) }
-        ensures crash { Survives (shows S.Store self.old) (shows S.Store self.new) (λ _. (F : List Request) → HasRequests S.Store self.old F → IsTrue (shows S.Store self.old).is_open → ⊥) }
+        ensures crash { Survives (shows S.Store self.old) (shows S.Store self.new) (λ _. ⊥) }
         ensures durable { HasCleanDisk (shows S.Store self.new) → (F : List Request) → HasRequests S.Store self.old F
             → OnOk result (IsTrue (shows S.Store self.new).is_open × ((trees : Trees) → (shows S.Store self.new).may_leave trees → Leaves F trees)) }
     {
@@ -57,7 +57,7 @@ impl<S: Alter> Store<S> {
         ensures rows { HasCleanDisk (shows S.Store self.new) → (F : List Request) → HasRequests S.Store self.old F → IfOk result (λ rows. map view_row rows.items ≡ listings filer.now (register F)) }
         ensures same { HasCleanDisk (shows S.Store self.new) → (F : List Request) → HasRequests S.Store self.old F → HasRequests S.Store self.new F }
         ensures counts { (self.new.kept ≡ self.old.kept) × (self.new.filings ≡ self.old.filings) }
-        ensures crash { Survives (shows S.Store self.old) (shows S.Store self.new) (λ _. (F : List Request) → HasRequests S.Store self.old F → IsTrue (shows S.Store self.old).is_open → ⊥) }
+        ensures crash { Survives (shows S.Store self.old) (shows S.Store self.new) (λ _. ⊥) }
         ensures durable { HasCleanDisk (shows S.Store self.new) → (F : List Request) → HasRequests S.Store self.old F
             → OnOk result (IsTrue (shows S.Store self.new).is_open × ((trees : Trees) → (shows S.Store self.new).may_leave trees → Leaves F trees)) }
     {
@@ -70,7 +70,7 @@ impl<S: Alter> Store<S> {
         ensures facts { HasCleanDisk (shows S.Store self.new) → (F : List Request) → HasRequests S.Store self.old F → IfOk result (λ facts. option_map (λ list. list.items) facts ≡ facts_numbered number (register F)) }
         ensures same { HasCleanDisk (shows S.Store self.new) → (F : List Request) → HasRequests S.Store self.old F → HasRequests S.Store self.new F }
         ensures counts { (self.new.kept ≡ self.old.kept) × (self.new.filings ≡ self.old.filings) }
-        ensures crash { Survives (shows S.Store self.old) (shows S.Store self.new) (λ _. (F : List Request) → HasRequests S.Store self.old F → IsTrue (shows S.Store self.old).is_open → ⊥) }
+        ensures crash { Survives (shows S.Store self.old) (shows S.Store self.new) (λ _. ⊥) }
         ensures durable { HasCleanDisk (shows S.Store self.new) → (F : List Request) → HasRequests S.Store self.old F → IsTrue (shows S.Store self.new).is_open
             → (trees : Trees) → (shows S.Store self.new).may_leave trees → Leaves F trees }
     {

@@ -1,10 +1,10 @@
 //! What an opening finds in a database.
 
-ghost use Rattle.std.specs.Prelude.{◌≡◌, ◌≢◌, ◌≤◌, ◌^◌, ◌⊎◌, ◌↔◌, ◌∷◌, [], ℕ, List, length, false, not, Err, IsTrue, IfOk, IfErr, OnOk};
+ghost use Rattle.std.specs.Prelude.{◌≡◌, ◌≢◌, ◌≤◌, ◌^◌, ◌⊎◌, ◌↔◌, ◌∷◌, [], ℕ, List, length, false, not, Err, IsTrue, IfOk, IfErr, OnOk, OnErr, None};
 ghost use Rattle.filing_model.specs.Register.{register};
 ghost use Rattle.filing_model.specs.Request.{Request};
 ghost use Rattle.sqlite.specs.Held.{state};
-ghost use Rattle.sqlite.specs.State.{HasCleanDisk, IsLive, IsUnchanged, Survives};
+ghost use Rattle.sqlite.specs.State.{HasCleanDisk, IsLive, IsUnchanged, KeepsCommit, Survives};
 ghost use Rattle.table_rows.specs.Causes.{cause_of};
 ghost use Rattle.table_rows.specs.Standing.{Stands};
 ghost use Rattle.register_store.specs.Audit.{IsVerdict};
@@ -64,7 +64,7 @@ fn read_meta<S: Alter>(conn: &mut Connection<S>) -> Result<(), OpenFault>
     ensures read { HasCleanDisk (state S.Store conn.new) → OnOk result (IsRead S.Store all_meta conn.old conn.new (meta_row ∷ [])) }
     ensures refused { HasCleanDisk (state S.Store conn.new) → IfErr result (λ fault. IsRefused S.Store fault conn.old conn.new) }
     ensures mode { conn.old.in_transaction ≡ false → conn.new.in_transaction ≡ false }
-    ensures survives { Survives (state S.Store conn.old) (state S.Store conn.new) (λ _. IsDeclared (state S.Store conn.old).now.schema → ⊥) }
+    ensures survives { Survives (state S.Store conn.old) (state S.Store conn.new) (λ _. ⊥) }
 {
     match reads::meta_rows(conn) {
         Ok(rows) => {
@@ -91,7 +91,7 @@ fn read_tables<S: Alter>(conn: &mut Connection<S>) -> Result<Tables, Error>
     ensures read { HasCleanDisk (state S.Store conn.new) → IfOk result (λ tables. AreRead S.Store table_texts conn.old conn.new (tables.kept.items ∷ tables.findings.items ∷ tables.filings.items ∷ tables.facts.items ∷ [])) }
     ensures failed { HasCleanDisk (state S.Store conn.new) → IfErr result (λ error. StopsFor S.Store (cause_of error) table_texts conn.old conn.new) }
     ensures mode { conn.old.in_transaction ≡ false → conn.new.in_transaction ≡ false }
-    ensures survives { Survives (state S.Store conn.old) (state S.Store conn.new) (λ _. IsDeclared (state S.Store conn.old).now.schema → ⊥) }
+    ensures survives { Survives (state S.Store conn.old) (state S.Store conn.new) (λ _. ⊥) }
 {
     match reads::kept_rows(conn) {
         Ok(kept) => match reads::finding_rows(conn) {
@@ -113,11 +113,11 @@ fn read_tables<S: Alter>(conn: &mut Connection<S>) -> Result<Tables, Error>
     }
 }
 
-/// How much a register holds.
-#[derive(Clone, Copy)]
-pub(crate) struct Counts {
-    pub(crate) kept: u64,
-    pub(crate) filings: u64,
+/// How much a register holds: how many requests are kept, and how many of them are registered.
+#[derive(Clone, Copy, Debug, PartialEq, Eq)]
+pub struct Counts {
+    pub kept: u64,
+    pub filings: u64,
 }
 
 /// Counts what the rows stand for, where they stand for a list of requests.
@@ -143,7 +143,7 @@ fn count(
 }
 
 /// Whether no transaction is under way.
-fn is_settled<S: Alter>(conn: &Connection<S>) -> bool
+pub(crate) fn is_settled<S: Alter>(conn: &Connection<S>) -> bool
     ensures value { result ≡ not conn.now.in_transaction }
     ensures live { IsLive (state S.Store conn.now) }
     ensures settled { IsTrue result → IsTrue (state S.Store conn.now).is_open → (state S.Store conn.now).now ≡ (state S.Store conn.now).committed }
@@ -152,17 +152,33 @@ fn is_settled<S: Alter>(conn: &Connection<S>) -> bool
     conn.is_autocommit()
 }
 
-/// Finds how much the register holds that the database is.
-pub(crate) fn find<S: Alter>(conn: &mut Connection<S>, alloc: Global) -> Result<Counts, OpenFault>
+/// Reads how much the register holds that the database is: nothing is written, whatever the answer is. How the tables
+/// are declared is not tested.
+pub fn read_register<S: Alter>(
+    alloc: Global,
+    conn: &mut Connection<S>,
+) -> Result<Counts, OpenFault>
     requires autocommit { conn.old.in_transaction ≡ false }
+    requires unlimited { conn.old.step_limit ≡ None }
+
+    // The rows stand for requests, and these are counted. Others than those that are counted they don't stand for.
     ensures found { HasCleanDisk (state S.Store conn.new) → IsDeclared (state S.Store conn.old).now.schema
         → IfOk result (λ counts. (F : List Request) × IsRegisterOf F (state S.Store conn.old).now × Stands (IsRegisterOf F) (state S.Store conn.new)
-        × (counts.kept ≡ length F) × (counts.filings ≡ length (register F)) × ((G : List Request) → IsRegisterOf G (state S.Store conn.old).now → G ≡ F)) }
-    ensures same { HasCleanDisk (state S.Store conn.new) → IsDeclared (state S.Store conn.old).now.schema → OnOk result (IsUnchanged (state S.Store conn.old) (state S.Store conn.new)) }
-    ensures refused { HasCleanDisk (state S.Store conn.new) → IfErr result (λ fault. IsRefused S.Store fault conn.old conn.new) }
+        × (counts.kept ≡ length F) × (counts.filings ≡ length (register F))) }
+    ensures only { HasCleanDisk (state S.Store conn.new) → IfOk result (λ counts. (F : List Request) → IsRegisterOf F (state S.Store conn.old).now
+        → Stands (IsRegisterOf F) (state S.Store conn.new) × (counts.kept ≡ length F) × (counts.filings ≡ length (register F))) }
     ensures few { IfOk result (λ counts. (counts.kept ≤ 2 ^ 62) × (counts.filings ≤ counts.kept)) }
+
+    // A refusal says why; where the rows stand for requests, it is by memory or disk.
+    ensures refused { HasCleanDisk (state S.Store conn.new) → IfErr result (λ fault. IsRefused S.Store fault conn.old conn.new) }
+    ensures sound { HasCleanDisk (state S.Store conn.new) → IfErr result (λ fault. (F : List Request) → IsRegisterOf F (state S.Store conn.old).now
+        → (fault ≡ OpenFault.Memory) ⊎ (fault ≡ OpenFault.Disk)) }
+
+    // The connection is as it was, and after a refusal at least what is committed. A crash leaves what it could leave before.
+    ensures same { HasCleanDisk (state S.Store conn.new) → OnOk result (IsUnchanged (state S.Store conn.old) (state S.Store conn.new)) }
+    ensures keeps { HasCleanDisk (state S.Store conn.new) → OnErr result (KeepsCommit (state S.Store conn.old) (state S.Store conn.new)) }
     ensures mode { conn.new.in_transaction ≡ false }
-    ensures survives { Survives (state S.Store conn.old) (state S.Store conn.new) (λ _. IsDeclared (state S.Store conn.old).now.schema → ⊥) }
+    ensures survives { Survives (state S.Store conn.old) (state S.Store conn.new) (λ _. ⊥) }
 {
     prove!(is_settled(conn));
     match read_meta(conn) {

@@ -5,7 +5,7 @@ ghost use Rattle.sqlite.specs.Held.{state};
 ghost use Rattle.sqlite.specs.State.{HasCleanDisk, FailsToQuery, Shown, Survives};
 ghost use Rattle.table_rows.specs.Reading.{ReadsRows};
 ghost use Rattle.table_rows.specs.Standing.{Keeps};
-ghost use Rattle.register_store.specs.Schema.{IsDeclared, kept_table, fact_table};
+ghost use Rattle.register_store.specs.Schema.{kept_table, fact_table};
 ghost use Rattle.register_store.specs.Opening.{all_meta, all_kept, all_findings, all_filings, all_facts};
 ghost use Rattle.register_store.specs.Reads.{Knows, every, whole, by_first, by_second, has_filer, has_number, number_alone, place_alone, said};
 
@@ -16,9 +16,9 @@ pub(crate) fn kept_rows<S: Alter>(conn: &mut Connection<S>) -> Result<Vec<Row>, 
     ensures shown { HasCleanDisk (state S.Store conn.new) → IfOk result (λ rows. Shown all_kept [] (state S.Store conn.old) (state S.Store conn.new) rows.items) }
     ensures failed { HasCleanDisk (state S.Store conn.new) → IfErr result (FailsToQuery all_kept [] (state S.Store conn.old) (state S.Store conn.new)) }
     ensures read { HasCleanDisk (state S.Store conn.new) → Knows (state S.Store conn.old) → IfOk result (λ rows. ReadsRows kept_table every by_first whole rows.items (state S.Store conn.old) (state S.Store conn.new)) }
-    ensures keeps { HasCleanDisk (state S.Store conn.new) → Knows (state S.Store conn.old) → Keeps (state S.Store conn.old) (state S.Store conn.new) }
+    ensures keeps { HasCleanDisk (state S.Store conn.new) → Keeps (state S.Store conn.old) (state S.Store conn.new) }
     ensures mode { conn.old.in_transaction ≡ false → conn.new.in_transaction ≡ false }
-    ensures survives { Survives (state S.Store conn.old) (state S.Store conn.new) (λ _. IsDeclared (state S.Store conn.old).now.schema → ⊥) }
+    ensures survives { Survives (state S.Store conn.old) (state S.Store conn.new) (λ _. ⊥) }
 {
     conn.query_all(
         "SELECT seq, filer, idem, body, number FROM kept ORDER BY seq",
@@ -32,9 +32,9 @@ pub(crate) fn numbers_of_filer<S: Alter>(
     filer: &str,
 ) -> Result<Vec<Row>, Error>
     ensures read { HasCleanDisk (state S.Store conn.new) → Knows (state S.Store conn.old) → IfOk result (λ rows. ReadsRows kept_table (has_filer filer.now) by_first number_alone rows.items (state S.Store conn.old) (state S.Store conn.new)) }
-    ensures keeps { HasCleanDisk (state S.Store conn.new) → Knows (state S.Store conn.old) → Keeps (state S.Store conn.old) (state S.Store conn.new) }
+    ensures keeps { HasCleanDisk (state S.Store conn.new) → Keeps (state S.Store conn.old) (state S.Store conn.new) }
     ensures mode { conn.old.in_transaction ≡ false → conn.new.in_transaction ≡ false }
-    ensures survives { Survives (state S.Store conn.old) (state S.Store conn.new) (λ _. IsDeclared (state S.Store conn.old).now.schema → ⊥) }
+    ensures survives { Survives (state S.Store conn.old) (state S.Store conn.new) (λ _. ⊥) }
 {
     conn.query_all(
         "SELECT number FROM kept WHERE filer = ?1 ORDER BY seq",
@@ -49,9 +49,9 @@ pub(crate) fn fact_places<S: Alter>(
 ) -> Result<Vec<Row>, Error>
     requires { number < 2 ^ 63 }
     ensures read { HasCleanDisk (state S.Store conn.new) → Knows (state S.Store conn.old) → IfOk result (λ rows. ReadsRows fact_table (has_number number) by_second place_alone rows.items (state S.Store conn.old) (state S.Store conn.new)) }
-    ensures keeps { HasCleanDisk (state S.Store conn.new) → Knows (state S.Store conn.old) → Keeps (state S.Store conn.old) (state S.Store conn.new) }
+    ensures keeps { HasCleanDisk (state S.Store conn.new) → Keeps (state S.Store conn.old) (state S.Store conn.new) }
     ensures mode { conn.old.in_transaction ≡ false → conn.new.in_transaction ≡ false }
-    ensures survives { Survives (state S.Store conn.old) (state S.Store conn.new) (λ _. IsDeclared (state S.Store conn.old).now.schema → ⊥) }
+    ensures survives { Survives (state S.Store conn.old) (state S.Store conn.new) (λ _. ⊥) }
 {
     conn.query_all(
         "SELECT pos FROM fact WHERE number = ?1 ORDER BY pos",
@@ -66,9 +66,9 @@ pub(crate) fn facts_of_filing<S: Alter>(
 ) -> Result<Vec<Row>, Error>
     requires { number < 2 ^ 63 }
     ensures read { HasCleanDisk (state S.Store conn.new) → Knows (state S.Store conn.old) → IfOk result (λ rows. ReadsRows fact_table (has_number number) by_second said rows.items (state S.Store conn.old) (state S.Store conn.new)) }
-    ensures keeps { HasCleanDisk (state S.Store conn.new) → Knows (state S.Store conn.old) → Keeps (state S.Store conn.old) (state S.Store conn.new) }
+    ensures keeps { HasCleanDisk (state S.Store conn.new) → Keeps (state S.Store conn.old) (state S.Store conn.new) }
     ensures mode { conn.old.in_transaction ≡ false → conn.new.in_transaction ≡ false }
-    ensures survives { Survives (state S.Store conn.old) (state S.Store conn.new) (λ _. IsDeclared (state S.Store conn.old).now.schema → ⊥) }
+    ensures survives { Survives (state S.Store conn.old) (state S.Store conn.new) (λ _. ⊥) }
 {
     conn.query_all(
         "SELECT id, concept, dimensions, value, decimals FROM fact WHERE number = ?1 ORDER BY pos",
@@ -81,7 +81,7 @@ pub(crate) fn meta_rows<S: Alter>(conn: &mut Connection<S>) -> Result<Vec<Row>, 
     ensures shown { HasCleanDisk (state S.Store conn.new) → IfOk result (λ rows. Shown all_meta [] (state S.Store conn.old) (state S.Store conn.new) rows.items) }
     ensures failed { HasCleanDisk (state S.Store conn.new) → IfErr result (FailsToQuery all_meta [] (state S.Store conn.old) (state S.Store conn.new)) }
     ensures mode { conn.old.in_transaction ≡ false → conn.new.in_transaction ≡ false }
-    ensures survives { Survives (state S.Store conn.old) (state S.Store conn.new) (λ _. IsDeclared (state S.Store conn.old).now.schema → ⊥) }
+    ensures survives { Survives (state S.Store conn.old) (state S.Store conn.new) (λ _. ⊥) }
 {
     conn.query_all("SELECT id, kind, form FROM intake_meta ORDER BY id", &[])
 }
@@ -91,7 +91,7 @@ pub(crate) fn finding_rows<S: Alter>(conn: &mut Connection<S>) -> Result<Vec<Row
     ensures shown { HasCleanDisk (state S.Store conn.new) → IfOk result (λ rows. Shown all_findings [] (state S.Store conn.old) (state S.Store conn.new) rows.items) }
     ensures failed { HasCleanDisk (state S.Store conn.new) → IfErr result (FailsToQuery all_findings [] (state S.Store conn.old) (state S.Store conn.new)) }
     ensures mode { conn.old.in_transaction ≡ false → conn.new.in_transaction ≡ false }
-    ensures survives { Survives (state S.Store conn.old) (state S.Store conn.new) (λ _. IsDeclared (state S.Store conn.old).now.schema → ⊥) }
+    ensures survives { Survives (state S.Store conn.old) (state S.Store conn.new) (λ _. ⊥) }
 {
     conn.query_all(
         "SELECT seq, pos, code, place FROM finding ORDER BY seq, pos",
@@ -104,7 +104,7 @@ pub(crate) fn filing_rows<S: Alter>(conn: &mut Connection<S>) -> Result<Vec<Row>
     ensures shown { HasCleanDisk (state S.Store conn.new) → IfOk result (λ rows. Shown all_filings [] (state S.Store conn.old) (state S.Store conn.new) rows.items) }
     ensures failed { HasCleanDisk (state S.Store conn.new) → IfErr result (FailsToQuery all_filings [] (state S.Store conn.old) (state S.Store conn.new)) }
     ensures mode { conn.old.in_transaction ≡ false → conn.new.in_transaction ≡ false }
-    ensures survives { Survives (state S.Store conn.old) (state S.Store conn.new) (λ _. IsDeclared (state S.Store conn.old).now.schema → ⊥) }
+    ensures survives { Survives (state S.Store conn.old) (state S.Store conn.new) (λ _. ⊥) }
 {
     conn.query_all("SELECT number, seq FROM filing ORDER BY number", &[])
 }
@@ -114,7 +114,7 @@ pub(crate) fn fact_rows<S: Alter>(conn: &mut Connection<S>) -> Result<Vec<Row>, 
     ensures shown { HasCleanDisk (state S.Store conn.new) → IfOk result (λ rows. Shown all_facts [] (state S.Store conn.old) (state S.Store conn.new) rows.items) }
     ensures failed { HasCleanDisk (state S.Store conn.new) → IfErr result (FailsToQuery all_facts [] (state S.Store conn.old) (state S.Store conn.new)) }
     ensures mode { conn.old.in_transaction ≡ false → conn.new.in_transaction ≡ false }
-    ensures survives { Survives (state S.Store conn.old) (state S.Store conn.new) (λ _. IsDeclared (state S.Store conn.old).now.schema → ⊥) }
+    ensures survives { Survives (state S.Store conn.old) (state S.Store conn.new) (λ _. ⊥) }
 {
     conn.query_all(
         "SELECT number, pos, id, concept, dimensions, value, decimals FROM fact ORDER BY number, pos",

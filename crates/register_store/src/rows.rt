@@ -10,7 +10,7 @@ ghost use Rattle.table_rows.specs.Reading.{ReadsRows};
 ghost use Rattle.table_rows.specs.Standing.{Keeps};
 ghost use Rattle.register_store.specs.Reads.{Knows, by_second};
 ghost use Rattle.register_store.specs.Found.{has_texts, has_seq, unsorted, found_in, pair_in};
-ghost use Rattle.register_store.specs.Schema.{IsDeclared, kept_table, finding_table, filing_table, fact_table};
+ghost use Rattle.register_store.specs.Schema.{kept_table, finding_table, filing_table, fact_table};
 ghost use Rattle.key_string.specs.Key.{IsKey};
 ghost use Rattle.register_store.specs.Changes.{GainsRows};
 ghost use Rattle.register_store.specs.Register.{finding_row, fact_row};
@@ -194,9 +194,9 @@ pub fn rows_with_key<S: Alter>(
     key: &str,
 ) -> Result<Vec<Row>, Error>
     ensures read { HasCleanDisk (state S.Store conn.new) → Knows (state S.Store conn.old) → IfOk result (λ rows. ReadsRows kept_table (has_texts filer.now key.now) unsorted found_in rows.items (state S.Store conn.old) (state S.Store conn.new)) }
-    ensures keeps { HasCleanDisk (state S.Store conn.new) → Knows (state S.Store conn.old) → Keeps (state S.Store conn.old) (state S.Store conn.new) }
+    ensures keeps { HasCleanDisk (state S.Store conn.new) → Keeps (state S.Store conn.old) (state S.Store conn.new) }
     ensures mode { conn.old.in_transaction ≡ false → conn.new.in_transaction ≡ false }
-    ensures survives { Survives (state S.Store conn.old) (state S.Store conn.new) (λ _. IsDeclared (state S.Store conn.old).now.schema → ⊥) }
+    ensures survives { Survives (state S.Store conn.old) (state S.Store conn.new) (λ _. ⊥) }
 {
     conn.query_all(
         "SELECT seq, body, number FROM kept WHERE filer = ?1 AND idem = ?2",
@@ -207,9 +207,9 @@ pub fn rows_with_key<S: Alter>(
 /// The columns `code` and `place` of the findings of the request at this place, in order.
 pub fn rows_of_findings<S: Alter>(conn: &mut Connection<S>, seq: i64) -> Result<Vec<Row>, Error>
     ensures read { HasCleanDisk (state S.Store conn.new) → Knows (state S.Store conn.old) → IfOk result (λ rows. ReadsRows finding_table (has_seq seq) by_second pair_in rows.items (state S.Store conn.old) (state S.Store conn.new)) }
-    ensures keeps { HasCleanDisk (state S.Store conn.new) → Knows (state S.Store conn.old) → Keeps (state S.Store conn.old) (state S.Store conn.new) }
+    ensures keeps { HasCleanDisk (state S.Store conn.new) → Keeps (state S.Store conn.old) (state S.Store conn.new) }
     ensures mode { conn.old.in_transaction ≡ false → conn.new.in_transaction ≡ false }
-    ensures survives { Survives (state S.Store conn.old) (state S.Store conn.new) (λ _. IsDeclared (state S.Store conn.old).now.schema → ⊥) }
+    ensures survives { Survives (state S.Store conn.old) (state S.Store conn.new) (λ _. ⊥) }
 {
     conn.query_all(
         "SELECT code, place FROM finding WHERE seq = ?1 ORDER BY pos",

@@ -1,6 +1,6 @@
 //! The store of a register: its connection, and how much it holds.
 
-ghost use Rattle.std.specs.Prelude.{◌≡◌, ◌≤◌, ◌<◌, ◌^◌, ◌+◌, ◌↔◌, ◌⊎◌, ℕ, true, false, List, [], ◌∷◌, ◌++◌, length, option_map, None, Ok, Err, IsTrue, IfOk, IfErr, OnOk, OnErr};
+ghost use Rattle.std.specs.Prelude.{◌≡◌, ◌≢◌, ◌≤◌, ◌<◌, ◌^◌, ◌+◌, ◌↔◌, ◌⊎◌, ℕ, true, false, List, [], ◌∷◌, ◌++◌, length, option_map, None, Ok, Err, IsTrue, IfOk, IfErr, OnOk, OnErr};
 ghost use Rattle.key_string.specs.Filer.{is_filer};
 ghost use Rattle.http_wire.specs.Head.{max_body_len};
 ghost use Rattle.xbrl_report.specs.Judgement.{IsJudgement, HasFacts};
@@ -10,15 +10,14 @@ ghost use Rattle.filing_model.specs.Answer.{kept_for};
 ghost use Rattle.filing_model.specs.Views.{the_request};
 ghost use Rattle.sqlite.specs.Held.{state};
 ghost use Rattle.sqlite.specs.Tree.{Trees};
-ghost use Rattle.sqlite.specs.State.{HasCleanDisk, IsUnchanged, Survives};
+ghost use Rattle.sqlite.specs.State.{HasCleanDisk, IsUnchanged, KeepsCommit, Survives};
 ghost use Rattle.table_rows.specs.Tables.{no_schema};
 ghost use Rattle.register_store.specs.Schema.{is_taken};
 
-use crate::create::make;
+use crate::create::make_register;
 use crate::fault::{CreateFault, OpenFault, StoreFault};
 use crate::found::find_kept;
-use crate::names;
-use crate::opening::{Counts, find};
+use crate::opening::{Counts, read_register};
 use crate::outcome::{KeptRow, NewRow, Outcome};
 use crate::write::keep;
 use key_string::KeyText;
@@ -60,6 +59,11 @@ impl<S: Alter + Drop> Drop for Store<S> {
 }
 
 impl<S: Alter + Drop> Store<S> {
+    ghost use Rattle.sqlite.specs.Held.{Held};
+    ghost use Rattle.sqlite.specs.declared.error.Error.{Error};
+    ghost use Rattle.register_store.specs.Changes.{AddsNothing};
+    ghost use Rattle.register_store.specs.Faults.{create_fault};
+    ghost use Rattle.register_store.specs.Making.{Makes, FailsToMake};
     ghost use Rattle.register_store.specs.Store.{shows, HasRequests, Leaves};
 
     /// Makes the tables of a register that has no request, in one transaction. A refusal gives the connection up, and
@@ -74,22 +78,25 @@ impl<S: Alter + Drop> Store<S> {
         // Taken comes where one of the names is in use, and always there.
         ensures taken { (result ≡ Err CreateFault.Taken) ↔ IsTrue (is_taken (state S.Store conn).now.schema) }
 
+        // After a refusal nothing was written, of the connection as it was given up (`make_register` names it), and another than
+        // Taken has its cause in a statement or in the commit.
+        ensures refused { IfErr result (λ fault. (last : Held S) × Survives (state S.Store conn) (state S.Store last) (Makes S.Store conn)
+            × (HasCleanDisk (state S.Store last) → AddsNothing (state S.Store conn) (state S.Store last))
+            × (HasCleanDisk (state S.Store last) → fault ≢ CreateFault.Taken → (error : Error) × (fault ≡ create_fault error) × FailsToMake S.Store error conn last)) }
+
         // A crash leaves what one before the call could leave, or the empty register, and after the call that alone.
         ensures crash { IfOk result (λ store. Survives (state S.Store conn) (shows S.Store store) (λ trees. (state S.Store conn).now.schema ≡ no_schema → Leaves [] trees)) }
         ensures durable { IfOk result (λ store. HasCleanDisk (shows S.Store store) → (state S.Store conn).now.schema ≡ no_schema
             → IsTrue (shows S.Store store).is_open × ((trees : Trees) → (shows S.Store store).may_leave trees → Leaves [] trees)) }
     {
-        if names::is_taken(conn.schema()) {
-            return Err(CreateFault::Taken);
-        }
-        match make(&mut conn) {
+        match make_register(&mut conn) {
             Ok(()) => Ok(Store {
                 alloc,
                 conn,
                 kept: 0,
                 filings: 0,
             }),
-            Err(error) => Err(CreateFault::from(error)),
+            Err(fault) => Err(fault),
         }
     }
 }
@@ -110,20 +117,21 @@ impl<S: Alter + Drop> Store<S> {
         ensures opened { IfOk result (λ store. HasCleanDisk (shows S.Store store) → IsDeclared (state S.Store conn).now.schema
             → (F : List Request) × IsRegisterOf F (state S.Store conn).now × HasRequests S.Store store F) }
         ensures only { IfOk result (λ store. HasCleanDisk (shows S.Store store) → (F : List Request) → IsRegisterOf F (state S.Store conn).now → HasRequests S.Store store F) }
-        ensures same { IfOk result (λ store. HasCleanDisk (shows S.Store store) → IsDeclared (state S.Store conn).now.schema → IsUnchanged (state S.Store conn) (shows S.Store store)) }
+        ensures same { IfOk result (λ store. HasCleanDisk (shows S.Store store) → IsUnchanged (state S.Store conn) (shows S.Store store)) }
 
-        // A refusal says why, of the connection as it was given up; where the rows stand for requests, it is by memory or disk.
-        ensures refused { IfErr result (λ fault. (last : Held S) × Survives (state S.Store conn) (state S.Store last) (λ _. IsDeclared (state S.Store conn).now.schema → ⊥)
-            × (HasCleanDisk (state S.Store last) → IsRefused S.Store fault conn last)
+        // A refusal says why, of the connection as it was given up (`read_register` names it); where the rows stand for requests,
+        // it is by memory or disk.
+        ensures refused { IfErr result (λ fault. (last : Held S) × Survives (state S.Store conn) (state S.Store last) (λ _. ⊥)
+            × (HasCleanDisk (state S.Store last) → KeepsCommit (state S.Store conn) (state S.Store last) × IsRefused S.Store fault conn last)
             × (HasCleanDisk (state S.Store last) → (F : List Request) → IsRegisterOf F (state S.Store conn).now → (fault ≡ OpenFault.Memory) ⊎ (fault ≡ OpenFault.Disk))) }
 
         // A crash leaves what it could leave before, and after the call these requests alone.
-        ensures crash { IfOk result (λ store. Survives (state S.Store conn) (shows S.Store store) (λ _. IsDeclared (state S.Store conn).now.schema → ⊥)) }
+        ensures crash { IfOk result (λ store. Survives (state S.Store conn) (shows S.Store store) (λ _. ⊥)) }
         ensures durable { IfOk result (λ store. HasCleanDisk (shows S.Store store) → (F : List Request) → IsRegisterOf F (state S.Store conn).now
             → IsTrue (shows S.Store store).is_open × ((trees : Trees) → (shows S.Store store).may_leave trees → Leaves F trees)) }
     {
         let mut conn = conn;
-        match find(&mut conn, alloc) {
+        match read_register(alloc, &mut conn) {
             Ok(Counts { kept, filings }) => Ok(Store {
                 alloc,
                 conn,
@@ -147,7 +155,7 @@ impl<S: Alter> Store<S> {
         // The rows are those of before, whatever the answer is, and a crash leaves what it could leave before.
         ensures same { HasCleanDisk (shows S.Store self.new) → (F : List Request) → HasRequests S.Store self.old F → HasRequests S.Store self.new F }
         ensures counts { (self.new.kept ≡ self.old.kept) × (self.new.filings ≡ self.old.filings) }
-        ensures crash { Survives (shows S.Store self.old) (shows S.Store self.new) (λ _. (F : List Request) → HasRequests S.Store self.old F → IsTrue (shows S.Store self.old).is_open → ⊥) }
+        ensures crash { Survives (shows S.Store self.old) (shows S.Store self.new) (λ _. ⊥) }
         ensures durable { HasCleanDisk (shows S.Store self.new) → (F : List Request) → HasRequests S.Store self.old F
             → OnOk result (IsTrue (shows S.Store self.new).is_open × ((trees : Trees) → (shows S.Store self.new).may_leave trees → Leaves F trees)) }
     {

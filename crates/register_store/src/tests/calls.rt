@@ -131,10 +131,10 @@ pub fn into_files<D: Disk + Drop>(store: Store<FileStore<D>>) -> Result<Files<D>
     store.into_files()
 }
 
-/// The files, with whatever they hold now.
+/// The files, whatever `close` answers.
 pub fn close<D: Disk + Drop>(store: Store<FileStore<D>>) -> Files<D> {
-    match store.into_conn().close_files() {
+    match store.close() {
         Ok(files) => files,
-        Err((_, store)) => store.close(),
+        Err((_, files)) => files,
     }
 }

@@ -2,7 +2,7 @@
 
 use super::calls::{close, create, into_files, open, requests};
 use super::{REPORT, add, is_new, is_registered, keep};
-use crate::{Completed, Store};
+use crate::{Completed, Store, StoreFault};
 use sqlite::{Alter, Connection, FileStore, Files, Options};
 use sqlite_disk::{Crash, Disk, Fuse, Memory};
 use std::alloc::Global;
@@ -191,6 +191,37 @@ fn so_does_a_stop_of_the_other_file(rt: HostRuntime) -> Result<(), Fail> {
     assert!(rt; stops_of_db(rt.alloc(), REPORT)?);
     assert!(rt; stops_of_db(rt.alloc(), b"")?);
     Ok(())
+}
+
+/// What `into_files` answers where the disk had stopped before a request was answered, `None` where it had not.
+fn refused_after_a_stop<D: Disk + Drop>(
+    alloc: Global,
+    files: Files<D>,
+) -> Result<Option<StoreFault>, Fail> {
+    let Some(conn) = connect(alloc, files) else {
+        return Ok(None);
+    };
+    match asked(alloc, conn, b"")? {
+        Some((store, false)) => Ok(into_files(store).err()),
+        _ => Ok(None),
+    }
+}
+
+#[test]
+fn a_stopped_disk_takes_no_copy(rt: HostRuntime) -> Result<(), Fail> {
+    let alloc = rt.alloc();
+    for calls in 0..ENOUGH {
+        let files = with_one(alloc)?;
+        let fused = Files {
+            log: Fuse::new(files.log, calls),
+            db: Fuse::new(files.db, u64::MAX),
+        };
+        if let Some(fault) = refused_after_a_stop(alloc, fused)? {
+            assert_eq!(rt; fault, StoreFault::Store);
+            return Ok(());
+        }
+    }
+    Err(Fail::from("the disk never stops"))
 }
 
 /// Asserts that the report is kept in these files, and no other request.

@@ -11,8 +11,8 @@ invariant-loop-ended g l = record {
   reads : g.R.Source.read_failures l.reader ≡ g.R.Source.read_failures l.fn.reader;
   writes : g.W.Sink.write_failures l.writer ≡ g.W.Sink.write_failures l.fn.writer;
   limit : limit_of l.intake ≡ limit_of l.fn.intake;
-  clean : IsClean l.intake → IsClean l.fn.intake;
-  goes : Turns l.fn.intake l.intake (λ now after. (before : List Request) (left written : Option (List ℕ)) → GoesOn (limit_of l.fn.intake) before now left (g.R.Source.left l.fn.reader) written (g.W.Sink.written l.fn.writer) l.fn.inbox l.fn.marks.items → GoesOn (limit_of l.fn.intake) before after left (g.R.Source.left l.reader) written (g.W.Sink.written l.writer) l.inbox l.marks.items);
+  clean : IsClean g.S.Store l.intake → IsClean g.S.Store l.fn.intake;
+  goes : Turns g.S.Store l.fn.intake l.intake (λ now after. (before : List Request) (left written : Option (List ℕ)) → GoesOn (limit_of l.fn.intake) before now left (g.R.Source.left l.fn.reader) written (g.W.Sink.written l.fn.writer) l.fn.inbox l.fn.marks.items → GoesOn (limit_of l.fn.intake) before after left (g.R.Source.left l.reader) written (g.W.Sink.written l.writer) l.inbox l.marks.items);
 }
 
 abbrev pub decreases-loop-ended : goal.decreases-loop-ended

@@ -4,7 +4,7 @@ use Rattle.sqlite.specs.Held.{state}
 use Rattle.sqlite.specs.State.{HasCleanDisk}
 use Rattle.filing_model.specs.Register.{register}
 use Rattle.filing_model.specs.Views.{view_row}
-use Rattle.table_rows.proofs.StandLemmas.{nothing_then}
+use Rattle.table_rows.proofs.StepLemmas.{nothing_left}
 use Rattle.register_store.specs.Numbered.{counted_under}
 use Rattle.register_store.specs.Store.{IsRegisterOf}
 use Rattle.register_store.proofs.counts.count_each.Goals as goal
@@ -16,8 +16,7 @@ returns-in_err-facts-clause-same g c clean F was =
 
 pub returns-in_err-facts-clause-survives : goal.returns-in_err-facts-clause-survives
 returns-in_err-facts-clause-survives g c =
-    nothing_then IsRegisterOf (state g.S.Store c.args.conn.now) (state g.S.Store c.loop-number.conn) (state g.S.Store c.count_facts.new.conn)
-    (λ clean F was alive. (c.loop-number.invariant.same clean F was, c.loop-number.invariant.alive clean F was alive)) c.loop-number.invariant.survives c.count_facts.ensures.survives
+    nothing_left (state g.S.Store c.args.conn.now) (state g.S.Store c.loop-number.conn) (state g.S.Store c.count_facts.new.conn) c.loop-number.invariant.survives c.count_facts.ensures.survives
 
 pub returns-in_err-push-clause-same : goal.returns-in_err-push-clause-same
 returns-in_err-push-clause-same g c clean F was =
@@ -26,8 +25,7 @@ returns-in_err-push-clause-same g c clean F was =
 
 pub returns-in_err-push-clause-survives : goal.returns-in_err-push-clause-survives
 returns-in_err-push-clause-survives g c =
-    nothing_then IsRegisterOf (state g.S.Store c.args.conn.now) (state g.S.Store c.loop-number.conn) (state g.S.Store c.count_facts.new.conn)
-    (λ clean F was alive. (c.loop-number.invariant.same clean F was, c.loop-number.invariant.alive clean F was alive)) c.loop-number.invariant.survives c.count_facts.ensures.survives
+    nothing_left (state g.S.Store c.args.conn.now) (state g.S.Store c.loop-number.conn) (state g.S.Store c.count_facts.new.conn) c.loop-number.invariant.survives c.count_facts.ensures.survives
 
 pub loop-number-preserved : goal.loop-number-preserved
 loop-number-preserved g c =
@@ -48,5 +46,5 @@ loop-number-preserved g c =
       same = λ clean F was. let early : HasCleanDisk mid = omega (arith, c.count_facts.ensures.survives.clean) in c.in_ok-facts.ensures.same clean F (kept.same early F was);
       alive = λ clean F was alive. let early : HasCleanDisk mid = omega (arith, c.count_facts.ensures.survives.clean) in c.in_ok-facts.ensures.open clean F (kept.same early F was);
       mode = λ idle. c.count_facts.ensures.mode (kept.mode idle);
-      survives = nothing_then IsRegisterOf old mid now (λ clean F was alive. (kept.same clean F was, kept.alive clean F was alive)) kept.survives c.count_facts.ensures.survives;
+      survives = nothing_left old mid now kept.survives c.count_facts.ensures.survives;
     }

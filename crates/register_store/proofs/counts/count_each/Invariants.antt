@@ -4,7 +4,7 @@ use Rattle.sqlite.specs.State.{HasCleanDisk, Survives}
 use Rattle.filing_model.specs.Request.{Request}
 use Rattle.filing_model.specs.Register.{register}
 use Rattle.filing_model.specs.Views.{view_row}
-use Rattle.table_rows.specs.Standing.{Stands, Commits}
+use Rattle.table_rows.specs.Standing.{Stands}
 use Rattle.register_store.specs.Numbered.{counted_under}
 use Rattle.register_store.specs.Store.{IsRegisterOf}
 use Rattle.register_store.proofs.counts.count_each.Given as goal
@@ -17,5 +17,5 @@ invariant-loop-number g l =
       same : HasCleanDisk now → (F : List Request) → Stands (IsRegisterOf F) old → Stands (IsRegisterOf F) now;
       alive : HasCleanDisk now → (F : List Request) → Stands (IsRegisterOf F) old → IsTrue old.is_open → IsTrue now.is_open;
       mode : l.fn.conn.in_transaction ≡ false → l.conn.in_transaction ≡ false;
-      survives : Survives old now (Commits IsRegisterOf old (λ _ _. ⊥));
+      survives : Survives old now (λ _. ⊥);
     }

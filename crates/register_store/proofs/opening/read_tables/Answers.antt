@@ -1,7 +1,7 @@
 use Rattle.std.proofs.Common.{inl, inr, refl, arith}
 use Rattle.sqlite.specs.Held.{state}
 use Rattle.sqlite.specs.State.{HasCleanDisk}
-use Rattle.register_store.proofs.OpenLemmas.{is_read, silent_then, next_kept, next_findings, next_filings}
+use Rattle.register_store.proofs.OpenLemmas.{is_read}
 use Rattle.register_store.proofs.opening.read_tables.Goals as goal
 
 pub returns-in-Ok-fact_rows-clause-read : goal.returns-in-Ok-fact_rows-clause-read
@@ -10,26 +10,6 @@ returns-in-Ok-fact_rows-clause-read g c clean =
     let second : HasCleanDisk (state g.S.Store c.finding_rows.new.conn) = omega (arith, c.filing_rows.ensures.survives.clean, third) in
     let first : HasCleanDisk (state g.S.Store c.kept_rows.new.conn) = omega (arith, c.finding_rows.ensures.survives.clean, second) in
     (c.kept_rows.new.conn, is_read g.S.Store _ c.args.conn.now c.kept_rows.new.conn c.in-Ok.kept.items (c.in-Ok.ensures.shown first) c.kept_rows.ensures.survives.limit, (c.finding_rows.new.conn, is_read g.S.Store _ c.kept_rows.new.conn c.finding_rows.new.conn c.in-Ok-finding_rows.findings.items (c.in-Ok-finding_rows.ensures.shown second) c.finding_rows.ensures.survives.limit, (c.filing_rows.new.conn, is_read g.S.Store _ c.finding_rows.new.conn c.filing_rows.new.conn c.in-Ok-filing_rows.filings.items (c.in-Ok-filing_rows.ensures.shown third) c.filing_rows.ensures.survives.limit, (c.fact_rows.new.conn, is_read g.S.Store _ c.filing_rows.new.conn c.fact_rows.new.conn c.in-Ok-fact_rows.facts.items (c.in-Ok-fact_rows.ensures.shown clean) c.fact_rows.ensures.survives.limit, refl))))
-
-pub returns-in-Ok-fact_rows-clause-survives : goal.returns-in-Ok-fact_rows-clause-survives
-returns-in-Ok-fact_rows-clause-survives g c =
-    let till_1 = silent_then (state g.S.Store c.args.conn.now) (state g.S.Store c.kept_rows.new.conn) (state g.S.Store c.finding_rows.new.conn) (λ clean d. next_kept (state g.S.Store c.args.conn.now) (state g.S.Store c.kept_rows.new.conn) c.in-Ok.kept.items (c.in-Ok.ensures.shown clean) d) c.kept_rows.ensures.survives c.finding_rows.ensures.survives in
-    let till_2 = silent_then (state g.S.Store c.args.conn.now) (state g.S.Store c.finding_rows.new.conn) (state g.S.Store c.filing_rows.new.conn) (λ clean d. let first : HasCleanDisk (state g.S.Store c.kept_rows.new.conn) = omega (arith, c.finding_rows.ensures.survives.clean, clean) in next_findings (state g.S.Store c.kept_rows.new.conn) (state g.S.Store c.finding_rows.new.conn) c.in-Ok-finding_rows.findings.items (c.in-Ok-finding_rows.ensures.shown clean) (next_kept (state g.S.Store c.args.conn.now) (state g.S.Store c.kept_rows.new.conn) c.in-Ok.kept.items (c.in-Ok.ensures.shown first) d)) till_1 c.filing_rows.ensures.survives in
-    let till_3 = silent_then (state g.S.Store c.args.conn.now) (state g.S.Store c.filing_rows.new.conn) (state g.S.Store c.fact_rows.new.conn) (λ clean d. let second : HasCleanDisk (state g.S.Store c.finding_rows.new.conn) = omega (arith, c.filing_rows.ensures.survives.clean, clean) in let first : HasCleanDisk (state g.S.Store c.kept_rows.new.conn) = omega (arith, c.finding_rows.ensures.survives.clean, second) in next_filings (state g.S.Store c.finding_rows.new.conn) (state g.S.Store c.filing_rows.new.conn) c.in-Ok-filing_rows.filings.items (c.in-Ok-filing_rows.ensures.shown clean) (next_findings (state g.S.Store c.kept_rows.new.conn) (state g.S.Store c.finding_rows.new.conn) c.in-Ok-finding_rows.findings.items (c.in-Ok-finding_rows.ensures.shown second) (next_kept (state g.S.Store c.args.conn.now) (state g.S.Store c.kept_rows.new.conn) c.in-Ok.kept.items (c.in-Ok.ensures.shown first) d))) till_2 c.fact_rows.ensures.survives in
-    till_3
-
-pub returns-in-Err-fact_rows-clause-survives : goal.returns-in-Err-fact_rows-clause-survives
-returns-in-Err-fact_rows-clause-survives g c =
-    let till_1 = silent_then (state g.S.Store c.args.conn.now) (state g.S.Store c.kept_rows.new.conn) (state g.S.Store c.finding_rows.new.conn) (λ clean d. next_kept (state g.S.Store c.args.conn.now) (state g.S.Store c.kept_rows.new.conn) c.in-Ok.kept.items (c.in-Ok.ensures.shown clean) d) c.kept_rows.ensures.survives c.finding_rows.ensures.survives in
-    let till_2 = silent_then (state g.S.Store c.args.conn.now) (state g.S.Store c.finding_rows.new.conn) (state g.S.Store c.filing_rows.new.conn) (λ clean d. let first : HasCleanDisk (state g.S.Store c.kept_rows.new.conn) = omega (arith, c.finding_rows.ensures.survives.clean, clean) in next_findings (state g.S.Store c.kept_rows.new.conn) (state g.S.Store c.finding_rows.new.conn) c.in-Ok-finding_rows.findings.items (c.in-Ok-finding_rows.ensures.shown clean) (next_kept (state g.S.Store c.args.conn.now) (state g.S.Store c.kept_rows.new.conn) c.in-Ok.kept.items (c.in-Ok.ensures.shown first) d)) till_1 c.filing_rows.ensures.survives in
-    let till_3 = silent_then (state g.S.Store c.args.conn.now) (state g.S.Store c.filing_rows.new.conn) (state g.S.Store c.fact_rows.new.conn) (λ clean d. let second : HasCleanDisk (state g.S.Store c.finding_rows.new.conn) = omega (arith, c.filing_rows.ensures.survives.clean, clean) in let first : HasCleanDisk (state g.S.Store c.kept_rows.new.conn) = omega (arith, c.finding_rows.ensures.survives.clean, second) in next_filings (state g.S.Store c.finding_rows.new.conn) (state g.S.Store c.filing_rows.new.conn) c.in-Ok-filing_rows.filings.items (c.in-Ok-filing_rows.ensures.shown clean) (next_findings (state g.S.Store c.kept_rows.new.conn) (state g.S.Store c.finding_rows.new.conn) c.in-Ok-finding_rows.findings.items (c.in-Ok-finding_rows.ensures.shown second) (next_kept (state g.S.Store c.args.conn.now) (state g.S.Store c.kept_rows.new.conn) c.in-Ok.kept.items (c.in-Ok.ensures.shown first) d))) till_2 c.fact_rows.ensures.survives in
-    till_3
-
-pub returns-in-Err-filing_rows-clause-survives : goal.returns-in-Err-filing_rows-clause-survives
-returns-in-Err-filing_rows-clause-survives g c =
-    let till_1 = silent_then (state g.S.Store c.args.conn.now) (state g.S.Store c.kept_rows.new.conn) (state g.S.Store c.finding_rows.new.conn) (λ clean d. next_kept (state g.S.Store c.args.conn.now) (state g.S.Store c.kept_rows.new.conn) c.in-Ok.kept.items (c.in-Ok.ensures.shown clean) d) c.kept_rows.ensures.survives c.finding_rows.ensures.survives in
-    let till_2 = silent_then (state g.S.Store c.args.conn.now) (state g.S.Store c.finding_rows.new.conn) (state g.S.Store c.filing_rows.new.conn) (λ clean d. let first : HasCleanDisk (state g.S.Store c.kept_rows.new.conn) = omega (arith, c.finding_rows.ensures.survives.clean, clean) in next_findings (state g.S.Store c.kept_rows.new.conn) (state g.S.Store c.finding_rows.new.conn) c.in-Ok-finding_rows.findings.items (c.in-Ok-finding_rows.ensures.shown clean) (next_kept (state g.S.Store c.args.conn.now) (state g.S.Store c.kept_rows.new.conn) c.in-Ok.kept.items (c.in-Ok.ensures.shown first) d)) till_1 c.filing_rows.ensures.survives in
-    till_2
 
 pub returns-in-Err-fact_rows-clause-failed : goal.returns-in-Err-fact_rows-clause-failed
 returns-in-Err-fact_rows-clause-failed g c clean =

@@ -1,14 +1,15 @@
 use Rattle.std.proofs.lemmas.Result.{IfOk-weaker}
 use Rattle.sqlite.specs.Held.{state}
-use Rattle.register_store.proofs.ReadTexts.{filer_numbers, asks_numbers}
-use Rattle.register_store.proofs.ReadLemmas.{keeps, commits_none, reads_numbers}
+use Rattle.register_store.proofs.ReadTexts.{filer_numbers, query_numbers}
+use Rattle.table_rows.proofs.TextLemmas.{query_keeps, query_survives}
+use Rattle.register_store.proofs.ReadLemmas.{reads_numbers}
 use Rattle.register_store.proofs.reads.numbers_of_filer.Goals as goal
 
 pub returns-clause-read : goal.returns-clause-read
 returns-clause-read g c clean knows = IfOk-weaker c.query_all.result _ _ (λ rows h. reads_numbers (state g.S.Store c.args.conn.now) (state g.S.Store c.query_all.new.self) knows rows.items c.args.filer.now (rw c.params-to_sql.ensures at h)) (c.query_all.ensures.ok clean)
 
 pub returns-clause-keeps : goal.returns-clause-keeps
-returns-clause-keeps g c clean knows = keeps filer_numbers (λ s d. (asks_numbers s d).plain) _ (state g.S.Store c.args.conn.now) (state g.S.Store c.query_all.new.self) (λ rows. rows.items) c.query_all.result (c.query_all.ensures.ok clean) (c.query_all.ensures.err clean) knows
+returns-clause-keeps g c clean = query_keeps filer_numbers query_numbers _ (state g.S.Store c.args.conn.now) (state g.S.Store c.query_all.new.self) (λ rows. rows.items) c.query_all.result (c.query_all.ensures.ok clean) (c.query_all.ensures.err clean)
 
 pub returns-clause-survives : goal.returns-clause-survives
-returns-clause-survives g c = commits_none filer_numbers (λ s d. (asks_numbers s d).plain) _ (state g.S.Store c.args.conn.now) (state g.S.Store c.query_all.new.self) c.query_all.ensures.survives
+returns-clause-survives g c = query_survives filer_numbers query_numbers _ (state g.S.Store c.args.conn.now) (state g.S.Store c.query_all.new.self) c.query_all.ensures.survives

@@ -1,8 +1,8 @@
 use Rattle.std.proofs.lemmas.Result.{IfOk-weaker}
 use Rattle.sqlite.specs.Held.{state}
-use Rattle.register_store.proofs.FindTexts.{find_text, asks_key}
+use Rattle.register_store.proofs.FindTexts.{find_text, query_key}
 use Rattle.register_store.proofs.FindReads.{reads_key}
-use Rattle.register_store.proofs.ReadLemmas.{keeps, commits_none}
+use Rattle.table_rows.proofs.TextLemmas.{query_keeps, query_survives}
 use Rattle.register_store.proofs.rows.rows_with_key.Goals as goal
 
 pub returns-clause-read : goal.returns-clause-read
@@ -10,7 +10,7 @@ returns-clause-read g c clean knows =
     IfOk-weaker c.query_all.result _ _ (λ rows h. reads_key (state g.S.Store c.args.conn.now) (state g.S.Store c.query_all.new.self) knows rows.items c.args.filer.now c.args.key.now (rw (c.params-to_sql.ensures, c.params-to_sql-2.ensures) at h)) (c.query_all.ensures.ok clean)
 
 pub returns-clause-keeps : goal.returns-clause-keeps
-returns-clause-keeps g c clean knows = keeps find_text (λ s d. (asks_key s d).plain) _ (state g.S.Store c.args.conn.now) (state g.S.Store c.query_all.new.self) (λ rows. rows.items) c.query_all.result (c.query_all.ensures.ok clean) (c.query_all.ensures.err clean) knows
+returns-clause-keeps g c clean = query_keeps find_text query_key _ (state g.S.Store c.args.conn.now) (state g.S.Store c.query_all.new.self) (λ rows. rows.items) c.query_all.result (c.query_all.ensures.ok clean) (c.query_all.ensures.err clean)
 
 pub returns-clause-survives : goal.returns-clause-survives
-returns-clause-survives g c = commits_none find_text (λ s d. (asks_key s d).plain) _ (state g.S.Store c.args.conn.now) (state g.S.Store c.query_all.new.self) c.query_all.ensures.survives
+returns-clause-survives g c = query_survives find_text query_key _ (state g.S.Store c.args.conn.now) (state g.S.Store c.query_all.new.self) c.query_all.ensures.survives

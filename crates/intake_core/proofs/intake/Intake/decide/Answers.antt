@@ -53,7 +53,7 @@ pub returns-in-None-clause-crash : goal.returns-in-None-clause-crash
 returns-in-None-clause-crash g c =
     let r : Request = the_request c.args.filer.now c.args.key.now c.args.body.now in
     survives_then (shows g.S.Store c.args.self.now.store) (shows g.S.Store c.find.new.self) (shows g.S.Store c.keep.new.self.store) _ _ _
-    (λ clean trees none requests h alive. absurd (none requests h.rows alive))
+    (λ clean trees none. absurd none)
     (λ clean trees left requests h alive.
     let cleaned = c.keep.ensures.clean clean in
     let fresh = has_key-none requests r (sym (rw c.in-None.is at (c.in_ok-row.ensures.found cleaned requests h.rows c.args.body.now))) in
@@ -72,4 +72,4 @@ returns-in-None-clause-open g c = λ clean requests h.
 
 pub returns-in-Some-clause-crash : goal.returns-in-Some-clause-crash
 returns-in-Some-clause-crash g c =
-    rw c.repeat.ensures.rest.0 (survives_weaker (shows g.S.Store c.args.self.now.store) (shows g.S.Store c.find.new.self) _ _ (λ clean trees none requests h alive. absurd (none requests h.rows alive)) c.find.ensures.crash)
+    rw c.repeat.ensures.rest.0 (survives_weaker (shows g.S.Store c.args.self.now.store) (shows g.S.Store c.find.new.self) _ _ (λ clean trees none. absurd none) c.find.ensures.crash)

@@ -26,7 +26,7 @@ pub returns-in-Some-clause-durable : goal.returns-in-Some-clause-durable
 returns-in-Some-clause-durable g c = λ clean requests h alive.
     let r : Request = the_request c.args.filer.now c.args.key.now c.args.body.now in
     let known = c.in-Some.ensures.answer requests h in
-    let held : Holds c.recall.new.self requests = c.recall.ensures.same requests h in
+    let held : Holds g.S.Store c.recall.new.self requests = c.recall.ensures.same requests h in
     let still : IsTrue (shows g.S.Store c.recall.new.self.store).is_open = subst (λ s. IsTrue (shows g.S.Store s).is_open) (sym c.recall.ensures.rest.0) alive in (
       still,
       λ trees left. subst (λ (rs : List Request). Leaves rs trees) (sym (firsts_repeat requests r known.1 ∙ h.firsts'))
@@ -37,5 +37,5 @@ pub returns-clause-crash : goal.returns-clause-crash
 returns-clause-crash g c =
     let r : Request = the_request c.args.filer.now c.args.key.now c.args.body.now in
     let new = shows g.S.Store c.decide-result.new.self.store in
-    subst (λ s. Survives (shows g.S.Store s) new (λ trees. (requests : List Request) → Holds c.args.self.now requests → IsTrue (shows g.S.Store s).is_open → Leaves (firsts (requests ++ r ∷ [])) trees)) c.recall.ensures.rest.0
+    subst (λ s. Survives (shows g.S.Store s) new (λ trees. (requests : List Request) → Holds g.S.Store c.args.self.now requests → IsTrue (shows g.S.Store s).is_open → Leaves (firsts (requests ++ r ∷ [])) trees)) c.recall.ensures.rest.0
     (survives_weaker (shows g.S.Store c.recall.new.self.store) new _ _ (λ _ trees left requests h alive. left requests (c.recall.ensures.same requests h) alive) c.decide-result.ensures.crash)
