@@ -15,3 +15,4 @@ pub mod FailLemmas
 pub mod UpdateLemmas
 pub mod CleanLemmas
 pub mod FileLemmas
+pub mod ReadingTexts
