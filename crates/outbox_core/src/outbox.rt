@@ -102,7 +102,7 @@ impl<S: Alter + Drop> Outbox<S> {
                 count: 0,
                 has_failed: false,
             }),
-            Err(fault) => Err(fault),
+            Err(refusal) => Err(refusal),
         }
     }
 }
