@@ -1,6 +1,7 @@
 -- What an exchange writes and reads, and what it makes of an entry.
 use Rattle.std.specs.Prelude.{◌≡◌, ◌≢◌, ◌⊎◌, ◌≤◌, ℕ, List, [], length, take, Option, Some, None, option_map}
 use Rattle.std.specs.Io.KnownBytes.{Appends}
+use Rattle.http_wire.specs.Device.{HasFailed}
 use Rattle.http_wire.specs.Reply.{ReplyParts}
 use Rattle.http_wire.specs.ReplyFaults.{HasGiven, IsReplyFailure}
 use Rattle.http_wire.specs.Response.{GivesReply}
@@ -70,8 +71,9 @@ WritesBefore filer entries id written written' (Take NoEntry) = (entry_at entrie
 WritesBefore filer entries id written written' (Take Memory) = Appends written written' [] ⊎ WritesRequest filer entries id written written'
 WritesBefore filer entries id written written' (Take Store) = Appends written written' [] ⊎ WritesRequest filer entries id written written'
 
--- Why it failed, as far as the reader and the writer tell.
-abbrev pub IsFault : Option (List ℕ) → Option (List ℕ) → Type 0 → Type 0 → ExchangeFault → Type 0
-IsFault left left' read_failed write_failed (Write sent) = write_failed
-IsFault left left' read_failed write_failed (Reply fault) = IsReplyFailure left left' read_failed fault
-IsFault left left' read_failed write_failed (Take fault) = Unit {0}
+-- Why it failed, as far as the reader and the writer tell, by how many of their calls had failed before and after: a device fails only
+-- where its failure is told.
+abbrev pub IsFault : Option (List ℕ) → Option (List ℕ) → ℕ → ℕ → ℕ → ℕ → ExchangeFault → Type 0
+IsFault left left' reads reads' writes writes' (Write sent) = HasFailed writes writes' × (reads' ≡ reads)
+IsFault left left' reads reads' writes writes' (Reply fault) = IsReplyFailure left left' (HasFailed reads reads') fault × (writes' ≡ writes)
+IsFault left left' reads reads' writes writes' (Take fault) = (reads' ≡ reads) × (writes' ≡ writes)

@@ -1,9 +1,8 @@
 //! One exchange, and its second half alone.
 
-ghost use Rattle.std.specs.Prelude.{◌≡◌, List, Some, None, IsTrue, IfOk, IfErr, IfSome, OnOk, OnErr, Err};
+ghost use Rattle.std.specs.Prelude.{◌≡◌, ◌⊎◌, ◌↔◌, List, false, Some, None, IsTrue, IfOk, IfErr, OnOk, OnErr, Err};
 ghost use Rattle.sqlite.specs.State.{HasCleanDisk, Survives};
 ghost use Rattle.sqlite.specs.Tree.{Trees};
-ghost use Rattle.http_wire.specs.Device.{HasFailed};
 ghost use Rattle.filing_model.specs.Outbox.{Entry as Item, moved};
 ghost use Rattle.outbox_core.specs.Box.{shows, contents, HasEntries};
 ghost use Rattle.outbox_core.specs.Entries.{entry_at, set_state};
@@ -30,15 +29,16 @@ pub fn hand_over<R: Source, S: Alter>(
         → IfOk result (λ to. Hears (R.left reader.old) (R.left reader.new) (λ reply. Some (view_state to) ≡ moved_at entries id reply) × HasEntries S.Store outbox.new (set_state entries id (view_state to))) }
     ensures no_entry { HasCleanDisk (shows S.Store outbox.new) → (entries : List Item) → HasEntries S.Store outbox.old entries → result ≡ Err (ExchangeFault.Take TakeFault.NoEntry) → entry_at entries id ≡ None }
     ensures kept { HasCleanDisk (shows S.Store outbox.new) → (entries : List Item) → HasEntries S.Store outbox.old entries → OnErr result (HasEntries S.Store outbox.new entries) }
-    ensures fault { IfErr result (IsFault (R.left reader.old) (R.left reader.new) (HasFailed (R.read_failures reader.old) (R.read_failures reader.new)) ⊥) }
+    ensures fault { IfErr result (IsFault (R.left reader.old) (R.left reader.new) (R.read_failures reader.old) (R.read_failures reader.new) 0 0) }
     ensures fine { OnOk result (R.read_failures reader.new ≡ R.read_failures reader.old) }
-    ensures stopped { IsTrue outbox.old.has_failed → OnOk result ⊥ × (outbox.new ≡ outbox.old) }
+    ensures stopped { IsTrue outbox.old.has_failed → ((result ≡ Err (ExchangeFault.Take TakeFault.Store)) ⊎ ((fault : _) × (result ≡ Err (ExchangeFault.Reply fault)))) × (outbox.new ≡ outbox.old) }
+    ensures stops { outbox.old.has_failed ≡ false → (IsTrue outbox.new.has_failed ↔ (result ≡ Err (ExchangeFault.Take TakeFault.Store))) }
     ensures filer { outbox.new.filer ≡ outbox.old.filer }
 
-    // A crash leaves what one before the call could leave, or the entries after the move by the reply that was read, and
-    // after Ok these alone.
+    // A crash leaves what one before the call could leave, or, where the id names an entry, the entries after its move by
+    // the reply that was read, and after Ok these alone.
     ensures crash { Survives (shows S.Store outbox.old) (shows S.Store outbox.new) (λ trees. (entries : List Item) → HasEntries S.Store outbox.old entries → IsTrue (shows S.Store outbox.old).is_open
-        → Hears (R.left reader.old) (R.left reader.new) (λ reply. IfSome (entry_at entries id) (λ e. Leaves (contents outbox.old (set_state entries id (moved e.state reply))) trees))) }
+        → Hears (R.left reader.old) (R.left reader.new) (λ reply. (e : Item) × (entry_at entries id ≡ Some e) × Leaves (contents outbox.old (set_state entries id (moved e.state reply))) trees)) }
     ensures durable { HasCleanDisk (shows S.Store outbox.new) → (entries : List Item) → HasEntries S.Store outbox.old entries
         → IfOk result (λ to. IsTrue (shows S.Store outbox.new).is_open × ((trees : Trees) → (shows S.Store outbox.new).may_leave trees → Leaves (contents outbox.new (set_state entries id (view_state to))) trees)) }
 {
@@ -62,16 +62,17 @@ pub fn exchange<R: Source, W: Sink, S: Alter>(
     ensures written { HasCleanDisk (shows S.Store outbox.new) → (entries : List Item) → HasEntries S.Store outbox.old entries
         → IfErr result (WritesBefore outbox.old.filer entries id (W.written writer.old) (W.written writer.new)) }
     ensures kept { HasCleanDisk (shows S.Store outbox.new) → (entries : List Item) → HasEntries S.Store outbox.old entries → OnErr result (HasEntries S.Store outbox.new entries) }
-    ensures fault { IfErr result (IsFault (R.left reader.old) (R.left reader.new) (HasFailed (R.read_failures reader.old) (R.read_failures reader.new)) (HasFailed (W.write_failures writer.old) (W.write_failures writer.new))) }
+    ensures fault { IfErr result (IsFault (R.left reader.old) (R.left reader.new) (R.read_failures reader.old) (R.read_failures reader.new) (W.write_failures writer.old) (W.write_failures writer.new)) }
     ensures fine { OnOk result ((R.read_failures reader.new ≡ R.read_failures reader.old) × (W.write_failures writer.new ≡ W.write_failures writer.old)) }
     ensures stopped { IsTrue outbox.old.has_failed → (result ≡ Err (ExchangeFault.Take TakeFault.Store)) × (outbox.new ≡ outbox.old) × (reader.new ≡ reader.old) × (writer.new ≡ writer.old) }
+    ensures stops { IsTrue outbox.new.has_failed ↔ (result ≡ Err (ExchangeFault.Take TakeFault.Store)) }
     ensures filer { outbox.new.filer ≡ outbox.old.filer }
     ensures clean { HasCleanDisk (shows S.Store outbox.new) → HasCleanDisk (shows S.Store outbox.old) }
 
-    // A crash leaves what one before the call could leave, or the entries after the move by the reply that was read, and
-    // after Ok these alone.
+    // A crash leaves what one before the call could leave, or, where the id names an entry, the entries after its move by
+    // the reply that was read, and after Ok these alone.
     ensures crash { Survives (shows S.Store outbox.old) (shows S.Store outbox.new) (λ trees. (entries : List Item) → HasEntries S.Store outbox.old entries → IsTrue (shows S.Store outbox.old).is_open
-        → Hears (R.left reader.old) (R.left reader.new) (λ reply. IfSome (entry_at entries id) (λ e. Leaves (contents outbox.old (set_state entries id (moved e.state reply))) trees))) }
+        → Hears (R.left reader.old) (R.left reader.new) (λ reply. (e : Item) × (entry_at entries id ≡ Some e) × Leaves (contents outbox.old (set_state entries id (moved e.state reply))) trees)) }
     ensures durable { HasCleanDisk (shows S.Store outbox.new) → (entries : List Item) → HasEntries S.Store outbox.old entries
         → IfOk result (λ to. IsTrue (shows S.Store outbox.new).is_open × ((trees : Trees) → (shows S.Store outbox.new).may_leave trees → Leaves (contents outbox.new (set_state entries id (view_state to))) trees)) }
 {

@@ -1,6 +1,8 @@
 //! The request of an entry.
 
-ghost use Rattle.std.specs.Prelude.{◌≡◌, ◌≢◌, List, Some, None, option_map, IsTrue, IfOk, OnOk, Err};
+ghost use Rattle.std.specs.Prelude.{◌≡◌, ◌≤◌, ◌↔◌, List, length, true, Some, None, option_map, IsTrue, IfOk, IfErr, OnOk, Err};
+ghost use Rattle.key_string.specs.Filer.{is_filer};
+ghost use Rattle.http_wire.specs.Head.{max_body_len};
 ghost use Rattle.sqlite.specs.State.{HasCleanDisk, Survives};
 ghost use Rattle.sqlite.specs.Tree.{Trees};
 ghost use Rattle.filing_model.specs.Outbox.{Entry as Item, bytes_of, request_of};
@@ -10,8 +12,7 @@ ghost use Rattle.outbox_core.specs.Reading.{view_entry};
 ghost use Rattle.outbox_core.specs.Rows.{Leaves};
 ghost use Rattle.filer_client.specs.Exchange.{request_at, IsToSend};
 
-use http_wire::{MAX_BODY_LEN, append_request};
-use key_string::is_filer;
+use http_wire::append_request;
 use outbox_core::{Entry, Outbox, State, StoreFault, TakeFault};
 use sqlite::Alter;
 use std::alloc::Global;
@@ -26,7 +27,7 @@ pub enum ToSend {
 }
 
 /// The bytes of the request of an entry, whatever its state: a POST of its body under its key to the
-/// path of the filer. `NoEntry` comes where no entry has the id.
+/// path of the filer. `NoEntry` comes where no entry has the id, and `Store` where the outbox stopped.
 pub fn request_bytes<S: Alter>(
     alloc: Global,
     outbox: &mut Outbox<S>,
@@ -39,10 +40,10 @@ pub fn request_bytes<S: Alter>(
     // The entries are those of before, whatever the answer is, and a crash leaves what it could leave before; after Ok these alone.
     ensures kept { HasCleanDisk (shows S.Store outbox.new) → (entries : List Item) → HasEntries S.Store outbox.old entries → HasEntries S.Store outbox.new entries }
     ensures stopped { IsTrue outbox.old.has_failed → (result ≡ Err TakeFault.Store) × (outbox.new ≡ outbox.old) }
-    ensures stops { IsTrue outbox.new.has_failed → result ≡ Err TakeFault.Store }
+    ensures stops { IsTrue outbox.new.has_failed ↔ (result ≡ Err TakeFault.Store) }
     ensures filer { outbox.new.filer ≡ outbox.old.filer }
     ensures clean { HasCleanDisk (shows S.Store outbox.new) → HasCleanDisk (shows S.Store outbox.old) }
-    ensures crash { Survives (shows S.Store outbox.old) (shows S.Store outbox.new) (λ _. (entries : List Item) → HasEntries S.Store outbox.old entries → IsTrue (shows S.Store outbox.old).is_open → ⊥) }
+    ensures crash { Survives (shows S.Store outbox.old) (shows S.Store outbox.new) (λ _. ⊥) }
     ensures durable { HasCleanDisk (shows S.Store outbox.new) → (entries : List Item) → HasEntries S.Store outbox.old entries
         → OnOk result (IsTrue (shows S.Store outbox.new).is_open × ((trees : Trees) → (shows S.Store outbox.new).may_leave trees → Leaves (contents outbox.new entries) trees)) }
 {
@@ -51,7 +52,7 @@ pub fn request_bytes<S: Alter>(
 }
 
 /// What an entry has to send: the bytes of its request where it is open, and nothing where it is
-/// not. `NoEntry` comes where no entry has the id.
+/// not. `NoEntry` comes where no entry has the id, and `Store` where the outbox stopped.
 pub fn open_request<S: Alter>(
     alloc: Global,
     outbox: &mut Outbox<S>,
@@ -63,10 +64,10 @@ pub fn open_request<S: Alter>(
     // The entries are those of before, whatever the answer is, and a crash leaves what it could leave before; after Ok these alone.
     ensures kept { HasCleanDisk (shows S.Store outbox.new) → (entries : List Item) → HasEntries S.Store outbox.old entries → HasEntries S.Store outbox.new entries }
     ensures stopped { IsTrue outbox.old.has_failed → (result ≡ Err TakeFault.Store) × (outbox.new ≡ outbox.old) }
-    ensures stops { IsTrue outbox.new.has_failed → result ≡ Err TakeFault.Store }
+    ensures stops { IsTrue outbox.new.has_failed ↔ (result ≡ Err TakeFault.Store) }
     ensures filer { outbox.new.filer ≡ outbox.old.filer }
     ensures clean { HasCleanDisk (shows S.Store outbox.new) → HasCleanDisk (shows S.Store outbox.old) }
-    ensures crash { Survives (shows S.Store outbox.old) (shows S.Store outbox.new) (λ _. (entries : List Item) → HasEntries S.Store outbox.old entries → IsTrue (shows S.Store outbox.old).is_open → ⊥) }
+    ensures crash { Survives (shows S.Store outbox.old) (shows S.Store outbox.new) (λ _. ⊥) }
     ensures durable { HasCleanDisk (shows S.Store outbox.new) → (entries : List Item) → HasEntries S.Store outbox.old entries
         → OnOk result (IsTrue (shows S.Store outbox.new).is_open × ((trees : Trees) → (shows S.Store outbox.new).may_leave trees → Leaves (contents outbox.new entries) trees)) }
 {
@@ -81,13 +82,14 @@ pub fn open_request<S: Alter>(
 fn find_entry<S: Alter>(outbox: &mut Outbox<S>, id: u64) -> Result<Entry, TakeFault>
     ensures found { HasCleanDisk (shows S.Store outbox.new) → (entries : List Item) → HasEntries S.Store outbox.old entries
         → IfOk result (λ entry. Some (view_entry entry) ≡ option_map (λ e. (id, e)) (entry_at entries id)) }
+    ensures short { IfOk result (λ entry. length entry.body.items ≤ max_body_len) }
     ensures no_entry { HasCleanDisk (shows S.Store outbox.new) → (entries : List Item) → HasEntries S.Store outbox.old entries → result ≡ Err TakeFault.NoEntry → entry_at entries id ≡ None }
     ensures kept { HasCleanDisk (shows S.Store outbox.new) → (entries : List Item) → HasEntries S.Store outbox.old entries → HasEntries S.Store outbox.new entries }
     ensures stopped { IsTrue outbox.old.has_failed → (result ≡ Err TakeFault.Store) × (outbox.new ≡ outbox.old) }
-    ensures stops { IsTrue outbox.new.has_failed → result ≡ Err TakeFault.Store }
+    ensures stops { IsTrue outbox.new.has_failed ↔ (result ≡ Err TakeFault.Store) }
     ensures filer { outbox.new.filer ≡ outbox.old.filer }
     ensures clean { HasCleanDisk (shows S.Store outbox.new) → HasCleanDisk (shows S.Store outbox.old) }
-    ensures crash { Survives (shows S.Store outbox.old) (shows S.Store outbox.new) (λ _. (entries : List Item) → HasEntries S.Store outbox.old entries → IsTrue (shows S.Store outbox.old).is_open → ⊥) }
+    ensures crash { Survives (shows S.Store outbox.old) (shows S.Store outbox.new) (λ _. ⊥) }
     ensures durable { HasCleanDisk (shows S.Store outbox.new) → (entries : List Item) → HasEntries S.Store outbox.old entries
         → OnOk result (IsTrue (shows S.Store outbox.new).is_open × ((trees : Trees) → (shows S.Store outbox.new).may_leave trees → Leaves (contents outbox.new entries) trees)) }
 {
@@ -98,15 +100,13 @@ fn find_entry<S: Alter>(outbox: &mut Outbox<S>, id: u64) -> Result<Entry, TakeFa
     }
 }
 
-/// The bytes of the request of this entry of this filer. `Store` comes where they are none that an
-/// outbox holds: a text that is no filer code, or a body of more than 1,048,576 bytes.
+/// The bytes of the request of this entry of this filer.
 fn request_of(alloc: Global, filer: &str, entry: &Entry) -> Result<Vec<u8>, TakeFault>
+    requires filer { is_filer filer.now ≡ true }
+    requires short { length entry.now.body.items ≤ max_body_len }
     ensures bytes { IfOk result (λ text. text.items ≡ bytes_of (request_of filer.now (view_entry entry.now).1)) }
-    ensures entry { result ≢ Err TakeFault.NoEntry }
+    ensures memory { IfErr result (λ fault. fault ≡ TakeFault.Memory) }
 {
-    if !is_filer(filer) || entry.body.len() > MAX_BODY_LEN {
-        return Err(TakeFault::Store);
-    }
     let mut text = Vec::new(alloc);
     match append_request(filer, &entry.key, entry.body.as_slice(), &mut text) {
         Ok(()) => Ok(text),

@@ -194,6 +194,16 @@ filer_found db (row ∷ []) filer held h =
     (subst (λ r. Holds db meta_table (r ∷ [])) one.0 held, one.1)
 filer_found db (row ∷ other ∷ rows) filer held h = absurd cc
 
+-- and so it is a filer's code, whatever the table is
+pub filer_code : (rows : List Row) (filer : List ℕ) → filer_in rows ≡ Some filer → is_filer filer ≡ true
+filer_code [] filer h = absurd cc
+filer_code (row ∷ []) filer h = go (is_int 1 (column row 0) && (is_outbox (column row 1) && is_int 1 (column row 2))) h
+  where
+    go : (b : Bool) → ◌≡◌ {A = Option (List ℕ)} (cond b (filer_text (column row 3)) None) (Some filer) → is_filer filer ≡ true
+    go true h = (filer-of (column row 3) filer h).1
+    go false h = absurd cc
+filer_code (row ∷ other ∷ rows) filer h = absurd cc
+
 pub is_some : {X : Type 0} (o : Option X) (x : X) → o ≡ Some x → IsSome o
 is_some None x h = absurd cc
 is_some (Some y) x h = refl

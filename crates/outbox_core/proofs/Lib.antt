@@ -13,3 +13,4 @@ pub mod DistinctLemmas
 pub mod SoundLemmas
 pub mod UniqueLemmas
 pub mod RefusalLemmas
+pub mod FileLemmas

@@ -5,6 +5,7 @@ use Rattle.key_string.specs.Filer.{is_filer}
 use Rattle.sqlite_tied.specs.Compute.{everything}
 use Rattle.sqlite.specs.declared.types.Value.TheVariants.{Null, Int, Text}
 use Rattle.sqlite.specs.Table.{Table}
+use Rattle.sqlite.specs.Tree.{Trees}
 use Rattle.sqlite.specs.Schema.{Schema}
 use Rattle.sqlite.specs.Change.{created}
 use Rattle.sqlite.specs.Listing.{understood}
@@ -29,16 +30,8 @@ use Rattle.table_rows.proofs.GainLemmas.{gained, cast_int}
 use Rattle.table_rows.proofs.InsertLemmas.{inserts}
 use Rattle.outbox_core.specs.Schema.{outbox_tables, meta_table, entry_table, IsDeclared}
 use Rattle.outbox_core.specs.Entries.{IsOutbox, empty}
-use Rattle.outbox_core.specs.Rows.{HasRows, meta_row}
-
-abbrev create_meta : List ℕ
-create_meta = codes "CREATE TABLE outbox_meta (id INTEGER PRIMARY KEY, kind TEXT NOT NULL, form INTEGER NOT NULL, filer TEXT NOT NULL) STRICT"
-
-abbrev create_entry : List ℕ
-create_entry = codes "CREATE TABLE entry (id INTEGER PRIMARY KEY, idem TEXT NOT NULL UNIQUE, body BLOB NOT NULL, state INTEGER NOT NULL, number INTEGER) STRICT"
-
-abbrev insert_meta : List ℕ
-insert_meta = codes "INSERT INTO outbox_meta VALUES (1, 'outbox', 1, ?1)"
+use Rattle.outbox_core.specs.Making.{create_meta, create_entry, insert_meta, RunsAll, AreMade}
+use Rattle.outbox_core.specs.Rows.{HasRows, IsOutboxOf, Leaves, meta_row}
 
 abbrev first_schema : Schema
 first_schema = created no_schema meta_table
@@ -73,8 +66,7 @@ declared : (schema : Schema) → schema ≡ outbox_schema → IsDeclared schema
 declared schema is = record { begins = begins schema is; free = subst (λ (s : Schema). AllByRecursion (λ (t : Table). t.references ≡ []) s.tables) (sym is) (refl, (refl, tt)) }
 
 module _ (a b c d : State) (n : ℕ × ℕ × ℕ) (filer : List ℕ) where
-  -- inside one transaction
-  pub makes_all : ExecutesInside 0 create_meta [] a b (Ok n.0) → ExecutesInside 0 create_entry [] b c (Ok n.1) → ExecutesInside 0 insert_meta (Text filer ∷ []) c d (Ok n.2) → a.now.schema ≡ no_schema
+  makes_all : ExecutesInside 0 create_meta [] a b (Ok n.0) → ExecutesInside 0 create_entry [] b c (Ok n.1) → ExecutesInside 0 insert_meta (Text filer ∷ []) c d (Ok n.2) → a.now.schema ≡ no_schema
       → HasRows (empty filer) d.now × IsDatabase d.now
   makes_all p q r none =
       let one = creates no_schema create_meta meta_table a b n.0 creates_meta refl (record { schema_is = none; empty = tt }) p.0 in
@@ -91,6 +83,16 @@ module _ (a b c d : State) (n : ℕ × ℕ × ℕ) (filer : List ℕ) where
 
 pub no_entries : (filer : List ℕ) → is_filer filer ≡ true → IsOutbox (empty filer)
 no_entries filer is = record { filer = is; sendable = tt; numbers = tt; distinct = tt }
+
+module _ {S : Type 0} (g : Ghosts S) (filer : List ℕ) (old : Held S) (is : is_filer filer ≡ true) where
+  -- in a database with no table they are an outbox with no entry
+  pub all_made : (new : Held S) → RunsAll g filer (record old { in_transaction = true }) new → (state g old).now.schema ≡ no_schema → IsOutboxOf (empty filer) (state g new).now
+  all_made new ran none =
+      let all = makes_all (state g (record old { in_transaction = true })) (state g ran.first) (state g ran.second) (state g new) ran.counts filer ran.meta ran.entry ran.row none in
+      record { sound = all.1; rows = all.0; list = no_entries filer is }
+
+  pub made_leaves : (trees : Trees) → AreMade g filer old trees → (state g old).now.schema ≡ no_schema → Leaves (empty filer) trees
+  made_leaves trees made none = record { db = (state g made.0).now; is = made.2; outbox = all_made made.0 made.1 none }
 
 -- ---- where they are not made, nothing is committed
 

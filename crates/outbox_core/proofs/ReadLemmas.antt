@@ -1,5 +1,5 @@
 -- What the columns of a row say of its entry.
-use Rattle.std.proofs.Common.{◌≡◌, ℕ, pos, Option, Some, None, option_map, refl, ap, sym, subst, ◌∙◌, IsSome, IfSome, List, [], ◌∷◌, map, ap₂}
+use Rattle.std.proofs.Common.{◌≡◌, ℕ, pos, Option, Some, None, option_map, refl, ap, sym, subst, ◌∙◌, IsSome, List, [], ◌∷◌, map, ap₂}
 use Rattle.sqlite.specs.declared.types.Value.{Value}
 use Rattle.sqlite.specs.declared.types.Value.TheVariants.{Int}
 use Rattle.sqlite.specs.Order.{Row, column}
@@ -74,9 +74,9 @@ pub moved_read : (o : Option Entry) (from to : State) (f : State → State) → 
 moved_read None from to f at is = cc
 moved_read (Some x) from to f at is = let same : x.state ≡ from = cc in ap Some (is ∙ ap f (sym same))
 
-pub each_read : (o : Option Entry) (from : State) (P : State → Type 0) → option_map (λ (x : Entry). x.state) o ≡ Some from → P from → IfSome o (λ x. P x.state)
-each_read None from P at p = tt
-each_read (Some x) from P at p = let same : x.state ≡ from = cc in subst P (sym same) p
+pub entry_read : (o : Option Entry) (from : State) (P : State → Type 0) → option_map (λ (x : Entry). x.state) o ≡ Some from → P from → (x : Entry) × (o ≡ Some x) × P x.state
+entry_read None from P at p = cc
+entry_read (Some x) from P at p = let same : x.state ≡ from = cc in (x, refl, subst P (sym same) p)
 
 -- ---- the other way
 

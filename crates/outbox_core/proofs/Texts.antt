@@ -21,6 +21,7 @@ use Rattle.table_rows.specs.Tables.{schema_with}
 use Rattle.table_rows.proofs.SelectLemmas.{one_table}
 use Rattle.table_rows.proofs.QueryLemmas.{Asks}
 use Rattle.table_rows.proofs.FailLemmas.{IsWhole}
+use Rattle.table_rows.proofs.ReadingTexts.{IsReading, reading}
 use Rattle.outbox_core.specs.Schema.{outbox_tables, IsDeclared}
 use Rattle.outbox_core.specs.Audit.{meta_text, entries_text}
 
@@ -84,6 +85,32 @@ update_query = one_table 1 (equals 0) changed_columns []
 
 abbrev pub update_command : Command
 update_command = Update 1 (record { lets = []; body = update_query })
+
+-- ---- under no schema do the queries write
+
+pub by_key_reads : IsReading by_key_text
+unfolding understood everything
+by_key_reads = reading by_key_text (λ schema base. refl)
+
+pub by_id_reads : IsReading by_id_text
+unfolding understood everything
+by_id_reads = reading by_id_text (λ schema base. refl)
+
+pub by_state_reads : IsReading by_state_text
+unfolding understood everything
+by_state_reads = reading by_state_text (λ schema base. refl)
+
+pub states_reads : IsReading states_text
+unfolding understood everything
+states_reads = reading states_text (λ schema base. refl)
+
+pub meta_reads : IsReading meta_text
+unfolding understood everything
+meta_reads = reading meta_text (λ schema base. refl)
+
+pub entries_reads : IsReading entries_text
+unfolding understood everything
+entries_reads = reading entries_text (λ schema base. refl)
 
 abbrev names : List (List ℕ)
 names = codes "id" ∷ codes "idem" ∷ codes "body" ∷ codes "state" ∷ codes "number" ∷ []

@@ -5,3 +5,5 @@ pub mod Reading
 pub mod Faults
 pub mod Box
 pub mod Audit
+pub mod Making
+pub mod Files

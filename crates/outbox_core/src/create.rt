@@ -1,24 +1,27 @@
-//! The tables of an outbox are made.
+//! Making the tables of an outbox.
 
-ghost use Rattle.std.specs.Prelude.{◌≡◌, ◌||◌, ℕ, true, false, [], Ok, codes, IsTrue, OnOk, OnErr};
+ghost use Rattle.std.specs.Prelude.{◌≡◌, ◌≢◌, ◌||◌, ◌⊎◌, ◌↔◌, ℕ, true, false, [], Ok, Err, codes, IsTrue, IfOk, IfErr, OnOk, OnErr, string_bytes};
 ghost use Rattle.key_string.specs.Filer.{is_filer};
 ghost use Rattle.sqlite.specs.Held.{state};
 ghost use Rattle.sqlite.specs.Values.{bound};
-ghost use Rattle.sqlite.specs.Effect.{IsDatabase};
 ghost use Rattle.sqlite.specs.Tree.{Trees};
 ghost use Rattle.sqlite.specs.State.{HasCleanDisk, KeepsCommit, Survives, ExecutesInside};
 ghost use Rattle.table_rows.specs.Tables.{no_schema};
 ghost use Rattle.outbox_core.specs.Schema.{is_taken};
 ghost use Rattle.outbox_core.specs.Entries.{empty};
-ghost use Rattle.outbox_core.specs.Rows.{HasRows, IsOutboxOf, Leaves};
+ghost use Rattle.outbox_core.specs.Rows.{IsOutboxOf, Leaves};
+ghost use Rattle.outbox_core.specs.Making.{RunsAll, AreMade};
 
+use crate::fault::OutboxFault;
+use key_string::is_filer;
 use sqlite::types::ValueRef;
 use sqlite::{Alter, Connection, Error, Transaction, params};
 use sqlite_catalog::layout::is_used;
 use sqlite_schema::schema::Schema;
+use std::alloc::Global;
 
 /// Whether a table, an index or a view has the name of one of our tables. Names are compared as SQLite does, without case.
-pub(crate) fn is_taken(schema: &Schema) -> bool
+fn is_taken(schema: &Schema) -> bool
     ensures { result ≡ is_taken schema.now }
 {
     is_used(schema, b"outbox_meta") || is_used(schema, b"entry")
@@ -40,9 +43,7 @@ fn run<S: Alter>(
 
 fn make_tables<S: Alter>(tx: &mut Transaction<'_, S>, filer: &str) -> Result<(), Error>
     ensures same_reference { tx.new.conn.ghost_name ≡ tx.old.conn.ghost_name }
-    ensures made { HasCleanDisk (state S.Store tx.new.conn.now) → (state S.Store tx.old.conn.now).now.schema ≡ no_schema
-        → OnOk result (HasRows (empty filer.now) (state S.Store tx.new.conn.now).now × IsDatabase (state S.Store tx.new.conn.now).now) }
-    ensures inside { HasCleanDisk (state S.Store tx.new.conn.now) → OnOk result (IsTrue (state S.Store tx.new.conn.now).in_transaction) }
+    ensures ran { HasCleanDisk (state S.Store tx.new.conn.now) → OnOk result (RunsAll S.Store filer.now tx.old.conn.now tx.new.conn.now) }
     ensures keeps { HasCleanDisk (state S.Store tx.new.conn.now) → KeepsCommit (state S.Store tx.old.conn.now) (state S.Store tx.new.conn.now) }
     ensures survives { Survives (state S.Store tx.old.conn.now) (state S.Store tx.new.conn.now) (λ _. ⊥) }
 {
@@ -64,17 +65,58 @@ fn make_tables<S: Alter>(tx: &mut Transaction<'_, S>, filer: &str) -> Result<(),
 }
 
 /// Makes the tables of an outbox that has no entry, in one transaction.
-pub(crate) fn make<S: Alter>(conn: &mut Connection<S>, filer: &str) -> Result<(), Error>
+fn make<S: Alter>(conn: &mut Connection<S>, filer: &str) -> Result<(), Error>
     requires autocommit { conn.old.in_transaction ≡ false }
     requires filer { is_filer filer.now ≡ true }
     ensures autocommit { conn.new.in_transaction ≡ false }
-    ensures made { HasCleanDisk (state S.Store conn.new) → (state S.Store conn.old).now.schema ≡ no_schema
-        → OnOk result (IsTrue (state S.Store conn.new).is_open × IsOutboxOf (empty filer.now) (state S.Store conn.new).now × ((state S.Store conn.new).committed ≡ (state S.Store conn.new).now)) }
+    ensures ran { HasCleanDisk (state S.Store conn.new) → OnOk result (AreMade S.Store filer.now conn.old (state S.Store conn.new).now.trees) }
+    ensures made { HasCleanDisk (state S.Store conn.new) → (state S.Store conn.old).now.schema ≡ no_schema → OnOk result (IsOutboxOf (empty filer.now) (state S.Store conn.new).now) }
+    ensures committed { HasCleanDisk (state S.Store conn.new) → OnOk result (IsTrue (state S.Store conn.new).is_open × ((state S.Store conn.new).committed ≡ (state S.Store conn.new).now)) }
     ensures durable { HasCleanDisk (state S.Store conn.new) → OnOk result ((trees : Trees) → (state S.Store conn.new).may_leave trees → trees ≡ (state S.Store conn.new).now.trees) }
-    ensures crash { Survives (state S.Store conn.old) (state S.Store conn.new) (λ trees. (state S.Store conn.old).now.schema ≡ no_schema → Leaves (empty filer.now) trees) }
     ensures undone { HasCleanDisk (state S.Store conn.new) → OnErr result (KeepsCommit (state S.Store conn.old) (state S.Store conn.new)) }
+    ensures crash { Survives (state S.Store conn.old) (state S.Store conn.new) (AreMade S.Store filer.now conn.old) }
 {
     let mut tx = conn.transaction();
     make_tables(&mut tx, filer)?;
     tx.commit()
+}
+
+/// Makes the tables of an outbox of this filer that has no entry, in one transaction, and answers the filer's code. The
+/// tables are those of an outbox where the database had none before.
+pub fn make_outbox<S: Alter>(
+    alloc: Global,
+    conn: &mut Connection<S>,
+    filer: &str,
+) -> Result<String, OutboxFault>
+    requires autocommit { conn.old.in_transaction ≡ false }
+    ensures autocommit { conn.new.in_transaction ≡ false }
+    ensures code { IfOk result (λ code. string_bytes code ≡ filer.now) }
+    ensures made { HasCleanDisk (state S.Store conn.new) → (state S.Store conn.old).now.schema ≡ no_schema → OnOk result (IsOutboxOf (empty filer.now) (state S.Store conn.new).now) }
+    ensures committed { HasCleanDisk (state S.Store conn.new) → OnOk result (IsTrue (state S.Store conn.new).is_open × ((state S.Store conn.new).committed ≡ (state S.Store conn.new).now)) }
+
+    // BadFiler comes where the text is no filer code, and always there; Taken where it is one and one of the names is in
+    // use, and always there. Neither touches the connection.
+    ensures bad_filer { (result ≡ Err OutboxFault.BadFiler) ↔ (is_filer filer.now ≡ false) }
+    ensures taken { (result ≡ Err OutboxFault.Taken) ↔ ((is_filer filer.now ≡ true) × IsTrue (is_taken (state S.Store conn.old).now.schema)) }
+    ensures untouched { (result ≡ Err OutboxFault.BadFiler) ⊎ (result ≡ Err OutboxFault.Taken) → conn.new ≡ conn.old }
+    ensures no_other { IfErr result (λ fault. (fault ≢ OutboxFault.NotOurs) × ((row : _) → fault ≢ OutboxFault.Damaged row)) }
+
+    // Whatever tables there were: the three statements are committed together; on a refusal what is committed is what was
+    // committed; and a crash leaves what one before the call could leave, or all three, and after Ok these alone.
+    ensures ran { HasCleanDisk (state S.Store conn.new) → OnOk result (AreMade S.Store filer.now conn.old (state S.Store conn.new).now.trees) }
+    ensures undone { HasCleanDisk (state S.Store conn.new) → OnErr result (KeepsCommit (state S.Store conn.old) (state S.Store conn.new)) }
+    ensures crash { Survives (state S.Store conn.old) (state S.Store conn.new) (λ trees. AreMade S.Store filer.now conn.old trees × ((state S.Store conn.old).now.schema ≡ no_schema → Leaves (empty filer.now) trees)) }
+    ensures durable { HasCleanDisk (state S.Store conn.new) → OnOk result ((trees : Trees) → (state S.Store conn.new).may_leave trees → trees ≡ (state S.Store conn.new).now.trees) }
+{
+    if !is_filer(filer) {
+        return Err(OutboxFault::BadFiler);
+    }
+    if is_taken(conn.schema()) {
+        return Err(OutboxFault::Taken);
+    }
+    let code = String::from_str(alloc, filer)?;
+    match make(conn, filer) {
+        Ok(()) => Ok(code),
+        Err(error) => Err(OutboxFault::from(error)),
+    }
 }

@@ -6,7 +6,7 @@ ghost use Rattle.sqlite.specs.Held.{state};
 ghost use Rattle.key_string.specs.Key.{IsKey};
 ghost use Rattle.http_wire.specs.Head.{max_body_len};
 ghost use Rattle.http_wire.specs.Replies.{reply_parts};
-ghost use Rattle.filing_model.specs.Outbox.{moved};
+ghost use Rattle.filing_model.specs.Outbox.{Entry as Item, moved};
 ghost use Rattle.table_rows.specs.Standing.{Stands, Commits};
 ghost use Rattle.outbox_core.specs.Entries.{Contents, IsOutbox, opened, numbered, has_text, is_open, entry_at, with_entry, with_state};
 ghost use Rattle.outbox_core.specs.Rows.{IsOutboxOf, Leaves, entry_row};
@@ -77,6 +77,7 @@ pub(crate) fn add_entry<S: Alter>(
 /// The entry that the row is, if there is one.
 fn read_found(alloc: Global, found: Result<Option<Row>, Error>) -> Result<Option<Entry>, StoreFault>
     ensures read { (it : _) → IfOk found (λ row. row ≡ option_map entry_row it) → IfOk result (λ entry. option_map view_entry entry ≡ it) }
+    ensures short { IfOk result (λ entry. IfSome entry (λ e. length e.body.items ≤ max_body_len)) }
     ensures from_ok { IsOk result → IsOk found }
 {
     match found? {
@@ -93,9 +94,10 @@ pub(crate) fn entry_of<S: Alter>(
     requires { id < 2 ^ 63 }
     ensures found { HasCleanDisk (state S.Store conn.new) → (it : Contents) → Stands (IsOutboxOf it) (state S.Store conn.old)
         → IfOk result (λ entry. option_map view_entry entry ≡ option_map (λ e. (id, e)) (entry_at it.entries id)) }
+    ensures short { IfOk result (λ entry. IfSome entry (λ e. length e.body.items ≤ max_body_len)) }
     ensures kept { HasCleanDisk (state S.Store conn.new) → (it : Contents) → Stands (IsOutboxOf it) (state S.Store conn.old) → Stands (IsOutboxOf it) (state S.Store conn.new) }
     ensures open { HasCleanDisk (state S.Store conn.new) → (it : Contents) → Stands (IsOutboxOf it) (state S.Store conn.old) → OnOk result (IsTrue (state S.Store conn.new).is_open) }
-    ensures crash { Survives (state S.Store conn.old) (state S.Store conn.new) (Commits IsOutboxOf (state S.Store conn.old) (λ _ _. ⊥)) }
+    ensures crash { Survives (state S.Store conn.old) (state S.Store conn.new) (λ _. ⊥) }
 {
     read_found(alloc, tables::entry_with_id(conn, id))
 }
@@ -106,8 +108,9 @@ pub(crate) fn open_entry<S: Alter>(
 ) -> Result<Option<Entry>, StoreFault>
     ensures found { HasCleanDisk (state S.Store conn.new) → (it : Contents) → Stands (IsOutboxOf it) (state S.Store conn.old)
         → IfOk result (λ entry. option_map view_entry entry ≡ find is_open (numbered it.entries)) }
+    ensures short { IfOk result (λ entry. IfSome entry (λ e. length e.body.items ≤ max_body_len)) }
     ensures kept { HasCleanDisk (state S.Store conn.new) → (it : Contents) → Stands (IsOutboxOf it) (state S.Store conn.old) → Stands (IsOutboxOf it) (state S.Store conn.new) }
-    ensures crash { Survives (state S.Store conn.old) (state S.Store conn.new) (Commits IsOutboxOf (state S.Store conn.old) (λ _ _. ⊥)) }
+    ensures crash { Survives (state S.Store conn.old) (state S.Store conn.new) (λ _. ⊥) }
 {
     read_found(alloc, tables::first_open_entry(conn))
 }
@@ -120,7 +123,7 @@ pub(crate) fn states_of<S: Alter>(
     ensures found { HasCleanDisk (state S.Store conn.new) → (it : Contents) → Stands (IsOutboxOf it) (state S.Store conn.old)
         → IfOk result (λ states. map view_pair states.items ≡ map id_and_state (numbered it.entries)) }
     ensures kept { HasCleanDisk (state S.Store conn.new) → (it : Contents) → Stands (IsOutboxOf it) (state S.Store conn.old) → Stands (IsOutboxOf it) (state S.Store conn.new) }
-    ensures crash { Survives (state S.Store conn.old) (state S.Store conn.new) (Commits IsOutboxOf (state S.Store conn.old) (λ _ _. ⊥)) }
+    ensures crash { Survives (state S.Store conn.old) (state S.Store conn.new) (λ _. ⊥) }
 {
     match tables::state_rows(conn) {
         Ok(rows) => read_states(alloc, rows.as_slice()),
@@ -170,7 +173,7 @@ pub(crate) fn take_entry<S: Alter>(
     ensures no_entry { HasCleanDisk (state S.Store conn.new) → (it : Contents) → Stands (IsOutboxOf it) (state S.Store conn.old) → result ≡ Err TakeFault.NoEntry → entry_at it.entries id ≡ None }
     ensures kept { HasCleanDisk (state S.Store conn.new) → (it : Contents) → Stands (IsOutboxOf it) (state S.Store conn.old) → OnErr result (Stands (IsOutboxOf it) (state S.Store conn.new)) }
     ensures crash { Survives (state S.Store conn.old) (state S.Store conn.new) (Commits IsOutboxOf (state S.Store conn.old)
-        (λ it trees. IfSome (entry_at it.entries id) (λ e. Leaves (with_state it id (moved e.state (reply_parts reply.now))) trees))) }
+        (λ it trees. (e : Item) × (entry_at it.entries id ≡ Some e) × Leaves (with_state it id (moved e.state (reply_parts reply.now))) trees)) }
 {
     match entry_of(conn, alloc, id) {
         Ok(Some(entry)) => move_entry(conn, alloc, id, entry.state, reply),

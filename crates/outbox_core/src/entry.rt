@@ -1,6 +1,7 @@
 //! An entry, and how a row reads as one.
 
-ghost use Rattle.std.specs.Prelude.{◌≡◌, pos, map, IfOk, IfSome};
+ghost use Rattle.std.specs.Prelude.{◌≡◌, ◌≤◌, pos, length, map, IfOk, IfSome};
+ghost use Rattle.http_wire.specs.Head.{max_body_len};
 ghost use Rattle.sqlite.specs.declared.types.Value.TheVariants.{Int};
 ghost use Rattle.sqlite.specs.Values.{or_null};
 ghost use Rattle.outbox_core.specs.Rows.{code_of, number_of};
@@ -8,6 +9,7 @@ ghost use Rattle.outbox_core.specs.Reading.{view_state, view_pair, state_told};
 
 use crate::fault::StoreFault;
 use crate::state::State;
+use http_wire::MAX_BODY_LEN;
 use key_string::{KeyFault, KeyText};
 use sqlite::Row;
 use std::alloc::Global;
@@ -52,11 +54,15 @@ impl Entry {
 
     /// Reads a row of the columns `id`, `idem`, `body`, `state` and `number`.
     pub(crate) fn from_row(alloc: Global, row: &Row) -> Result<Entry, StoreFault>
-        ensures { IfOk result (Shows row.now) }
+        ensures shown { IfOk result (Shows row.now) }
+        ensures short { IfOk result (λ entry. length entry.body.items ≤ max_body_len) }
     {
         let id = row.get(0)?;
         let text: String = row.get(1)?;
-        let body = row.get(2)?;
+        let body: Vec<u8> = row.get(2)?;
+        if body.len() > MAX_BODY_LEN {
+            return Err(StoreFault::Store);
+        }
         let code = row.get(3)?;
         let number = row.get(4)?;
         let key = key_in(alloc, text.as_str())?;

@@ -6,7 +6,7 @@ ghost use Rattle.key_string.specs.Filer.{is_filer};
 ghost use Rattle.filing_model.specs.Outbox.{Entry as Item};
 ghost use Rattle.sqlite.specs.Held.{state};
 ghost use Rattle.sqlite.specs.Order.{Row as Stored};
-ghost use Rattle.sqlite.specs.State.{HasCleanDisk, IsLive, IsUnchanged, Shown, Survives};
+ghost use Rattle.sqlite.specs.State.{HasCleanDisk, IsLive, IsUnchanged, KeepsCommit, Shown, Survives};
 ghost use Rattle.table_rows.specs.Rows.{Holds};
 ghost use Rattle.table_rows.specs.Standing.{Stands};
 ghost use Rattle.outbox_core.specs.Schema.{IsDeclared, meta_table, entry_table};
@@ -46,13 +46,15 @@ fn entry_fault(error: Error) -> OutboxFault
 fn filer_of<S: Alter>(conn: &mut Connection<S>, alloc: Global) -> Result<String, OutboxFault>
     ensures found { HasCleanDisk (state S.Store conn.new) → IsDeclared (state S.Store conn.old).now.schema
         → IfOk result (λ filer. Holds (state S.Store conn.old).now meta_table (meta_row (string_bytes filer) ∷ []) × (is_filer (string_bytes filer) ≡ true) × IsUnchanged (state S.Store conn.old) (state S.Store conn.new)) }
+    ensures code { IfOk result (λ filer. is_filer (string_bytes filer) ≡ true) }
     ensures read { HasCleanDisk (state S.Store conn.new) → OnOk result ((rows : List Stored) × Shown meta_text [] (state S.Store conn.old) (state S.Store conn.new) rows × IsSome (filer_in rows)) }
     ensures not_ours { HasCleanDisk (state S.Store conn.new) → result ≡ Err OutboxFault.NotOurs → IsNoOutbox (state S.Store conn.old) (state S.Store conn.new) }
     ensures disk { HasCleanDisk (state S.Store conn.new) → result ≡ Err OutboxFault.Disk → StopsByDisk meta_text (state S.Store conn.old) (state S.Store conn.new) }
     ensures others { IfErr result (λ fault. (fault ≡ OutboxFault.NotOurs) ⊎ ((fault ≡ OutboxFault.Memory) ⊎ (fault ≡ OutboxFault.Disk))) }
     ensures ours { HasCleanDisk (state S.Store conn.new) → (it : Contents) → IsOutboxOf it (state S.Store conn.old).now → (state S.Store conn.old).step_limit ≡ None
         → IfErr result (λ fault. (fault ≡ OutboxFault.Memory) ⊎ (fault ≡ OutboxFault.Disk)) }
-    ensures crash { Survives (state S.Store conn.old) (state S.Store conn.new) (λ _. IsDeclared (state S.Store conn.old).now.schema → ⊥) }
+    ensures kept { HasCleanDisk (state S.Store conn.new) → KeepsCommit (state S.Store conn.old) (state S.Store conn.new) }
+    ensures crash { Survives (state S.Store conn.old) (state S.Store conn.new) (λ _. ⊥) }
     ensures mode { conn.old.in_transaction ≡ false → conn.new.in_transaction ≡ false }
     ensures clean { HasCleanDisk (state S.Store conn.new) → HasCleanDisk (state S.Store conn.old) }
 {
@@ -75,7 +77,8 @@ fn count_entries<S: Alter>(conn: &mut Connection<S>) -> Result<u64, OutboxFault>
     ensures few { IfOk result (λ count. count ≤ 2 ^ 62) }
     ensures whole { HasCleanDisk (state S.Store conn.new) → (it : Contents) → IsOutboxOf it (state S.Store conn.old).now → (state S.Store conn.old).step_limit ≡ None
         → IfErr result (λ fault. (fault ≡ OutboxFault.Memory) ⊎ (fault ≡ OutboxFault.Disk)) }
-    ensures crash { Survives (state S.Store conn.old) (state S.Store conn.new) (λ _. IsDeclared (state S.Store conn.old).now.schema → ⊥) }
+    ensures kept { HasCleanDisk (state S.Store conn.new) → KeepsCommit (state S.Store conn.old) (state S.Store conn.new) }
+    ensures crash { Survives (state S.Store conn.old) (state S.Store conn.new) (λ _. ⊥) }
     ensures mode { conn.old.in_transaction ≡ false → conn.new.in_transaction ≡ false }
     ensures clean { HasCleanDisk (state S.Store conn.new) → HasCleanDisk (state S.Store conn.old) }
 {
@@ -98,25 +101,34 @@ fn is_settled<S: Alter>(conn: &Connection<S>) -> bool
     conn.is_autocommit()
 }
 
-/// What an opening finds.
-pub(crate) struct Found {
-    pub(crate) filer: String,
-    pub(crate) count: u64,
+/// The outbox that a database is: the code of its filer, and how many entries it has.
+#[derive(Drop)]
+pub struct Found {
+    pub filer: String,
+    pub count: u64,
 }
 
-/// Finds the outbox that the database is.
-pub(crate) fn find<S: Alter>(conn: &mut Connection<S>, alloc: Global) -> Result<Found, OutboxFault>
+/// Finds the outbox that the database is. Whatever the answer is, nothing is written. How the tables are declared is not
+/// tested.
+pub fn read_outbox<S: Alter>(alloc: Global, conn: &mut Connection<S>) -> Result<Found, OutboxFault>
     requires autocommit { conn.old.in_transaction ≡ false }
+    requires unlimited { conn.old.step_limit ≡ None }
     ensures found { HasCleanDisk (state S.Store conn.new) → IsDeclared (state S.Store conn.old).now.schema
         → IfOk result (λ found. (entries : List Item) × IsOutboxOf (contents_of (string_bytes found.filer) entries) (state S.Store conn.old).now
         × Stands (IsOutboxOf (contents_of (string_bytes found.filer) entries)) (state S.Store conn.new) × (found.count ≡ length entries)) }
-    ensures refused { HasCleanDisk (state S.Store conn.new) → IfErr result (λ fault. IsRefused S.Store fault conn.old conn.new) }
-    ensures others { IfErr result (λ fault. (fault ≢ OutboxFault.BadFiler) × (fault ≢ OutboxFault.Taken)) }
-    ensures sound { HasCleanDisk (state S.Store conn.new) → (it : Contents) → IsOutboxOf it (state S.Store conn.old).now → (state S.Store conn.old).step_limit ≡ None
-        → IfErr result (λ fault. (fault ≡ OutboxFault.Memory) ⊎ (fault ≡ OutboxFault.Disk)) }
     ensures open { HasCleanDisk (state S.Store conn.new) → IsDeclared (state S.Store conn.old).now.schema → OnOk result (IsTrue (state S.Store conn.new).is_open) }
-    ensures crash { Survives (state S.Store conn.old) (state S.Store conn.new) (λ _. IsDeclared (state S.Store conn.old).now.schema → ⊥) }
+    ensures code { IfOk result (λ found. is_filer (string_bytes found.filer) ≡ true) }
     ensures few { IfOk result (λ found. found.count ≤ 2 ^ 62) }
+
+    // A refusal says why; an outbox is refused by memory or disk.
+    ensures refused { HasCleanDisk (state S.Store conn.new) → IfErr result (λ fault. IsRefused S.Store fault conn.old conn.new) }
+    ensures sound { HasCleanDisk (state S.Store conn.new) → (it : Contents) → IsOutboxOf it (state S.Store conn.old).now → IfErr result (λ fault. (fault ≡ OutboxFault.Memory) ⊎ (fault ≡ OutboxFault.Disk)) }
+    ensures others { IfErr result (λ fault. (fault ≢ OutboxFault.BadFiler) × (fault ≢ OutboxFault.Taken)) }
+
+    // Whatever database it is, what is committed is what was committed, and a crash leaves what it could leave before.
+    ensures kept { HasCleanDisk (state S.Store conn.new) → KeepsCommit (state S.Store conn.old) (state S.Store conn.new) }
+    ensures crash { Survives (state S.Store conn.old) (state S.Store conn.new) (λ _. ⊥) }
+    ensures autocommit { conn.new.in_transaction ≡ false }
 {
     prove!(is_settled(conn));
     match filer_of(conn, alloc) {

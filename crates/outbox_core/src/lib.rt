@@ -15,8 +15,10 @@ mod state;
 mod stop;
 mod tables;
 
+pub use create::make_outbox;
 pub use entry::Entry;
 pub use fault::{OutboxFault, PutFault, StoreFault, TakeFault};
+pub use finding::{Found, read_outbox};
 pub use key::key_of;
 pub use outbox::Outbox;
 pub use state::State;

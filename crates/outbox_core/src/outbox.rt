@@ -1,7 +1,7 @@
 //! The outbox of a filer.
 
 ghost use Rattle.std.specs.Prelude.{◌≡◌, ◌≢◌, List, ◌+◌, ◌^◌, ◌<◌, ◌≤◌, ◌↔◌, [], ◌∷◌, ◌++◌, length, find, map, option_map, false, None, Some, IsTrue, IfOk, IfErr, OnOk, OnErr, IfSome, IsSome, true, Err};
-ghost use Rattle.sqlite.specs.State.{HasCleanDisk, Survives};
+ghost use Rattle.sqlite.specs.State.{HasCleanDisk, KeepsCommit, Survives};
 ghost use Rattle.sqlite.specs.Held.{state};
 ghost use Rattle.sqlite.specs.Tree.{Trees};
 ghost use Rattle.key_string.specs.Filer.{is_filer};
@@ -12,16 +12,17 @@ ghost use Rattle.table_rows.specs.Tables.{no_schema};
 ghost use Rattle.outbox_core.specs.Schema.{is_taken};
 ghost use Rattle.outbox_core.specs.Entries.{empty, opened, numbered, has_text, is_open, entry_at, set_state};
 ghost use Rattle.outbox_core.specs.Rows.{Leaves};
+ghost use Rattle.outbox_core.specs.Making.{AreMade};
 ghost use Rattle.outbox_core.specs.Reading.{view_entry, view_state, view_pair, id_and_state};
 
-use crate::create::{is_taken, make};
+use crate::create::make_outbox;
 use crate::entries::{add_entry, entry_of, open_entry, states_of, take_entry};
 use crate::entry::Entry;
 use crate::fault::{OutboxFault, PutFault, StoreFault, TakeFault};
-use crate::finding::{Found, find};
+use crate::finding::{Found, read_outbox};
 use crate::state::State;
 use http_wire::{MAX_BODY_LEN, Reply};
-use key_string::{KeyText, is_filer};
+use key_string::KeyText;
 use sqlite::{Alter, Connection};
 use std::alloc::Global;
 use std::marker::Model;
@@ -40,7 +41,8 @@ pub struct Outbox<S: Alter> {
 
 impl<S: Alter> Model for Outbox<S> {
     ghost use Rattle.outbox_core.specs.Box.{Box, box_code};
-    ghost use Rattle.std.specs.Prelude.{◌≤◌, ◌^◌, string_bytes};
+    ghost use Rattle.std.specs.Prelude.{◌≡◌, ◌≤◌, ◌^◌, true, string_bytes};
+    ghost use Rattle.key_string.specs.Filer.{is_filer};
 
     ghost Value = { Box S };
 
@@ -48,7 +50,7 @@ impl<S: Alter> Model for Outbox<S> {
 
     ghost view = { λ o. record { conn = o.conn; filer = string_bytes o.filer; count = o.count; has_failed = o.has_failed } };
 
-    ghost invariant = { λ o. o.count ≤ 2 ^ 62 };
+    ghost invariant = { λ o. (o.count ≤ 2 ^ 62) × (is_filer (string_bytes o.filer) ≡ true) };
 }
 
 impl<S: Alter + Drop> Drop for Outbox<S> {
@@ -64,10 +66,12 @@ impl<S: Alter + Drop> Drop for Outbox<S> {
 }
 
 impl<S: Alter + Drop> Outbox<S> {
+    ghost use Rattle.sqlite.specs.Held.{Held};
     ghost use Rattle.outbox_core.specs.Box.{shows, HasEntries};
 
     /// Makes the tables of an outbox of this filer that has no entry, in one transaction. A refusal gives the connection
-    /// up, and leaves the database as it was. The tables are those of an outbox where the database had none before.
+    /// up, and leaves the database as it was, as `make_outbox` says of one that is kept. The tables are those of an outbox
+    /// where the database had none before.
     pub fn create(alloc: Global, conn: Connection<S>, filer: &str) -> Result<Outbox<S>, OutboxFault>
         requires autocommit { conn.in_transaction ≡ false }
         requires unlimited { conn.step_limit ≡ None }
@@ -80,28 +84,25 @@ impl<S: Alter + Drop> Outbox<S> {
         ensures taken { (result ≡ Err OutboxFault.Taken) ↔ ((is_filer filer.now ≡ true) × IsTrue (is_taken (state S.Store conn).now.schema)) }
         ensures no_other { IfErr result (λ fault. (fault ≢ OutboxFault.NotOurs) × ((row : _) → fault ≢ OutboxFault.Damaged row)) }
 
+        // A refusal commits nothing, of the connection as it was given up.
+        ensures refused { OnErr result ((last : Held S) × Survives (state S.Store conn) (state S.Store last) (λ trees. AreMade S.Store filer.now conn trees × ((state S.Store conn).now.schema ≡ no_schema → Leaves (empty filer.now) trees))
+            × (HasCleanDisk (state S.Store last) → KeepsCommit (state S.Store conn) (state S.Store last))) }
+
         // A crash leaves what one before the call could leave, or the outbox with no entry, and after the call that alone.
-        ensures crash { IfOk result (λ outbox. Survives (state S.Store conn) (shows S.Store outbox) (λ trees. (state S.Store conn).now.schema ≡ no_schema → Leaves (empty filer.now) trees)) }
+        ensures crash { IfOk result (λ outbox. Survives (state S.Store conn) (shows S.Store outbox) (λ trees. AreMade S.Store filer.now conn trees × ((state S.Store conn).now.schema ≡ no_schema → Leaves (empty filer.now) trees))) }
         ensures durable { IfOk result (λ outbox. HasCleanDisk (shows S.Store outbox) → (state S.Store conn).now.schema ≡ no_schema
             → IsTrue (shows S.Store outbox).is_open × ((trees : Trees) → (shows S.Store outbox).may_leave trees → Leaves (empty filer.now) trees)) }
     {
-        if !is_filer(filer) {
-            return Err(OutboxFault::BadFiler);
-        }
-        if is_taken(conn.schema()) {
-            return Err(OutboxFault::Taken);
-        }
-        let name = String::from_str(alloc, filer)?;
         let mut conn = conn;
-        match make(&mut conn, filer) {
-            Ok(()) => Ok(Outbox {
+        match make_outbox(alloc, &mut conn, filer) {
+            Ok(filer) => Ok(Outbox {
                 alloc,
                 conn,
-                filer: name,
+                filer,
                 count: 0,
                 has_failed: false,
             }),
-            Err(error) => Err(OutboxFault::from(error)),
+            Err(refusal) => Err(refusal),
         }
     }
 }
@@ -128,16 +129,17 @@ impl<S: Alter + Drop> Outbox<S> {
         ensures same { IfOk result (λ outbox. HasCleanDisk (shows S.Store outbox) → (it : Contents) → IsOutboxOf it (state S.Store conn).now → (outbox.filer ≡ it.filer) × HasEntries S.Store outbox it.entries) }
         ensures durable { IfOk result (λ outbox. HasCleanDisk (shows S.Store outbox) → (it : Contents) → IsOutboxOf it (state S.Store conn).now
             → IsTrue (shows S.Store outbox).is_open × ((trees : Trees) → (shows S.Store outbox).may_leave trees → Leaves it trees)) }
-        ensures crash { IfOk result (λ outbox. Survives (state S.Store conn) (shows S.Store outbox) (λ _. IsDeclared (state S.Store conn).now.schema → ⊥)) }
+        ensures crash { IfOk result (λ outbox. Survives (state S.Store conn) (shows S.Store outbox) (λ _. ⊥)) }
 
-        // A refusal writes nothing and says why, of the connection as it was given up; an outbox is refused by memory or disk.
-        ensures refused { IfErr result (λ fault. (last : Held S) × Survives (state S.Store conn) (state S.Store last) (λ _. IsDeclared (state S.Store conn).now.schema → ⊥)
+        // A refusal writes nothing and says why, of the connection as it was given up, as `read_outbox` says of one that is
+        // kept; an outbox is refused by memory or disk.
+        ensures refused { IfErr result (λ fault. (last : Held S) × Survives (state S.Store conn) (state S.Store last) (λ _. ⊥) × (HasCleanDisk (state S.Store last) → KeepsCommit (state S.Store conn) (state S.Store last))
             × (HasCleanDisk (state S.Store last) → IsRefused S.Store fault conn last)
             × (HasCleanDisk (state S.Store last) → (it : Contents) → IsOutboxOf it (state S.Store conn).now → (fault ≡ OutboxFault.Memory) ⊎ (fault ≡ OutboxFault.Disk))) }
         ensures no_other { IfErr result (λ fault. (fault ≢ OutboxFault.BadFiler) × (fault ≢ OutboxFault.Taken)) }
     {
         let mut conn = conn;
-        match find(&mut conn, alloc) {
+        match read_outbox(alloc, &mut conn) {
             Ok(Found { filer, count }) => Ok(Outbox {
                 alloc,
                 conn,
@@ -155,7 +157,8 @@ impl<S: Alter> Outbox<S> {
 
     /// The code of the filer.
     pub fn filer(&self) -> &str
-        ensures { result.now ≡ self.now.filer }
+        ensures value { result.now ≡ self.now.filer }
+        ensures code { is_filer result.now ≡ true }
     {
         self.filer.as_str()
     }
@@ -217,13 +220,14 @@ impl<S: Alter> Outbox<S> {
     pub fn entry(&mut self, id: u64) -> Result<Option<Entry>, StoreFault>
         ensures found { HasCleanDisk (shows S.Store self.new) → (entries : List Item) → HasEntries S.Store self.old entries
             → IfOk result (λ entry. option_map view_entry entry ≡ option_map (λ e. (id, e)) (entry_at entries id)) }
+        ensures short { IfOk result (λ entry. IfSome entry (λ e. length e.body.items ≤ max_body_len)) }
 
         // The entries are those of before, whatever the answer is, and a crash leaves what it could leave before.
         ensures kept { HasCleanDisk (shows S.Store self.new) → (entries : List Item) → HasEntries S.Store self.old entries → HasEntries S.Store self.new entries }
         ensures stopped { IsTrue self.old.has_failed → (result ≡ Err StoreFault.Store) × (self.new ≡ self.old) }
         ensures stops { IsTrue self.new.has_failed ↔ (result ≡ Err StoreFault.Store) }
         ensures filer { self.new.filer ≡ self.old.filer }
-        ensures crash { Survives (shows S.Store self.old) (shows S.Store self.new) (λ _. (entries : List Item) → HasEntries S.Store self.old entries → IsTrue (shows S.Store self.old).is_open → ⊥) }
+        ensures crash { Survives (shows S.Store self.old) (shows S.Store self.new) (λ _. ⊥) }
 
         // Where an entry is answered, a crash leaves these entries alone.
         ensures durable { HasCleanDisk (shows S.Store self.new) → (entries : List Item) → HasEntries S.Store self.old entries
@@ -248,13 +252,14 @@ impl<S: Alter> Outbox<S> {
     pub fn next_open(&mut self) -> Result<Option<Entry>, StoreFault>
         ensures found { HasCleanDisk (shows S.Store self.new) → (entries : List Item) → HasEntries S.Store self.old entries
             → IfOk result (λ entry. option_map view_entry entry ≡ find is_open (numbered entries)) }
+        ensures short { IfOk result (λ entry. IfSome entry (λ e. length e.body.items ≤ max_body_len)) }
 
         // The entries are those of before, whatever the answer is, and a crash leaves what it could leave before.
         ensures kept { HasCleanDisk (shows S.Store self.new) → (entries : List Item) → HasEntries S.Store self.old entries → HasEntries S.Store self.new entries }
         ensures stopped { IsTrue self.old.has_failed → (result ≡ Err StoreFault.Store) × (self.new ≡ self.old) }
         ensures stops { IsTrue self.new.has_failed ↔ (result ≡ Err StoreFault.Store) }
         ensures filer { self.new.filer ≡ self.old.filer }
-        ensures crash { Survives (shows S.Store self.old) (shows S.Store self.new) (λ _. (entries : List Item) → HasEntries S.Store self.old entries → IsTrue (shows S.Store self.old).is_open → ⊥) }
+        ensures crash { Survives (shows S.Store self.old) (shows S.Store self.new) (λ _. ⊥) }
     {
         if self.has_failed {
             return Err(StoreFault::Store);
@@ -278,7 +283,7 @@ impl<S: Alter> Outbox<S> {
         ensures stopped { IsTrue self.old.has_failed → (result ≡ Err StoreFault.Store) × (self.new ≡ self.old) }
         ensures stops { IsTrue self.new.has_failed ↔ (result ≡ Err StoreFault.Store) }
         ensures filer { self.new.filer ≡ self.old.filer }
-        ensures crash { Survives (shows S.Store self.old) (shows S.Store self.new) (λ _. (entries : List Item) → HasEntries S.Store self.old entries → IsTrue (shows S.Store self.old).is_open → ⊥) }
+        ensures crash { Survives (shows S.Store self.old) (shows S.Store self.new) (λ _. ⊥) }
     {
         if self.has_failed {
             return Err(StoreFault::Store);
@@ -305,9 +310,10 @@ impl<S: Alter> Outbox<S> {
         ensures stops { IsTrue self.new.has_failed ↔ (result ≡ Err TakeFault.Store) }
         ensures filer { self.new.filer ≡ self.old.filer }
 
-        // A crash leaves what one before the call could leave, or the entries after the move, and after Ok these alone.
+        // A crash leaves what one before the call could leave, or the entries after the move where the id names one, and after
+        // Ok these alone.
         ensures crash { Survives (shows S.Store self.old) (shows S.Store self.new) (λ trees. (entries : List Item) → HasEntries S.Store self.old entries → IsTrue (shows S.Store self.old).is_open
-            → IfSome (entry_at entries id) (λ e. Leaves (contents self.old (set_state entries id (moved e.state (reply_parts reply.now)))) trees)) }
+            → (e : Item) × (entry_at entries id ≡ Some e) × Leaves (contents self.old (set_state entries id (moved e.state (reply_parts reply.now)))) trees) }
         ensures durable { HasCleanDisk (shows S.Store self.new) → (entries : List Item) → HasEntries S.Store self.old entries
             → IfOk result (λ to. IsTrue (shows S.Store self.new).is_open × ((trees : Trees) → (shows S.Store self.new).may_leave trees → Leaves (contents self.new (set_state entries id (view_state to))) trees)) }
     {

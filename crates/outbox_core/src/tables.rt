@@ -3,7 +3,7 @@
 ghost use Rattle.std.specs.Prelude.{◌≡◌, ◌+◌, ◌^◌, ◌<◌, pos, codes, OnErr, length, find, map, option_map, IsTrue, IfOk, IfErr, OnOk, IsSome, false, []};
 ghost use Rattle.sqlite.specs.Values.{or_null};
 ghost use Rattle.sqlite.specs.declared.types.Value.TheVariants.{Int};
-ghost use Rattle.sqlite.specs.State.{HasCleanDisk, Survives, Shown, FailsToQuery, IsUnchanged};
+ghost use Rattle.sqlite.specs.State.{HasCleanDisk, Survives, Shown, FailsToQuery, IsUnchanged, KeepsCommit};
 ghost use Rattle.sqlite.specs.Held as held;
 ghost use Rattle.table_rows.specs.Rows.{Holds};
 ghost use Rattle.table_rows.specs.Standing.{Stands, Commits};
@@ -22,7 +22,7 @@ fn entry_with_key<S: Alter>(conn: &mut Connection<S>, key: &str) -> Result<Optio
         → IfOk result (λ row. row ≡ option_map entry_row (find (has_text key.now) (numbered it.entries))) }
     ensures kept { HasCleanDisk (held.state S.Store conn.new) → (it : Contents) → Stands (IsOutboxOf it) (held.state S.Store conn.old) → Stands (IsOutboxOf it) (held.state S.Store conn.new) }
     ensures open { HasCleanDisk (held.state S.Store conn.new) → (it : Contents) → Stands (IsOutboxOf it) (held.state S.Store conn.old) → OnOk result (IsTrue (held.state S.Store conn.new).is_open) }
-    ensures crash { Survives (held.state S.Store conn.old) (held.state S.Store conn.new) (Commits IsOutboxOf (held.state S.Store conn.old) (λ _ _. ⊥)) }
+    ensures crash { Survives (held.state S.Store conn.old) (held.state S.Store conn.new) (λ _. ⊥) }
 {
     first_row(
         conn,
@@ -37,7 +37,7 @@ pub(crate) fn id_of_key<S: Alter>(conn: &mut Connection<S>, key: &str) -> Result
         → IfOk result (λ id. id ≡ option_map (λ x. x.0) (find (has_text key.now) (numbered it.entries))) }
     ensures kept { HasCleanDisk (held.state S.Store conn.new) → (it : Contents) → Stands (IsOutboxOf it) (held.state S.Store conn.old) → Stands (IsOutboxOf it) (held.state S.Store conn.new) }
     ensures open { HasCleanDisk (held.state S.Store conn.new) → (it : Contents) → Stands (IsOutboxOf it) (held.state S.Store conn.old) → OnOk result (IsTrue (held.state S.Store conn.new).is_open) }
-    ensures crash { Survives (held.state S.Store conn.old) (held.state S.Store conn.new) (Commits IsOutboxOf (held.state S.Store conn.old) (λ _ _. ⊥)) }
+    ensures crash { Survives (held.state S.Store conn.old) (held.state S.Store conn.new) (λ _. ⊥) }
 {
     let row = entry_with_key(conn, key)?;
     match row {
@@ -56,7 +56,7 @@ pub(crate) fn entry_with_id<S: Alter>(
         → IfOk result (λ row. row ≡ option_map entry_row (find (has_id id) (numbered it.entries))) }
     ensures kept { HasCleanDisk (held.state S.Store conn.new) → (it : Contents) → Stands (IsOutboxOf it) (held.state S.Store conn.old) → Stands (IsOutboxOf it) (held.state S.Store conn.new) }
     ensures open { HasCleanDisk (held.state S.Store conn.new) → (it : Contents) → Stands (IsOutboxOf it) (held.state S.Store conn.old) → OnOk result (IsTrue (held.state S.Store conn.new).is_open) }
-    ensures crash { Survives (held.state S.Store conn.old) (held.state S.Store conn.new) (Commits IsOutboxOf (held.state S.Store conn.old) (λ _ _. ⊥)) }
+    ensures crash { Survives (held.state S.Store conn.old) (held.state S.Store conn.new) (λ _. ⊥) }
 {
     first_row(
         conn,
@@ -71,7 +71,7 @@ pub(crate) fn first_open_entry<S: Alter>(conn: &mut Connection<S>) -> Result<Opt
         → IfOk result (λ row. row ≡ option_map entry_row (find is_open (numbered it.entries))) }
     ensures kept { HasCleanDisk (held.state S.Store conn.new) → (it : Contents) → Stands (IsOutboxOf it) (held.state S.Store conn.old) → Stands (IsOutboxOf it) (held.state S.Store conn.new) }
     ensures open { HasCleanDisk (held.state S.Store conn.new) → (it : Contents) → Stands (IsOutboxOf it) (held.state S.Store conn.old) → OnOk result (IsTrue (held.state S.Store conn.new).is_open) }
-    ensures crash { Survives (held.state S.Store conn.old) (held.state S.Store conn.new) (Commits IsOutboxOf (held.state S.Store conn.old) (λ _ _. ⊥)) }
+    ensures crash { Survives (held.state S.Store conn.old) (held.state S.Store conn.new) (λ _. ⊥) }
 {
     first_row(
         conn,
@@ -85,7 +85,7 @@ pub(crate) fn state_rows<S: Alter>(conn: &mut Connection<S>) -> Result<Vec<Row>,
     ensures found { HasCleanDisk (held.state S.Store conn.new) → (it : Contents) → Stands (IsOutboxOf it) (held.state S.Store conn.old)
         → IfOk result (λ rows. rows.items ≡ map state_row (numbered it.entries)) }
     ensures kept { HasCleanDisk (held.state S.Store conn.new) → (it : Contents) → Stands (IsOutboxOf it) (held.state S.Store conn.old) → Stands (IsOutboxOf it) (held.state S.Store conn.new) }
-    ensures crash { Survives (held.state S.Store conn.old) (held.state S.Store conn.new) (Commits IsOutboxOf (held.state S.Store conn.old) (λ _ _. ⊥)) }
+    ensures crash { Survives (held.state S.Store conn.old) (held.state S.Store conn.new) (λ _. ⊥) }
 {
     conn.query_all("SELECT id, state, number FROM entry ORDER BY id", &[])
 }
@@ -97,8 +97,9 @@ pub(crate) fn meta_rows<S: Alter>(conn: &mut Connection<S>) -> Result<Vec<Row>, 
         → IfOk result (λ rows. Holds (held.state S.Store conn.old).now meta_table rows.items × IsUnchanged (held.state S.Store conn.old) (held.state S.Store conn.new)) }
     ensures failed { HasCleanDisk (held.state S.Store conn.new) → IfErr result (FailsToQuery meta_text [] (held.state S.Store conn.old) (held.state S.Store conn.new)) }
     ensures mode { conn.old.in_transaction ≡ false → conn.new.in_transaction ≡ false }
+    ensures kept { HasCleanDisk (held.state S.Store conn.new) → KeepsCommit (held.state S.Store conn.old) (held.state S.Store conn.new) }
     ensures clean { HasCleanDisk (held.state S.Store conn.new) → HasCleanDisk (held.state S.Store conn.old) }
-    ensures crash { Survives (held.state S.Store conn.old) (held.state S.Store conn.new) (λ _. IsDeclared (held.state S.Store conn.old).now.schema → ⊥) }
+    ensures crash { Survives (held.state S.Store conn.old) (held.state S.Store conn.new) (λ _. ⊥) }
 {
     conn.query_all("SELECT id, kind, form, filer FROM outbox_meta", &[])
 }
@@ -110,8 +111,9 @@ pub(crate) fn all_rows<S: Alter>(conn: &mut Connection<S>) -> Result<Vec<Row>, E
         → IfOk result (λ rows. Holds (held.state S.Store conn.old).now entry_table rows.items × IsUnchanged (held.state S.Store conn.old) (held.state S.Store conn.new)) }
     ensures failed { HasCleanDisk (held.state S.Store conn.new) → IfErr result (FailsToQuery entries_text [] (held.state S.Store conn.old) (held.state S.Store conn.new)) }
     ensures mode { conn.old.in_transaction ≡ false → conn.new.in_transaction ≡ false }
+    ensures kept { HasCleanDisk (held.state S.Store conn.new) → KeepsCommit (held.state S.Store conn.old) (held.state S.Store conn.new) }
     ensures clean { HasCleanDisk (held.state S.Store conn.new) → HasCleanDisk (held.state S.Store conn.old) }
-    ensures crash { Survives (held.state S.Store conn.old) (held.state S.Store conn.new) (λ _. IsDeclared (held.state S.Store conn.old).now.schema → ⊥) }
+    ensures crash { Survives (held.state S.Store conn.old) (held.state S.Store conn.new) (λ _. ⊥) }
 {
     conn.query_all(
         "SELECT id, idem, body, state, number FROM entry ORDER BY id",

@@ -16,3 +16,4 @@ pub mod UpdateLemmas
 pub mod CleanLemmas
 pub mod FileLemmas
 pub mod TextLemmas
+pub mod ReadingTexts

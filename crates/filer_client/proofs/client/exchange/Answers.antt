@@ -1,8 +1,8 @@
-use Rattle.std.proofs.Common.{ℕ, List, refl, inl, subst, arith, IfSome}
+use Rattle.std.proofs.Common.{◌≡◌, ℕ, List, Some, refl, inl, subst, arith}
 use Rattle.std.proofs.KnownBytes.{Appends-nil}
 use Rattle.sqlite.specs.State.{HasCleanDisk}
 use Rattle.sqlite.proofs.StateLemmas.{survives_then}
-use Rattle.filing_model.specs.Outbox.{moved}
+use Rattle.filing_model.specs.Outbox.{Entry, moved}
 use Rattle.outbox_core.specs.Box.{shows}
 use Rattle.outbox_core.specs.Entries.{contents_of, entry_at, set_state}
 use Rattle.outbox_core.specs.Reading.{view_state}
@@ -28,12 +28,12 @@ returns-in_ok-map_err-in-Request-clause-crash g c =
     let old = shows g.S.Store c.args.outbox.now in
     let mid = shows g.S.Store c.open_request.new.outbox in
     let new = shows g.S.Store c.hand_over.new.outbox in
-    survives_then old mid new _ _ _ (λ clean trees none entries had alive. absurd (none entries had alive))
+    survives_then old mid new _ _ _ (λ clean trees none. absurd none)
     (λ clean trees moves entries had alive.
     let early : HasCleanDisk mid = omega (arith, c.hand_over.ensures.crash.clean) in
     let stands = c.open_request.ensures.kept early entries had in
     let still = (c.in_ok-text.ensures.durable early entries had).0 in
     subst (λ (filer : List ℕ). Hears (g.R.Source.left c.args.reader.now) (g.R.Source.left c.hand_over.new.reader)
-    (λ reply. IfSome (entry_at entries c.args.id) (λ e. Leaves (contents_of filer (set_state entries c.args.id (moved e.state reply))) trees)))
+    (λ reply. (e : Entry) × (entry_at entries c.args.id ≡ Some e) × Leaves (contents_of filer (set_state entries c.args.id (moved e.state reply))) trees))
     c.open_request.ensures.filer (moves entries stands still))
     c.open_request.ensures.crash c.hand_over.ensures.crash

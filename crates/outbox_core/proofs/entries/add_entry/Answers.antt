@@ -31,7 +31,7 @@ returns-in-Ok-None-clause-crash g c =
     let old = state g.S.Store c.args.conn.now in
     let mid = state g.S.Store c.id_of_key.new.conn in
     let new = state g.S.Store c.insert_next.new.conn in
-    survives_then old mid new _ _ _ (λ _ trees none it was alive counted. absurd (none it was alive))
+    survives_then old mid new _ _ _ (λ _ trees none. absurd none)
     (λ clean trees h it was alive counted.
     let early : HasCleanDisk mid = omega (arith, c.insert_next.ensures.crash.clean) in
     let none : find (has_text c.args.key.now) (numbered it.entries) ≡ None = none_found _ (rw c.in-Ok-None.field-0-is at (c.in-Ok-None.ensures.found early it was)) in
@@ -48,8 +48,8 @@ returns-in-Ok-Some-clause-used g c clean it was id is =
 
 pub returns-in-Ok-Some-clause-crash : goal.returns-in-Ok-Some-clause-crash
 returns-in-Ok-Some-clause-crash g c =
-    survives_weaker (state g.S.Store c.args.conn.now) (state g.S.Store c.id_of_key.new.conn) _ _ (λ _ trees none it was alive counted. absurd (none it was alive)) c.id_of_key.ensures.crash
+    survives_weaker (state g.S.Store c.args.conn.now) (state g.S.Store c.id_of_key.new.conn) _ _ (λ _ trees none. absurd none) c.id_of_key.ensures.crash
 
 pub returns-in-Err-clause-crash : goal.returns-in-Err-clause-crash
 returns-in-Err-clause-crash g c =
-    survives_weaker (state g.S.Store c.args.conn.now) (state g.S.Store c.id_of_key.new.conn) _ _ (λ _ trees none it was alive counted. absurd (none it was alive)) c.id_of_key.ensures.crash
+    survives_weaker (state g.S.Store c.args.conn.now) (state g.S.Store c.id_of_key.new.conn) _ _ (λ _ trees none. absurd none) c.id_of_key.ensures.crash

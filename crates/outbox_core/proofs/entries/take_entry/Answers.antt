@@ -8,7 +8,7 @@ use Rattle.filing_model.specs.Outbox.{moved}
 use Rattle.outbox_core.specs.Entries.{entry_at, with_state}
 use Rattle.outbox_core.specs.Reading.{view_state}
 use Rattle.outbox_core.specs.Rows.{Leaves}
-use Rattle.outbox_core.proofs.ReadLemmas.{state_read, moved_read, none_read, each_read}
+use Rattle.outbox_core.proofs.ReadLemmas.{state_read, moved_read, none_read, entry_read}
 use Rattle.outbox_core.proofs.entries.take_entry.Goals as goal
 
 pub returns-in-Ok-Some-clause-moved : goal.returns-in-Ok-Some-clause-moved
@@ -29,12 +29,12 @@ returns-in-Ok-Some-clause-crash g c =
     let old = state g.S.Store c.args.conn.now in
     let mid = state g.S.Store c.entry_of.new.conn in
     let new = state g.S.Store c.move_entry.new.conn in
-    survives_then old mid new _ _ _ (λ _ trees none it was alive. absurd (none it was alive))
+    survives_then old mid new _ _ _ (λ _ trees none. absurd none)
     (λ clean trees h it was alive.
     let early : HasCleanDisk mid = omega (arith, c.move_entry.ensures.crash.clean) in
     let o = entry_at it.entries c.args.id in
     let at = state_read o c.args.id c.in-Ok-Some.entry (rw c.in-Ok-Some.field-0-is at (c.in-Ok-Some.ensures.found early it was)) in
-    each_read o (view_state c.in-Ok-Some.entry.state) (λ s. Leaves (with_state it c.args.id (moved s (reply_parts c.args.reply.now))) trees) at
+    entry_read o (view_state c.in-Ok-Some.entry.state) (λ s. Leaves (with_state it c.args.id (moved s (reply_parts c.args.reply.now))) trees) at
     (h it (c.in-Ok-Some.ensures.kept early it was) (c.in-Ok-Some.ensures.open early it was) at))
     c.entry_of.ensures.crash c.move_entry.ensures.crash
 
@@ -44,8 +44,8 @@ returns-in-Ok-None-clause-no_entry g c clean it was is =
 
 pub returns-in-Ok-None-clause-crash : goal.returns-in-Ok-None-clause-crash
 returns-in-Ok-None-clause-crash g c =
-    survives_weaker (state g.S.Store c.args.conn.now) (state g.S.Store c.entry_of.new.conn) _ _ (λ _ trees none it was alive. absurd (none it was alive)) c.entry_of.ensures.crash
+    survives_weaker (state g.S.Store c.args.conn.now) (state g.S.Store c.entry_of.new.conn) _ _ (λ _ trees none. absurd none) c.entry_of.ensures.crash
 
 pub returns-in-Err-clause-crash : goal.returns-in-Err-clause-crash
 returns-in-Err-clause-crash g c =
-    survives_weaker (state g.S.Store c.args.conn.now) (state g.S.Store c.entry_of.new.conn) _ _ (λ _ trees none it was alive. absurd (none it was alive)) c.entry_of.ensures.crash
+    survives_weaker (state g.S.Store c.args.conn.now) (state g.S.Store c.entry_of.new.conn) _ _ (λ _ trees none. absurd none) c.entry_of.ensures.crash

@@ -5,7 +5,7 @@ use Rattle.table_rows.specs.Rows.{Holds}
 use Rattle.outbox_core.specs.Schema.{meta_table}
 use Rattle.outbox_core.specs.Rows.{meta_row}
 use Rattle.outbox_core.specs.Audit.{filer_in}
-use Rattle.outbox_core.proofs.AuditLemmas.{filer_found, is_some}
+use Rattle.outbox_core.proofs.AuditLemmas.{filer_found, filer_code, is_some}
 use Rattle.table_rows.specs.Causes.{cause_of}
 use Rattle.outbox_core.proofs.SoundLemmas.{filer_is, meta_readable, unread}
 use Rattle.outbox_core.proofs.finding.filer_of.Goals as goal
@@ -18,6 +18,11 @@ returns-in-Some-clause-found g c clean declared =
     let found = filer_found db c.in-Ok.rows.items c.in-Some.filer.now held.0 some in
     let name = c.in_ok-from_str-in-Some.ensures.ok in
     (subst (λ f. Holds db meta_table (meta_row f ∷ [])) (sym name) found.0, subst (λ f. is_filer f ≡ true) (sym name) found.1, held.1)
+
+pub returns-in-Some-clause-code : goal.returns-in-Some-clause-code
+returns-in-Some-clause-code g c =
+    let some : filer_in c.in-Ok.rows.items ≡ Some c.in-Some.filer.now = rw c.as_slice.ensures.value at (sym c.filer_in.ensures ∙ ap (option_map (λ f. f.now)) c.in-Some.is) in
+    subst (λ f. is_filer f ≡ true) (sym c.in_ok-from_str-in-Some.ensures.ok) (filer_code c.in-Ok.rows.items c.in-Some.filer.now some)
 
 pub returns-in-Some-clause-read : goal.returns-in-Some-clause-read
 returns-in-Some-clause-read g c clean =

@@ -1,10 +1,10 @@
 use Rattle.std.proofs.Common.{arith}
 use Rattle.std.proofs.lemmas.Result.{IfOk-weaker}
 use Rattle.sqlite.specs.Held.{state}
-use Rattle.sqlite.proofs.Callers.{never_commits}
-use Rattle.sqlite.proofs.StateLemmas.{survives_weaker}
+use Rattle.sqlite.specs.State.{KeepsCommit}
+use Rattle.table_rows.proofs.ReadingTexts.{either, reading_shown, reading_failed, reading_leaves}
 use Rattle.outbox_core.specs.Audit.{meta_text}
-use Rattle.outbox_core.proofs.Texts.{meta_asks}
+use Rattle.outbox_core.proofs.Texts.{meta_reads}
 use Rattle.outbox_core.proofs.HeldLemmas.{meta_held}
 use Rattle.outbox_core.proofs.tables.meta_rows.Goals as goal
 
@@ -15,7 +15,11 @@ returns-clause-held g c clean declared =
 pub returns-clause-clean : goal.returns-clause-clean
 returns-clause-clean g c clean = omega (arith, c.query_all.ensures.survives.clean)
 
-pub returns-clause-crash : goal.returns-clause-crash
-returns-clause-crash g c =
+pub returns-clause-kept : goal.returns-clause-kept
+returns-clause-kept g c clean =
     let old = state g.S.Store c.args.conn.now in
-    survives_weaker old (state g.S.Store c.query_all.new.self) _ _ (λ _ trees h declared. never_commits meta_text _ old trees (meta_asks old.now.schema declared).plain h) c.query_all.ensures.survives
+    let new = state g.S.Store c.query_all.new.self in
+    either c.query_all.result (KeepsCommit old new) _ _ (λ rows. reading_shown meta_text _ old new meta_reads rows.items) (reading_failed meta_text _ old new meta_reads) (c.query_all.ensures.ok clean) (c.query_all.ensures.err clean)
+
+pub returns-clause-crash : goal.returns-clause-crash
+returns-clause-crash g c = reading_leaves meta_text _ (state g.S.Store c.args.conn.now) (state g.S.Store c.query_all.new.self) meta_reads c.query_all.ensures.survives

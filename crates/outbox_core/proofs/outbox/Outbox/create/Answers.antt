@@ -7,10 +7,13 @@ use Rattle.outbox_core.proofs.outbox.Outbox.create.Goals as goal
 pub returns-in-Ok-clause-made : goal.returns-in-Ok-clause-made
 returns-in-Ok-clause-made g c clean none =
     let made = c.in-Ok.ensures.made clean none in
-    let outbox = subst (λ filer. IsOutboxOf (empty filer) (state g.S.Store c.make.new.conn).now) (sym c.in_ok-name.ensures.ok) made.1 in
-    record { stands = record { autocommit = c.make.ensures.autocommit; now = λ _. outbox; committed = λ _. made.2 }; count = refl }
+    let settled = c.in-Ok.ensures.committed clean in
+    let outbox = subst (λ filer. IsOutboxOf (empty filer) (state g.S.Store c.make_outbox.new.conn).now) (sym c.in-Ok.ensures.code) made in
+    record { stands = record { autocommit = c.make_outbox.ensures.autocommit; now = λ _. outbox; committed = λ _. settled.1 }; count = refl }
 
 pub returns-in-Ok-clause-durable : goal.returns-in-Ok-clause-durable
 returns-in-Ok-clause-durable g c clean none =
-    let made = c.in-Ok.ensures.made clean none in
-    (made.0, λ trees left. record { db = _; is = c.in-Ok.ensures.durable clean trees left; outbox = made.1 })
+    ((c.in-Ok.ensures.committed clean).0, λ trees left. record { db = _; is = c.in-Ok.ensures.durable clean trees left; outbox = c.in-Ok.ensures.made clean none })
+
+pub returns-in-Err-clause-refused : goal.returns-in-Err-clause-refused
+returns-in-Err-clause-refused g c = (c.make_outbox.new.conn, c.make_outbox.ensures.crash, c.in-Err.ensures.undone)

@@ -1,5 +1,4 @@
 use Rattle.sqlite.specs.Held.{state}
-use Rattle.sqlite.proofs.StateLemmas.{survives_weaker}
 use Rattle.outbox_core.proofs.ListLemmas.{leaves_last}
 use Rattle.outbox_core.proofs.outbox.Outbox.entry.Goals as goal
 
@@ -13,10 +12,6 @@ returns-in-Ok-clause-kept g c clean entries was =
     let had = rw (← c.self.view_is) at was in
     record { stands = c.in-Ok.ensures.kept clean _ had.stands; count = had.count }
 
-pub returns-in-Ok-clause-crash : goal.returns-in-Ok-clause-crash
-returns-in-Ok-clause-crash g c =
-    rw (← c.self.view_is) (survives_weaker (state g.S.Store c.self.inside.conn) (state g.S.Store c.entry_of.new.conn) _ _ (λ _ trees none entries had alive. none _ had.stands alive) c.entry_of.ensures.crash)
-
 pub returns-in-Ok-clause-durable : goal.returns-in-Ok-clause-durable
 returns-in-Ok-clause-durable g c clean entries was some =
     let had = rw (← c.self.view_is) at was in
@@ -27,7 +22,3 @@ pub returns-in-Err-clause-kept : goal.returns-in-Err-clause-kept
 returns-in-Err-clause-kept g c clean entries was =
     let had = rw (← c.self.view_is) at was in
     record { stands = c.in-Err.ensures.kept clean _ had.stands; count = had.count }
-
-pub returns-in-Err-clause-crash : goal.returns-in-Err-clause-crash
-returns-in-Err-clause-crash g c =
-    rw (← c.self.view_is) (survives_weaker (state g.S.Store c.self.inside.conn) (state g.S.Store c.entry_of.new.conn) _ _ (λ _ trees none entries had alive. none _ had.stands alive) c.entry_of.ensures.crash)

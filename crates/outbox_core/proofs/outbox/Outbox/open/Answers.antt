@@ -17,7 +17,7 @@ pub returns-in-Ok-clause-same : goal.returns-in-Ok-clause-same
 returns-in-Ok-clause-same g c clean it is =
     let found = c.in-Ok.ensures.found clean is.rows.declared in
     let one = one_outbox (contents_of (string_bytes c.in-Ok.field-0.filer) found.0) it (state g.S.Store c.args.conn).now found.1 is in
-    let new = state g.S.Store c.find.new.conn in
+    let new = state g.S.Store c.read_outbox.new.conn in
     let entries = ap (λ (i : Contents). i.entries) one in (
       ap (λ (i : Contents). i.filer) one,
       record {
@@ -30,9 +30,9 @@ pub returns-in-Ok-clause-durable : goal.returns-in-Ok-clause-durable
 returns-in-Ok-clause-durable g c clean it is =
     let found = c.in-Ok.ensures.found clean is.rows.declared in
     let one = one_outbox (contents_of (string_bytes c.in-Ok.field-0.filer) found.0) it (state g.S.Store c.args.conn).now found.1 is in
-    let new = state g.S.Store c.find.new.conn in
+    let new = state g.S.Store c.read_outbox.new.conn in
     let alive = c.in-Ok.ensures.open clean is.rows.declared in
-    (alive, λ trees may. leaves_last new it (subst (λ i. Stands (IsOutboxOf i) new) one found.2) alive trees (g.met.S.Store.settled c.find.new.conn.store trees alive may))
+    (alive, λ trees may. leaves_last new it (subst (λ i. Stands (IsOutboxOf i) new) one found.2) alive trees (g.met.S.Store.settled c.read_outbox.new.conn.store trees alive may))
 
 pub returns-in-Err-clause-refused : goal.returns-in-Err-clause-refused
-returns-in-Err-clause-refused g c = (c.find.new.conn, c.find.ensures.crash, c.in-Err.ensures.refused, λ clean it is. c.in-Err.ensures.sound clean it is c.requires.unlimited)
+returns-in-Err-clause-refused g c = (c.read_outbox.new.conn, c.read_outbox.ensures.crash, c.read_outbox.ensures.kept, c.in-Err.ensures.refused, c.in-Err.ensures.sound)

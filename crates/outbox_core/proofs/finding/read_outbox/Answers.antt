@@ -2,17 +2,17 @@ use Rattle.std.proofs.Common.{inl, not, Err, IsTrue, sym, ap, subst, ◌∙◌, 
 use Rattle.sqlite.specs.Held.{state}
 use Rattle.sqlite.specs.Effect.{Database, IsDatabase}
 use Rattle.sqlite.specs.State.{HasCleanDisk}
-use Rattle.sqlite.proofs.StateLemmas.{survives_then}
 use Rattle.table_rows.specs.Rows.{Holds}
 use Rattle.table_rows.specs.Standing.{Stands}
 use Rattle.table_rows.proofs.StandLemmas.{stands_on}
+use Rattle.table_rows.proofs.StepLemmas.{keeps_then, nothing_left}
 use Rattle.outbox_core.specs.Schema.{IsDeclared, entry_table}
 use Rattle.outbox_core.specs.Entries.{contents_of}
 use Rattle.outbox_core.specs.Rows.{IsOutboxOf, entry_rows}
 use Rattle.outbox_core.proofs.ListLemmas.{kept_list}
 use Rattle.outbox_core.proofs.DistinctLemmas.{distinct_held}
 use Rattle.outbox_core.proofs.RefusalLemmas.{refused_first, refused_later}
-use Rattle.outbox_core.proofs.finding.find.Goals as goal
+use Rattle.outbox_core.proofs.finding.read_outbox.Goals as goal
 
 pub returns-in-Ok-count_entries-clause-found : goal.returns-in-Ok-count_entries-clause-found
 returns-in-Ok-count_entries-clause-found g c clean declared =
@@ -47,18 +47,20 @@ pub returns-in-Err-clause-refused : goal.returns-in-Err-clause-refused
 returns-in-Err-clause-refused g c clean =
     refused_first g.S.Store c.in-Err.fault c.args.conn.now c.filer_of.new.conn c.in-Err.ensures.others (λ is. c.in-Err.ensures.not_ours clean (ap Err is)) (λ is. c.in-Err.ensures.disk clean (ap Err is))
 
+pub returns-in-Ok-count_entries-clause-kept : goal.returns-in-Ok-count_entries-clause-kept
+returns-in-Ok-count_entries-clause-kept g c clean =
+    keeps_then (state g.S.Store c.args.conn.now) (state g.S.Store c.filer_of.new.conn) (state g.S.Store c.count_entries.new.conn)
+    (c.filer_of.ensures.kept (c.count_entries.ensures.clean clean)) (c.count_entries.ensures.kept clean)
+
+pub returns-in-Err-count_entries-clause-kept : goal.returns-in-Err-count_entries-clause-kept
+returns-in-Err-count_entries-clause-kept g c clean =
+    keeps_then (state g.S.Store c.args.conn.now) (state g.S.Store c.filer_of.new.conn) (state g.S.Store c.count_entries.new.conn)
+    (c.filer_of.ensures.kept (c.count_entries.ensures.clean clean)) (c.count_entries.ensures.kept clean)
+
 pub returns-in-Ok-count_entries-clause-crash : goal.returns-in-Ok-count_entries-clause-crash
 returns-in-Ok-count_entries-clause-crash g c =
-    let old = state g.S.Store c.args.conn.now in
-    let mid = state g.S.Store c.filer_of.new.conn in
-    survives_then old mid (state g.S.Store c.count_entries.new.conn) _ _ _ (λ clean trees none. none)
-    (λ clean trees none declared. none (subst (λ (d : Database). IsDeclared d.schema) (sym (c.in-Ok.ensures.found (c.count_entries.ensures.clean clean) declared).2.0.now_is) declared))
-    c.filer_of.ensures.crash c.count_entries.ensures.crash
+    nothing_left (state g.S.Store c.args.conn.now) (state g.S.Store c.filer_of.new.conn) (state g.S.Store c.count_entries.new.conn) c.filer_of.ensures.crash c.count_entries.ensures.crash
 
 pub returns-in-Err-count_entries-clause-crash : goal.returns-in-Err-count_entries-clause-crash
 returns-in-Err-count_entries-clause-crash g c =
-    let old = state g.S.Store c.args.conn.now in
-    let mid = state g.S.Store c.filer_of.new.conn in
-    survives_then old mid (state g.S.Store c.count_entries.new.conn) _ _ _ (λ clean trees none. none)
-    (λ clean trees none declared. none (subst (λ (d : Database). IsDeclared d.schema) (sym (c.in-Ok.ensures.found (c.count_entries.ensures.clean clean) declared).2.0.now_is) declared))
-    c.filer_of.ensures.crash c.count_entries.ensures.crash
+    nothing_left (state g.S.Store c.args.conn.now) (state g.S.Store c.filer_of.new.conn) (state g.S.Store c.count_entries.new.conn) c.filer_of.ensures.crash c.count_entries.ensures.crash

@@ -1,0 +1,29 @@
+-- How the tables of an outbox are made.
+use Rattle.std.specs.Prelude.{◌≡◌, ℕ, true, List, [], ◌∷◌, Ok, codes}
+use Rattle.sqlite.specs.declared.types.Value.TheVariants.{Text}
+use Rattle.sqlite.specs.Store.{Ghosts}
+use Rattle.sqlite.specs.Tree.{Trees}
+use Rattle.sqlite.specs.Held.{Held, state}
+use Rattle.sqlite.specs.State.{ExecutesInside}
+
+abbrev pub create_meta : List ℕ
+create_meta = codes "CREATE TABLE outbox_meta (id INTEGER PRIMARY KEY, kind TEXT NOT NULL, form INTEGER NOT NULL, filer TEXT NOT NULL) STRICT"
+
+abbrev pub create_entry : List ℕ
+create_entry = codes "CREATE TABLE entry (id INTEGER PRIMARY KEY, idem TEXT NOT NULL UNIQUE, body BLOB NOT NULL, state INTEGER NOT NULL, number INTEGER) STRICT"
+
+abbrev pub insert_meta : List ℕ
+insert_meta = codes "INSERT INTO outbox_meta VALUES (1, 'outbox', 1, ?1)"
+
+-- both tables were made and the row of `outbox_meta` was added, in turn and inside one transaction
+pub record RunsAll {S : Type 0} (g : Ghosts S) (filer : List ℕ) (old new : Held S) : Type 0 where
+  pub first : Held S
+  pub second : Held S
+  pub counts : ℕ × ℕ × ℕ
+  pub meta : ExecutesInside 0 create_meta [] (state g old) (state g first) (Ok counts.0)
+  pub entry : ExecutesInside 0 create_entry [] (state g first) (state g second) (Ok counts.1)
+  pub row : ExecutesInside 0 insert_meta (Text filer ∷ []) (state g second) (state g new) (Ok counts.2)
+
+-- the trees are what all three make of the database, whatever it was
+abbrev pub AreMade : {S : Type 0} → Ghosts S → List ℕ → Held S → Trees → Type 0
+AreMade {S} g filer old trees = (last : Held S) × RunsAll g filer (record old { in_transaction = true }) last × (trees ≡ (state g last).now.trees)
