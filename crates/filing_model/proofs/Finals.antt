@@ -10,7 +10,7 @@ use Rattle.serde_json.specs.Written.{compact_text}
 use Rattle.xbrl_report.specs.CodeNumber.{number_of}
 use Rattle.xbrl_report.specs.Findings.{findings}
 use Rattle.xbrl_report.specs.Pair.{Pair, fits}
-use Rattle.xbrl_report.proofs.Laws.{findings-fits}
+use Rattle.xbrl_report.proofs.FindingLaws.{findings-fits}
 use Rattle.filing_model.specs.Request.{Request, same_content, has_key, firsts}
 use Rattle.filing_model.specs.Register.{Outcome, Kept, filings, verdict, outcome_by, judged, kept_after, kept}
 use Rattle.filing_model.specs.Answer.{Answer, answer_by, answer_from, answer}

@@ -8,9 +8,9 @@ use Rattle.http_wire.specs.Head.{RequestParts, framing_fault, body_length, max_b
 use Rattle.http_wire.specs.Message.{BeginsHead, BeginsRequest, IsRest, Asks, awaits, interim}
 use Rattle.http_wire.specs.Spans.{parts_at, IsHeadAt}
 use Rattle.http_wire.specs.Parsed.{parsed_end, parsed_request, IsParsed}
-use Rattle.http_wire.specs.Received.{held_bytes, Receives, IsReadFault}
-use Rattle.http_wire.specs.Calls.{HoldsPlace, interim_if, WritesAsked, WritesUpTo}
-use Rattle.http_wire.specs.Found.{IsHeadOf, framing_awaits}
+use Rattle.http_wire.specs.Received.{held_bytes, read_count, Receives, IsReadFault}
+use Rattle.http_wire.specs.Calls.{HoldsPlace, interim_if, WritesAsked, WritesUpTo, IsFault}
+use Rattle.http_wire.specs.Found.{IsHeadOf, framing_awaits, IsSendFault}
 use Rattle.http_wire.specs.declared.place.Parsed.{Parsed}
 use Rattle.http_wire.specs.declared.received.Received.{Received}
 use Rattle.http_wire.specs.declared.refusal.Refusal.TheVariants.{HeadTooLarge, Head}
@@ -113,6 +113,20 @@ WritesUpTo-read before after bytes asks Read a b r asked wrote f = (interim_if a
 WritesUpTo-read before after bytes asks (Write n) a b r asked wrote f = absurd f
 WritesUpTo-read before after bytes asks ReadLimit a b r asked wrote f = (interim_if asks, (asks, asked, refl), wrote)
 WritesUpTo-read before after bytes asks Memory a b r asked wrote f = inl (interim_if asks, (asks, asked, refl), wrote)
+
+-- why a read that was wanted gave nothing is why the call failed
+pub IsFault-read : (a b w w' : ℕ) (r : Received) (fault : ConnFault) → w' ≡ w → ¬ (HoldsPlace (held_bytes r)) → IsReadFault a b r fault → IsFault a b w w' (read_count r) (held_bytes r) fault
+IsFault-read a b w w' r Read same none f = ((f, same), none)
+IsFault-read a b w w' r (Write sent) same none f = absurd f
+IsFault-read a b w w' r ReadLimit same none f = ((f.0, same), f.1, none)
+IsFault-read a b w w' r Memory same none f = ((f.0, same), λ all. absurd (omega (arith, all, f.1)))
+
+-- and so is why the interim response wasn't written
+pub IsFault-send : (before after : Option (List ℕ)) (asked : Bool) (r w w' reads : ℕ) (held : List ℕ) (fault : ConnFault) → IsSendFault before after w w' asked fault → IsFault r r w w' reads held fault
+IsFault-send before after asked r w w' reads held Read f = absurd f
+IsFault-send before after asked r w w' reads held (Write sent) f = (refl, f.1)
+IsFault-send before after asked r w w' reads held ReadLimit f = absurd f
+IsFault-send before after asked r w w' reads held Memory f = absurd f
 
 -- bytes without a block ask for nothing
 pub Asks-unended : (bytes : List ℕ) → IsUnended bytes → Asks bytes false

@@ -7,7 +7,6 @@ use Rattle.std.proofs.lemmas.Grind.{common_steps}
 use Rattle.std.proofs.lemmas.List.{append-nil}
 use Rattle.http_wire.specs.declared.refusal.ReplyFault.{ReplyFault}
 use Rattle.http_wire.specs.declared.refusal.ReplyFault.TheVariants.{Cut, Malformed, NoLength, TooLarge, Read, ReadLimit, Memory}
-use Rattle.http_wire.specs.Device.{HasFailed}
 use Rattle.http_wire.specs.Head.{values_named, parts_named, agreed_number}
 use Rattle.http_wire.specs.Reply.{ReplyParts, render}
 use Rattle.http_wire.specs.Response.{ResponseParts, BeginsInterims, none, more, DeclaresContent, BeginsReply, SpellsReply, GivesReply, IsReadable, max_content_len}
@@ -45,13 +44,19 @@ content_length-declared parts len d =
     rw (d.uncoded, d.agreed, some, short) (ap Ok (sym d.length_is))
 
 -- no front of the bytes of a reply is refused
-front-not_refused : (front rest : List ℕ) (reply : ReplyParts) (n : ℕ) (fault : ReplyFault) → BeginsReply (front ++ rest) reply n → ¬ (IsRefusedReply front fault)
+pub front-not_refused : (front rest : List ℕ) (reply : ReplyParts) (n : ℕ) (fault : ReplyFault) → BeginsReply (front ++ rest) reply n → ¬ (IsRefusedReply front fault)
 front-not_refused front rest reply n fault b r =
     let at = refuses-of front fault r in
     let place = drop-more at.0 front rest (interims-within front at.0 at.1) in
     let refused : Refuses (drop at.0 (front ++ rest)) = subst Refuses place (Refuses-more (drop at.0 front) rest at.2) in
     let same = interims-same (front ++ rest) at.0 b.skipped (BeginsInterims-more front rest at.0 at.1) (Refuses-stops _ refused) b.interims (Stops-final _ b.parts b.head_len b.head b.declares.final) in
     Refuses-undeclared (drop b.skipped (front ++ rest)) b.parts b.head_len (length reply.content) b.head (content_length-declared b.parts (length reply.content) b.declares) (subst (λ k. Refuses (drop k (front ++ rest))) same refused)
+
+-- bytes that give a reply are not refused as one
+pub GivesReply-not_refused : (bytes : List ℕ) (reply : ReplyParts) (fault : ReplyFault) → GivesReply bytes reply → ¬ (IsRefusedReply bytes fault)
+GivesReply-not_refused bytes reply fault gives =
+    let begins = GivesReply-begins bytes reply gives in
+    front-not_refused bytes [] reply begins.0 fault (subst (λ l. BeginsReply l reply begins.0) (sym (append-nil bytes)) begins.1)
 
 -- what was given of known bytes is their front
 given-front : (text : List ℕ) (after : Option (List ℕ)) (bytes : List ℕ) → Consumes (Some text) after bytes → (rest : List ℕ) × (text ≡ bytes ++ rest) × (IsAtEnd after → rest ≡ [])
@@ -81,16 +86,16 @@ module _ (reply : ReplyParts) (close : Bool) (after : Option (List ℕ)) (is : I
       front-not_refused g.0 front.0 reply (length text) fault (subst (λ l. BeginsReply l reply (length text)) front.1 spelled) g.2
 
   -- nothing is wrong with it
-  pub given-fault : (old new : ℕ) (fault : ReplyFault) → IsReplyFailure (Some (render reply close)) after (HasFailed old new) fault → IsOfReader fault
+  pub given-fault : (old new : ℕ) (fault : ReplyFault) → IsReplyFailure (Some (render reply close)) after old new fault → IsOfReader fault
   unfolding text
-  given-fault old new Cut (end, given) =
+  given-fault old new Cut (stands, end, given) =
       let front = given-front text after given.0 given.1 in
       let all : text ≡ given.0 = front.1 ∙ ap (λ l. given.0 ++ l) (front.2 end) ∙ append-nil given.0 in
       let whole : take (length text) text ≡ text = grind (arith, common_steps) in
       given.2.none reply (subst (λ l. GivesReply l reply) all (length text, subst (λ l. SpellsReply l reply) (sym whole) spelled))
-  given-fault old new Malformed f = not_refused Malformed f
-  given-fault old new NoLength f = not_refused NoLength f
-  given-fault old new TooLarge f = not_refused TooLarge f
+  given-fault old new Malformed f = not_refused Malformed f.1
+  given-fault old new NoLength f = not_refused NoLength f.1
+  given-fault old new TooLarge f = not_refused TooLarge f.1
   given-fault old new Read f = tt
   given-fault old new ReadLimit f = tt
   given-fault old new Memory f = tt

@@ -124,22 +124,22 @@ skipped_place : (first after : Option (List ℕ)) (r : Received) (s : HasSkipped
 skipped_place first after r s = drop-own s.taken (held_bytes r)
 
 -- no head was read
-pub head_failure : (first mid after : Option (List ℕ)) (failed : Type 0) (old new : Received) (fault : ReplyFault) → HasSkipped first mid old → IsHeadFailure mid after failed old new fault → IsReplyFailure first after failed fault
-head_failure first mid after failed old new Cut s f =
-    let m = HasSkipped-more first mid after old new s f.0 in
-    (f.2, (m.taken ++ held_bytes new, m.given, IsCutReply-unended _ (length m.taken) m.interims (rw (skipped_place first after new m) f.1)))
-head_failure first mid after failed old new Malformed s f =
-    let m = HasSkipped-more first mid after old new s f.0 in
-    (m.taken ++ held_bytes new, m.given, (length m.taken, m.interims, inl (rw (skipped_place first after new m) f.1)))
-head_failure first mid after failed old new NoLength s f = absurd f
-head_failure first mid after failed old new TooLarge s f =
-    let m = HasSkipped-more first mid after old new s f.0 in
-    (m.taken ++ held_bytes new, m.given, (length m.taken, m.interims, inl (rw (skipped_place first after new m) f.1)))
-head_failure first mid after failed old new Read s f = f
-head_failure first mid after failed old new ReadLimit s f =
-    let m = HasSkipped-more first mid after old new s f.0 in
-    (m.taken ++ held_bytes new, m.given, omega (arith, m.count, f.1))
-head_failure first mid after failed old new Memory s f = tt
+pub head_failure : (first mid after : Option (List ℕ)) (a b : ℕ) (old new : Received) (fault : ReplyFault) → HasSkipped first mid old → IsHeadFailure mid after a b old new fault → IsReplyFailure first after a b fault
+head_failure first mid after a b old new Cut s f =
+    let m = HasSkipped-more first mid after old new s f.1 in
+    (f.0, f.3, (m.taken ++ held_bytes new, m.given, IsCutReply-unended _ (length m.taken) m.interims (rw (skipped_place first after new m) f.2)))
+head_failure first mid after a b old new Malformed s f =
+    let m = HasSkipped-more first mid after old new s f.1 in
+    (f.0, (m.taken ++ held_bytes new, m.given, (length m.taken, m.interims, inl (rw (skipped_place first after new m) f.2))))
+head_failure first mid after a b old new NoLength s f = absurd f
+head_failure first mid after a b old new TooLarge s f =
+    let m = HasSkipped-more first mid after old new s f.1 in
+    (f.0, (m.taken ++ held_bytes new, m.given, (length m.taken, m.interims, inl (rw (skipped_place first after new m) f.2))))
+head_failure first mid after a b old new Read s f = f
+head_failure first mid after a b old new ReadLimit s f =
+    let m = HasSkipped-more first mid after old new s f.1 in
+    (f.0, (m.taken ++ held_bytes new, m.given, omega (arith, m.count, f.2)))
+head_failure first mid after a b old new Memory s f = f.0
 
 module _ (first mid after : Option (List ℕ)) (old new : Received) (head : ResponseHead) (s : HasSkipped first mid old) (t : TakesHead mid after old new head) (final : is_interim head.status ≡ false) where
   here : HeadAt first after new head
@@ -149,16 +149,16 @@ module _ (first mid after : Option (List ℕ)) (old new : Received) (head : Resp
   here-final = ap is_interim (sym here.shows.status) ∙ final
 
   -- the length of its content is refused
-  by_fault : (failed : Type 0) (fault : ReplyFault) → head.content_len ≡ Err fault → IsLengthFault fault → IsReplyFailure first after failed fault
-  by_fault failed fault e (inl is) =
-      subst (IsReplyFailure first after failed) (sym is) ((here.front ++ here.block) ++ held_bytes new, here.given.given, (length here.front, here.interims, inr (here.parts, length here.block, here.begins, here-final, sym here.shows.content_len ∙ e ∙ ap Err is)))
-  by_fault failed fault e (inr (inl is)) =
-      subst (IsReplyFailure first after failed) (sym is) ((here.front ++ here.block) ++ held_bytes new, here.given.given, (length here.front, here.interims, (here.parts, length here.block, here.begins, here-final, sym here.shows.content_len ∙ e ∙ ap Err is)))
-  by_fault failed fault e (inr (inr is)) =
-      subst (IsReplyFailure first after failed) (sym is) ((here.front ++ here.block) ++ held_bytes new, here.given.given, (length here.front, here.interims, inr (here.parts, length here.block, here.begins, here-final, sym here.shows.content_len ∙ e ∙ ap Err is)))
+  by_fault : (a b : ℕ) (fault : ReplyFault) → b ≡ a → head.content_len ≡ Err fault → IsLengthFault fault → IsReplyFailure first after a b fault
+  by_fault a b fault stands e (inl is) =
+      subst (IsReplyFailure first after a b) (sym is) (stands, ((here.front ++ here.block) ++ held_bytes new, here.given.given, (length here.front, here.interims, inr (here.parts, length here.block, here.begins, here-final, sym here.shows.content_len ∙ e ∙ ap Err is))))
+  by_fault a b fault stands e (inr (inl is)) =
+      subst (IsReplyFailure first after a b) (sym is) (stands, ((here.front ++ here.block) ++ held_bytes new, here.given.given, (length here.front, here.interims, (here.parts, length here.block, here.begins, here-final, sym here.shows.content_len ∙ e ∙ ap Err is))))
+  by_fault a b fault stands e (inr (inr is)) =
+      subst (IsReplyFailure first after a b) (sym is) (stands, ((here.front ++ here.block) ++ held_bytes new, here.given.given, (length here.front, here.interims, inr (here.parts, length here.block, here.begins, here-final, sym here.shows.content_len ∙ e ∙ ap Err is))))
 
-  pub length_failure : (failed : Type 0) (fault : ReplyFault) → head.content_len ≡ Err fault → IsReplyFailure first after failed fault
-  length_failure failed fault e = by_fault failed fault e (content_length-fault here.parts.fields fault (sym here.shows.content_len ∙ e))
+  pub length_failure : (a b : ℕ) (fault : ReplyFault) → b ≡ a → head.content_len ≡ Err fault → IsReplyFailure first after a b fault
+  length_failure a b fault stands e = by_fault a b fault stands e (content_length-fault here.parts.fields fault (sym here.shows.content_len ∙ e))
 
   module _ (later : Option (List ℕ)) (last : Received) (len : ℕ) (declared : head.content_len ≡ Ok len) where
     -- what was taken after it
@@ -189,20 +189,20 @@ module _ (first mid after : Option (List ℕ)) (old new : Received) (head : Resp
     sizes text = simp length-append
 
     -- its content wasn't read
-    pub content_failure : (failed : Type 0) (fault : ReplyFault) → IsContentFailure after later failed new last len fault → IsReplyFailure first later failed fault
+    pub content_failure : (a b : ℕ) (fault : ReplyFault) → IsContentFailure after later a b new last len fault → IsReplyFailure first later a b fault
     unfolding all-bytes
-    content_failure failed Cut f =
-        let part = f.0.0 in
-        let empty : length (held_bytes last) ≡ 0 = ap length f.0.2 in
-        (f.1, (all-bytes part, (after-head part f.0.1).given, IsCutReply-content (all-bytes part) (length here.front) (after-interims part f.0.1) here.parts (length here.block) len (after-begins part f.0.1) here-final own-length (omega (arith, sizes part, empty, f.0.3))))
-    content_failure failed Malformed f = absurd f
-    content_failure failed NoLength f = absurd f
-    content_failure failed TooLarge f = absurd f
-    content_failure failed Read f = f
-    content_failure failed ReadLimit f =
-        let part = f.0.0 in
-        (all-bytes part, (after-head part f.0.1).given, omega (arith, (after-head part f.0.1).count, f.1))
-    content_failure failed Memory f = tt
+    content_failure a b Cut f =
+        let part = f.1.0 in
+        let empty : length (held_bytes last) ≡ 0 = ap length f.1.2 in
+        (f.0, f.2, (all-bytes part, (after-head part f.1.1).given, IsCutReply-content (all-bytes part) (length here.front) (after-interims part f.1.1) here.parts (length here.block) len (after-begins part f.1.1) here-final own-length (omega (arith, sizes part, empty, f.1.3))))
+    content_failure a b Malformed f = absurd f
+    content_failure a b NoLength f = absurd f
+    content_failure a b TooLarge f = absurd f
+    content_failure a b Read f = f
+    content_failure a b ReadLimit f =
+        let part = f.1.0 in
+        (f.0, (all-bytes part, (after-head part f.1.1).given, omega (arith, (after-head part f.1.1).count, f.2)))
+    content_failure a b Memory f = f
 
     begins-reply : (content : List ℕ) → Takes after later new last content → length content ≡ len
         → BeginsReply (all-bytes content) (record { status = head.status; content = content }) (length ((here.front ++ here.block) ++ content))

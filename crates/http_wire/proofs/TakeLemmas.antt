@@ -108,8 +108,8 @@ Turn-of a b c old first mid new part items held n len before within same least m
 
 -- which may fail
 pub content_failure : (a b : Option (List ℕ)) (p q r s : ℕ) (old new : Received) (part : List ℕ) (len : ℕ) (fault : ConnFault) → Takes a b old new part → held_bytes new ≡ [] → length part < len → r ≡ p
-    → IsReadFault r s new fault → q ≡ s → IsContentFailure a b (HasFailed p q) old new len (fault_of_read fault)
+    → IsReadFault r s new fault → q ≡ s → IsContentFailure a b p q old new len (fault_of_read fault)
 content_failure a b p q r s old new part len Read takes empty short same f last = subst₂ HasFailed same (sym last) f
 content_failure a b p q r s old new part len (Write sent) takes empty short same f last = absurd f
-content_failure a b p q r s old new part len ReadLimit takes empty short same f last = ((part, takes, empty, short), f)
-content_failure a b p q r s old new part len Memory takes empty short same f last = tt
+content_failure a b p q r s old new part len ReadLimit takes empty short same f last = (last ∙ f.0 ∙ same, (part, takes, empty, short), f.1)
+content_failure a b p q r s old new part len Memory takes empty short same f last = last ∙ f.0 ∙ same

@@ -4,6 +4,8 @@ use Rattle.std.specs.Io.KnownBytes.{Appends}
 use Rattle.http_wire.specs.declared.refusal.ConnFault.{ConnFault}
 use Rattle.http_wire.specs.declared.refusal.ConnFault.TheVariants.{Read, Write, ReadLimit, Memory}
 use Rattle.http_wire.specs.declared.refusal.Refusal.{Refusal}
+use Rattle.http_wire.specs.Block.{HoldsBlock}
+use Rattle.http_wire.specs.Device.{ReaderFailed, WriterFailed, NoneFailed}
 use Rattle.http_wire.specs.Message.{BeginsRequest, IsRefused, Asks, IsInterimFor, interim}
 use Rattle.http_wire.specs.Received.{max_reads}
 use Rattle.http_wire.specs.Request.{Request}
@@ -28,9 +30,11 @@ WritesUpTo before after bytes (Write sent) = Asks bytes true × (sent ≤ length
 WritesUpTo before after bytes ReadLimit = WritesAsked before after bytes
 WritesUpTo before after bytes Memory = WritesAsked before after bytes ⊎ Appends before after []
 
--- why a call failed: a read failed in it, a write did, all reads were made that may give bytes, or there was no memory
-abbrev pub IsFault : Type 0 → Type 0 → ℕ → ConnFault → Type 0
-IsFault read_failed write_failed reads Read = read_failed
-IsFault read_failed write_failed reads (Write sent) = write_failed
-IsFault read_failed write_failed reads ReadLimit = reads ≡ max_reads
-IsFault read_failed write_failed reads Memory = Unit {0}
+-- Why a call failed, by the failures of the reader and of the writer before and after, the reads that gave bytes, and the bytes that are
+-- held: a read that was wanted failed, or a write did; or neither failed, and all reads were made that may give bytes where one more was
+-- wanted, or there was no memory. Where no read may give bytes any more, memory is wanted for the head of a block that is held.
+abbrev pub IsFault : ℕ → ℕ → ℕ → ℕ → ℕ → List ℕ → ConnFault → Type 0
+IsFault read read' write write' reads held Read = ReaderFailed read read' write write' × ¬ (HoldsPlace held)
+IsFault read read' write write' reads held (Write sent) = WriterFailed read read' write write'
+IsFault read read' write write' reads held ReadLimit = NoneFailed read read' write write' × (reads ≡ max_reads) × ¬ (HoldsPlace held)
+IsFault read read' write write' reads held Memory = NoneFailed read read' write write' × (reads ≡ max_reads → HoldsBlock held)

@@ -9,6 +9,7 @@ use Rattle.http_wire.specs.declared.refusal.ConnFault.{ConnFault}
 use Rattle.http_wire.specs.declared.refusal.ConnFault.TheVariants.{Read, Write, ReadLimit, Memory}
 use Rattle.http_wire.specs.Block.{skipped_len}
 use Rattle.http_wire.specs.Calls.{interim_if, WritesAsked}
+use Rattle.http_wire.specs.Device.{HasFailed}
 use Rattle.http_wire.specs.Message.{BeginsHead, BeginsRequest, IsRefused, IsRest, awaits, interim}
 use Rattle.http_wire.specs.Parsed.{parsed_end, parsed_request, IsParsed}
 use Rattle.http_wire.specs.Spans.{parts_at, IsHeadAt}
@@ -35,9 +36,9 @@ WritesFor before after bytes Rest = WritesAsked before after bytes
 abbrev pub framing_awaits : Framing → Bool
 framing_awaits framing = framing.expects && nat_lt 0 framing.body_len
 
--- a write failed after a part of the interim response that was asked for
-abbrev pub IsSendFault : Option (List ℕ) → Option (List ℕ) → Type 0 → Bool → ConnFault → Type 0
-IsSendFault before after failed asked Read = ⊥
-IsSendFault before after failed asked (Write sent) = (asked ≡ true) × failed × (sent ≤ length interim) × Appends before after (take sent interim)
-IsSendFault before after failed asked ReadLimit = ⊥
-IsSendFault before after failed asked Memory = ⊥
+-- a write failed after a part of the interim response that was asked for: the writer's failures before and after
+abbrev pub IsSendFault : Option (List ℕ) → Option (List ℕ) → ℕ → ℕ → Bool → ConnFault → Type 0
+IsSendFault before after failures failures' asked Read = ⊥
+IsSendFault before after failures failures' asked (Write sent) = (asked ≡ true) × HasFailed failures failures' × (sent ≤ length interim) × Appends before after (take sent interim)
+IsSendFault before after failures failures' asked ReadLimit = ⊥
+IsSendFault before after failures failures' asked Memory = ⊥

@@ -1,5 +1,5 @@
 -- What reads do to the bytes that are held.
-use Rattle.std.specs.Prelude.{◌≡◌, ℕ, ◌+◌, ◌≤◌, List, ◌++◌, length, drop, Option}
+use Rattle.std.specs.Prelude.{◌≡◌, ℕ, ◌+◌, ◌<◌, ◌≤◌, List, ◌++◌, length, drop, Option}
 use Rattle.std.specs.Io.KnownBytes.{Consumes}
 use Rattle.http_wire.specs.declared.received.Received.{Received}
 use Rattle.http_wire.specs.declared.refusal.ConnFault.{ConnFault}
@@ -34,9 +34,10 @@ pub record ReceivesNothing {R : Type 0} (before after : R) (old new : Received) 
   pub bytes : held_bytes new ≡ held_bytes old
   pub reads : read_count new ≡ read_count old
 
--- why a read gave nothing: the counts of the failed reads, before and after
+-- Why a read gave nothing, by the reader's failures before and after: it failed; or it didn't, and all reads were made that may give bytes,
+-- or there was no memory for one more.
 abbrev pub IsReadFault : ℕ → ℕ → Received → ConnFault → Type 0
-IsReadFault failures failures_after new Read = HasFailed failures failures_after
-IsReadFault failures failures_after new (Write sent) = ⊥
-IsReadFault failures failures_after new ReadLimit = read_count new ≡ max_reads
-IsReadFault failures failures_after new Memory = Unit {0}
+IsReadFault failures failures' new Read = HasFailed failures failures'
+IsReadFault failures failures' new (Write sent) = ⊥
+IsReadFault failures failures' new ReadLimit = (failures' ≡ failures) × (read_count new ≡ max_reads)
+IsReadFault failures failures' new Memory = (failures' ≡ failures) × (read_count new < max_reads)

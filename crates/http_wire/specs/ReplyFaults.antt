@@ -6,6 +6,7 @@ use Rattle.http_wire.specs.declared.refusal.ConnFault.TheVariants as conn
 use Rattle.http_wire.specs.declared.refusal.ReplyFault.{ReplyFault}
 use Rattle.http_wire.specs.declared.refusal.ReplyFault.TheVariants.{Cut, Malformed, NoLength, TooLarge, Read, ReadLimit, Memory}
 use Rattle.http_wire.specs.Block.{skipped_len, IsBlockEnd, IsTooLong}
+use Rattle.http_wire.specs.Device.{HasFailed}
 use Rattle.http_wire.specs.Head.{values_named, parts_named, agree, agreed_number}
 use Rattle.http_wire.specs.Received.{max_reads}
 use Rattle.http_wire.specs.Reply.{ReplyParts}
@@ -63,16 +64,16 @@ pub record IsCutReply (bytes : List ℕ) : Type 0 where
 abbrev pub HasGiven : Option (List ℕ) → Option (List ℕ) → (List ℕ → Type 0) → Type 0
 HasGiven before after P = (bytes : List ℕ) × Consumes before after bytes × P bytes
 
--- Why no reply was read: what the reader gave is cut at its end, or refused; a read failed; so many reads gave at least a byte each; or
--- there was no memory.
-abbrev pub IsReplyFailure : Option (List ℕ) → Option (List ℕ) → Type 0 → ReplyFault → Type 0
-IsReplyFailure before after failed Cut = IsAtEnd after × HasGiven before after IsCutReply
-IsReplyFailure before after failed Malformed = HasGiven before after (λ bytes. IsRefusedReply bytes Malformed)
-IsReplyFailure before after failed NoLength = HasGiven before after (λ bytes. IsRefusedReply bytes NoLength)
-IsReplyFailure before after failed TooLarge = HasGiven before after (λ bytes. IsRefusedReply bytes TooLarge)
-IsReplyFailure before after failed Read = failed
-IsReplyFailure before after failed ReadLimit = HasGiven before after (λ bytes. max_reads ≤ length bytes)
-IsReplyFailure before after failed Memory = Unit {0}
+-- Why no reply was read, by the reader's failures before and after: a read failed; or none did, and what the reader gave is cut at its end,
+-- or refused; so many reads gave at least a byte each; or there was no memory.
+abbrev pub IsReplyFailure : Option (List ℕ) → Option (List ℕ) → ℕ → ℕ → ReplyFault → Type 0
+IsReplyFailure before after failures failures' Cut = (failures' ≡ failures) × IsAtEnd after × HasGiven before after IsCutReply
+IsReplyFailure before after failures failures' Malformed = (failures' ≡ failures) × HasGiven before after (λ bytes. IsRefusedReply bytes Malformed)
+IsReplyFailure before after failures failures' NoLength = (failures' ≡ failures) × HasGiven before after (λ bytes. IsRefusedReply bytes NoLength)
+IsReplyFailure before after failures failures' TooLarge = (failures' ≡ failures) × HasGiven before after (λ bytes. IsRefusedReply bytes TooLarge)
+IsReplyFailure before after failures failures' Read = HasFailed failures failures'
+IsReplyFailure before after failures failures' ReadLimit = (failures' ≡ failures) × HasGiven before after (λ bytes. max_reads ≤ length bytes)
+IsReplyFailure before after failures failures' Memory = failures' ≡ failures
 
 -- a fault of the reader or of memory, of which the bytes show nothing
 abbrev pub IsOfReader : ReplyFault → Type 0

@@ -6,6 +6,7 @@ use Rattle.http_wire.specs.declared.refusal.ReplyFault.{ReplyFault}
 use Rattle.http_wire.specs.declared.refusal.ReplyFault.TheVariants.{Cut, Malformed, NoLength, TooLarge, Read, ReadLimit, Memory}
 use Rattle.http_wire.specs.declared.response.ResponseHead.{ResponseHead}
 use Rattle.http_wire.specs.Block.{IsUnended, IsTooLong}
+use Rattle.http_wire.specs.Device.{HasFailed}
 use Rattle.http_wire.specs.Received.{held_bytes, read_count, max_reads}
 use Rattle.http_wire.specs.ReplyFaults.{BeginsBadHead, content_length}
 use Rattle.http_wire.specs.Response.{ResponseParts, ReadsResponseHead, BeginsResponseHead, BeginsInterims}
@@ -34,29 +35,29 @@ pub record TakesHead (before after : Option (List ℕ)) (old new : Received) (he
   pub begins : BeginsResponseHead (block ++ held_bytes new) parts (length block)
   pub shows : ShowsParts head parts
 
--- why no head was taken
-abbrev pub IsHeadFailure : Option (List ℕ) → Option (List ℕ) → Type 0 → Received → Received → ReplyFault → Type 0
-IsHeadFailure before after failed old new Cut = Takes before after old new [] × IsUnended (held_bytes new) × IsAtEnd after
-IsHeadFailure before after failed old new Malformed = Takes before after old new [] × BeginsBadHead (held_bytes new)
-IsHeadFailure before after failed old new NoLength = ⊥
-IsHeadFailure before after failed old new TooLarge = Takes before after old new [] × IsTooLong (held_bytes new)
-IsHeadFailure before after failed old new Read = failed
-IsHeadFailure before after failed old new ReadLimit = Takes before after old new [] × (read_count new ≡ max_reads)
-IsHeadFailure before after failed old new Memory = Unit {0}
+-- why no head was taken, by the reader's failures before and after
+abbrev pub IsHeadFailure : Option (List ℕ) → Option (List ℕ) → ℕ → ℕ → Received → Received → ReplyFault → Type 0
+IsHeadFailure before after failures failures' old new Cut = (failures' ≡ failures) × Takes before after old new [] × IsUnended (held_bytes new) × IsAtEnd after
+IsHeadFailure before after failures failures' old new Malformed = (failures' ≡ failures) × Takes before after old new [] × BeginsBadHead (held_bytes new)
+IsHeadFailure before after failures failures' old new NoLength = ⊥
+IsHeadFailure before after failures failures' old new TooLarge = (failures' ≡ failures) × Takes before after old new [] × IsTooLong (held_bytes new)
+IsHeadFailure before after failures failures' old new Read = HasFailed failures failures'
+IsHeadFailure before after failures failures' old new ReadLimit = (failures' ≡ failures) × Takes before after old new [] × (read_count new ≡ max_reads)
+IsHeadFailure before after failures failures' old new Memory = (failures' ≡ failures) × (read_count new < max_reads)
 
 -- less than the content was taken
 abbrev pub TakesLess : Option (List ℕ) → Option (List ℕ) → Received → Received → ℕ → Type 0
 TakesLess before after old new len = (part : List ℕ) × Takes before after old new part × (held_bytes new ≡ []) × (length part < len)
 
--- why no content was taken
-abbrev pub IsContentFailure : Option (List ℕ) → Option (List ℕ) → Type 0 → Received → Received → ℕ → ReplyFault → Type 0
-IsContentFailure before after failed old new len Cut = TakesLess before after old new len × IsAtEnd after
-IsContentFailure before after failed old new len Malformed = ⊥
-IsContentFailure before after failed old new len NoLength = ⊥
-IsContentFailure before after failed old new len TooLarge = ⊥
-IsContentFailure before after failed old new len Read = failed
-IsContentFailure before after failed old new len ReadLimit = TakesLess before after old new len × (read_count new ≡ max_reads)
-IsContentFailure before after failed old new len Memory = Unit {0}
+-- why no content was taken, by the reader's failures before and after
+abbrev pub IsContentFailure : Option (List ℕ) → Option (List ℕ) → ℕ → ℕ → Received → Received → ℕ → ReplyFault → Type 0
+IsContentFailure before after failures failures' old new len Cut = (failures' ≡ failures) × TakesLess before after old new len × IsAtEnd after
+IsContentFailure before after failures failures' old new len Malformed = ⊥
+IsContentFailure before after failures failures' old new len NoLength = ⊥
+IsContentFailure before after failures failures' old new len TooLarge = ⊥
+IsContentFailure before after failures failures' old new len Read = HasFailed failures failures'
+IsContentFailure before after failures failures' old new len ReadLimit = (failures' ≡ failures) × TakesLess before after old new len × (read_count new ≡ max_reads)
+IsContentFailure before after failures failures' old new len Memory = failures' ≡ failures
 
 -- Since the reader stood at `first` it gave interim responses, which were taken, and what is held.
 pub record HasSkipped (first after : Option (List ℕ)) (r : Received) : Type 0 where

@@ -1,7 +1,6 @@
 //! A connection: a reader, a writer and the requests that come between them.
 ghost use Rattle.std.specs.Prelude.{◌≡◌, ◌||◌, ◌≤◌, length, true, false, IsSome, Some, IfOk, IfErr, OnOk, OnErr, Err, is_err};
 ghost use Rattle.std.specs.Io.KnownBytes.{Appends};
-ghost use Rattle.http_wire.specs.Device.{HasFailed};
 ghost use Rattle.http_wire.specs.Calls.{HoldsPlace, IsFault, WritesUpTo};
 ghost use Rattle.http_wire.specs.Inbox.{held, unread, lent_request, is_over, is_failed, reads, IsNew, ReadsOn, ReadsNothing, KeepsBytes, IsNext, WritesInterim};
 ghost use Rattle.http_wire.specs.Replies.{reply_parts};
@@ -48,7 +47,9 @@ impl<R: Source + Drop, W: Sink + Drop> Conn<R, W> {
         ensures interim { IfOk result (WritesInterim (W.written (conn_writer self.old)) (W.written (conn_writer self.new)) (conn_inbox self.old) (conn_inbox self.new)) }
         ensures part { IfErr result (WritesUpTo (W.written (conn_writer self.old)) (W.written (conn_writer self.new)) (held (conn_inbox self.new))) }
         ensures fine { OnOk result ((R.read_failures (conn_reader self.new) ≡ R.read_failures (conn_reader self.old)) × (W.write_failures (conn_writer self.new) ≡ W.write_failures (conn_writer self.old))) }
-        ensures fault { IfErr result (IsFault (HasFailed (R.read_failures (conn_reader self.old)) (R.read_failures (conn_reader self.new))) (HasFailed (W.write_failures (conn_writer self.old)) (W.write_failures (conn_writer self.new))) (reads (conn_inbox self.new))) }
+        ensures fault { IfErr result (IsFault (R.read_failures (conn_reader self.old)) (R.read_failures (conn_reader self.new))
+            (W.write_failures (conn_writer self.old)) (W.write_failures (conn_writer self.new))
+            (reads (conn_inbox self.new)) (held (conn_inbox self.new))) }
         ensures failed { is_failed (conn_inbox self.new) ≡ (is_failed (conn_inbox self.old) || is_err result) }
         ensures closed { OnErr result (is_over (conn_inbox self.new) ≡ true) }
     {
@@ -69,7 +70,9 @@ impl<R: Source + Drop, W: Sink + Drop> Conn<R, W> {
         requires { IsSome (phrase reply.now.status) }
         ensures ok { OnOk result (Appends (W.written (conn_writer self.old)) (W.written (conn_writer self.new)) (render (reply_parts reply.now) close)) }
         ensures fine { OnOk result (W.write_failures (conn_writer self.new) ≡ W.write_failures (conn_writer self.old)) }
-        ensures fault { is_failed (conn_inbox self.old) ≡ false → IfErr result (IsWriteFault (W.written (conn_writer self.old)) (W.written (conn_writer self.new)) (HasFailed (W.write_failures (conn_writer self.old)) (W.write_failures (conn_writer self.new))) (render (reply_parts reply.now) close)) }
+        ensures fault { is_failed (conn_inbox self.old) ≡ false → IfErr result (IsWriteFault (W.written (conn_writer self.old))
+            (W.written (conn_writer self.new)) (W.write_failures (conn_writer self.old))
+            (W.write_failures (conn_writer self.new)) (render (reply_parts reply.now) close)) }
         ensures after_fault { is_failed (conn_inbox self.old) ≡ true → (result ≡ Err (ConnFault.Write 0)) × (conn_writer self.new ≡ conn_writer self.old) }
 
         // What comes then.

@@ -1,10 +1,12 @@
 //! The head of a request: its parts, as offsets into its block, and its faults (RFC 9112, sections 3
 //! and 5).
-ghost use Rattle.std.specs.Prelude.{◌≡◌, ◌↔◌, ◌≤◌, length, IsTrue, IfOk, IfErr};
+ghost use Rattle.std.specs.Prelude.{◌≡◌, ◌↔◌, ◌≤◌, length, Err, IsTrue, IfOk, IfErr};
+ghost use Rattle.http_wire.specs.Block.{from_block, IsWholeBlock};
 ghost use Rattle.http_wire.specs.Head.{values_named, closes, expects, body_length, HasPlainLines, ReadsHead, IsHead, IsHeadFault, IsParseFault};
 ghost use Rattle.http_wire.specs.FieldsNamed.{values_left};
 ghost use Rattle.http_wire.specs.Spans.{parts_at, IsHeadWithin, IsHeadAt};
 
+use crate::block::{Block, find_block, skipped_len};
 use crate::fields::FieldsNamed;
 use crate::framing::read_framing;
 use crate::target::path_span;
@@ -147,13 +149,21 @@ impl<'a> Head<'a> {
     }
 }
 
-/// The head that a block is, from its first byte to the empty line that ends it.
-pub fn read_head(alloc: Global, block: &[u8]) -> Result<Head<'_>, HeadFault>
-    ensures ok { IfOk result (IsHead block.now) }
-    ensures fault { IfErr result (IsHeadFault block.now) }
+/// The head that the bytes are, all of them: a block, behind the CRLF that is skipped if one stands
+/// before it. Bytes of which `find_block` answers no end, or one before the last byte, are malformed.
+pub fn read_head(alloc: Global, bytes: &[u8]) -> Result<Head<'_>, HeadFault>
+    ensures ok { IfOk result (λ head. IsWholeBlock bytes.now × IsHead (from_block bytes.now) head) }
+    ensures fault { IsWholeBlock bytes.now → IfErr result (IsHeadFault (from_block bytes.now)) }
+    ensures no_block { ¬ (IsWholeBlock bytes.now) → result ≡ Err HeadFault.Malformed }
 {
-    let (spans, framing) = read_parts(alloc, block)?;
-    Ok(Head::at(block, spans, framing))
+    match find_block(bytes) {
+        Block::End(end) if end == bytes.len() => {
+            let block = &bytes[skipped_len(bytes)..];
+            let (spans, framing) = read_parts(alloc, block)?;
+            Ok(Head::at(block, spans, framing))
+        }
+        Block::End(_) | Block::TooLong | Block::More => Err(HeadFault::Malformed),
+    }
 }
 
 /// Where the parts of the head are that a block is, and what they say of the rest of the message.

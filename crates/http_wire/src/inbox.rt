@@ -1,7 +1,6 @@
 //! The requests of a connection, which are read one after another into one buffer.
 ghost use Rattle.std.specs.Prelude.{◌≡◌, ◌||◌, ◌≤◌, length, Some, None, IsSome, true, IfOk, IfErr, OnOk, OnErr, is_err};
 ghost use Rattle.std.specs.Option.{ForSome};
-ghost use Rattle.http_wire.specs.Device.{HasFailed};
 ghost use Rattle.http_wire.specs.Calls.{HoldsPlace, IsFault, WritesUpTo};
 ghost use Rattle.http_wire.specs.Parsed.{IsParsed};
 ghost use Rattle.http_wire.specs.Received.{held_bytes};
@@ -82,7 +81,8 @@ impl Inbox {
 
         // Why it failed, and what then.
         ensures fine { OnOk result ((R.read_failures reader.new ≡ R.read_failures reader.old) × (W.write_failures writer.new ≡ W.write_failures writer.old)) }
-        ensures fault { IfErr result (IsFault (HasFailed (R.read_failures reader.old) (R.read_failures reader.new)) (HasFailed (W.write_failures writer.old) (W.write_failures writer.new)) (reads self.new)) }
+        ensures fault { IfErr result (IsFault (R.read_failures reader.old) (R.read_failures reader.new)
+            (W.write_failures writer.old) (W.write_failures writer.new) (reads self.new) (held self.new)) }
         ensures failed { is_failed self.new ≡ (is_failed self.old || is_err result) }
         ensures closed { OnErr result (is_over self.new ≡ true) }
     {

@@ -2,17 +2,27 @@
 //! do nothing, each with a law about the definitions as its contract. The code that reads and writes
 //! messages has contracts by the same definitions.
 
-ghost use Rattle.std.specs.Prelude.{◌≡◌, ◌≤◌, ℕ, Bool, true, List, [], length, take, Option, Some};
+ghost use Rattle.std.specs.Prelude.{◌≡◌, ◌≤◌, ℕ, Bool, true, List, [], ◌++◌, length, take, Option, Some};
 ghost use Rattle.key_string.specs.Filer.{is_filer};
 ghost use Rattle.key_string.specs.Key.{IsKey};
-ghost use Rattle.http_wire.specs.Device.{HasFailed};
 ghost use Rattle.http_wire.specs.Head.{max_body_len};
 ghost use Rattle.http_wire.specs.Message.{Place, Ending, HasPlaces, SpellsRequest};
 ghost use Rattle.http_wire.specs.Posting.{render_post, post_request, HoldsAlone};
 ghost use Rattle.http_wire.specs.Reply.{ReplyParts, render};
-ghost use Rattle.http_wire.specs.ReplyFaults.{HasGiven, IsReplyFailure, IsOfReader};
+ghost use Rattle.http_wire.specs.ReplyFaults.{HasGiven, IsRefusedReply, IsReplyFailure, IsOfReader};
+ghost use Rattle.http_wire.specs.Request.{Request};
 ghost use Rattle.http_wire.specs.Response.{BeginsReply, SpellsReply, GivesReply, IsReadable};
 ghost use Rattle.http_wire.specs.declared.refusal.ReplyFault.{ReplyFault};
+
+/// Bytes have one list of places, and one ending.
+pub fn bytes_have_one_list_of_places()
+    ensures { (bytes : List ℕ) (places others : List Place) (ending other : Ending) → HasPlaces bytes places ending → HasPlaces bytes others other → (others ≡ places) × (other ≡ ending) }
+{}
+
+/// No spelling of a request is the beginning of another's, nor of its own with more behind it.
+pub fn request_is_no_front_of_another()
+    ensures { (bytes more : List ℕ) (request other : Request) → SpellsRequest bytes request → SpellsRequest (bytes ++ more) other → (more ≡ []) × (other ≡ request) }
+{}
 
 /// What a filer writes is read as the request that it is made of: a POST to the filer's path, with the
 /// key and the report.
@@ -41,6 +51,11 @@ pub fn bytes_begin_with_one_reply()
     ensures { (bytes : List ℕ) (reply other : ReplyParts) (n m : ℕ) → BeginsReply bytes reply n → BeginsReply bytes other m → (other ≡ reply) × (m ≡ n) }
 {}
 
+/// Bytes that give a reply are not refused as one, for any fault.
+pub fn given_reply_is_not_refused()
+    ensures { (bytes : List ℕ) (reply : ReplyParts) (fault : ReplyFault) → GivesReply bytes reply → ¬ (IsRefusedReply bytes fault) }
+{}
+
 /// Where nothing is read, there is no reply.
 pub fn nothing_is_no_reply()
     ensures { (reply : ReplyParts) → ¬ (SpellsReply [] reply) }
@@ -50,5 +65,5 @@ pub fn nothing_is_no_reply()
 /// reply is read, and where none is read, the reader or the memory failed.
 pub fn written_reply_is_read_again()
     ensures same { (reply : ReplyParts) (close : Bool) (after : Option (List ℕ)) → IsReadable reply → (other : ReplyParts) → HasGiven (Some (render reply close)) after (λ bytes. GivesReply bytes other) → other ≡ reply }
-    ensures fault { (reply : ReplyParts) (close : Bool) (after : Option (List ℕ)) → IsReadable reply → (old new : ℕ) (fault : ReplyFault) → IsReplyFailure (Some (render reply close)) after (HasFailed old new) fault → IsOfReader fault }
+    ensures fault { (reply : ReplyParts) (close : Bool) (after : Option (List ℕ)) → IsReadable reply → (old new : ℕ) (fault : ReplyFault) → IsReplyFailure (Some (render reply close)) after old new fault → IsOfReader fault }
 {}

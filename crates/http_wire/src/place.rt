@@ -1,13 +1,12 @@
 //! What stands first in the bytes of a connection: a request, a refusal, or a rest (RFC 9112, section
 //! 2), and the interim response between a head and its body (RFC 9110, section 10.1.1).
-ghost use Rattle.std.specs.Prelude.{◌≡◌, ◌≤◌, length, IfOk, IfErr, OnOk, slice_range};
+ghost use Rattle.std.specs.Prelude.{◌≡◌, ◌<◌, ◌≤◌, length, Err, IfOk, IfErr, OnOk, slice_range};
 ghost use Rattle.std.specs.Io.KnownBytes.{Appends};
 ghost use Rattle.http_wire.specs.Block.{IsBlockEnd, skipped_len};
-ghost use Rattle.http_wire.specs.Device.{HasFailed};
 ghost use Rattle.http_wire.specs.Calls.{HoldsPlace, interim_if, IsFault, WritesUpTo};
 ghost use Rattle.http_wire.specs.Found.{IsHeadOf, IsFound, WritesFor, framing_awaits, IsSendFault};
 ghost use Rattle.http_wire.specs.Head.{IsHeadFault};
-ghost use Rattle.http_wire.specs.Received.{held_bytes, read_count, Receives, ReceivesNothing};
+ghost use Rattle.http_wire.specs.Received.{held_bytes, read_count, max_reads, Receives, ReceivesNothing};
 
 use crate::block::{Block, skipped_len};
 use crate::device::{Sink, Source};
@@ -52,7 +51,8 @@ pub(crate) fn find_place<R: Source, W: Sink>(
     ensures interim { IfOk result (WritesFor (W.written writer.old) (W.written writer.new) (held_bytes received.new)) }
     ensures part { IfErr result (WritesUpTo (W.written writer.old) (W.written writer.new) (held_bytes received.new)) }
     ensures fine { OnOk result ((R.read_failures reader.new ≡ R.read_failures reader.old) × (W.write_failures writer.new ≡ W.write_failures writer.old)) }
-    ensures fault { IfErr result (IsFault (HasFailed (R.read_failures reader.old) (R.read_failures reader.new)) (HasFailed (W.write_failures writer.old) (W.write_failures writer.new)) (read_count received.new)) }
+    ensures fault { IfErr result (IsFault (R.read_failures reader.old) (R.read_failures reader.new) (W.write_failures writer.old)
+        (W.write_failures writer.new) (read_count received.new) (held_bytes received.new)) }
 {
     let end = match received.read_block(reader)? {
         Block::End(end) => end,
@@ -96,7 +96,9 @@ fn read_request<R: Source, W: Sink>(
     ensures interim { IfOk result (WritesFor (W.written writer.old) (W.written writer.new) (held_bytes received.new)) }
     ensures part { IfErr result (WritesUpTo (W.written writer.old) (W.written writer.new) (held_bytes received.new)) }
     ensures fine { OnOk result ((R.read_failures reader.new ≡ R.read_failures reader.old) × (W.write_failures writer.new ≡ W.write_failures writer.old)) }
-    ensures fault { IfErr result (IsFault (HasFailed (R.read_failures reader.old) (R.read_failures reader.new)) (HasFailed (W.write_failures writer.old) (W.write_failures writer.new)) (read_count received.new)) }
+    ensures fault { IfErr result (IsFault (R.read_failures reader.old) (R.read_failures reader.new) (W.write_failures writer.old)
+        (W.write_failures writer.new) (read_count received.new) (held_bytes received.new)) }
+    ensures memory { result ≡ Err ConnFault.Memory → read_count received.new < max_reads }
 {
     send_interim(writer, parsed.framing)?;
     if received.read_up_to(reader, parsed.end + parsed.framing.body_len)? {
@@ -110,7 +112,8 @@ fn read_request<R: Source, W: Sink>(
 fn send_interim<W: Sink>(writer: &mut W, framing: Framing) -> Result<(), ConnFault>
     ensures ok { OnOk result (Appends (W.written writer.old) (W.written writer.new) (interim_if (framing_awaits framing))) }
     ensures fine { OnOk result (W.write_failures writer.new ≡ W.write_failures writer.old) }
-    ensures fault { IfErr result (IsSendFault (W.written writer.old) (W.written writer.new) (HasFailed (W.write_failures writer.old) (W.write_failures writer.new)) (framing_awaits framing)) }
+    ensures fault { IfErr result (IsSendFault (W.written writer.old) (W.written writer.new) (W.write_failures writer.old)
+        (W.write_failures writer.new) (framing_awaits framing)) }
 {
     if framing.expects && framing.body_len > 0 {
         send(writer, INTERIM).map_err(|sent| ConnFault::Write { sent })?;

@@ -96,6 +96,7 @@ impl Received {
         ensures lazy { len ≤ length (held_bytes self.old) → ReceivesNothing reader.old reader.new self.old self.new }
         ensures filled { IfOk result (λ whole. IsTrue whole ↔ (len ≤ length (held_bytes self.new))) }
         ensures end { result ≡ Ok false → IsAtEnd (R.left reader.new) }
+        ensures unfilled { OnErr result (length (held_bytes self.new) < len) }
         ensures fine { OnOk result (R.read_failures reader.new ≡ R.read_failures reader.old) }
         ensures fault { IfErr result (IsReadFault (R.read_failures reader.old) (R.read_failures reader.new) self.new) }
     {

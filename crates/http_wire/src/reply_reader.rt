@@ -1,7 +1,6 @@
 //! Reading one reply (RFC 9110 and RFC 9112): interim responses are skipped, and the final one is read
 //! with its content.
 ghost use Rattle.std.specs.Prelude.{◌≡◌, ◌<◌, ◌≤◌, length, IfOk, IfErr, OnOk};
-ghost use Rattle.http_wire.specs.Device.{HasFailed};
 ghost use Rattle.http_wire.specs.Received.{held_bytes, read_count};
 ghost use Rattle.http_wire.specs.Replies.{reply_parts};
 ghost use Rattle.http_wire.specs.ReplyFaults.{HasGiven, IsReplyFailure};
@@ -23,7 +22,8 @@ use std::alloc::Global;
 pub fn read_reply<R: Source>(alloc: Global, reader: &mut R) -> Result<Reply, ReplyFault>
     ensures ok { IfOk result (λ reply. HasGiven (R.left reader.old) (R.left reader.new) (λ bytes. GivesReply bytes (reply_parts reply))) }
     ensures fine { OnOk result (R.read_failures reader.new ≡ R.read_failures reader.old) }
-    ensures fault { IfErr result (IsReplyFailure (R.left reader.old) (R.left reader.new) (HasFailed (R.read_failures reader.old) (R.read_failures reader.new))) }
+    ensures fault { IfErr result (IsReplyFailure (R.left reader.old) (R.left reader.new) (R.read_failures reader.old)
+        (R.read_failures reader.new)) }
 {
     let mut received = Received::new(alloc)?;
     loop {
@@ -51,7 +51,8 @@ fn take_head<R: Source>(received: &mut Received, reader: &mut R) -> Result<Respo
     ensures reads { OnOk result (read_count received.old ≤ read_count received.new) }
     ensures less { OnOk result (read_count received.new ≡ read_count received.old → length (held_bytes received.new) < length (held_bytes received.old)) }
     ensures fine { OnOk result (R.read_failures reader.new ≡ R.read_failures reader.old) }
-    ensures fault { IfErr result (IsHeadFailure (R.left reader.old) (R.left reader.new) (HasFailed (R.read_failures reader.old) (R.read_failures reader.new)) received.old received.new) }
+    ensures fault { IfErr result (IsHeadFailure (R.left reader.old) (R.left reader.new) (R.read_failures reader.old)
+        (R.read_failures reader.new) received.old received.new) }
 {
     let end = match received.read_block(reader)? {
         Block::End(end) => end,
@@ -77,7 +78,8 @@ fn take_content<R: Source>(
 ) -> Result<Vec<u8>, ReplyFault>
     ensures content { IfOk result (λ content. Takes (R.left reader.old) (R.left reader.new) received.old received.new content.items × (length content.items ≡ len)) }
     ensures fine { OnOk result (R.read_failures reader.new ≡ R.read_failures reader.old) }
-    ensures fault { IfErr result (IsContentFailure (R.left reader.old) (R.left reader.new) (HasFailed (R.read_failures reader.old) (R.read_failures reader.new)) received.old received.new len) }
+    ensures fault { IfErr result (IsContentFailure (R.left reader.old) (R.left reader.new) (R.read_failures reader.old)
+        (R.read_failures reader.new) received.old received.new len) }
 {
     let mut content = Vec::new(alloc);
     loop {

@@ -93,6 +93,61 @@ fn faults_of_heads(rt: HostRuntime) {
 }
 
 #[test]
+fn heads_of_whole_blocks(rt: HostRuntime) -> Result<(), Fail> {
+    let skipped: &[u8] = b"\r\nGET /filings/ACME HTTP/1.1\r\nHOST:[::1]:80  \r\n\r\n";
+    let head = read_head(rt.alloc(), skipped)?;
+    assert_eq!(rt; head.method(), b"GET".as_slice());
+    assert_eq!(rt; head.path(), b"/filings/ACME".as_slice());
+    assert_eq!(rt;
+        head.fields_named(b"host").next(),
+        Some(b"[::1]:80".as_slice())
+    );
+    let cases: [(&[u8], HeadFault); 5] = [
+        (
+            b"\r\nPOST /filings/ACME HTTP/1.1\r\nContent-Length:88\t\r\nIDEMPOTENCY-KEY:\"k-3\"  \r\n\r\n",
+            HeadFault::Host,
+        ),
+        (
+            b"\r\n\r\nGET / HTTP/1.1\r\nHost: h\r\n\r\n",
+            HeadFault::Malformed,
+        ),
+        (
+            b"\r\n\nGET /filings/BETA HTTP/1.1\r\nHos: t\r\nhost: [::1]:80\t\r\n\r\n",
+            HeadFault::Malformed,
+        ),
+        (b"GET / HTTP/1.1\r\nHost: h\r\n\r\nX", HeadFault::Malformed),
+        (b"GET / HTTP/1.1\r\nHost: h\r\n", HeadFault::Malformed),
+    ];
+    for (bytes, fault) in cases {
+        assert_eq!(rt; read_head(rt.alloc(), bytes).err(), Some(fault));
+    }
+    let most = long_head(rt.alloc(), 16_384)?;
+    assert!(rt; read_head(rt.alloc(), &most).is_ok());
+    assert!(rt; read_head(rt.alloc(), &most[2..]).is_ok());
+    let more = long_head(rt.alloc(), 16_385)?;
+    assert_eq!(rt;
+        read_head(rt.alloc(), &more).err(),
+        Some(HeadFault::Malformed)
+    );
+    assert_eq!(rt;
+        read_head(rt.alloc(), &more[2..]).err(),
+        Some(HeadFault::Malformed)
+    );
+    Ok(())
+}
+
+/// A CRLF, and a head of so many bytes.
+fn long_head(alloc: Global, len: usize) -> Result<Vec<u8>, AllocError>
+    requires { 34 ≤ len }
+{
+    let mut bytes = Vec::new(alloc);
+    bytes.extend_from_slice(b"\r\nGET / HTTP/1.1\r\nHost: h\r\nX: ")?;
+    bytes.resize(2 + (len - 4), b'a')?;
+    bytes.extend_from_slice(b"\r\n\r\n")?;
+    Ok(bytes)
+}
+
+#[test]
 fn parts_of_a_head(rt: HostRuntime) -> Result<(), Fail> {
     let block =
         b"POST /filings/ACME?q HTTP/1.1\r\nHost: h\r\nX-a: 1\r\nx-A: \t2 \r\nContent-Length: 84, 084\r\n\r\n";

@@ -34,7 +34,8 @@ pub fn write_reply<W: Sink>(
     requires { IsSome (phrase reply.now.status) }
     ensures ok { OnOk result (Appends (W.written writer.old) (W.written writer.new) (render (reply_parts reply.now) close)) }
     ensures fine { OnOk result (W.write_failures writer.new ≡ W.write_failures writer.old) }
-    ensures fault { IfErr result (IsWriteFault (W.written writer.old) (W.written writer.new) (HasFailed (W.write_failures writer.old) (W.write_failures writer.new)) (render (reply_parts reply.now) close)) }
+    ensures fault { IfErr result (IsWriteFault (W.written writer.old) (W.written writer.new) (W.write_failures writer.old)
+        (W.write_failures writer.new) (render (reply_parts reply.now) close)) }
 {
     let mut text = Vec::new(alloc);
     append_reply(alloc, reply, close, &mut text)?;

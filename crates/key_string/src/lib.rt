@@ -6,6 +6,7 @@
 mod fault;
 mod filer;
 mod key;
+pub mod laws;
 
 pub use fault::KeyFault;
 pub use filer::{is_filer, read_filer};

@@ -15,10 +15,11 @@ pub mod Trees
 pub mod Distinct
 pub mod Calendar
 pub mod Unique
-pub mod Laws
+pub mod FindingLaws
 pub mod Judgements
 pub mod Adjacent
 pub mod Chars
 pub mod Indices
 pub mod Parentheses
 pub mod Plain
+pub mod FactOrder

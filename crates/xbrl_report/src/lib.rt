@@ -18,6 +18,7 @@ mod found;
 mod judging;
 mod kind;
 mod language;
+pub mod laws;
 mod name;
 mod number;
 mod period;

@@ -1,12 +1,12 @@
 use Rattle.std.proofs.Common.{[], false, refl, sym, subst, rules}
 use Rattle.std.proofs.lemmas.Result.{err_from_is_err_and}
-use Rattle.std.specs.Prelude.{slice_range}
+use Rattle.std.specs.Prelude.{slice_range, IfErr}
 use Rattle.http_wire.specs.Block.{skipped_len}
-use Rattle.http_wire.specs.Calls.{HoldsPlace, WritesUpTo}
+use Rattle.http_wire.specs.Calls.{HoldsPlace, WritesUpTo, IsFault}
 use Rattle.http_wire.specs.Head.{IsHeadFault}
-use Rattle.http_wire.specs.Received.{held_bytes}
+use Rattle.http_wire.specs.Received.{held_bytes, read_count}
 use Rattle.http_wire.proofs.DeviceLemmas.{Appends-nil}
-use Rattle.http_wire.proofs.FoundLemmas.{Asks-unended, WritesUpTo-read, HoldsPlace-ended}
+use Rattle.http_wire.proofs.FoundLemmas.{Asks-unended, WritesUpTo-read, IsFault-read, HoldsPlace-ended}
 use Rattle.http_wire.proofs.ReceivedLemmas.{Receives-join, ReceivesNothing-join}
 use Rattle.http_wire.proofs.place.find_place.Goals as goal
 
@@ -17,6 +17,15 @@ returns-in_err-end-clause-part g c =
     let part = WritesUpTo-read written written bytes false c.in_err-end.field-0.0 _ _ c.read_block.new.self (Asks-unended bytes c.in_err-end.ensures.unended) (Appends-nil written) c.in_err-end.ensures.fault in
     let gives = err_from_is_err_and c.from_residual.result c.from_residual.ensures.1 in
     rw gives.1 (subst (WritesUpTo written written bytes) (sym gives.2) part)
+
+pub returns-in_err-end-clause-fault : goal.returns-in_err-end-clause-fault
+returns-in_err-end-clause-fault g c =
+    let received = c.read_block.new.self in
+    let write = g.W.Sink.write_failures c.args.writer.now in
+    let none = λ (holds : HoldsPlace (held_bytes received)). HoldsPlace-ended (held_bytes received) holds c.in_err-end.ensures.unended in
+    let fault = IsFault-read _ _ write write received c.in_err-end.field-0.0 refl none c.in_err-end.ensures.fault in
+    let gives = err_from_is_err_and c.from_residual.result c.from_residual.ensures.1 in
+    rw gives.1 (subst (IsFault _ _ write write (read_count received) (held_bytes received)) (sym gives.2) fault)
 
 pub returns-in-More-clause-interim : goal.returns-in-More-clause-interim
 returns-in-More-clause-interim g c =
@@ -32,6 +41,11 @@ returns-in-Ok-clause-lazy g c = λ holds.
     let first = c.read_block.ensures.lazy (HoldsPlace-ended (held_bytes c.args.received.now) holds) in
     let second = c.read_request.ensures.lazy (subst HoldsPlace (sym first.bytes) holds) in
     ReceivesNothing-join _ _ _ c.args.received.now c.read_block.new.self c.read_request.new.received first second
+
+pub returns-in-Ok-clause-fault : goal.returns-in-Ok-clause-fault
+returns-in-Ok-clause-fault g c =
+    subst (λ count. IfErr c.read_request.result (IsFault count (g.R.Source.read_failures c.read_request.new.reader) (g.W.Sink.write_failures c.args.writer.now) (g.W.Sink.write_failures c.read_request.new.writer) (read_count c.read_request.new.received) (held_bytes c.read_request.new.received)))
+    c.in_ok-end.ensures.fine c.read_request.ensures.fault
 
 pub returns-in-Err : goal.returns-in-Err
 returns-in-Err g c =

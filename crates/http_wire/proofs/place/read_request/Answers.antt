@@ -1,15 +1,20 @@
 use Rattle.std.proofs.Common.{◌<◌, ◌≤◌, length, subst, refl, arith, rules}
 use Rattle.std.specs.Io.KnownBytes.{Appends}
-use Rattle.http_wire.specs.Calls.{interim_if}
+use Rattle.http_wire.specs.Calls.{HoldsPlace, interim_if}
 use Rattle.http_wire.specs.Found.{framing_awaits}
 use Rattle.http_wire.specs.Parsed.{parsed_end}
-use Rattle.http_wire.specs.Received.{held_bytes}
-use Rattle.http_wire.proofs.FoundLemmas.{IsHeadOf-within, IsHeadOf-read, IsParsed-whole, IsRest-cut, HoldsPlace-whole, Asks-framing, awaits-framing, WritesUpTo-read}
+use Rattle.http_wire.specs.Received.{held_bytes, read_count}
+use Rattle.http_wire.proofs.FoundLemmas.{IsHeadOf-within, IsHeadOf-read, IsParsed-whole, IsRest-cut, HoldsPlace-whole, Asks-framing, awaits-framing, WritesUpTo-read, IsFault-read, IsFault-send}
 use Rattle.http_wire.proofs.ReceivedLemmas.{Receives-nil}
 use Rattle.http_wire.proofs.place.read_request.Goals as goal
 
 pub returns-in_err-send_interim-clause-reads : goal.returns-in_err-send_interim-clause-reads
 returns-in_err-send_interim-clause-reads g c = Receives-nil _ c.args.received.now
+
+pub returns-in_err-send_interim-clause-fault : goal.returns-in_err-send_interim-clause-fault
+returns-in_err-send_interim-clause-fault g c =
+    let fault = IsFault-send _ _ _ (g.R.Source.read_failures c.args.reader.now) _ _ (read_count c.args.received.now) (held_bytes c.args.received.now) c.in_err-send_interim.field-0.0 c.in_err-send_interim.ensures.fault in
+    search rules
 
 pub overflow_add-parsed : goal.overflow_add-parsed
 overflow_add-parsed g c =
@@ -27,6 +32,15 @@ returns-in_err-read_up_to-clause-part g c =
     let bytes = held_bytes c.read_up_to.new.self in
     let head = IsHeadOf-read _ _ c.args.received.now c.read_up_to.new.self c.args.parsed c.read_up_to.ensures.reads c.requires in
     let part = WritesUpTo-read (g.W.Sink.written c.args.writer.now) (g.W.Sink.written c.send_interim.new.writer) bytes (framing_awaits c.args.parsed.framing) c.in_err-read_up_to.field-0.0 _ _ c.read_up_to.new.self (Asks-framing bytes c.args.parsed head) c.in_ok-send_interim.ensures.ok c.in_err-read_up_to.ensures.fault in
+    search rules
+
+pub returns-in_err-read_up_to-clause-fault : goal.returns-in_err-read_up_to-clause-fault
+returns-in_err-read_up_to-clause-fault g c =
+    let received = c.read_up_to.new.self in
+    let head = IsHeadOf-read _ _ c.args.received.now received c.args.parsed c.read_up_to.ensures.reads c.requires in
+    let cut : length (held_bytes received) < parsed_end c.args.parsed = search rules in
+    let none = λ (holds : HoldsPlace (held_bytes received)). let whole = HoldsPlace-whole (held_bytes received) c.args.parsed head holds in absurd (omega (arith, whole, cut)) in
+    let fault = IsFault-read _ _ _ _ received c.in_err-read_up_to.field-0.0 c.in_ok-send_interim.ensures.fine none c.in_err-read_up_to.ensures.fault in
     search rules
 
 pub returns-then-branch-clause-lazy : goal.returns-then-branch-clause-lazy

@@ -1,4 +1,4 @@
-use Rattle.std.proofs.Common.{subst}
+use Rattle.std.proofs.Common.{subst, rules}
 use Rattle.std.specs.Prelude.{slice_range}
 use Rattle.http_wire.specs.Block.{skipped_len}
 use Rattle.http_wire.specs.ReplyFaults.{IsNoResponse}
@@ -20,4 +20,4 @@ returns-in-None-clause-fault g c =
     let block = rw c.in-End.is at c.in_ok-end.ensures.block in
     let here = subst (λ k. IsNoResponse (slice_range c.bytes-bytes.result.now k end)) c.skipped_len.ensures.value c.in-None.ensures in
     let none = subst (λ held. IsNoResponse (slice_range held (skipped_len held) end)) c.bytes-bytes.ensures.value here in
-    (Takes-receives _ _ c.args.received.now c.read_block.new.self c.read_block.ensures.reads, (end, block, none))
+    (search rules, Takes-receives _ _ c.args.received.now c.read_block.new.self c.read_block.ensures.reads, (end, block, none))
