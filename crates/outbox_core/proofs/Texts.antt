@@ -21,7 +21,7 @@ use Rattle.table_rows.specs.Tables.{schema_with}
 use Rattle.table_rows.proofs.SelectLemmas.{one_table}
 use Rattle.table_rows.proofs.QueryLemmas.{Asks}
 use Rattle.table_rows.proofs.FailLemmas.{IsWhole}
-use Rattle.table_rows.proofs.ReadingTexts.{IsReading, reading}
+use Rattle.table_rows.proofs.TextLemmas.{IsQueryText}
 use Rattle.outbox_core.specs.Schema.{outbox_tables, IsDeclared}
 use Rattle.outbox_core.specs.Audit.{meta_text, entries_text}
 
@@ -88,29 +88,29 @@ update_command = Update 1 (record { lets = []; body = update_query })
 
 -- ---- under no schema do the queries write
 
-pub by_key_reads : IsReading by_key_text
+pub by_key_reads : IsQueryText by_key_text
 unfolding understood everything
-by_key_reads = reading by_key_text (λ schema base. refl)
+by_key_reads = refl
 
-pub by_id_reads : IsReading by_id_text
+pub by_id_reads : IsQueryText by_id_text
 unfolding understood everything
-by_id_reads = reading by_id_text (λ schema base. refl)
+by_id_reads = refl
 
-pub by_state_reads : IsReading by_state_text
+pub by_state_reads : IsQueryText by_state_text
 unfolding understood everything
-by_state_reads = reading by_state_text (λ schema base. refl)
+by_state_reads = refl
 
-pub states_reads : IsReading states_text
+pub states_reads : IsQueryText states_text
 unfolding understood everything
-states_reads = reading states_text (λ schema base. refl)
+states_reads = refl
 
-pub meta_reads : IsReading meta_text
+pub meta_reads : IsQueryText meta_text
 unfolding understood everything
-meta_reads = reading meta_text (λ schema base. refl)
+meta_reads = refl
 
-pub entries_reads : IsReading entries_text
+pub entries_reads : IsQueryText entries_text
 unfolding understood everything
-entries_reads = reading entries_text (λ schema base. refl)
+entries_reads = refl
 
 abbrev names : List (List ℕ)
 names = codes "id" ∷ codes "idem" ∷ codes "body" ∷ codes "state" ∷ codes "number" ∷ []

@@ -16,4 +16,3 @@ pub mod UpdateLemmas
 pub mod CleanLemmas
 pub mod FileLemmas
 pub mod TextLemmas
-pub mod ReadingTexts

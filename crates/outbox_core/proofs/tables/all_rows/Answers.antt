@@ -1,8 +1,7 @@
 use Rattle.std.proofs.Common.{arith}
 use Rattle.std.proofs.lemmas.Result.{IfOk-weaker}
 use Rattle.sqlite.specs.Held.{state}
-use Rattle.sqlite.specs.State.{KeepsCommit}
-use Rattle.table_rows.proofs.ReadingTexts.{either, reading_shown, reading_failed, reading_leaves}
+use Rattle.table_rows.proofs.TextLemmas.{query_keeps, query_survives, keeps_commit}
 use Rattle.outbox_core.specs.Audit.{entries_text}
 use Rattle.outbox_core.proofs.Texts.{entries_reads}
 use Rattle.outbox_core.proofs.HeldLemmas.{entries_held}
@@ -19,7 +18,7 @@ pub returns-clause-kept : goal.returns-clause-kept
 returns-clause-kept g c clean =
     let old = state g.S.Store c.args.conn.now in
     let new = state g.S.Store c.query_all.new.self in
-    either c.query_all.result (KeepsCommit old new) _ _ (λ rows. reading_shown entries_text _ old new entries_reads rows.items) (reading_failed entries_text _ old new entries_reads) (c.query_all.ensures.ok clean) (c.query_all.ensures.err clean)
+    keeps_commit old new (query_keeps entries_text entries_reads _ old new (λ rows. rows.items) c.query_all.result (c.query_all.ensures.ok clean) (c.query_all.ensures.err clean))
 
 pub returns-clause-crash : goal.returns-clause-crash
-returns-clause-crash g c = reading_leaves entries_text _ (state g.S.Store c.args.conn.now) (state g.S.Store c.query_all.new.self) entries_reads c.query_all.ensures.survives
+returns-clause-crash g c = query_survives entries_text entries_reads _ (state g.S.Store c.args.conn.now) (state g.S.Store c.query_all.new.self) c.query_all.ensures.survives

@@ -4,7 +4,7 @@ use Rattle.sqlite.specs.declared.types.Value.TheVariants.{Int}
 use Rattle.sqlite.specs.Held.{state}
 use Rattle.sqlite.specs.State.{QueriesRow}
 use Rattle.table_rows.specs.Rows.{row_or_none}
-use Rattle.table_rows.proofs.ReadingTexts.{reading_leaves}
+use Rattle.table_rows.proofs.TextLemmas.{query_survives}
 use Rattle.outbox_core.specs.Entries.{has_id}
 use Rattle.outbox_core.proofs.Texts.{equals, by_id_text, by_id_asks, by_id_reads}
 use Rattle.outbox_core.proofs.SelectLemmas.{matches, id_matches, row_selected, row_open, row_stands}
@@ -31,4 +31,4 @@ returns-clause-open g c clean it was =
     row_open by_id_text (equals 0) by_id_asks _ old new it was c.first_row.result (c.first_row.ensures.row clean)
 
 pub returns-clause-crash : goal.returns-clause-crash
-returns-clause-crash g c = reading_leaves by_id_text _ (state g.S.Store c.args.conn.now) (state g.S.Store c.first_row.new.conn) by_id_reads c.first_row.ensures.survives
+returns-clause-crash g c = query_survives by_id_text by_id_reads _ (state g.S.Store c.args.conn.now) (state g.S.Store c.first_row.new.conn) c.first_row.ensures.survives

@@ -1,7 +1,7 @@
 use Rattle.std.proofs.Common.{refl}
 use Rattle.sqlite.specs.declared.types.Value.TheVariants.{Text}
 use Rattle.sqlite.specs.Held.{state}
-use Rattle.table_rows.proofs.ReadingTexts.{reading_leaves}
+use Rattle.table_rows.proofs.TextLemmas.{query_survives}
 use Rattle.outbox_core.specs.Entries.{has_text}
 use Rattle.outbox_core.proofs.Texts.{equals, by_key_text, by_key_asks, by_key_reads}
 use Rattle.outbox_core.proofs.SelectLemmas.{matches, key_matches, row_selected, row_open, row_stands}
@@ -27,4 +27,4 @@ returns-clause-open g c clean it was =
     row_open by_key_text (equals 2) by_key_asks _ old new it was c.first_row.result (c.first_row.ensures.row clean)
 
 pub returns-clause-crash : goal.returns-clause-crash
-returns-clause-crash g c = reading_leaves by_key_text _ (state g.S.Store c.args.conn.now) (state g.S.Store c.first_row.new.conn) by_key_reads c.first_row.ensures.survives
+returns-clause-crash g c = query_survives by_key_text by_key_reads _ (state g.S.Store c.args.conn.now) (state g.S.Store c.first_row.new.conn) c.first_row.ensures.survives

@@ -1,7 +1,7 @@
 use Rattle.std.proofs.Common.{refl, pos}
 use Rattle.sqlite.specs.declared.types.Value.TheVariants.{Int}
 use Rattle.sqlite.specs.Held.{state}
-use Rattle.table_rows.proofs.ReadingTexts.{reading_leaves}
+use Rattle.table_rows.proofs.TextLemmas.{query_survives}
 use Rattle.outbox_core.specs.Entries.{is_open}
 use Rattle.outbox_core.proofs.Texts.{equals, by_state_text, by_state_asks, by_state_reads}
 use Rattle.outbox_core.proofs.SelectLemmas.{matches, open_matches, row_selected, row_open, row_stands}
@@ -27,4 +27,4 @@ returns-clause-open g c clean it was =
     row_open by_state_text (equals 4) by_state_asks _ old new it was c.first_row.result (c.first_row.ensures.row clean)
 
 pub returns-clause-crash : goal.returns-clause-crash
-returns-clause-crash g c = reading_leaves by_state_text _ (state g.S.Store c.args.conn.now) (state g.S.Store c.first_row.new.conn) by_state_reads c.first_row.ensures.survives
+returns-clause-crash g c = query_survives by_state_text by_state_reads _ (state g.S.Store c.args.conn.now) (state g.S.Store c.first_row.new.conn) c.first_row.ensures.survives

@@ -2,7 +2,7 @@ use Rattle.std.proofs.lemmas.Result.{IfOk-weaker}
 use Rattle.sqlite.specs.Held.{state}
 use Rattle.sqlite.specs.Effect.{Database}
 use Rattle.table_rows.proofs.QueryLemmas.{Asks, all_told}
-use Rattle.table_rows.proofs.ReadingTexts.{reading_leaves}
+use Rattle.table_rows.proofs.TextLemmas.{query_survives}
 use Rattle.outbox_core.specs.Entries.{Contents}
 use Rattle.outbox_core.specs.Rows.{IsOutboxOf}
 use Rattle.outbox_core.proofs.Texts.{states_text, states_query, states_asks, states_reads}
@@ -23,4 +23,4 @@ returns-clause-kept g c clean it was =
     all_stand states_text states_query states_asks _ (state g.S.Store c.args.conn.now) (state g.S.Store c.query_all.new.self) it was (λ rows. rows.items) c.query_all.result (c.query_all.ensures.ok clean) (c.query_all.ensures.err clean)
 
 pub returns-clause-crash : goal.returns-clause-crash
-returns-clause-crash g c = reading_leaves states_text _ (state g.S.Store c.args.conn.now) (state g.S.Store c.query_all.new.self) states_reads c.query_all.ensures.survives
+returns-clause-crash g c = query_survives states_text states_reads _ (state g.S.Store c.args.conn.now) (state g.S.Store c.query_all.new.self) c.query_all.ensures.survives
