@@ -75,5 +75,5 @@ WritesBefore filer entries id written written' (Take Store) = Appends written wr
 -- where its failure is told.
 abbrev pub IsFault : Option (List ℕ) → Option (List ℕ) → ℕ → ℕ → ℕ → ℕ → ExchangeFault → Type 0
 IsFault left left' reads reads' writes writes' (Write sent) = HasFailed writes writes' × (reads' ≡ reads)
-IsFault left left' reads reads' writes writes' (Reply fault) = IsReplyFailure left left' (HasFailed reads reads') fault × (writes' ≡ writes)
+IsFault left left' reads reads' writes writes' (Reply fault) = IsReplyFailure left left' reads reads' fault × (writes' ≡ writes)
 IsFault left left' reads reads' writes writes' (Take fault) = (reads' ≡ reads) × (writes' ≡ writes)
