@@ -3,7 +3,7 @@
 ghost use Rattle.std.specs.Prelude.{◌≡◌, None, false};
 
 use anyhow::bail;
-use command_input::{make_database, open_database};
+use commands::{make_database, open_database};
 use key_string::{KeyText, is_filer};
 use register_store::{NewRow, Store};
 use sqlite::{Alter, Connection, File, FileStore, MemStore};

@@ -1,0 +1,23 @@
+-- The status that a program ends with where a command is not done.
+use Rattle.std.specs.Prelude.{ℕ}
+use Rattle.command_line.specs.declared.fault.DatabaseFault.{DatabaseFault}
+use Rattle.command_line.specs.declared.fault.DatabaseFault.TheVariants as database
+use Rattle.command_line.specs.declared.fault.CommandFault.{CommandFault}
+use Rattle.command_line.specs.declared.fault.CommandFault.TheVariants as command
+
+-- 1 where the file is none of the program's, and else 3
+abbrev pub database_status : DatabaseFault → ℕ
+database_status database.Missing = 1
+database_status database.NotADatabase = 1
+database_status database.Busy = 3
+database_status database.Memory = 3
+database_status database.Disk = 3
+
+-- 2 where the command line is at fault
+abbrev pub status_of : CommandFault → ℕ
+status_of command.NotText = 2
+status_of command.NoTask = 2
+status_of command.Filer = 2
+status_of (command.Database _ fault) = database_status fault
+status_of command.Output = 3
+status_of command.Memory = 3

@@ -1,0 +1,145 @@
+//! Reading bytes up to a length.
+
+ghost use Rattle.std.specs.Prelude.{◌≡◌, ◌++◌, ◌+◌, ◌<◌, ◌≤◌, ℕ, List, drop, length, slice_range, vec_len, IfOk, IfErr, OnOk, Ok, Err};
+ghost use Rattle.std.specs.Io.KnownBytes.{Consumes, IsAtEnd};
+ghost use Rattle.http_wire.specs.Device.{HasFailed};
+ghost use Rattle.command_line.specs.declared.bytes.TheConstants.{MAX_READS};
+ghost use Rattle.command_line.specs.declared.bytes.ReadFault.TheVariants.{Read, ReadLimit, Memory};
+
+use http_wire::Source;
+use std::alloc::{AllocError, Global};
+use thiserror::Error;
+
+/// How many reads are made of one input at most. Own rule.
+pub const MAX_READS: u32 = 4_194_304;
+
+/// How many reads were made of an input.
+#[derive(Clone, Copy)]
+struct Reads {
+    made: u32,
+    ghost few: { made ≤ MAX_READS },
+}
+
+impl Reads {
+    /// Counts one read more. `ReadLimit` comes exactly where the most reads are made.
+    fn count(&mut self) -> Result<(), ReadFault>
+        ensures counted { OnOk result (self.new.made ≡ self.old.made + 1) }
+        ensures limit { IfErr result (λ fault. (fault ≡ ReadLimit) × (self.old.made ≡ MAX_READS)) }
+    {
+        if self.made == MAX_READS {
+            return Err(ReadFault::ReadLimit);
+        }
+        self.made += 1;
+        Ok(())
+    }
+}
+
+/// The most bytes that are asked for at a time.
+const CHUNK: usize = 16_384;
+
+/// Why an input was not read up to its end or the length.
+#[derive(Clone, Copy, Debug, PartialEq, Eq, Error)]
+pub enum ReadFault {
+    /// The reader failed.
+    #[error("it cannot be read")]
+    Read,
+    /// More than 4,194,304 reads were needed.
+    #[error("it takes too many reads")]
+    ReadLimit,
+    /// No memory was left.
+    #[error("out of memory")]
+    Memory,
+}
+
+impl From<AllocError> for ReadFault {
+    ghost from_gives = { λ _ fault. fault ≡ Memory };
+
+    fn from(_error: AllocError) -> ReadFault {
+        ReadFault::Memory
+    }
+}
+
+/// The bytes of a reader up to its end, or the first `most` of them. At most 4,194,304 reads are made,
+/// each of one byte at least, so `ReadLimit` comes only after as many bytes, and with fewer than `most`.
+pub fn read_up_to<R: Source>(
+    alloc: Global,
+    reader: &mut R,
+    most: usize,
+) -> Result<Vec<u8>, ReadFault>
+    ensures given { IfOk result (λ bytes. Consumes (R.left reader.old) (R.left reader.new) bytes.items) }
+    ensures bound { IfOk result (λ bytes. vec_len bytes ≤ most) }
+    ensures whole { IfOk result (λ bytes. vec_len bytes < most → IsAtEnd (R.left reader.new)) }
+    ensures fine { OnOk result (R.read_failures reader.new ≡ R.read_failures reader.old) }
+    ensures failed { result ≡ Err Read → HasFailed (R.read_failures reader.old) (R.read_failures reader.new) }
+    ensures limited { result ≡ Err ReadLimit → (bytes : List ℕ) × Consumes (R.left reader.old) (R.left reader.new) bytes × (MAX_READS ≤ length bytes) × (length bytes < most) }
+{
+    let mut bytes = Vec::new(alloc);
+    let mut room = room(alloc)?;
+    let mut reads = Reads { made: 0 };
+    while bytes.len() < most {
+        if read_more(reader, &mut reads, &mut room, &mut bytes, most)? == 0 {
+            return Ok(bytes);
+        }
+    }
+    Ok(bytes)
+}
+
+/// Room for one read.
+fn room(alloc: Global) -> Result<Vec<u8>, AllocError>
+    ensures { IfOk result (λ room. 0 < vec_len room) }
+{
+    let mut room = Vec::new(alloc);
+    room.resize(CHUNK, 0)?;
+    Ok(room)
+}
+
+/// Makes one read, counts it, and appends what it gave, up to `most` bytes in all. The answer is the
+/// count of these bytes, which is 0 only at the end of the input. Where the most reads are made
+/// already, `ReadLimit` comes, and only there, and nothing is read.
+fn read_more<R: Source>(
+    reader: &mut R,
+    reads: &mut Reads,
+    room: &mut Vec<u8>,
+    bytes: &mut Vec<u8>,
+    most: usize,
+) -> Result<usize, ReadFault>
+    requires room { 0 < vec_len room.old }
+    requires less { vec_len bytes.old < most }
+    ensures room { vec_len room.new ≡ vec_len room.old }
+    ensures bound { vec_len bytes.new ≤ most }
+    ensures count { IfOk result (λ count. vec_len bytes.new ≡ vec_len bytes.old + count) }
+    ensures kept { bytes.new.items ≡ bytes.old.items ++ drop (vec_len bytes.old) bytes.new.items }
+    ensures given { OnOk result (Consumes (R.left reader.old) (R.left reader.new) (drop (vec_len bytes.old) bytes.new.items)) }
+    ensures end { result ≡ Ok 0 → IsAtEnd (R.left reader.new) }
+    ensures fine { OnOk result (R.read_failures reader.new ≡ R.read_failures reader.old) }
+    ensures failed { result ≡ Err Read → HasFailed (R.read_failures reader.old) (R.read_failures reader.new) }
+    ensures made { OnOk result (reads.new.made ≡ reads.old.made + 1) }
+    ensures limited { result ≡ Err ReadLimit → (reads.old.made ≡ MAX_READS) × (reader.new ≡ reader.old) × (bytes.new ≡ bytes.old) }
+{
+    reads.count()?;
+    let wanted = room.len().min(most - bytes.len());
+    let count = read_into(reader, room, wanted)?;
+    bytes.extend_from_slice(&room[0..count])?;
+    Ok(count)
+}
+
+/// Makes one read into the first `wanted` bytes of the room.
+fn read_into<R: Source>(
+    reader: &mut R,
+    room: &mut Vec<u8>,
+    wanted: usize,
+) -> Result<usize, ReadFault>
+    requires some { 0 < wanted }
+    requires within { wanted ≤ vec_len room.old }
+    ensures len { vec_len room.new ≡ vec_len room.old }
+    ensures bound { IfOk result (λ count. count ≤ wanted) }
+    ensures given { IfOk result (λ count. Consumes (R.left reader.old) (R.left reader.new) (slice_range room.new.items 0 count)) }
+    ensures end { result ≡ Ok 0 → IsAtEnd (R.left reader.new) }
+    ensures fine { OnOk result (R.read_failures reader.new ≡ R.read_failures reader.old) }
+    ensures fault { IfErr result (λ fault. (fault ≡ Read) × HasFailed (R.read_failures reader.old) (R.read_failures reader.new)) }
+{
+    match reader.read(&mut room[0..wanted]) {
+        Ok(count) => Ok(count),
+        Err(_) => Err(ReadFault::Read),
+    }
+}

@@ -1,0 +1,72 @@
+//! Why a command is not done, in words and as a status.
+
+use std::alloc::AllocError;
+use thiserror::Error;
+
+/// Why the files of a database were not opened.
+#[derive(Clone, Copy, Debug, PartialEq, Eq, Error)]
+pub enum DatabaseFault {
+    /// No file has the name.
+    #[error("there is no such file")]
+    Missing,
+    /// The file holds no database, or one whose rows do not obey its schema.
+    #[error("not a database")]
+    NotADatabase,
+    /// Another program has the database open.
+    #[error("another program has it open")]
+    Busy,
+    /// No memory was left.
+    #[error("out of memory")]
+    Memory,
+    /// The system refused to open or to read the file.
+    #[error("it cannot be opened")]
+    Disk,
+}
+
+/// Why a command is not done, whatever the program. Its text is one line.
+#[derive(Clone, Copy, Debug, Error)]
+pub enum CommandFault<'a> {
+    #[error("a word of the command line is not UTF-8")]
+    NotText,
+    #[error("the command line asks for nothing")]
+    NoTask,
+    #[error("--filer: not a filer code, which is 1 to 64 ASCII letters, digits, '.', '_' and '-'")]
+    Filer,
+    #[error("{name}: {fault}")]
+    Database { name: &'a str, fault: DatabaseFault },
+    #[error("the output cannot be written")]
+    Output,
+    #[error("out of memory")]
+    Memory,
+}
+
+impl From<AllocError> for CommandFault<'_> {
+    ghost use Rattle.std.specs.Prelude.{◌≡◌};
+    ghost use Rattle.command_line.specs.declared.fault.CommandFault.TheVariants.{Memory};
+
+    ghost from_gives = { λ _ fault. fault ≡ Memory };
+
+    fn from(_error: AllocError) -> Self {
+        CommandFault::Memory
+    }
+}
+
+impl CommandFault<'_> {
+    ghost use Rattle.std.specs.Prelude.{◌≡◌};
+    ghost use Rattle.command_line.specs.Status.{status_of};
+
+    /// The status that a program ends with: 1 for a database file that is not there or is none, 2
+    /// for the command line, 3 for a fault of memory, the disk or the output.
+    pub fn status(&self) -> u8
+        ensures { result ≡ status_of self.now }
+    {
+        match self {
+            CommandFault::Database {
+                fault: DatabaseFault::Missing | DatabaseFault::NotADatabase,
+                ..
+            } => 1,
+            CommandFault::NotText | CommandFault::NoTask | CommandFault::Filer => 2,
+            CommandFault::Database { .. } | CommandFault::Output | CommandFault::Memory => 3,
+        }
+    }
+}

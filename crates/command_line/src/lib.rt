@@ -1,0 +1,16 @@
+//! What every command line shares: its words and their options, an input of bytes up to a length, a text that is shown,
+//! and why a command is not done, in words and as a status. What may live here: what is one thing for every program. No
+//! database and no command is known here.
+#![tactic(auto)]
+
+mod arguments;
+mod bytes;
+mod fault;
+mod options;
+mod output;
+
+pub use arguments::words;
+pub use bytes::{MAX_READS, ReadFault, read_up_to};
+pub use fault::{CommandFault, DatabaseFault};
+pub use options::{database_option, filer_option, option, port_option};
+pub use output::{DONE, show, show_refusal};

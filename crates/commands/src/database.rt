@@ -1,0 +1,134 @@
+//! Opening the files of a database.
+
+ghost use Rattle.std.specs.Prelude.{◌≡◌, ◌≢◌, None, false, Err, IfOk, IfErr, IsTrue};
+ghost use Rattle.commands.specs.Faults.{database_fault};
+
+use command_line::DatabaseFault;
+use sqlite::{Connection, Error, ErrorCode, File, FileStore, Files, Options, Unknown};
+use sqlite_disk::Disk;
+use sqlite_std_file::OpenError;
+use std::fs;
+use std::hash::{BuildHasher, RandomState};
+use std::io::ErrorKind;
+
+/// How many pages of a file are kept in memory once they were read: 32 MiB of pages of 4,096 bytes, which those of a new
+/// file have. A register of 100,000 small reports takes 4,400 pages.
+const PAGES_KEPT: usize = 8_192;
+
+/// Where the files of databases lie. The commands are written over any such place, so that what they do is proved once,
+/// and not for the files of the system.
+pub trait Place<D: Disk + Drop> {
+    /// Whether there is no file of this name.
+    fn is_missing(&self, rt: &HostRuntime, name: &str) -> bool;
+
+    /// The log and the database file of this name. Those that are missing are made.
+    fn files(&self, rt: &HostRuntime, name: &str) -> Result<Files<D>, DatabaseFault>
+        ensures log { IfOk result (λ files. IsTrue (D.Disk.is_usable files.log)) }
+        ensures database { IfOk result (λ files. IsTrue (D.Disk.is_usable files.db)) }
+        ensures any_name { result ≢ Err DatabaseFault.Missing };
+}
+
+/// The files of the system. Each name is a path, also `:memory:` and one that begins with `file:`.
+#[derive(Clone, Copy)]
+pub struct SystemFiles;
+
+impl Place<File> for SystemFiles {
+    fn is_missing(&self, rt: &HostRuntime, name: &str) -> bool {
+        matches!(fs::exists(rt, name), Ok(false))
+    }
+
+    fn files(&self, rt: &HostRuntime, name: &str) -> Result<Files<File>, DatabaseFault> {
+        match sqlite_std_file::open(rt, name, Unknown) {
+            Ok(files) => Ok(files),
+            Err(error) => Err(fault_of_files(&error)),
+        }
+    }
+}
+
+/// Opens the database of the file with this name. A file that is not there is not made.
+pub fn open_database<D: Disk + Drop, P: Place<D>>(
+    rt: &HostRuntime,
+    place: &P,
+    name: &str,
+) -> Result<Connection<FileStore<D>>, DatabaseFault>
+    ensures autocommit { IfOk result (λ conn. conn.in_transaction ≡ false) }
+    ensures unlimited { IfOk result (λ conn. conn.step_limit ≡ None) }
+{
+    if place.is_missing(rt, name) {
+        return Err(DatabaseFault::Missing);
+    }
+    make_database(rt, place, name)
+}
+
+/// The same, and a file that is not there or is empty gets a database without tables.
+pub fn make_database<D: Disk + Drop, P: Place<D>>(
+    rt: &HostRuntime,
+    place: &P,
+    name: &str,
+) -> Result<Connection<FileStore<D>>, DatabaseFault>
+    ensures autocommit { IfOk result (λ conn. conn.in_transaction ≡ false) }
+    ensures unlimited { IfOk result (λ conn. conn.step_limit ≡ None) }
+    ensures any_name { result ≢ Err DatabaseFault.Missing }
+{
+    let options = options(rt)?;
+    connect(rt, place.files(rt, name)?, options)
+}
+
+/// How the files are read and written. The seed is drawn at random.
+fn options(rt: &HostRuntime) -> Result<Options, DatabaseFault>
+    ensures { IfErr result (λ fault. fault ≡ DatabaseFault.Disk) }
+{
+    match RandomState::new(rt) {
+        Ok(state) => Ok(Options {
+            cache_pages: PAGES_KEPT,
+            ..Options::new(state.hash_one(&0u8))
+        }),
+        Err(_) => Err(DatabaseFault::Disk),
+    }
+}
+
+/// The connection over these files.
+fn connect<D: Disk + Drop>(
+    rt: &HostRuntime,
+    files: Files<D>,
+    options: Options,
+) -> Result<Connection<FileStore<D>>, DatabaseFault>
+    requires log { IsTrue (D.Disk.is_usable files.log) }
+    requires database { IsTrue (D.Disk.is_usable files.db) }
+    ensures autocommit { IfOk result (λ conn. conn.in_transaction ≡ false) }
+    ensures unlimited { IfOk result (λ conn. conn.step_limit ≡ None) }
+    ensures any_name { result ≢ Err DatabaseFault.Missing }
+{
+    match Connection::open_files(rt.alloc(), files, options) {
+        Ok(mut conn) => {
+            conn.set_clock(rt);
+            Ok(conn)
+        }
+        Err((error, _)) => Err(fault_of(error)),
+    }
+}
+
+fn fault_of_files(error: &OpenError) -> DatabaseFault
+    ensures { result ≢ DatabaseFault.Missing }
+{
+    match error {
+        OpenError::OutOfMemory => DatabaseFault::Memory,
+        OpenError::Io(error) if error.kind() == ErrorKind::OutOfMemory => DatabaseFault::Memory,
+        OpenError::Busy => DatabaseFault::Busy,
+        OpenError::Io(_) | OpenError::HotJournal => DatabaseFault::Disk,
+    }
+}
+
+fn fault_of(error: sqlite::Error) -> DatabaseFault
+    ensures told { result ≡ database_fault error }
+    ensures any_name { result ≢ DatabaseFault.Missing }
+{
+    match error {
+        Error::SqliteFailure(ErrorCode::NotADatabase | ErrorCode::DatabaseCorrupt) => {
+            DatabaseFault::NotADatabase
+        }
+        Error::SqliteFailure(ErrorCode::DatabaseBusy) => DatabaseFault::Busy,
+        Error::SqliteFailure(ErrorCode::OutOfMemory) => DatabaseFault::Memory,
+        _ => DatabaseFault::Disk,
+    }
+}

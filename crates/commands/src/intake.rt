@@ -1,0 +1,10 @@
+//! The commands of `intake`: it answers the HTTP requests of filers, from standard input or a port, and shows what its
+//! register holds.
+
+mod calls;
+mod fault;
+mod options;
+mod register;
+mod tasks;
+
+pub use tasks::{main, perform};

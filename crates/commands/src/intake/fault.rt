@@ -1,0 +1,99 @@
+//! Why a task is not done, in words and as a status.
+
+use command_line::{CommandFault, DatabaseFault};
+use http_wire::ConnFault;
+use intake_core::Unavailable;
+use register_store::{CreateFault, OpenFault, StoreFault};
+use std::alloc::AllocError;
+use std::io;
+use std::io::Write;
+use thiserror::Error;
+
+/// Why a task was not done. Its text is one line.
+#[derive(Debug, Drop, Error)]
+pub enum Fault<'a> {
+    #[error("{0}")]
+    Command(CommandFault<'a>),
+    #[error("--limit: it is 4611686018427387904 at most")]
+    Limit,
+    #[error("{0}")]
+    InMemory(CreateFault),
+    #[error("{name}: {fault}")]
+    Create { name: &'a str, fault: CreateFault },
+    #[error("{name}: {fault}")]
+    Open { name: &'a str, fault: OpenFault },
+    #[error("{name}: {fault}")]
+    Store { name: &'a str, fault: StoreFault },
+    #[error("{name}: {fault}")]
+    List { name: &'a str, fault: Unavailable },
+    #[error("{name}: there is no filing {number}")]
+    NoFiling { name: &'a str, number: u64 },
+    #[error("{0}")]
+    Connection(ConnFault),
+    #[error("connection {connection}: {fault}")]
+    Served { connection: u32, fault: ConnFault },
+    #[error("127.0.0.1:{port}: {error}")]
+    Network { port: u16, error: io::Error },
+}
+
+impl<'a> From<CommandFault<'a>> for Fault<'a> {
+    fn from(fault: CommandFault<'a>) -> Self {
+        Fault::Command(fault)
+    }
+}
+
+impl From<AllocError> for Fault<'_> {
+    fn from(_error: AllocError) -> Self {
+        Fault::Command(CommandFault::Memory)
+    }
+}
+
+impl Fault<'_> {
+    /// The status that the program ends with: 1 for a database that is no sound register or cannot
+    /// become one, 2 for the command line, 3 for a fault of memory, the disk or the network, 4 where
+    /// a filing is missing.
+    pub fn status(&self) -> u8 {
+        match self {
+            Fault::Command(fault) => fault.status(),
+            Fault::Create {
+                fault: CreateFault::Taken,
+                ..
+            } => 1,
+            Fault::Open {
+                fault: OpenFault::NotOurs | OpenFault::Damaged { .. },
+                ..
+            } => 1,
+            Fault::Limit => 2,
+            Fault::NoFiling { .. } => 4,
+            _ => 3,
+        }
+    }
+
+    /// What the fault says of the register, where it says something: that it is none, or damaged.
+    pub fn verdict(&self) -> Option<OpenFault> {
+        match self {
+            Fault::Open {
+                fault: OpenFault::NotOurs,
+                ..
+            } => Some(OpenFault::NotOurs),
+            Fault::Open {
+                fault: OpenFault::Damaged { row },
+                ..
+            } => Some(OpenFault::Damaged { row: *row }),
+            Fault::Command(
+                CommandFault::Database {
+                    fault: DatabaseFault::Missing | DatabaseFault::NotADatabase,
+                    ..
+                },
+            ) => Some(OpenFault::NotOurs),
+            _ => None,
+        }
+    }
+
+    /// Writes the text as a line, and answers the status.
+    pub fn tell<E: Write>(&self, errors: &mut E) -> u8 {
+        // Nothing is left to be done where this text can't be written either.
+        let _ = writeln!(errors, "intake: {self}");
+        self.status()
+    }
+}

@@ -1,0 +1,186 @@
+//! The tasks of `intake` and their values, as `clap` reads them.
+
+use clap::{Arg, ArgAction, ArgMatches, Command, Error, value_parser};
+use command_line::{database_option, filer_option, option, port_option};
+use std::alloc::{AllocError, Global};
+
+/// How many keys are kept at most, where the command line does not say.
+pub const DEFAULT_LIMIT: u64 = 1_000_000;
+
+const MOST_CONNECTIONS: i64 = (1 << 32) - 1;
+
+/// What the command line asks for.
+#[derive(Clone, Copy)]
+pub enum Task<'a> {
+    /// Serve standard input on a register in memory.
+    Run {
+        limit: u64,
+    },
+    /// Serve so many connections of a port on the register of a file, which is made where it is new.
+    Serve {
+        database: &'a str,
+        port: u16,
+        connections: u32,
+        limit: u64,
+        new: bool,
+    },
+    /// Show the filings of a filer.
+    List {
+        database: &'a str,
+        filer: &'a str,
+    },
+    /// Show the facts of a filing.
+    Show {
+        database: &'a str,
+        number: u64,
+    },
+    /// Say whether the register is sound.
+    Check {
+        database: &'a str,
+    },
+}
+
+fn database<'a>(alloc: Global) -> Arg<'a> {
+    database_option(alloc, "The database file of the register")
+}
+
+fn limit<'a>(alloc: Global) -> Arg<'a> {
+    option(
+        alloc,
+        "limit",
+        "N",
+        "How many keys are kept at most, 0 to 4611686018427387904 [default: 1000000]",
+    )
+    .required(false)
+    .value_parser(value_parser!(u64))
+}
+
+fn run<'a>(alloc: Global) -> Result<Command<'a>, AllocError> {
+    Command::new(alloc, "run")
+        .about("Serves standard input as one connection, on a register in memory [the default]")
+        .arg(limit(alloc))
+}
+
+fn port<'a>(alloc: Global) -> Arg<'a> {
+    port_option(alloc, "The port of 127.0.0.1 to listen on, 1 to 65535")
+}
+
+fn connections<'a>(alloc: Global) -> Arg<'a> {
+    option(
+        alloc,
+        "connections",
+        "COUNT",
+        "How many connections are served, one after the other, 1 to 4294967295",
+    )
+    .value_parser(value_parser!(u32).range(1..=MOST_CONNECTIONS))
+}
+
+fn new<'a>(alloc: Global) -> Arg<'a> {
+    Arg::new(alloc, "new")
+        .long("new")
+        .help("Makes the register; the file is made where it is missing")
+        .action(ArgAction::SetTrue)
+}
+
+fn serve<'a>(alloc: Global) -> Result<Command<'a>, AllocError> {
+    let options = vec![in alloc;
+        database(alloc),
+        port(alloc),
+        connections(alloc),
+        limit(alloc),
+        new(alloc),
+    ]?;
+    Command::new(alloc, "serve")
+        .about("Serves connections of a port on the register of a file, and ends")
+        .args(options)
+}
+
+fn list<'a>(alloc: Global) -> Result<Command<'a>, AllocError> {
+    let options = vec![in alloc; database(alloc), filer_option(alloc)]?;
+    Command::new(alloc, "list")
+        .about("Prints the filings of a filer, as GET /filings/CODE answers")
+        .args(options)
+}
+
+fn number<'a>(alloc: Global) -> Arg<'a> {
+    option(alloc, "number", "N", "The number of the filing").value_parser(value_parser!(u64).range(
+        0..=i64::MAX,
+    ))
+}
+
+fn show<'a>(alloc: Global) -> Result<Command<'a>, AllocError> {
+    let options = vec![in alloc; database(alloc), number(alloc)]?;
+    Command::new(alloc, "show")
+        .about("Prints the facts of a filing, each as a line of JSON")
+        .args(options)
+}
+
+fn check<'a>(alloc: Global) -> Result<Command<'a>, AllocError> {
+    Command::new(alloc, "check")
+        .about("Holds each row of the register to the bodies that are kept, and says what it found")
+        .arg(database(alloc))
+}
+
+fn tasks<'a>(alloc: Global) -> Result<Vec<Command<'a>>, AllocError> {
+    let tasks = vec![in alloc;
+        run(alloc)?,
+        serve(alloc)?,
+        list(alloc)?,
+        show(alloc)?,
+        check(alloc)?,
+    ]?;
+    Ok(tasks)
+}
+
+fn command<'a>(alloc: Global) -> Result<Command<'a>, AllocError> {
+    Command::new(alloc, "intake")
+        .version("0.1.0")
+        .about("Answers filers' requests, and registers each valid report once")
+        .after_help(
+            "Exit status: 0 done; 1 not a register, a damaged one, or one that is there already;\n2 the command line; 3 memory, a file, the disk or the network failed; 4 no such filing",
+        )
+        .subcommands(tasks(alloc)?)
+}
+
+fn limit_of(values: &ArgMatches<'_>) -> u64 {
+    values.get_one("limit").unwrap_or(DEFAULT_LIMIT)
+}
+
+fn task_of<'a>(name: &str, values: &ArgMatches<'a>) -> Option<Task<'a>> {
+    let limit = limit_of(values);
+    if name == "run" {
+        return Some(Task::Run { limit });
+    }
+    let database = values.get_str("db")?;
+    match name {
+        "serve" => Some(Task::Serve {
+            database,
+            port: values.get_one("port")?,
+            connections: values.get_one("connections")?,
+            limit,
+            new: values.get_flag("new"),
+        }),
+        "list" => Some(Task::List {
+            database,
+            filer: values.get_str("filer")?,
+        }),
+        "show" => Some(Task::Show {
+            database,
+            number: values.get_one("number")?,
+        }),
+        "check" => Some(Task::Check { database }),
+        _ => None,
+    }
+}
+
+/// The task that these words spell, the program's name first; no other word stands for `run`. `None`
+/// is for a command that asks for nothing.
+pub fn read<'a>(alloc: Global, words: &'a [String]) -> Result<Option<Task<'a>>, Error> {
+    let matches = command(alloc)?.try_get_matches_from(words)?;
+    Ok(match matches.subcommand() {
+        Some((name, values)) => task_of(name, values),
+        None => Some(Task::Run {
+            limit: DEFAULT_LIMIT,
+        }),
+    })
+}
