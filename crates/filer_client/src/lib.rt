@@ -9,6 +9,3 @@ mod request;
 pub use client::{exchange, hand_over};
 pub use fault::ExchangeFault;
 pub use request::{ToSend, open_request, request_bytes};
-
-#[cfg(test)]
-mod tests;

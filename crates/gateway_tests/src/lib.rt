@@ -4,8 +4,16 @@
 #![tactic(auto)]
 
 #[cfg(test)]
+mod client;
+#[cfg(test)]
 mod command_lines;
+#[cfg(test)]
+mod intake;
 #[cfg(test)]
 mod intake_commands;
 #[cfg(test)]
+mod outbox;
+#[cfg(test)]
 mod outbox_commands;
+#[cfg(test)]
+mod register;

@@ -4,7 +4,7 @@ use Rattle.std.specs.Result.{result_ok}
 use Rattle.filing_model.specs.Request.{Request, has_key}
 use Rattle.filing_model.specs.Register.{Kept, kept}
 use Rattle.filing_model.specs.Answer.{answer, answer_from, kept_for}
-use Rattle.filing_model.specs.declared.plain.Answer.{Answer as Given}
+use Rattle.filing_model.specs.declared.answer.Answer.{Answer as Given}
 use Rattle.filing_model.specs.Views.{the_request, view_answer}
 use Rattle.filing_model.proofs.Answers.{answer_kept, kept_for_grows}
 use Rattle.filing_model.proofs.Keeping.{kept_has_key}

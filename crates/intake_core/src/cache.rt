@@ -7,7 +7,7 @@ ghost use Rattle.filing_model.specs.Views.{view_answer, the_request};
 ghost use Rattle.register_store.specs.Outcomes.{view_outcome, kept_as};
 ghost use Rattle.intake_core.specs.Cache.{kept_of, IsKeptIn, Remembers};
 
-use filing_model::plain::Answer;
+use filing_model::Answer;
 use key_string::KeyText;
 use lru::LruCache;
 use register_store::{KeptRow, Outcome};

@@ -16,7 +16,7 @@ ghost use Rattle.register_store.specs.Store as register_store;
 ghost use Rattle.intake_core.specs.declared.intake.Unavailable.TheVariants.{Down, Full, Memory, Store as StoreFailed};
 
 use crate::cache::{Cache, answer_by};
-use filing_model::plain::{Answer, FilingRow};
+use filing_model::{Answer, FilingRow};
 use key_string::KeyText;
 use register_store::{KeptRow, NewRow, Outcome, Registered, Store, StoreFault};
 use sqlite::Alter;

@@ -7,11 +7,7 @@ mod intake;
 mod memory;
 mod reply;
 
-pub use filing_model::plain::{Answer, FilingRow};
+pub use filing_model::{Answer, FilingRow};
 pub use intake::{Intake, Unavailable};
 pub use reply::{list_reply, reply_of, word_reply};
 
-#[cfg(test)]
-mod stops;
-#[cfg(test)]
-mod tests;

@@ -8,7 +8,7 @@ ghost use Rattle.serde_json.specs.Written.{compact_text, has_float};
 ghost use Rattle.filing_model.specs.Reply.{reply_of, list_reply, word_reply, answer_data, answer_status, refused_status, listing_data, listings_data, list_data, word_data};
 ghost use Rattle.filing_model.specs.Views.{view_answer, view_row};
 
-use filing_model::plain::{Answer, FilingRow};
+use filing_model::{Answer, FilingRow};
 use http_wire::Reply;
 use register_store::findings_value;
 use serde_json::{Value, json};

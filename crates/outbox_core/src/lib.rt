@@ -22,6 +22,3 @@ pub use finding::{Found, read_outbox};
 pub use key::key_of;
 pub use outbox::Outbox;
 pub use state::State;
-
-#[cfg(test)]
-mod tests;

@@ -163,7 +163,8 @@ impl<S: Alter> Outbox<S> {
         self.filer.as_str()
     }
 
-    pub(crate) fn into_conn(self) -> Connection<S>
+    /// The connection.
+    pub fn into_conn(self) -> Connection<S>
         ensures { result ≡ self.conn }
     {
         let Outbox {

@@ -25,7 +25,7 @@ impl<D: Disk + Drop> Outbox<FileStore<D>> {
         ensures usable { IfOk result (λ files. IsTrue (D.Disk.is_usable files.log) × IsTrue (D.Disk.is_usable files.db)) }
         ensures fault { IfErr result (λ fault. (last : _) × IsClosed self.conn last × (error : _) × (IsClean (view last) → FailsToClose self.conn last error) × (fault ≡ store_fault error)) }
     {
-        match self.into_files_anyway() {
+        match self.close() {
             Ok(files) => Ok(files),
             Err((fault, _files)) => Err(fault),
         }
@@ -33,7 +33,7 @@ impl<D: Disk + Drop> Outbox<FileStore<D>> {
 
     /// The same, where a refusal gives the files back as well, as the close left them: an outcome of a crash is one of
     /// before.
-    pub fn into_files_anyway(self) -> Result<Files<D>, (StoreFault, Files<D>)>
+    pub fn close(self) -> Result<Files<D>, (StoreFault, Files<D>)>
         ensures held { IfOk result (λ files. AreClean D.Disk files.log files.db → (entries : List Item) → HasEntries over_files self entries → HoldOutbox D.Disk files (contents self entries)) }
         ensures copied { IfOk result (λ files. AreClean D.Disk files.log files.db → IsCopied self.conn files) }
         ensures usable { IfOk result (λ files. IsTrue (D.Disk.is_usable files.log) × IsTrue (D.Disk.is_usable files.db)) }

@@ -14,7 +14,7 @@ ghost use Rattle.register_store.specs.Store.{IsRegisterOf};
 use crate::facts::read_numbers;
 use crate::fault::StoreFault;
 use crate::reads;
-use filing_model::plain::FilingRow;
+use filing_model::FilingRow;
 use sqlite::{Alter, Connection};
 use std::alloc::Global;
 

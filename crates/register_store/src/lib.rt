@@ -31,6 +31,3 @@ pub use fault::{CreateFault, OpenFault, StoreFault};
 pub use opening::{Counts, read_register};
 pub use outcome::{KeptRow, NewRow, Outcome};
 pub use store::Store;
-
-#[cfg(test)]
-mod tests;

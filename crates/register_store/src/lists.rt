@@ -16,7 +16,7 @@ use crate::facts::read_facts;
 use crate::fault::StoreFault;
 use crate::reads;
 use crate::store::Store;
-use filing_model::plain::FilingRow;
+use filing_model::FilingRow;
 use sqlite::Alter;
 use xbrl_report::Fact;
 

@@ -216,7 +216,7 @@ impl<S: Alter> Store<S> {
     }
 
     /// The connection.
-    pub(crate) fn into_conn(self) -> Connection<S>
+    pub fn into_conn(self) -> Connection<S>
         ensures { result ≡ self.conn }
     {
         let Store {

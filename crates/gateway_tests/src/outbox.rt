@@ -2,7 +2,7 @@
 
 ghost use Rattle.std.specs.Prelude.{◌≡◌, false, None, IfOk};
 
-use super::{Outbox, OutboxFault, PutFault, State};
+use outbox_core::{Outbox, OutboxFault, PutFault, State};
 use http_wire::Reply;
 use key_string::KeyText;
 use sqlite::{Alter, Connection, MemStore};

@@ -1,6 +1,6 @@
 use Rattle.std.proofs.Common.{sym}
 use Rattle.outbox_core.proofs.FileLemmas.{closed_outbox}
-use Rattle.outbox_core.proofs.stop.Outbox+FileStore+D.into_files_anyway.Goals as goal
+use Rattle.outbox_core.proofs.stop.Outbox+FileStore+D.close.Goals as goal
 
 pub returns-in-Ok-clause-held : goal.returns-in-Ok-clause-held
 returns-in-Ok-clause-held g c clean entries has =

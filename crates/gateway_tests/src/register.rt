@@ -1,4 +1,4 @@
-use crate::{CreateFault, KeptRow, Outcome, Store, StoreFault};
+use register_store::{CreateFault, KeptRow, Outcome, Store, StoreFault};
 use calls::{add_short, counts, create, look_up, new_database, run};
 use key_string::KeyText;
 use sqlite::{Alter, Connection, MemStore};

@@ -1,7 +1,7 @@
 //! Tests over disks in memory that stop at a call.
 
-use super::*;
-use crate::tests::{VALID, submit};
+use super::{VALID, submit};
+use intake_core::{Answer, Intake, Unavailable};
 use register_store::Store;
 use sqlite::{Connection, FileStore, Options};
 use sqlite_disk::{Files, Fuse, Memory};

@@ -2,7 +2,7 @@
 
 use super::calls::{conn_of, counts, create, new_database, open, run, run_all, run_with};
 use super::{REPORT, VALID, content_of, keep};
-use crate::{CreateFault, OpenFault, Store};
+use register_store::{CreateFault, OpenFault, Store};
 use sqlite::{Connection, MemStore};
 use std::alloc::Global;
 use std::test::Fail;

@@ -1,6 +1,6 @@
 //! The calls that the tests make with no clauses, of which they need none: a test that makes several is checked quickly.
 
-use crate::{ExchangeFault, ToSend, exchange, hand_over, open_request, request_bytes};
+use filer_client::{ExchangeFault, ToSend, exchange, hand_over, open_request, request_bytes};
 use http_wire::{Sink, Source};
 use key_string::KeyText;
 use outbox_core::{Outbox, PutFault, State, StoreFault, TakeFault};

@@ -4,7 +4,7 @@ ghost use Rattle.std.specs.Prelude.{IsTrue, IfOk};
 ghost use Rattle.sqlite_disk.specs.Memory.{memory_is_usable};
 
 use super::{BODY, calls, reply};
-use crate::{Outbox, PutFault, State, StoreFault, TakeFault};
+use outbox_core::{Outbox, PutFault, State, StoreFault, TakeFault};
 use key_string::KeyText;
 use sqlite::{Connection, FileStore, Options};
 use sqlite_disk::{Crash, Disk, Files, Fuse, Memory};
@@ -245,26 +245,9 @@ fn a_stop_leaves_the_entries_of_before_or_after(rt: HostRuntime) -> Result<(), F
     Ok(())
 }
 
-#[test]
-fn a_refused_outbox_gives_its_files_back(rt: HostRuntime) -> Result<(), Fail> {
-    let alloc = rt.alloc();
-    let files = one_entry(alloc)?;
-    let conn = connected(alloc, files.log.bytes(), files.db.bytes())?;
-    let mut outbox = calls::open(alloc, conn)??;
-    calls::execute(&mut outbox.conn, "UPDATE entry SET state = 7")?;
-    let fault = calls::entry(&mut outbox, 1).err();
-    assert_eq!(rt; fault, Some(StoreFault::Store));
-    let files = files_of(outbox)?;
-    let mut conn = connected(alloc, files.log.bytes(), files.db.bytes())?;
-    calls::execute(&mut conn, "UPDATE entry SET state = 0")?;
-    let mut outbox = calls::open(alloc, conn)??;
-    assert!(rt; holds(&mut outbox, &[OPEN])?, "the entry is lost");
-    Ok(())
-}
-
 /// The files that an outbox gives back whose disk stopped, and so its close.
 fn given_back(outbox: Outbox<Stopping>) -> Result<Files<Fuse<Memory>>, Fail> {
-    match outbox.into_files_anyway() {
+    match outbox.close() {
         Err((StoreFault::Store, files)) => Ok(files),
         _ => Err(Fail::from("the close did not stop")),
     }

@@ -1,7 +1,7 @@
 //! The calls of an outbox with no clauses, of which the tests need none: a test that makes several is checked quickly.
 
 use super::ready;
-use crate::{Entry, Outbox, OutboxFault, PutFault, State, StoreFault, TakeFault};
+use outbox_core::{Entry, Outbox, OutboxFault, PutFault, State, StoreFault, TakeFault};
 use http_wire::Reply;
 use key_string::KeyText;
 use sqlite::{Alter, Connection};

@@ -1,4 +1,4 @@
-use crate::{ExchangeFault, ToSend};
+use filer_client::{ExchangeFault, ToSend};
 use http_wire::{Device, ReplyFault};
 use key_string::KeyText;
 use outbox_core::{Outbox, State, TakeFault};

@@ -1,5 +1,6 @@
-use super::*;
-use filing_model::plain::{Kept, answer_of, keep};
+use intake_core::{
+    Answer, FilingRow, Intake, Unavailable, list_reply, reply_of, word_reply,
+};
 use key_string::{KeyText, is_filer};
 use register_store::CreateFault;
 use sqlite::Alter;
@@ -118,40 +119,6 @@ fn a_reply_of_one_word(rt: HostRuntime) -> Result<(), Fail> {
         b"{\"status\":\"unavailable\"}".as_slice()
     );
     Ok(())
-}
-
-/// The same requests, by the intake and by the plain program over a list.
-#[test]
-fn the_intake_and_the_list_agree(rt: HostRuntime) -> Result<(), Fail> {
-    let alloc = rt.alloc();
-    let requests = [
-        ("ACME", "k-1", VALID),
-        ("ACME", "k-2", b"[]".as_slice()),
-        ("BETA", "k-1", VALID),
-        ("ACME", "k-1", VALID),
-        ("ACME", "k-2", b"{}"),
-        ("ACME", "k-2", b"[]"),
-        ("BETA", "k-2", b"{\"documentInfo\":7}"),
-        ("ACME", "k-3", VALID),
-    ];
-    let mut intake = Intake::in_memory(alloc, 10)?;
-    let mut kept: Vec<Kept> = Vec::new(alloc);
-    for (filer, key, body) in requests {
-        let expected = answer_of(alloc, &kept, filer, key, body)?;
-        keep(alloc, &mut kept, filer, key, body)?;
-        let answer = submit(&rt, alloc, &mut intake, filer, key, body)?;
-        assert_eq!(rt; is_repeat(&answer), is_repeat(&expected));
-        let (status, content) = told(alloc, &answer)?;
-        assert_eq!(rt; (status, content), told(alloc, &expected)?);
-    }
-    Ok(())
-}
-
-fn is_repeat(answer: &Answer) -> bool {
-    match answer {
-        Answer::Registered { repeat, .. } | Answer::Refused { repeat, .. } => *repeat,
-        Answer::KeyReused => false,
-    }
 }
 
 /// One key more than are remembered, each sent again: whether the cache answers or the tables shows

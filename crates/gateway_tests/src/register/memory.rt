@@ -6,7 +6,7 @@ use super::calls::{
     add_short, all_filings, conn_of, counts, create, facts, filings, look_up, new_database, open,
     requests,
 };
-use crate::{CreateFault, KeptRow, OpenFault, Outcome, Store, StoreFault};
+use register_store::{CreateFault, KeptRow, OpenFault, Outcome, Store, StoreFault};
 use key_string::{KeyFault, KeyText};
 use sqlite::{Connection, MemStore};
 use std::alloc::{AllocError, Global};

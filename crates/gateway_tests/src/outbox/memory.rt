@@ -2,7 +2,7 @@
 //! before, and the second answer is that of ample memory. Run it with each allocation refused too, one in a run.
 
 use super::{BODY, calls};
-use crate::{Entry, Outbox, OutboxFault, PutFault, State, StoreFault, TakeFault, key_of};
+use outbox_core::{Entry, Outbox, OutboxFault, PutFault, State, StoreFault, TakeFault, key_of};
 use http_wire::Reply;
 use key_string::{KeyFault, KeyText};
 use sqlite::{Connection, MemStore};

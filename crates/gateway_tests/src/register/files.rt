@@ -2,7 +2,7 @@
 
 use super::calls::{close, create, into_files, open, requests};
 use super::{REPORT, add, is_new, is_registered, keep};
-use crate::{Completed, Store, StoreFault};
+use register_store::{Completed, Store, StoreFault};
 use sqlite::{Alter, Connection, FileStore, Files, Options};
 use sqlite_disk::{Crash, Disk, Fuse, Memory};
 use std::alloc::Global;
