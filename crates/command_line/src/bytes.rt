@@ -3,21 +3,18 @@
 ghost use Rattle.std.specs.Prelude.{◌≡◌, ◌++◌, ◌+◌, ◌<◌, ◌≤◌, ℕ, List, drop, length, slice_range, vec_len, IfOk, IfErr, OnOk, Ok, Err};
 ghost use Rattle.std.specs.Io.KnownBytes.{Consumes, IsAtEnd};
 ghost use Rattle.http_wire.specs.Device.{HasFailed};
-ghost use Rattle.command_line.specs.declared.bytes.TheConstants.{MAX_READS};
+ghost use Rattle.http_wire.specs.Received.{max_reads};
 ghost use Rattle.command_line.specs.declared.bytes.ReadFault.TheVariants.{Read, ReadLimit, Memory};
 
-use http_wire::Source;
+use http_wire::{MAX_READS, Source};
 use std::alloc::{AllocError, Global};
 use thiserror::Error;
-
-/// How many reads are made of one input at most. Own rule.
-pub const MAX_READS: u32 = 4_194_304;
 
 /// How many reads were made of an input.
 #[derive(Clone, Copy)]
 struct Reads {
     made: u32,
-    ghost few: { made ≤ MAX_READS },
+    ghost few: { made ≤ max_reads },
 }
 
 impl Reads {

@@ -10,7 +10,7 @@ mod options;
 mod output;
 
 pub use arguments::words;
-pub use bytes::{MAX_READS, ReadFault, read_up_to};
+pub use bytes::{ReadFault, read_up_to};
 pub use fault::{CommandFault, DatabaseFault};
 pub use options::{database_option, filer_option, option, port_option};
 pub use output::{DONE, show, show_refusal};

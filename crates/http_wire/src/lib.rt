@@ -34,6 +34,7 @@ pub use fields::FieldsNamed;
 pub use head::{Head, HeadFault, MAX_BODY_LEN, read_head};
 pub use inbox::{Inbox, Message};
 pub use posting::append_request;
+pub use received::MAX_READS;
 pub use refusal::{ConnFault, Next, Refusal, ReplyFault};
 pub use reply::{Reply, append_reply, phrase};
 pub use reply_reader::read_reply;

@@ -11,7 +11,7 @@ use crate::refusal::ConnFault;
 use std::alloc::{AllocError, Global};
 
 /// The most reads of one connection that give bytes. An own rule.
-const MAX_READS: u32 = 4_194_304;
+pub const MAX_READS: u32 = 4_194_304;
 
 /// The length of the longest request: a skipped CRLF, 16,384 bytes of a block and 1,048,576 of a
 /// body.

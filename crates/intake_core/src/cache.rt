@@ -18,7 +18,7 @@ use std::num::NonZeroUsize;
 const CAPACITY: usize = 64;
 
 /// The most bytes of a body that is remembered.
-const MAX_BODY_LEN: usize = 65_536;
+const MAX_CACHED_LEN: usize = 65_536;
 
 /// A kept request with its outcome.
 #[derive(Drop)]
@@ -112,7 +112,7 @@ impl Cache {
     )
         ensures { (requests : List Request) → Remembers requests self.old → IsKeptIn requests (record { request = the_request filer.now key.now body.now; outcome = view_outcome outcome.now }) → Remembers requests self.new }
     {
-        if body.len() > MAX_BODY_LEN {
+        if body.len() > MAX_CACHED_LEN {
             return;
         }
         let Ok(name) = name_of(alloc, filer, key.as_str()) else {

@@ -1,8 +1,9 @@
 //! The keys, how a field spells one, and how it is spelled.
 
 ghost use Rattle.std.specs.Prelude.{◌≡◌, ◌↔◌, ℕ, List, ◌++◌, IsTrue, IfOk, IfErr, OnOk, OnErr, MatchOption, string_bytes, position, not, IfNone};
-ghost use Rattle.key_string.specs.Key.{is_printable, IsPrintable, spelling, SpellsKey, IsKey, IsTextFault, IsFieldFault, IsNoString, IsStringOf, BeginsNoCharacter, IsCharacterAt};
+ghost use Rattle.key_string.specs.Key.{is_key, is_printable, IsPrintable, spelling, SpellsKey, IsKey, IsTextFault, IsFieldFault, IsNoString, IsStringOf, BeginsNoCharacter, IsCharacterAt};
 ghost use Rattle.std.specs.Io.{StartsWith};
+ghost use Rattle.std.specs.List.{list_all};
 
 use crate::fault::KeyFault;
 use std::alloc::{AllocError, Global};
@@ -146,6 +147,20 @@ fn push_quoted(text: &str, out: &mut Vec<u8>) -> Result<(), AllocError>
     }
     out.push(b'"')?;
     Ok(())
+}
+
+/// Whether these bytes are the text of a key: 1 to 1,024 characters of %x20-7E.
+pub fn is_key(text: &[u8]) -> bool
+    ensures value { result ≡ is_key text.now }
+    ensures key { IsTrue result ↔ IsKey text.now }
+{
+    !text.is_empty() && text.len() <= MAX_KEY_LEN && are_printable(text)
+}
+
+fn are_printable(bytes: &[u8]) -> bool
+    ensures { result ≡ list_all is_printable bytes.now }
+{
+    bytes.iter().all(|byte| is_printable(*byte))
 }
 
 fn first_unprintable(bytes: &[u8]) -> Option<usize>

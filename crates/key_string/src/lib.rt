@@ -10,7 +10,7 @@ pub mod laws;
 
 pub use fault::KeyFault;
 pub use filer::{is_filer, read_filer};
-pub use key::{KeyText, append_key, read_key};
+pub use key::{KeyText, append_key, is_key, read_key};
 
 #[cfg(test)]
 mod tests;

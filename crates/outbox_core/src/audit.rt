@@ -1,18 +1,14 @@
 //! Whether the rows of a database are those of an outbox.
 
 ghost use Rattle.std.specs.Prelude.{◌≡◌, ◌<◌, ◌≤◌, ◌+◌, ◌^◌, ℕ, suc, drop, length, string_bytes, true, option_map};
-ghost use Rattle.key_string.specs.Key.{is_key, is_printable};
-ghost use Rattle.std.specs.List.{list_all};
 ghost use Rattle.sqlite.specs.Order.{column};
 ghost use Rattle.sqlite_value.specs.Value.{owned};
 ghost use Rattle.outbox_core.specs.Audit.{is_int, is_absent, is_key_text, is_body, is_number, is_state, is_outbox, filer_text, filer_in, is_sound, first_damaged};
 
 use http_wire::MAX_BODY_LEN;
-use key_string::read_filer;
+use key_string::{is_key, read_filer};
 use sqlite::Row;
 use sqlite::types::ValueRef;
-
-const MAX_KEY_LEN: usize = 1024;
 
 /// The value of a column, and NULL past the end.
 fn value_at(row: &Row, at: usize) -> ValueRef<'_>
@@ -29,24 +25,6 @@ fn is_int(value: ValueRef<'_>, wanted: u64) -> bool
         ValueRef::Int(found) => found == wanted as i64,
         _ => false,
     }
-}
-
-fn is_printable(byte: &u8) -> bool
-    ensures { result ≡ is_printable byte.now }
-{
-    (32..=126).contains(byte)
-}
-
-fn are_printable(bytes: &[u8]) -> bool
-    ensures { result ≡ list_all is_printable bytes.now }
-{
-    bytes.iter().all(is_printable)
-}
-
-fn is_key(text: &[u8]) -> bool
-    ensures { result ≡ is_key text.now }
-{
-    !text.is_empty() && text.len() <= MAX_KEY_LEN && are_printable(text)
 }
 
 fn is_key_text(value: ValueRef<'_>) -> bool

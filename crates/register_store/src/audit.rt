@@ -4,7 +4,6 @@ ghost use Rattle.std.specs.Prelude.{◌≡◌, ◌≢◌, ◌↔◌, ◌<◌, �
 ghost use Rattle.sqlite.specs.declared.types.Value.TheVariants.{Int, Text, Blob};
 ghost use Rattle.sqlite.specs.Order.{column};
 ghost use Rattle.sqlite.specs.Values.{or_null};
-ghost use Rattle.key_string.specs.Key.{IsKey};
 ghost use Rattle.xbrl_report.specs.ReportParts.{facts as facts_of};
 ghost use Rattle.xbrl_report.specs.Judgement.{IsJudgement, HasFacts};
 ghost use Rattle.filing_model.specs.Register.{Outcome, register};
@@ -18,18 +17,13 @@ ghost use Rattle.register_store.specs.Register.{IsCompleted, kept_row};
 use crate::cells::{Cell, is_row};
 use crate::damage::{Beside, first_unsound};
 use crate::segments::{after_facts, after_filing, after_findings};
-use key_string::read_filer;
+use http_wire::MAX_BODY_LEN;
+use key_string::{is_key, read_filer};
 use sqlite::Row;
 use sqlite::types::ValueRef;
 use std::alloc::{AllocError, Global};
 use std::collections::BTreeSet;
 use xbrl_report::{Fact, Finding, Judged, judge};
-
-/// The most bytes of a body.
-const MAX_BODY_LEN: usize = 1_048_576;
-
-/// The most characters of a key.
-const MAX_KEY_LEN: usize = 1024;
 
 /// The most requests that a register keeps.
 const MAX_KEPT: u64 = 1 << 62;
@@ -71,14 +65,6 @@ pub(crate) fn bytes_at(row: &Row, at: usize) -> &[u8]
         Ok(ValueRef::Blob(bytes)) => bytes,
         _ => &[],
     }
-}
-
-fn is_key(text: &[u8]) -> bool
-    ensures { IsTrue result ↔ IsKey text.now }
-{
-    !text.is_empty()
-        && text.len() <= MAX_KEY_LEN
-        && text.iter().all(|byte| matches!(byte, b' '..=b'~'))
 }
 
 /// The place, from 0, of the first row whose filer and key an earlier one has, or how many rows there are. The error is want
