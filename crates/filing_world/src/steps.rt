@@ -21,9 +21,11 @@ pub fn can_be_played()
     ensures puts { (old : World) (outbox : ℕ) (box : Outbox) (key body : List ℕ)
         → numbered old.outboxes outbox ≡ Some box → box.up ≡ true → IsKey key → (new : World) × Step old (Put outbox key body) new }
     ensures sends { (old : World) (outbox number : ℕ) (box : Outbox) (entry : Entry)
-        → numbered old.outboxes outbox ≡ Some box → box.up ≡ true → numbered box.entries number ≡ Some entry → (new : World) × Step old (Send outbox number) new
+        → numbered old.outboxes outbox ≡ Some box → box.up ≡ true → numbered box.entries number ≡ Some entry
+        → (new : World) × Step old (Send outbox number) new
         × (new.sent ≡ old.sent ++ record { from = Some (outbox, number); bytes = bytes_of (request_of box.filer entry) } ∷ []) }
-    ensures stranger { (old : World) (bytes : List ℕ) → (new : World) × Step old (Stranger bytes) new × (new.sent ≡ old.sent ++ record { from = None; bytes = bytes } ∷ []) }
+    ensures stranger { (old : World) (bytes : List ℕ)
+        → (new : World) × Step old (Stranger bytes) new × (new.sent ≡ old.sent ++ record { from = None; bytes = bytes } ∷ []) }
     ensures server { (old : World) → (new : World) × Step old RestartServer new × (new.up ≡ true) }
     ensures outbox { (old : World) (outbox : ℕ) (box : Outbox) → numbered old.outboxes outbox ≡ Some box
         → (new : World) × Step old (RestartOutbox outbox) new × (numbered new.outboxes outbox ≡ Some (record box { up = true })) }
@@ -33,7 +35,8 @@ pub fn can_be_played()
 /// long or its key is used.
 pub fn adds_what_is_put()
     ensures { (old new : World) (outbox : ℕ) (box : Outbox) (key body : List ℕ)
-        → numbered old.outboxes outbox ≡ Some box → length body ≤ max_body_len → ((number : ℕ) (entry : Entry) → numbered box.entries number ≡ Some entry → entry.key ≢ key)
+        → numbered old.outboxes outbox ≡ Some box → length body ≤ max_body_len
+        → ((number : ℕ) (entry : Entry) → numbered box.entries number ≡ Some entry → entry.key ≢ key)
         → Step old (Put outbox key body) new
         → numbered new.outboxes outbox ≡ Some (record box { entries = box.entries ++ record { key = key; body = body; state = Open } ∷ [] }) }
 {}
@@ -47,9 +50,11 @@ pub fn completes_no_more_than_came()
         → numbered old.sent item ≡ Some from → IsSendable r → from.bytes ≡ bytes_of r → Step old (Deliver item given crash) new
         → (new.done ≡ old.done) ⊎ (new.done ≡ old.done ++ r ∷ []) }
     ensures of_a_cut { (old new : World) (item given : ℕ) (crash : Crash) (from : Sent) (r : Request)
-        → numbered old.sent item ≡ Some from → IsSendable r → from.bytes ≡ bytes_of r → given < length from.bytes → Step old (Deliver item given crash) new
+        → numbered old.sent item ≡ Some from → IsSendable r → from.bytes ≡ bytes_of r → given < length from.bytes
+        → Step old (Deliver item given crash) new
         → new.done ≡ old.done }
-    ensures before_the_first { (old new : World) (item given j : ℕ) → j ≤ 1 → Step old (Deliver item given (Before j)) new → new.done ≡ old.done }
+    ensures before_the_first { (old new : World) (item given j : ℕ)
+        → j ≤ 1 → Step old (Deliver item given (Before j)) new → new.done ≡ old.done }
     ensures before { (old new : World) (item given j : ℕ) → Step old (Deliver item given (Before j)) new → AddsAtMost (j - 1) old new }
     ensures after { (old new : World) (item given j : ℕ) → Step old (Deliver item given (After j)) new → AddsAtMost (max 1 j) old new }
 {}
@@ -57,7 +62,8 @@ pub fn completes_no_more_than_came()
 /// A delivery adds one output, which tells what was served: of which item, how many bytes of it came,
 /// as many as were to be given, or all where there are fewer, and what became of them.
 pub fn tells_what_came()
-    ensures { (old new : World) (item given : ℕ) (crash : Crash) (from : Sent) → numbered old.sent item ≡ Some from → Step old (Deliver item given crash) new
+    ensures { (old new : World) (item given : ℕ) (crash : Crash) (from : Sent)
+        → numbered old.sent item ≡ Some from → Step old (Deliver item given crash) new
         → (output : Output) × IsDelivered old item given crash from output new }
 {}
 
@@ -78,12 +84,14 @@ pub fn moves_by_a_whole_reply()
 /// An end is up after its event exactly where it was not stopped. While it is down the intake takes no
 /// delivery, and nothing is put into an outbox, sent from it or handed to it.
 pub fn is_down_after_a_stop()
-    ensures intake { (old new : World) (item given : ℕ) (crash : Crash) → Step old (Deliver item given crash) new → (new.up ≡ true) ↔ (crash ≡ No) }
-    ensures delivers { (old new : World) (item given : ℕ) (crash : Crash) → Step old (Deliver item given crash) new → crash ≢ No
+    ensures intake { (old new : World) (item given : ℕ) (crash : Crash)
+        → Step old (Deliver item given crash) new → (new.up ≡ true) ↔ (crash ≡ No) }
+    ensures delivers { (old new : World) (item given : ℕ) (crash : Crash)
+        → Step old (Deliver item given crash) new → crash ≢ No
         → (another more : ℕ) (again : Crash) → CannotPlay new (Deliver another more again) }
     ensures outbox { (old new : World) (output given outbox number : ℕ) (crash : Crash) (from : Output) (box : Outbox)
-        → IsAnswerTo old output from outbox number → Step old (Hand output given crash) new → numbered new.outboxes outbox ≡ Some box
-        → (box.up ≡ true) ↔ (crash ≡ No) }
+        → IsAnswerTo old output from outbox number → Step old (Hand output given crash) new
+        → numbered new.outboxes outbox ≡ Some box → (box.up ≡ true) ↔ (crash ≡ No) }
     ensures hands { (old new : World) (output given outbox number : ℕ) (crash : Crash) (from : Output)
         → IsAnswerTo old output from outbox number → Step old (Hand output given crash) new → crash ≢ No → IsDown new outbox }
 {}
