@@ -26,7 +26,7 @@ impl<D: Disk + Drop> Outbox<FileStore<D>> {
         ensures fault { IfErr result (λ fault. (last : _) × IsClosed self.conn last × (error : _) × (IsClean (view last) → FailsToClose self.conn last error) × (fault ≡ store_fault error)) }
     {
         match self.close() {
-            Ok(files) => Ok(files),
+            Ok(closed) => Ok(closed),
             Err((fault, _files)) => Err(fault),
         }
     }
