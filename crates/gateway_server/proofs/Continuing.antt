@@ -29,18 +29,18 @@ use Rattle.gateway_server.proofs.Places.{served_last, served_push, served_part, 
 -- ---- the limit of reads
 
 -- it is reached where the fault says so
-pub is_limit : (read_failed write_failed : Type 0) (count : ℕ) (f : ConnFault) → IsFault read_failed write_failed count f → f ≡ ReadLimit → count ≡ max_reads
-is_limit read_failed write_failed count fault.Read why e = absurd (cc)
-is_limit read_failed write_failed count (Write sent) why e = absurd (cc)
-is_limit read_failed write_failed count ReadLimit why e = why
-is_limit read_failed write_failed count Memory why e = absurd (cc)
+pub is_limit : (r r' w w' count : ℕ) (bytes : List ℕ) (f : ConnFault) → IsFault r r' w w' count bytes f → f ≡ ReadLimit → count ≡ max_reads
+is_limit r r' w w' count bytes fault.Read why e = absurd (cc)
+is_limit r r' w w' count bytes (Write sent) why e = absurd (cc)
+is_limit r r' w w' count bytes ReadLimit why e = why.1
+is_limit r r' w w' count bytes Memory why e = absurd (cc)
 
 -- no reply fails by it
-pub is_no_limit : (failed : Type 0) (f : ConnFault) → IsReplyFault failed f → f ≢ ReadLimit
-is_no_limit failed fault.Read why e = why
-is_no_limit failed (Write sent) why e = absurd (cc)
-is_no_limit failed ReadLimit why e = why
-is_no_limit failed Memory why e = absurd (cc)
+pub is_no_limit : (w w' : ℕ) (f : ConnFault) → IsReplyFault w w' f → f ≢ ReadLimit
+is_no_limit w w' fault.Read why e = why
+is_no_limit w w' (Write sent) why e = absurd (cc)
+is_no_limit w w' ReadLimit why e = why
+is_no_limit w w' Memory why e = absurd (cc)
 
 -- ---- what was read
 

@@ -7,3 +7,4 @@ pub mod Answering
 pub mod Continuing
 pub mod Lent
 pub mod Whole
+pub mod Ending

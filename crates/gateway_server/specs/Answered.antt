@@ -3,6 +3,7 @@ use Rattle.std.specs.Prelude.{◌≡◌, ℕ, ◌⊎◌, List, [], ◌∷◌, �
 use Rattle.std.specs.Io.KnownBytes.{Appends}
 use Rattle.http_wire.specs.declared.refusal.ConnFault.{ConnFault}
 use Rattle.http_wire.specs.declared.refusal.ConnFault.TheVariants.{Read as ReadFault, Write, ReadLimit, Memory}
+use Rattle.http_wire.specs.Device.{HasFailed}
 use Rattle.http_wire.specs.Message.{Place}
 use Rattle.filing_model.specs.declared.served.Mark.{Mark}
 use Rattle.filing_model.specs.Request.{Request}
@@ -42,9 +43,9 @@ Answers limit before after place old new from to result =
 abbrev pub WritesText : Option (List ℕ) → Option (List ℕ) → List ℕ → Result (Unit {0}) ConnFault → Type 0
 WritesText from to text result = MatchResult result (λ _. Appends from to text) (λ _. (sent : ℕ) × Appends from to (take sent text))
 
--- a reply fails by the writer or by want of memory
-abbrev pub IsReplyFault : Type 0 → ConnFault → Type 0
-IsReplyFault failed ReadFault = ⊥
-IsReplyFault failed (Write sent) = failed
-IsReplyFault failed ReadLimit = ⊥
-IsReplyFault failed Memory = Unit {0}
+-- a reply fails by the writer, or by want of memory where the writer didn't fail: its failures before and after
+abbrev pub IsReplyFault : ℕ → ℕ → ConnFault → Type 0
+IsReplyFault failures failures' ReadFault = ⊥
+IsReplyFault failures failures' (Write sent) = HasFailed failures failures'
+IsReplyFault failures failures' ReadLimit = ⊥
+IsReplyFault failures failures' Memory = failures' ≡ failures

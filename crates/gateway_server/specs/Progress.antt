@@ -1,11 +1,13 @@
 -- How far a connection was served, and what serving it to its end does.
-use Rattle.std.specs.Prelude.{◌≡◌, ℕ, ◌≤◌, false, List, ◌++◌, length, map, Option, Some, None}
+use Rattle.std.specs.Prelude.{◌≡◌, ℕ, ◌+◌, ◌≤◌, false, List, ◌++◌, length, map, Option, Some, None}
 use Rattle.std.specs.Io.KnownBytes.{Consumes, Appends, IsAtEnd}
 use Rattle.http_wire.specs.declared.inbox.Inbox.{Inbox}
 use Rattle.http_wire.specs.declared.refusal.ConnFault.{ConnFault}
 use Rattle.http_wire.specs.declared.refusal.ConnFault.TheVariants as fault
 use Rattle.http_wire.specs.declared.refusal.Refusal.{Refusal}
-use Rattle.http_wire.specs.Calls.{interim_if}
+use Rattle.http_wire.specs.Block.{IsUnended}
+use Rattle.http_wire.specs.Calls.{HoldsPlace, interim_if}
+use Rattle.http_wire.specs.Device.{ReaderFailed, WriterFailed, NoneFailed}
 use Rattle.http_wire.specs.Inbox.{held, unread, reads, is_over, lent_awaits, LendsFirst}
 use Rattle.http_wire.specs.Message.{Read, Ending, IsRefused}
 use Rattle.http_wire.specs.Received.{max_reads}
@@ -16,6 +18,7 @@ use Rattle.filing_model.specs.declared.served.Mark.{Mark}
 use Rattle.filing_model.specs.Request.{Request}
 use Rattle.filing_model.specs.Serving.{AreMarked, GoesThrough, Serves, kept_by}
 use Rattle.filing_model.specs.Text.{completed, text}
+use Rattle.gateway_server.specs.Answered.{IsReplyFault}
 
 -- The bytes begin with messages that are marked and answered, none of which closes; the rest follows.
 pub record HasServed (limit : ℕ) (before now : List Request) (bytes rest : List ℕ) (marks : List Mark) (out : List ℕ) : Type 0 where
@@ -69,14 +72,42 @@ abbrev pub Continues : ℕ → List Request → List Request → Option (List �
 Continues limit before now left left' written written' inbox marks None = GoesOn limit before now left left' written written' inbox marks
 Continues limit before now left left' written written' inbox marks (Some ended) = ServesConnection limit before now left left' written written' marks ended
 
-abbrev pub IsEndedByFault : Type 0 → Type 0 → ConnFault → Type 0
-IsEndedByFault read_failed write_failed fault.Read = read_failed
-IsEndedByFault read_failed write_failed (fault.Write sent) = write_failed
-IsEndedByFault read_failed write_failed fault.ReadLimit = Unit {0}
-IsEndedByFault read_failed write_failed fault.Memory = Unit {0}
+-- why a connection ended by a fault, by the failures of the reader and of the writer before and after: the one failed, and the other
+-- didn't; or neither did
+abbrev pub IsEndedByFault : ℕ → ℕ → ℕ → ℕ → ConnFault → Type 0
+IsEndedByFault read read' write write' fault.Read = ReaderFailed read read' write write'
+IsEndedByFault read read' write write' (fault.Write sent) = WriterFailed read read' write write'
+IsEndedByFault read read' write write' fault.ReadLimit = NoneFailed read read' write write'
+IsEndedByFault read read' write write' fault.Memory = NoneFailed read read' write write'
 
--- why it ended by a fault: a read failed, or a write did; the limit of reads is said of the bytes that were read
-abbrev pub IsEndedBy : Type 0 → Type 0 → Ended → Type 0
-IsEndedBy read_failed write_failed Closed = Unit {0}
-IsEndedBy read_failed write_failed InputEnded = Unit {0}
-IsEndedBy read_failed write_failed (Fault fault) = IsEndedByFault read_failed write_failed fault
+-- why it ended: where it was not by a fault, neither failed
+abbrev pub IsEndedBy : ℕ → ℕ → ℕ → ℕ → Ended → Type 0
+IsEndedBy read read' write write' Closed = NoneFailed read read' write write'
+IsEndedBy read read' write write' InputEnded = NoneFailed read read' write write'
+IsEndedBy read read' write write' (Fault fault) = IsEndedByFault read read' write write' fault
+
+-- The limit of reads is said by bytes, since a reader names its bytes and not its reads: so many reads gave at least a byte each.
+abbrev pub IsLimited : Option (List ℕ) → Option (List ℕ) → Ended → Type 0
+IsLimited left left' ended = ended ≡ Fault fault.ReadLimit → (bytes : List ℕ) × Consumes left left' bytes × (max_reads ≤ length bytes)
+
+-- ---- of a part of a connection, with its inbox; no public clause cites what follows
+
+-- how an answer ends it: the writer's failures before and after
+abbrev pub IsEndedByReply : ℕ → ℕ → Ended → Type 0
+IsEndedByReply failures failures' Closed = failures' ≡ failures
+IsEndedByReply failures failures' InputEnded = ⊥
+IsEndedByReply failures failures' (Fault fault) = IsReplyFault failures failures' fault
+
+-- bytes were read, at least one in each read that is counted
+abbrev pub ReadsSome : Option (List ℕ) → Option (List ℕ) → Inbox → Inbox → Type 0
+ReadsSome left left' old new = (bytes : List ℕ) × Consumes left left' bytes × (reads new ≤ reads old + length bytes)
+
+-- which fault ended it: the limit, where all reads were made that may give bytes, and one more was wanted; and want of memory only
+-- where fewer were made, or no end of a block is waited for
+abbrev pub TellsLimit : Inbox → Ended → Type 0
+TellsLimit inbox Closed = Unit {0}
+TellsLimit inbox InputEnded = Unit {0}
+TellsLimit inbox (Fault fault.Read) = Unit {0}
+TellsLimit inbox (Fault (fault.Write sent)) = Unit {0}
+TellsLimit inbox (Fault fault.ReadLimit) = (reads inbox ≡ max_reads) × ¬ (HoldsPlace (held inbox))
+TellsLimit inbox (Fault fault.Memory) = reads inbox ≡ max_reads → ¬ (IsUnended (held inbox))

@@ -1,7 +1,6 @@
 //! One place answered: its mark is given, and its reply written.
 
 ghost use Rattle.std.specs.Prelude.{◌≡◌, ◌<◌, ◌≤◌, ◌+◌, ℕ, List, length, vec_len, vec_capacity, IfOk, IfErr, OnOk};
-ghost use Rattle.http_wire.specs.Device.{HasFailed};
 ghost use Rattle.http_wire.specs.Head.{max_body_len};
 ghost use Rattle.http_wire.specs.Message.{Read as ReadPlace, Refused as RefusedPlace};
 ghost use Rattle.http_wire.specs.Replies.{reply_parts};
@@ -35,7 +34,7 @@ pub(crate) fn answer<W: Sink, S: Alter>(
     ensures clean { IsClean S.Store intake.new → IsClean S.Store intake.old }
     ensures limit { limit_of intake.new ≡ limit_of intake.old }
     ensures fine { OnOk result (W.write_failures writer.new ≡ W.write_failures writer.old) }
-    ensures fault { IfErr result (IsReplyFault (HasFailed (W.write_failures writer.old) (W.write_failures writer.new))) }
+    ensures fault { IfErr result (IsReplyFault (W.write_failures writer.old) (W.write_failures writer.new)) }
 {
     marks.reserve(1)?;
     let asked = route_of(alloc, message)?;
@@ -60,7 +59,7 @@ fn answer_route<W: Sink, S: Alter>(
     ensures clean { IsClean S.Store intake.new → IsClean S.Store intake.old }
     ensures limit { limit_of intake.new ≡ limit_of intake.old }
     ensures fine { OnOk result (W.write_failures writer.new ≡ W.write_failures writer.old) }
-    ensures fault { IfErr result (IsReplyFault (HasFailed (W.write_failures writer.old) (W.write_failures writer.new))) }
+    ensures fault { IfErr result (IsReplyFault (W.write_failures writer.old) (W.write_failures writer.new)) }
 {
     let decided = decide(alloc, intake, asked, message.body, is_head(message));
     marks.push_reserved(decided.mark);
@@ -77,7 +76,7 @@ fn write_decided<W: Sink>(
     requires { IsPhrased decided.now }
     ensures written { (parts : ReplyParts) → IfOk decided.now.reply (λ r. reply_parts r ≡ parts) → WritesText (W.written writer.old) (W.written writer.new) (render parts close) result }
     ensures fine { OnOk result (W.write_failures writer.new ≡ W.write_failures writer.old) }
-    ensures fault { IfErr result (IsReplyFault (HasFailed (W.write_failures writer.old) (W.write_failures writer.new))) }
+    ensures fault { IfErr result (IsReplyFault (W.write_failures writer.old) (W.write_failures writer.new)) }
 {
     match &decided.reply {
         Ok(reply) => write_reply(alloc, writer, reply, close),
@@ -94,7 +93,7 @@ pub(crate) fn refuse<W: Sink>(
 ) -> Result<(), ConnFault>
     ensures answers { (limit : ℕ) (before : List Request) → Answers limit before before (RefusedPlace refusal) marks.old.items marks.new.items (W.written writer.old) (W.written writer.new) result }
     ensures fine { OnOk result (W.write_failures writer.new ≡ W.write_failures writer.old) }
-    ensures fault { IfErr result (IsReplyFault (HasFailed (W.write_failures writer.old) (W.write_failures writer.new))) }
+    ensures fault { IfErr result (IsReplyFault (W.write_failures writer.old) (W.write_failures writer.new)) }
 {
     marks.push(Mark::NotFiled)?;
     let reply = refusal_reply(alloc, refusal)?;

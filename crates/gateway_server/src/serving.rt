@@ -1,12 +1,11 @@
 //! Serving a connection: its places are read one after another and answered.
 
 ghost use Rattle.std.specs.Prelude.{◌≡◌, ◌-◌, ◌^◌, ◌+◌, ℕ, List, Option, Some, None, IfSome, false, vec_len};
-ghost use Rattle.http_wire.specs.Device.{HasFailed};
 ghost use Rattle.http_wire.specs.Inbox.{LendsFirst, is_over};
 ghost use Rattle.http_wire.specs.declared.inbox.Inbox.{Inbox};
 ghost use Rattle.filing_model.specs.Request.{Request};
 ghost use Rattle.intake_core.specs.Held.{limit_of, IsClean, Turns};
-ghost use Rattle.gateway_server.specs.Progress.{GoesOn, HasMessage, HasRefusal, ServesConnection, Continues, IsEndedBy};
+ghost use Rattle.gateway_server.specs.Progress.{GoesOn, HasMessage, HasRefusal, ServesConnection, Continues, IsEndedBy, IsEndedByReply, IsLimited, ReadsSome, TellsLimit};
 
 use crate::answer::{answer, refuse};
 use filing_model::{Ended, Mark};
@@ -34,7 +33,9 @@ pub fn serve<R: Source, W: Sink, S: Alter>(
     ensures serves { Turns S.Store intake.old intake.new (λ before after. ServesConnection (limit_of intake.old) before after (R.left reader.old) (R.left reader.new) (W.written writer.old) (W.written writer.new) result.marks.items result.ended) }
     ensures clean { IsClean S.Store intake.new → IsClean S.Store intake.old }
     ensures limit { limit_of intake.new ≡ limit_of intake.old }
-    ensures fault { IsEndedBy (HasFailed (R.read_failures reader.old) (R.read_failures reader.new)) (HasFailed (W.write_failures writer.old) (W.write_failures writer.new)) result.ended }
+    ensures fault { IsEndedBy (R.read_failures reader.old) (R.read_failures reader.new) (W.write_failures writer.old)
+        (W.write_failures writer.new) result.ended }
+    ensures limited { IsLimited (R.left reader.old) (R.left reader.new) result.ended }
 {
     let mut marks = Vec::new(alloc);
     match Inbox::new(alloc) {
@@ -62,7 +63,10 @@ fn serve_places<R: Source, W: Sink, S: Alter>(
     ensures serves { Turns S.Store intake.old intake.new (λ now after. (before : List Request) (left written : Option (List ℕ)) → GoesOn (limit_of intake.old) before now left (R.left reader.old) written (W.written writer.old) inbox.old marks.old.items → ServesConnection (limit_of intake.old) before after left (R.left reader.new) written (W.written writer.new) marks.new.items result) }
     ensures clean { IsClean S.Store intake.new → IsClean S.Store intake.old }
     ensures limit { limit_of intake.new ≡ limit_of intake.old }
-    ensures fault { IsEndedBy (HasFailed (R.read_failures reader.old) (R.read_failures reader.new)) (HasFailed (W.write_failures writer.old) (W.write_failures writer.new)) result }
+    ensures fault { IsEndedBy (R.read_failures reader.old) (R.read_failures reader.new) (W.write_failures writer.old)
+        (W.write_failures writer.new) result }
+    ensures read { ReadsSome (R.left reader.old) (R.left reader.new) inbox.old inbox.new }
+    ensures told { TellsLimit inbox.new result }
 {
     loop {
         if let Some(ended) = serve_place(alloc, inbox, reader, writer, intake, marks) {
@@ -88,7 +92,10 @@ fn serve_place<R: Source, W: Sink, S: Alter>(
     ensures limit { limit_of intake.new ≡ limit_of intake.old }
     ensures fine_reads { result ≡ None → R.read_failures reader.new ≡ R.read_failures reader.old }
     ensures fine_writes { result ≡ None → W.write_failures writer.new ≡ W.write_failures writer.old }
-    ensures fault { IfSome result (IsEndedBy (HasFailed (R.read_failures reader.old) (R.read_failures reader.new)) (HasFailed (W.write_failures writer.old) (W.write_failures writer.new))) }
+    ensures fault { IfSome result (IsEndedBy (R.read_failures reader.old) (R.read_failures reader.new) (W.write_failures writer.old)
+        (W.write_failures writer.new)) }
+    ensures read { ReadsSome (R.left reader.old) (R.left reader.new) inbox.old inbox.new }
+    ensures told { IfSome result (TellsLimit inbox.new) }
 {
     match inbox.next(reader, writer) {
         Ok(Next::Message) => serve_message(alloc, inbox, writer, intake, marks),
@@ -113,13 +120,13 @@ fn serve_message<W: Sink, S: Alter>(
     ensures clean { IsClean S.Store intake.new → IsClean S.Store intake.old }
     ensures limit { limit_of intake.new ≡ limit_of intake.old }
     ensures fine { result ≡ None → W.write_failures writer.new ≡ W.write_failures writer.old }
-    ensures fault { IfSome result (IsEndedBy ⊥ (HasFailed (W.write_failures writer.old) (W.write_failures writer.new))) }
+    ensures fault { IfSome result (IsEndedByReply (W.write_failures writer.old) (W.write_failures writer.new)) }
 {
     let message = inbox.message();
     match answer(alloc, &message, writer, intake, marks) {
         Ok(()) if message.head.closes() => Some(Ended::Closed),
         Ok(()) => None,
-        Err(fault) => Some(Ended::Fault(fault)),
+        Err(reply_fault) => Some(Ended::Fault(reply_fault)),
     }
 }
 
@@ -130,7 +137,7 @@ fn serve_refusal<W: Sink>(
     writer: &mut W,
     marks: &mut Vec<Mark>,
 ) -> Ended
-    ensures fault { IsEndedBy ⊥ (HasFailed (W.write_failures writer.old) (W.write_failures writer.new)) result }
+    ensures fault { IsEndedByReply (W.write_failures writer.old) (W.write_failures writer.new) result }
     ensures serves { (limit : ℕ) (before now : List Request) (left left' written : Option (List ℕ)) (inbox : Inbox) → HasRefusal limit before now left left' written (W.written writer.old) inbox refusal marks.old.items → ServesConnection limit before now left left' written (W.written writer.new) marks.new.items result }
 {
     match refuse(alloc, refusal, writer, marks) {

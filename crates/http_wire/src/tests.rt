@@ -1,4 +1,4 @@
-ghost use Rattle.std.specs.Prelude.{◌≤◌, IfOk};
+ghost use Rattle.std.specs.Prelude.{◌≡◌, ◌≤◌, ◌+◌, vec_len, IfOk};
 
 use super::*;
 use std::alloc::{AllocError, Global};
@@ -139,6 +139,7 @@ fn heads_of_whole_blocks(rt: HostRuntime) -> Result<(), Fail> {
 /// A CRLF, and a head of so many bytes.
 fn long_head(alloc: Global, len: usize) -> Result<Vec<u8>, AllocError>
     requires { 34 ≤ len }
+    ensures { IfOk result (λ bytes. vec_len bytes ≡ 2 + len) }
 {
     let mut bytes = Vec::new(alloc);
     bytes.extend_from_slice(b"\r\nGET / HTTP/1.1\r\nHost: h\r\nX: ")?;

@@ -56,3 +56,24 @@ fn the_longest_body(rt: HostRuntime) -> Result<(), Fail> {
     }
     Ok(())
 }
+
+/// The last of four requests lacks 388 bytes, where 4,194,304 reads gave one byte each.
+#[test]
+fn the_limit_of_reads(rt: HostRuntime) -> Result<(), Fail> {
+    let spaces = String::from_utf8(vec![in rt.alloc(); b' '; 1_048_492]?)?;
+    let body = format!(in rt.alloc(); "{SMALLEST}{spaces}")?;
+    let mut input = String::new(rt.alloc());
+    for key in ["k-1", "k-2", "k-3", "k-4"] {
+        let request = filing(&rt, "ACME", key, &body)?;
+        assert_eq!(rt; request.len(), 97 + 1_048_576);
+        input.push_str(request.as_str())?;
+    }
+    let mut intake = Intake::in_memory(rt.alloc(), LIMIT)?;
+    let (_, served) = written_in_pieces(&rt, &mut intake, &input, 1)?;
+    assert_eq!(rt;
+        served.marks.as_slice(),
+        [Mark::Done, Mark::Done, Mark::Done].as_slice()
+    );
+    assert_eq!(rt; served.ended, Ended::Fault(ConnFault::ReadLimit));
+    Ok(())
+}

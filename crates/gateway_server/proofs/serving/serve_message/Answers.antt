@@ -1,5 +1,4 @@
 use Rattle.std.proofs.Common.{◌≡◌, length, true, false, sym, ◌∙◌, subst, ◌⊎◌, ◌≤◌}
-use Rattle.http_wire.specs.Device.{HasFailed}
 use Rattle.http_wire.specs.Head.{closes, max_body_len}
 use Rattle.http_wire.specs.Inbox.{held, lent_len}
 use Rattle.http_wire.specs.Message.{Read}
@@ -66,7 +65,7 @@ returns-in-Err-clause-serves g c = λ clean now kept.
           let new = c.answer.new.marks.items in
           let same : m ≡ h.lends.request = sym (lent_is c.args.inbox.now h.lends m c.message-message.ensures) in
           Serves-unanswered (limit_of c.args.intake.now) before now left left' written from c.args.inbox.now old h
-          answered.0 new to c.in-Err.fault
-          (is_no_limit (HasFailed (g.W.Sink.write_failures c.args.writer.now) (g.W.Sink.write_failures c.answer.new.writer)) c.in-Err.fault c.in-Err.ensures.fault)
+          answered.0 new to c.in-Err.reply_fault
+          (is_no_limit (g.W.Sink.write_failures c.args.writer.now) (g.W.Sink.write_failures c.answer.new.writer) c.in-Err.reply_fault c.in-Err.ensures.fault)
           (subst (λ (r : Message). IsUntouched now answered.0 old new from to ⊎ IsPartly (limit_of c.args.intake.now) now answered.0 (Read r) old new from to) same answered.2),
     )

@@ -1,11 +1,11 @@
 use Rattle.std.proofs.Common.{true≢false, sym, ◌∙◌, inl, inr}
 use Rattle.std.specs.Io.KnownBytes.{IsAtEnd}
 use Rattle.http_wire.specs.Calls.{WritesAsked}
-use Rattle.http_wire.specs.Device.{HasFailed}
 use Rattle.http_wire.specs.Inbox.{held, reads}
 use Rattle.http_wire.specs.Message.{IsRest}
 use Rattle.intake_core.specs.Held.{limit_of}
 use Rattle.gateway_server.proofs.Continuing.{HasMessage-next, HasRefusal-next, Serves-end, Serves-fault, is_limit}
+use Rattle.gateway_server.proofs.Ending.{TellsLimit-fault}
 use Rattle.gateway_server.proofs.serving.serve_place.Goals as goal
 
 pub returns-in-Ok-Message-clause-serves : goal.returns-in-Ok-Message-clause-serves
@@ -54,6 +54,9 @@ returns-in-Err-clause-serves g c = λ clean now kept. (
   λ before left written h.
       Serves-fault (limit_of c.args.intake.now) before now left (g.R.Source.left c.args.reader.now) (g.R.Source.left c.next.new.reader) written (g.W.Sink.written c.args.writer.now) c.args.inbox.now c.next.new.self c.args.marks.now.items h
       c.next.ensures.reads (g.W.Sink.written c.next.new.writer) c.in-Err.fault
-      (is_limit (HasFailed (g.R.Source.read_failures c.args.reader.now) (g.R.Source.read_failures c.next.new.reader)) (HasFailed (g.W.Sink.write_failures c.args.writer.now) (g.W.Sink.write_failures c.next.new.writer)) (reads c.next.new.self) c.in-Err.fault c.in-Err.ensures.fault)
+      (is_limit (g.R.Source.read_failures c.args.reader.now) (g.R.Source.read_failures c.next.new.reader) (g.W.Sink.write_failures c.args.writer.now) (g.W.Sink.write_failures c.next.new.writer) (reads c.next.new.self) (held c.next.new.self) c.in-Err.fault c.in-Err.ensures.fault)
       c.in-Err.ensures.part,
 )
+
+pub returns-in-Err-clause-told : goal.returns-in-Err-clause-told
+returns-in-Err-clause-told g c = TellsLimit-fault _ _ _ _ c.next.new.self c.in-Err.fault c.in-Err.ensures.fault

@@ -2,7 +2,7 @@ use Rattle.std.proofs.Common.{◌≡◌, ℕ, ◌-◌, ◌^◌, false, List, Opt
 use Rattle.http_wire.specs.Inbox.{is_over}
 use Rattle.filing_model.specs.Request.{Request}
 use Rattle.intake_core.specs.Held.{limit_of, IsClean, Turns}
-use Rattle.gateway_server.specs.Progress.{GoesOn}
+use Rattle.gateway_server.specs.Progress.{GoesOn, ReadsSome}
 use Rattle.gateway_server.proofs.serving.serve_places.Given as goal
 
 abbrev pub invariant-loop-ended : goal.invariant-loop-ended
@@ -10,6 +10,7 @@ invariant-loop-ended g l = record {
   over : is_over l.inbox ≡ false;
   reads : g.R.Source.read_failures l.reader ≡ g.R.Source.read_failures l.fn.reader;
   writes : g.W.Sink.write_failures l.writer ≡ g.W.Sink.write_failures l.fn.writer;
+  read : ReadsSome (g.R.Source.left l.fn.reader) (g.R.Source.left l.reader) l.fn.inbox l.inbox;
   limit : limit_of l.intake ≡ limit_of l.fn.intake;
   clean : IsClean g.S.Store l.intake → IsClean g.S.Store l.fn.intake;
   goes : Turns g.S.Store l.fn.intake l.intake (λ now after. (before : List Request) (left written : Option (List ℕ)) → GoesOn (limit_of l.fn.intake) before now left (g.R.Source.left l.fn.reader) written (g.W.Sink.written l.fn.writer) l.fn.inbox l.fn.marks.items → GoesOn (limit_of l.fn.intake) before after left (g.R.Source.left l.reader) written (g.W.Sink.written l.writer) l.inbox l.marks.items);
