@@ -5,12 +5,8 @@
 mod answer;
 mod decide;
 mod line;
-#[cfg(test)]
-mod loopback;
 mod route;
 mod serving;
-#[cfg(test)]
-mod tests;
 
 pub use filing_model::{Ended, Mark};
 pub use line::fact_line;

@@ -12,8 +12,12 @@ mod intake;
 #[cfg(test)]
 mod intake_commands;
 #[cfg(test)]
+mod loopback;
+#[cfg(test)]
 mod outbox;
 #[cfg(test)]
 mod outbox_commands;
 #[cfg(test)]
 mod register;
+#[cfg(test)]
+mod server;

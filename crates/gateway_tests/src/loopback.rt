@@ -1,6 +1,6 @@
 //! A connection over a socket of this machine, in one process: each step is taken once the one before is done.
 
-use crate::{Ended, Mark, serve};
+use gateway_server::{Ended, Mark, serve};
 use http_wire::Device;
 use intake_core::Intake;
 use std::io::{Read, Write};

@@ -1,4 +1,4 @@
-use crate::{Ended, Mark, Served, serve};
+use gateway_server::{Ended, Mark, Served, serve};
 use http_wire::{ConnFault, Device};
 use intake_core::Intake;
 use sqlite::MemStore;

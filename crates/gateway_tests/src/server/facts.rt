@@ -1,6 +1,6 @@
 //! The lines that show facts.
 
-use crate::fact_line;
+use gateway_server::fact_line;
 use std::alloc::Global;
 use std::test::Fail;
 use xbrl_report::Fact;
