@@ -8,5 +8,6 @@ pub mod Text
 pub mod Views
 pub mod Serving
 pub mod Laws
+pub mod Numbered
 pub mod Outbox
 pub mod Stopping

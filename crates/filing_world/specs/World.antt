@@ -1,10 +1,11 @@
 -- The intake, the outboxes and everything that was ever sent or written, and what may happen to them.
-use Rattle.std.specs.Prelude.{ℕ, zero, suc, Bool, true, List, [], slice_get, slice_set, Option, None}
+use Rattle.std.specs.Prelude.{ℕ, Bool, true, List, [], Option}
 use Rattle.filing_model.specs.declared.served.Mark.{Mark}
 use Rattle.filing_model.specs.declared.served.Ended.{Ended}
 use Rattle.filing_model.specs.Request.{Request}
 use Rattle.filing_model.specs.Outbox.{Entry}
 use Rattle.filing_model.specs.Stopping.{Crash}
+pub use Rattle.filing_model.specs.Numbered.{numbered, renewed}
 
 -- a filer's reports to be sent, numbered from 1
 pub record Outbox : Type 0 where
@@ -45,16 +46,6 @@ pub data Event : Type 0 where
   Hand : (output bytes : ℕ) → Crash → Event
   RestartServer : Event
   RestartOutbox : (outbox : ℕ) → Event
-
--- the element of this number, counted from 1
-abbrev pub numbered : {X : Type 0} → List X → ℕ → Option X
-numbered xs zero = None
-numbered xs (suc k) = slice_get xs k
-
--- the list with x in the place of that element
-abbrev pub renewed : {X : Type 0} → List X → ℕ → X → List X
-renewed xs zero x = xs
-renewed xs (suc k) x = slice_set xs k x
 
 -- an outbox at first
 abbrev pub new_outbox : List ℕ → Outbox

@@ -1,7 +1,8 @@
 -- The entries of an outbox as a list, numbered from 1.
-use Rattle.std.specs.Prelude.{◌≡◌, ℕ, zero, suc, ◌≤◌, ◌<◌, ◌^◌, ◌==◌, Bool, true, false, List, [], ◌∷◌, ◌++◌, slice_get, bytes_eq, Option, None}
+use Rattle.std.specs.Prelude.{◌≡◌, ℕ, zero, suc, ◌≤◌, ◌<◌, ◌^◌, ◌==◌, Bool, true, false, List, [], ◌∷◌, ◌++◌, bytes_eq, Option}
 use Rattle.std.specs.List.{AllByRecursion}
 use Rattle.key_string.specs.Filer.{is_filer}
+use Rattle.filing_model.specs.Numbered.{numbered as element}
 use Rattle.filing_model.specs.Outbox.{Entry, State, Open, Confirmed, IsSendable, request_of}
 
 -- what a filer has to send
@@ -26,8 +27,7 @@ numbered = numbered_from 1
 
 -- the entry of an id, if there is one
 abbrev pub entry_at : List Entry → ℕ → Option Entry
-entry_at entries zero = None
-entry_at entries (suc n) = slice_get entries n
+entry_at = element
 
 abbrev pub has_id : ℕ → ℕ × Entry → Bool
 has_id id x = x.0 == id
