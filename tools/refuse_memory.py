@@ -2,7 +2,7 @@
 """Refuses each allocation of a test in turn: runs the test once to count them, and then once for each, with that one
 refused. The test is to pass in every run. Status 1 where one run does not.
 
-    tools/refuse_memory.py crates/intake_core/out/intake_core_tests tests::refused_memory_changes_nothing
+    tools/refuse_memory.py crates/gateway_tests/out/gateway_tests_tests intake::refused_memory_changes_nothing
 
 The first word is a program of tests as `rt test` builds it, the others are full names of its tests. The allocator is
 the C library's, in front of which a small library is loaded that counts the calls; it is built by `cc`.

@@ -3,7 +3,7 @@
 ghost use Rattle.std.specs.Prelude.{◌≡◌, None, false};
 
 use anyhow::bail;
-use commands::{make_database, open_database};
+use commands::{SystemFiles, make_database, open_database};
 use key_string::{KeyText, is_filer};
 use register_store::{NewRow, Store};
 use sqlite::{Alter, Connection, File, FileStore, MemStore};
@@ -50,12 +50,12 @@ pub fn in_memory(alloc: Global) -> anyhow::Result<Store<MemStore>> {
 
 /// A new register in this file.
 pub fn in_file(rt: &HostRuntime, path: &str) -> anyhow::Result<Store<FileStore<File>>> {
-    create(rt.alloc(), make_database(rt, path)?)
+    create(rt.alloc(), make_database(rt, &SystemFiles, path)?)
 }
 
 /// The register in this file.
 fn opened(rt: &HostRuntime, path: &str) -> anyhow::Result<Store<FileStore<File>>> {
-    open(rt.alloc(), open_database(rt, path)?)
+    open(rt.alloc(), open_database(rt, &SystemFiles, path)?)
 }
 
 fn create<S: Alter + Drop>(alloc: Global, conn: Connection<S>) -> anyhow::Result<Store<S>>
