@@ -3,7 +3,7 @@
 use std::alloc::{AllocError, AllocFailed};
 use table_rows::Cause;
 
-/// Why an outbox was not made or not opened. The database is as it was, and its connection is given up.
+/// Why an outbox was not made or not opened. The database is as it was.
 #[derive(Clone, Copy, Debug, PartialEq, Eq, thiserror::Error)]
 pub enum OutboxFault {
     /// The text is no code of a filer.
