@@ -10,7 +10,7 @@ returns c =
       c.in-Some.ensures.0 ∙ c.text_at.ensures,
       record {
         filer = subst (λ f. is_filer f ≡ true) c.text_at.ensures c.in-Some.ensures.1;
-        key = subst IsKey c.text_at-key.ensures (c.is_key.ensures.0 c.if-not-is_key.false);
+        key = subst IsKey c.text_at-key.ensures (c.is_key.ensures.key.0 c.if-not-is_key.false);
         body = subst (λ b. length b ≤ max_body_len) c.bytes_at.ensures low;
       },
     )
