@@ -8,6 +8,8 @@ use std::alloc::{AllocError, Global};
 use std::process::Abort;
 use std::test::Fail;
 
+mod stops;
+
 pub const VALID: &[u8] =
     b"{\"documentInfo\":{\"documentType\":\"https://xbrl.org/2021/xbrl-json\",\"taxonomy\":[\"t\"]}}";
 
