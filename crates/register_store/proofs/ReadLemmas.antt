@@ -1,19 +1,12 @@
 -- What each SELECT reads.
-use Rattle.std.proofs.Common.{ℕ, pos, inl, List, [], ◌∷◌, Result, Ok, Err, IfOk, IfErr, refl}
+use Rattle.std.proofs.Common.{ℕ, pos, List, [], ◌∷◌, refl}
 use Rattle.sqlite.specs.declared.types.Value.TheVariants.{Int, Text}
 use Rattle.sqlite.specs.Order.{Row}
 use Rattle.sqlite.specs.Term.{col}
-use Rattle.sqlite.specs.Schema.{Schema}
-use Rattle.sqlite.specs.Listing.{understood}
-use Rattle.sqlite.specs.declared.error.Error.{Error}
-use Rattle.sqlite.specs.State.{State, Shown, FailsToQuery, CommitsShowing, Survives}
-use Rattle.sqlite.proofs.Callers.{IsPlain, never_commits}
-use Rattle.sqlite.proofs.StateLemmas.{survives_weaker}
+use Rattle.sqlite.specs.State.{State, Shown}
 use Rattle.table_rows.specs.Reading.{ReadsRows}
-use Rattle.table_rows.specs.Standing.{Keeps}
-use Rattle.table_rows.proofs.StandLemmas.{failure_keeps, shown_keeps}
 use Rattle.table_rows.proofs.ReadingLemmas.{reads_rows}
-use Rattle.register_store.specs.Schema.{IsDeclared, register_tables, kept_table, fact_table}
+use Rattle.register_store.specs.Schema.{register_tables, kept_table, fact_table}
 use Rattle.register_store.specs.Opening.{all_kept}
 use Rattle.register_store.specs.Reads.{Knows, every, whole, by_first, by_second, has_filer, has_number, number_alone, place_alone, said}
 use Rattle.register_store.proofs.ReadTexts.{columns, equals, filer_numbers, fact_places, facts_said, asks_kept, asks_numbers, asks_places, asks_said}

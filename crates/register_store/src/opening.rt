@@ -154,10 +154,7 @@ pub(crate) fn is_settled<S: Alter>(conn: &Connection<S>) -> bool
 
 /// Reads how much the register holds that the database is: nothing is written, whatever the answer is. How the tables
 /// are declared is not tested.
-pub fn read_register<S: Alter>(
-    alloc: Global,
-    conn: &mut Connection<S>,
-) -> Result<Counts, OpenFault>
+pub fn read_register<S: Alter>(alloc: Global, conn: &mut Connection<S>) -> Result<Counts, OpenFault>
     requires autocommit { conn.old.in_transaction ≡ false }
     requires unlimited { conn.old.step_limit ≡ None }
 

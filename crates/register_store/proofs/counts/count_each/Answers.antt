@@ -6,7 +6,6 @@ use Rattle.filing_model.specs.Register.{register}
 use Rattle.filing_model.specs.Views.{view_row}
 use Rattle.table_rows.proofs.StepLemmas.{nothing_left}
 use Rattle.register_store.specs.Numbered.{counted_under}
-use Rattle.register_store.specs.Store.{IsRegisterOf}
 use Rattle.register_store.proofs.counts.count_each.Goals as goal
 
 pub returns-in_err-facts-clause-same : goal.returns-in_err-facts-clause-same

@@ -21,7 +21,6 @@ returns-clause-ran g c clean =
 pub returns-clause-inside : goal.returns-clause-inside
 returns-clause-inside g c clean = IfOk-weaker c.run-6.result _ _ (λ _ u. u.1.1.mode) (c.run-6.ensures.ran clean)
 
-
 pub returns-in_err-run-clause-failed : goal.returns-in_err-run-clause-failed
 returns-in_err-run-clause-failed g c clean inside =
     let p = err_from_is_err_and c.from_residual.result c.from_residual.ensures.1 in
