@@ -1,6 +1,4 @@
-use intake_core::{
-    Answer, FilingRow, Intake, Unavailable, list_reply, reply_of, word_reply,
-};
+use intake_core::{Answer, FilingRow, Intake, Unavailable, list_reply, reply_of, word_reply};
 use key_string::{KeyText, is_filer};
 use register_store::CreateFault;
 use sqlite::Alter;

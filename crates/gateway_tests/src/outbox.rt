@@ -2,9 +2,9 @@
 
 ghost use Rattle.std.specs.Prelude.{◌≡◌, false, None, IfOk};
 
-use outbox_core::{Outbox, OutboxFault, PutFault, State};
 use http_wire::Reply;
 use key_string::KeyText;
+use outbox_core::{Outbox, OutboxFault, PutFault, State};
 use sqlite::{Alter, Connection, MemStore};
 use std::alloc::Global;
 use std::test::Fail;

@@ -1,6 +1,6 @@
-use register_store::{CreateFault, KeptRow, Outcome, Store, StoreFault};
 use calls::{add_short, counts, create, look_up, new_database, run};
 use key_string::KeyText;
+use register_store::{CreateFault, KeptRow, Outcome, Store, StoreFault};
 use sqlite::{Alter, Connection, MemStore};
 use std::alloc::Global;
 use std::process::Abort;

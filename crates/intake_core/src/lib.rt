@@ -10,4 +10,3 @@ mod reply;
 pub use filing_model::{Answer, FilingRow};
 pub use intake::{Intake, Unavailable};
 pub use reply::{list_reply, reply_of, word_reply};
-

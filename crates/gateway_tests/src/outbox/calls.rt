@@ -1,9 +1,9 @@
 //! The calls of an outbox with no clauses, of which the tests need none: a test that makes several is checked quickly.
 
 use super::ready;
-use outbox_core::{Entry, Outbox, OutboxFault, PutFault, State, StoreFault, TakeFault};
 use http_wire::Reply;
 use key_string::KeyText;
+use outbox_core::{Entry, Outbox, OutboxFault, PutFault, State, StoreFault, TakeFault};
 use sqlite::{Alter, Connection};
 use std::alloc::Global;
 use std::test::Fail;

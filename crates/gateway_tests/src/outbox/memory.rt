@@ -2,9 +2,9 @@
 //! before, and the second answer is that of ample memory. Run it with each allocation refused too, one in a run.
 
 use super::{BODY, calls};
-use outbox_core::{Entry, Outbox, OutboxFault, PutFault, State, StoreFault, TakeFault, key_of};
 use http_wire::Reply;
 use key_string::{KeyFault, KeyText};
+use outbox_core::{Entry, Outbox, OutboxFault, PutFault, State, StoreFault, TakeFault, key_of};
 use sqlite::{Connection, MemStore};
 use std::alloc::{AllocError, Global};
 use std::process::Abort;

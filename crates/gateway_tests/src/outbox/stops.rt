@@ -4,8 +4,8 @@ ghost use Rattle.std.specs.Prelude.{IsTrue, IfOk};
 ghost use Rattle.sqlite_disk.specs.Memory.{memory_is_usable};
 
 use super::{BODY, calls, reply};
-use outbox_core::{Outbox, PutFault, State, StoreFault, TakeFault};
 use key_string::KeyText;
+use outbox_core::{Outbox, PutFault, State, StoreFault, TakeFault};
 use sqlite::{Connection, FileStore, Options};
 use sqlite_disk::{Crash, Disk, Files, Fuse, Memory};
 use std::alloc::Global;

@@ -2,11 +2,11 @@
 
 ghost use Rattle.std.specs.Prelude.{◌≡◌, false, None, IfOk};
 
+use filing_model::FilingRow;
+use key_string::{KeyText, is_filer};
 use register_store::{
     Completed, CreateFault, KeptRow, NewRow, OpenFault, Outcome, Registered, Store, StoreFault,
 };
-use filing_model::FilingRow;
-use key_string::{KeyText, is_filer};
 use sqlite::{Alter, Connection, FileStore, Files, MemStore};
 use sqlite_disk::Disk;
 use std::alloc::{AllocError, Global};

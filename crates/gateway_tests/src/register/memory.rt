@@ -6,8 +6,8 @@ use super::calls::{
     add_short, all_filings, conn_of, counts, create, facts, filings, look_up, new_database, open,
     requests,
 };
-use register_store::{CreateFault, KeptRow, OpenFault, Outcome, Store, StoreFault};
 use key_string::{KeyFault, KeyText};
+use register_store::{CreateFault, KeptRow, OpenFault, Outcome, Store, StoreFault};
 use sqlite::{Connection, MemStore};
 use std::alloc::{AllocError, Global};
 use std::process::Abort;
