@@ -11,7 +11,7 @@ mod outbox;
 mod register;
 mod replies;
 mod reports;
-mod run;
+mod rows;
 mod stop;
 
-pub use run::{first_over, run};
+pub use rows::{first_over, run};
