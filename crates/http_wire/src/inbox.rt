@@ -174,6 +174,3 @@ impl Inbox {
         }
     }
 }
-
-#[cfg(test)]
-mod tests;

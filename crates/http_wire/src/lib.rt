@@ -39,6 +39,3 @@ pub use refusal::{ConnFault, Next, Refusal, ReplyFault};
 pub use reply::{Reply, append_reply, phrase};
 pub use reply_reader::read_reply;
 pub use write::{write_all, write_reply};
-
-#[cfg(test)]
-mod tests;

@@ -69,6 +69,3 @@ fn push_key(key: &KeyText, out: &mut Vec<u8>) -> Result<(), AllocError>
     append_key(key, out)?;
     out.extend_from_slice(b"\r\n")
 }
-
-#[cfg(test)]
-mod tests;

@@ -95,6 +95,3 @@ fn take_content<R: Source>(
         }
     }
 }
-
-#[cfg(test)]
-mod tests;

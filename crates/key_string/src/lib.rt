@@ -11,6 +11,3 @@ pub mod laws;
 pub use fault::KeyFault;
 pub use filer::{is_filer, read_filer};
 pub use key::{KeyText, append_key, is_key, read_key};
-
-#[cfg(test)]
-mod tests;

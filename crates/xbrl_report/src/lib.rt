@@ -36,6 +36,3 @@ pub use name::{split_entity, split_qname};
 pub use period::{Period, read_period};
 pub use report::Report;
 pub use unit::{Unit, read_unit};
-
-#[cfg(test)]
-mod tests;

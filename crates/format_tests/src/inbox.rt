@@ -1,37 +1,7 @@
-use super::*;
-use crate::device::Device;
-use crate::head::HeadFault;
-use crate::refusal::Refusal;
-use std::io::{self, Read, Write};
+use crate::streams::{Pieces, in_pieces};
+use http_wire::{ConnFault, Device, HeadFault, Inbox, Next, Refusal};
+use std::io::{self, Write};
 use std::test::Fail;
-
-/// Gives at most so many bytes a read, and then its end or a failure.
-#[derive(Drop)]
-struct Pieces {
-    rest: &'static [u8],
-    piece: usize,
-    fails: bool,
-}
-
-impl Read for Pieces {
-    fn read(&mut self, room: &mut [u8]) -> io::Result<usize> {
-        let count = self.piece.min(room.len()).min(self.rest.len());
-        if count == 0 && self.fails {
-            return Err(io::Error::from(io::ErrorKind::ConnectionReset));
-        }
-        room[..count].copy_from_slice(&self.rest[..count]);
-        self.rest = &self.rest[count..];
-        Ok(count)
-    }
-}
-
-fn in_pieces(rest: &'static [u8], piece: usize) -> Device<Pieces> {
-    Device::new(Pieces {
-        rest,
-        piece,
-        fails: false,
-    })
-}
 
 /// Takes so many bytes, and then fails.
 #[derive(Drop)]
@@ -56,7 +26,7 @@ impl Write for Narrow {
 
 #[test]
 fn requests_in_pieces(rt: HostRuntime) -> Result<(), Fail> {
-    let bytes: &'static [u8] = b"POST /a HTTP/1.1\r\nHost: h\r\nContent-Length: 5\r\n\r\nhello\
+    let bytes: &[u8] = b"POST /a HTTP/1.1\r\nHost: h\r\nContent-Length: 5\r\n\r\nhello\
         \r\nGET /b HTTP/1.1\r\nHost: h\r\nConnection: close\r\n\r\nGET /c HTTP/1.1\r\nHost: h\r\n\r\n";
     for piece in [1, 5, 1000] {
         let mut reader = in_pieces(bytes, piece);
@@ -80,7 +50,7 @@ fn requests_in_pieces(rt: HostRuntime) -> Result<(), Fail> {
 
 #[test]
 fn interim_responses(rt: HostRuntime) -> Result<(), Fail> {
-    let bytes: &'static [u8] =
+    let bytes: &[u8] =
         b"POST / HTTP/1.1\r\nHost: h\r\nExpect: 100-continue\r\nContent-Length: 2\r\n\r\nab\
         GET / HTTP/1.1\r\nHost: h\r\nExpect: 100-continue\r\n\r\n\
         POST / HTTP/1.1\r\nHost: h\r\nExpect: 100-continue\r\nContent-Length: 9\r\n\r\ncut";
@@ -101,7 +71,7 @@ fn interim_responses(rt: HostRuntime) -> Result<(), Fail> {
 
 #[test]
 fn refusals(rt: HostRuntime) -> Result<(), Fail> {
-    let cases: [(&'static [u8], Next); 4] = [
+    let cases: [(&[u8], Next); 4] = [
         (b"", Next::End),
         (b"GET / HTTP/1.1\r\n", Next::End),
         (

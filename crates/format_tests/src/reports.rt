@@ -2,9 +2,11 @@ mod examples;
 mod extremes;
 mod table;
 
-use super::*;
 use std::alloc::{AllocError, Global};
 use std::test::Fail;
+use xbrl_report::{
+    Code, Finding, Findings, Judged, judge, read_period, read_unit, split_entity, split_qname,
+};
 
 // The start of a report that has no findings, and goes on after its taxonomy.
 const START: &str =

@@ -1,4 +1,4 @@
-use super::*;
+use key_string::{KeyFault, KeyText, append_key, is_filer, read_filer, read_key};
 use std::test::Fail;
 
 #[test]

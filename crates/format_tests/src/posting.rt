@@ -1,5 +1,5 @@
-use super::*;
-use key_string::is_filer;
+use http_wire::append_request;
+use key_string::{KeyText, is_filer};
 use std::test::Fail;
 
 const REPORT: &str =

@@ -1,7 +1,6 @@
-use super::*;
-use crate::device::Device;
-use crate::reply::append_reply;
-use std::io::{self, Read};
+use crate::streams::{Pieces, in_pieces};
+use http_wire::{Device, Reply, ReplyFault, append_reply, read_reply};
+use std::alloc::Global;
 use std::test::Fail;
 
 const REGISTERED: &str =
@@ -10,34 +9,9 @@ const REGISTERED: &str =
 const AFTER_INTERIM: &str =
     "HTTP/1.1 100 Continue\r\n\r\nHTTP/1.1 201 Created\r\nContent-Type: application/json\r\nContent-Length: 34\r\n\r\n{\"number\":1,\"status\":\"registered\"}";
 
-/// Gives at most so many bytes a read, and then its end or a failure.
-#[derive(Drop)]
-struct Pieces<'a> {
-    rest: &'a [u8],
-    piece: usize,
-    fails: bool,
-}
-
-impl Read for Pieces<'_> {
-    fn read(&mut self, room: &mut [u8]) -> io::Result<usize> {
-        let count = self.piece.min(room.len()).min(self.rest.len());
-        if count == 0 && self.fails {
-            return Err(io::Error::from(io::ErrorKind::ConnectionReset));
-        }
-        room[..count].copy_from_slice(&self.rest[..count]);
-        self.rest = &self.rest[count..];
-        Ok(count)
-    }
-}
-
 /// The status and the content that are read of the bytes, in pieces.
 fn read_in_pieces(alloc: Global, bytes: &[u8], piece: usize) -> Result<(u16, Vec<u8>), ReplyFault> {
-    let mut reader = Device::new(Pieces {
-        rest: bytes,
-        piece,
-        fails: false,
-    });
-    let reply = read_reply(alloc, &mut reader)?;
+    let reply = read_reply(alloc, &mut in_pieces(bytes, piece))?;
     Ok((reply.status, reply.content))
 }
 
@@ -128,7 +102,7 @@ fn readers_that_fail(rt: HostRuntime) {
 }
 
 #[test]
-#[tactic(auto, unfolding(crate::specs::Reply::phrase))]
+#[tactic(auto, unfolding(http_wire::specs::Reply::phrase))]
 fn what_is_written_is_read_again(rt: HostRuntime) -> Result<(), Fail> {
     let mut content = Vec::new(rt.alloc());
     content.resize(100_000, b'x')?;

@@ -1,8 +1,7 @@
 ghost use Rattle.std.specs.Prelude.{◌≡◌, ◌≤◌, ◌+◌, vec_len, IfOk};
 
-use super::*;
+use http_wire::{Block, HeadFault, find_block, read_head};
 use std::alloc::{AllocError, Global};
-use std::io::{self, Read, Write};
 use std::test::Fail;
 
 #[test]
@@ -253,104 +252,5 @@ fn many_fields(rt: HostRuntime) -> Result<(), Fail> {
         read_head(rt.alloc(), &more).err(),
         Some(HeadFault::Malformed)
     );
-    Ok(())
-}
-
-#[test]
-#[tactic(auto, unfolding(crate::specs::Reply::phrase))]
-fn bytes_of_replies(rt: HostRuntime) -> Result<(), Fail> {
-    let mut content = Vec::new(rt.alloc());
-    content.extend_from_slice(b"{\"number\":1,\"status\":\"registered\"}")?;
-    let mut out = Vec::new(rt.alloc());
-    let registered = Reply {
-        status: 201,
-        content,
-    };
-    append_reply(rt.alloc(), &registered, false, &mut out)?;
-    assert_eq!(rt;
-        out.as_slice(),
-        b"HTTP/1.1 201 Created\r\nContent-Type: application/json\r\nContent-Length: 34\r\n\r\n{\"number\":1,\"status\":\"registered\"}".as_slice()
-    );
-    assert_eq!(rt; out.len(), 110);
-    let refused = Reply {
-        status: 405,
-        content: Vec::new(rt.alloc()),
-    };
-    append_reply(rt.alloc(), &refused, true, &mut out)?;
-    assert_eq!(rt;
-        &out[110..],
-        b"HTTP/1.1 405 Method Not Allowed\r\nContent-Type: application/json\r\nAllow: GET, POST\r\nConnection: close\r\n\r\n".as_slice()
-    );
-    Ok(())
-}
-
-#[test]
-fn phrases_of_statuses(rt: HostRuntime) {
-    assert_eq!(rt; phrase(413), Some("Content Too Large"));
-    assert_eq!(rt; phrase(422), Some("Unprocessable Content"));
-    assert_eq!(rt; phrase(431), Some("Request Header Fields Too Large"));
-    assert_eq!(rt; phrase(500), None);
-}
-
-/// Fails its first call, takes or gives one byte in its second, and nothing in the later ones.
-#[derive(Drop)]
-struct Weak(usize);
-
-impl Weak {
-    fn call(&mut self, most: usize) -> io::Result<usize>
-        ensures { IfOk result (λ count. count ≤ most) }
-    {
-        self.0 = self.0.saturating_add(1);
-        match self.0 {
-            1 => Err(io::Error::from(io::ErrorKind::Interrupted)),
-            2 => Ok(most.min(1)),
-            _ => Ok(0),
-        }
-    }
-}
-
-impl Read for Weak {
-    fn read(&mut self, room: &mut [u8]) -> io::Result<usize> {
-        let count = self.call(room.len())?;
-        room[..count].fill(b'x');
-        Ok(count)
-    }
-}
-
-impl Write for Weak {
-    fn write(&mut self, text: &[u8]) -> io::Result<usize> {
-        self.call(text.len())
-    }
-
-    fn flush(&mut self) -> io::Result<()> {
-        Ok(())
-    }
-}
-
-#[test]
-fn devices_that_fail_once(rt: HostRuntime) {
-    let mut reader = Device::new(Weak(0));
-    let mut room = [0; 2];
-    assert_eq!(rt; Source::read(&mut reader, &mut room), Err(DeviceFailed));
-    assert_eq!(rt; Source::read(&mut reader, &mut room), Ok(1));
-    assert_eq!(rt; room, [b'x', 0]);
-    assert_eq!(rt; Source::read(&mut reader, &mut room), Ok(0));
-    let mut writer = Device::new(Weak(0));
-    assert_eq!(rt; Sink::write(&mut writer, b"ab"), Err(DeviceFailed));
-    assert_eq!(rt; Sink::write(&mut writer, b"ab"), Ok(1));
-    assert_eq!(rt; Sink::write(&mut writer, b"b"), Err(DeviceFailed));
-    assert_eq!(rt; Sink::write(&mut writer, b""), Ok(0));
-}
-
-#[test]
-fn whole_texts(rt: HostRuntime) -> Result<(), Fail> {
-    let mut writer = Device::new(Weak(1));
-    assert_eq!(rt; send::send(&mut writer, b"ab"), Err(1));
-    let mut reader = Device::new(b"abc".as_slice());
-    let mut bytes = buffer::Buffer::new(rt.alloc())?;
-    assert_eq!(rt; bytes.fill(&mut reader, 2), Ok(2));
-    assert_eq!(rt; bytes.fill(&mut reader, 9), Ok(1));
-    assert_eq!(rt; bytes.fill(&mut reader, 20), Ok(0));
-    assert_eq!(rt; bytes.as_slice(), b"abc".as_slice());
     Ok(())
 }

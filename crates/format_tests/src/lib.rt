@@ -1,0 +1,23 @@
+//! Tests of what is read and written as bytes or as a text: keys, heads, messages, replies and reports, through the
+//! public calls of the crates below. What may live here: tests alone, over no table and no file. They stand together,
+//! since tests prove the crate that they stand in once more, and this one has nothing else.
+#![tactic(auto)]
+
+#[cfg(test)]
+mod devices;
+#[cfg(test)]
+mod heads;
+#[cfg(test)]
+mod inbox;
+#[cfg(test)]
+mod keys;
+#[cfg(test)]
+mod posting;
+#[cfg(test)]
+mod replies;
+#[cfg(test)]
+mod replies_read;
+#[cfg(test)]
+mod reports;
+#[cfg(test)]
+mod streams;
