@@ -1,131 +1,134 @@
-use crate::streams::{Pieces, in_pieces};
-use http_wire::{ConnFault, Device, HeadFault, Inbox, Next, Refusal};
-use std::io::{self, Write};
+//! Connections: what is read of them, and what is written on them.
+
+use crate::streams::{Narrow, Pieces, in_pieces};
+use http_wire::{Device, Inbox, Message, Next, Sink, Source};
+use std::alloc::Global;
+use std::process::Abort;
 use std::test::Fail;
+use std::{io, str};
 
-/// Takes so many bytes, and then fails.
-#[derive(Drop)]
-struct Narrow {
-    room: usize,
+/// The method, the path and the body of a request.
+fn shown(alloc: Global, message: &Message) -> Result<String, Fail> {
+    let method = str::from_utf8(message.head.method())?;
+    let path = str::from_utf8(message.head.path())?;
+    let body = str::from_utf8(message.body)?;
+    Ok(format!(in alloc; "{method} {path} {body}")?)
 }
 
-impl Write for Narrow {
-    fn write(&mut self, text: &[u8]) -> io::Result<usize> {
-        let count = text.len().min(self.room);
-        if count == 0 {
-            return Err(io::Error::from(io::ErrorKind::BrokenPipe));
-        }
-        self.room -= count;
-        Ok(count)
-    }
-
-    fn flush(&mut self) -> io::Result<()> {
-        Ok(())
+/// What the next call answers, with its request.
+fn next_of<R: Source, W: Sink>(
+    alloc: Global,
+    inbox: &mut Inbox,
+    reader: &mut R,
+    writer: &mut W,
+) -> Result<String, Fail> {
+    match inbox.next(reader, writer) {
+        Ok(Next::Message) => shown(alloc, &inbox.message()),
+        Ok(Next::End) => Ok(String::from_str(alloc, "end")?),
+        Ok(Next::Refuse(refusal)) => Ok(format!(in alloc; "{refusal:?}")?),
+        Err(fault) => Ok(format!(in alloc; "{fault:?}")?),
     }
 }
+
+/// What four calls answer, each with a bar behind it.
+fn told<R: Source, W: Sink>(alloc: Global, reader: &mut R, writer: &mut W) -> Result<String, Fail> {
+    let mut inbox = Inbox::new(alloc)?;
+    let mut text = String::new(alloc);
+    for _ in 0..4 {
+        text.push_str(next_of(alloc, &mut inbox, reader, writer)?.as_str())?;
+        text.push('|')?;
+    }
+    Ok(text)
+}
+
+/// Asserts what is told of the bytes in such pieces, and what is written then.
+fn hold(
+    rt: &impl Abort,
+    alloc: Global,
+    bytes: &str,
+    piece: usize,
+    text: &str,
+    output: &str,
+) -> Result<(), Fail> {
+    let mut written = Vec::new(alloc);
+    let told = told(
+        alloc,
+        &mut in_pieces(bytes.as_bytes(), piece),
+        &mut Device::new(&mut written),
+    )?;
+    assert_eq!(rt; told.as_str(), text);
+    assert_eq!(rt; str::from_utf8(&written)?, output);
+    Ok(())
+}
+
+const REQUESTS: &str =
+    "POST /a HTTP/1.1\r\nHost: h\r\nContent-Length: 5\r\n\r\nhello\r\nGET /b HTTP/1.1\r\nHost: h\r\nConnection: close\r\n\r\nGET /c HTTP/1.1\r\nHost: h\r\n\r\n";
+
+const EXPECTING: &str =
+    "POST / HTTP/1.1\r\nHost: h\r\nExpect: 100-continue\r\nContent-Length: 2\r\n\r\nabGET / HTTP/1.1\r\nHost: h\r\nExpect: 100-continue\r\n\r\nPOST / HTTP/1.1\r\nHost: h\r\nExpect: 100-continue\r\nContent-Length: 9\r\n\r\ncut";
+
+const TWO_INTERIM: &str = "HTTP/1.1 100 Continue\r\n\r\nHTTP/1.1 100 Continue\r\n\r\n";
+
+/// The bytes of a connection, how many come at a time, what is told of them, and what is written.
+const CONNECTIONS: &[(&str, usize, &str, &str)] = &[
+    (REQUESTS, 1, "POST /a hello|GET /b |end|end|", ""),
+    (REQUESTS, 5, "POST /a hello|GET /b |end|end|", ""),
+    (REQUESTS, 1000, "POST /a hello|GET /b |end|end|", ""),
+    (EXPECTING, 1000, "POST / ab|GET / |end|end|", TWO_INTERIM),
+    ("", 3, "end|end|end|end|", ""),
+    ("GET / HTTP/1.1\r\n", 3, "end|end|end|end|", ""),
+    (
+        "GET /\r\n\r\nGET / HTTP/1.0\r\n\r\n",
+        3,
+        "Head(Malformed)|end|end|end|",
+        "",
+    ),
+    (
+        "POST / HTTP/1.0\r\n\r\n",
+        3,
+        "Head(NoLength)|end|end|end|",
+        "",
+    ),
+];
 
 #[test]
-fn requests_in_pieces(rt: HostRuntime) -> Result<(), Fail> {
-    let bytes: &[u8] = b"POST /a HTTP/1.1\r\nHost: h\r\nContent-Length: 5\r\n\r\nhello\
-        \r\nGET /b HTTP/1.1\r\nHost: h\r\nConnection: close\r\n\r\nGET /c HTTP/1.1\r\nHost: h\r\n\r\n";
-    for piece in [1, 5, 1000] {
-        let mut reader = in_pieces(bytes, piece);
-        let mut written = Vec::new(rt.alloc());
-        let mut writer = Device::new(&mut written);
-        let mut inbox = Inbox::new(rt.alloc())?;
-        assert_eq!(rt; inbox.next(&mut reader, &mut writer), Ok(Next::Message));
-        let message = inbox.message();
-        assert_eq!(rt; message.head.method(), b"POST".as_slice());
-        assert_eq!(rt; message.head.path(), b"/a".as_slice());
-        assert_eq!(rt; message.body, b"hello".as_slice());
-        assert_eq!(rt; inbox.next(&mut reader, &mut writer), Ok(Next::Message));
-        let message = inbox.message();
-        assert_eq!(rt; message.head.path(), b"/b".as_slice());
-        assert!(rt; message.body.is_empty());
-        assert_eq!(rt; inbox.next(&mut reader, &mut writer), Ok(Next::End));
-        assert!(rt; written.is_empty());
+fn connections(rt: HostRuntime) -> Result<(), Fail> {
+    for (bytes, piece, text, output) in CONNECTIONS {
+        hold(&rt, rt.alloc(), bytes, *piece, text, output)?;
     }
     Ok(())
 }
 
 #[test]
-fn interim_responses(rt: HostRuntime) -> Result<(), Fail> {
-    let bytes: &[u8] =
-        b"POST / HTTP/1.1\r\nHost: h\r\nExpect: 100-continue\r\nContent-Length: 2\r\n\r\nab\
-        GET / HTTP/1.1\r\nHost: h\r\nExpect: 100-continue\r\n\r\n\
-        POST / HTTP/1.1\r\nHost: h\r\nExpect: 100-continue\r\nContent-Length: 9\r\n\r\ncut";
-    let mut reader = in_pieces(bytes, 1000);
-    let mut written = Vec::new(rt.alloc());
-    let mut writer = Device::new(&mut written);
-    let mut inbox = Inbox::new(rt.alloc())?;
-    assert_eq!(rt; inbox.next(&mut reader, &mut writer), Ok(Next::Message));
-    assert_eq!(rt; inbox.next(&mut reader, &mut writer), Ok(Next::Message));
-    assert_eq!(rt; inbox.next(&mut reader, &mut writer), Ok(Next::End));
-    assert_eq!(rt; inbox.next(&mut reader, &mut writer), Ok(Next::End));
-    assert_eq!(rt;
-        written.as_slice(),
-        b"HTTP/1.1 100 Continue\r\n\r\nHTTP/1.1 100 Continue\r\n\r\n".as_slice()
-    );
-    Ok(())
-}
-
-#[test]
-fn refusals(rt: HostRuntime) -> Result<(), Fail> {
-    let cases: [(&[u8], Next); 4] = [
-        (b"", Next::End),
-        (b"GET / HTTP/1.1\r\n", Next::End),
-        (
-            b"GET /\r\n\r\nGET / HTTP/1.0\r\n\r\n",
-            Next::Refuse(Refusal::Head(HeadFault::Malformed)),
-        ),
-        (
-            b"POST / HTTP/1.0\r\n\r\n",
-            Next::Refuse(Refusal::Head(HeadFault::NoLength)),
-        ),
-    ];
-    for (bytes, next) in cases {
-        let mut reader = in_pieces(bytes, 3);
-        let mut writer = Device::new(Narrow { room: 0 });
-        let mut inbox = Inbox::new(rt.alloc())?;
-        assert_eq!(rt; inbox.next(&mut reader, &mut writer), Ok(next));
-        assert_eq!(rt; inbox.next(&mut reader, &mut writer), Ok(Next::End));
-    }
-    Ok(())
-}
-
-#[test]
-fn long_heads(rt: HostRuntime) -> Result<(), Fail> {
+fn a_head_without_end(rt: HostRuntime) -> Result<(), Fail> {
     let mut reader = Device::new(io::repeat(b'a'));
     let mut writer = Device::new(Narrow { room: 0 });
-    let mut inbox = Inbox::new(rt.alloc())?;
-    assert_eq!(rt;
-        inbox.next(&mut reader, &mut writer),
-        Ok(Next::Refuse(Refusal::HeadTooLarge))
-    );
+    let told = told(rt.alloc(), &mut reader, &mut writer)?;
+    assert_eq!(rt; told.as_str(), "HeadTooLarge|end|end|end|");
     Ok(())
 }
 
+const CUT: &str =
+    "POST / HTTP/1.1\r\nHost: h\r\nExpect: 100-continue\r\nContent-Length: 9\r\n\r\ncut";
+
 #[test]
-fn faults(rt: HostRuntime) -> Result<(), Fail> {
-    let bytes =
-        b"POST / HTTP/1.1\r\nHost: h\r\nExpect: 100-continue\r\nContent-Length: 9\r\n\r\ncut";
+fn a_read_that_fails(rt: HostRuntime) -> Result<(), Fail> {
     let mut reader = Device::new(Pieces {
-        rest: bytes,
+        rest: CUT.as_bytes(),
         piece: 7,
         fails: true,
     });
     let mut writer = Device::new(Narrow { room: 25 });
-    let mut inbox = Inbox::new(rt.alloc())?;
-    assert_eq!(rt; inbox.next(&mut reader, &mut writer), Err(ConnFault::Read));
-    assert_eq!(rt; inbox.next(&mut reader, &mut writer), Ok(Next::End));
+    let told = told(rt.alloc(), &mut reader, &mut writer)?;
+    assert_eq!(rt; told.as_str(), "Read|end|end|end|");
+    Ok(())
+}
 
-    let mut reader = in_pieces(bytes, 7);
+#[test]
+fn a_write_that_fails(rt: HostRuntime) -> Result<(), Fail> {
+    let mut reader = in_pieces(CUT.as_bytes(), 7);
     let mut writer = Device::new(Narrow { room: 24 });
-    let mut inbox = Inbox::new(rt.alloc())?;
-    assert_eq!(rt;
-        inbox.next(&mut reader, &mut writer),
-        Err(ConnFault::Write { sent: 24 })
-    );
-    assert_eq!(rt; inbox.next(&mut reader, &mut writer), Ok(Next::End));
+    let told = told(rt.alloc(), &mut reader, &mut writer)?;
+    assert_eq!(rt; told.as_str(), "Write { sent: 24 }|end|end|end|");
     Ok(())
 }

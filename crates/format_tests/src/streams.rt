@@ -1,7 +1,7 @@
-//! A reader that works in small steps.
+//! A reader that works in small steps, and a writer of little room.
 
 use http_wire::Device;
-use std::io::{self, Read};
+use std::io::{self, Read, Write};
 
 /// Gives at most so many bytes a read, and then its end or a failure.
 #[derive(Drop)]
@@ -30,4 +30,25 @@ pub fn in_pieces(rest: &[u8], piece: usize) -> Device<Pieces<'_>> {
         piece,
         fails: false,
     })
+}
+
+/// Takes so many bytes, and then fails.
+#[derive(Drop)]
+pub struct Narrow {
+    pub room: usize,
+}
+
+impl Write for Narrow {
+    fn write(&mut self, text: &[u8]) -> io::Result<usize> {
+        let count = text.len().min(self.room);
+        if count == 0 {
+            return Err(io::Error::from(io::ErrorKind::BrokenPipe));
+        }
+        self.room -= count;
+        Ok(count)
+    }
+
+    fn flush(&mut self) -> io::Result<()> {
+        Ok(())
+    }
 }

@@ -1,50 +1,97 @@
-//! Bodies that nest deeply, and one that is wide.
+//! Bodies with many findings or a long place, that nest deeply, or are wide.
 
-use super::*;
+use super::{START, is_told, told};
+use std::alloc::{AllocError, Global};
+use std::test::Fail;
+
+/// So many of a character.
+fn repeated(alloc: Global, character: char, count: u32) -> Result<String, AllocError> {
+    let mut text = String::new(alloc);
+    for _ in 0..count {
+        text.push(character)?;
+    }
+    Ok(text)
+}
 
 /// So many opening brackets, and then so many closing ones.
 fn brackets(alloc: Global, opened: u32, closed: u32) -> Result<String, AllocError> {
-    let mut body = String::new(alloc);
-    for _ in 0..opened {
-        body.push('[')?;
-    }
-    for _ in 0..closed {
-        body.push(']')?;
-    }
-    Ok(body)
+    let open = repeated(alloc, '[', opened)?;
+    let close = repeated(alloc, ']', closed)?;
+    format!(in alloc; "{open}{close}")
 }
 
 #[test]
 fn nested_arrays(rt: HostRuntime) -> Result<(), Fail> {
-    let alloc = rt.alloc();
-    let read = judge(alloc, "ACME", brackets(alloc, 127, 127)?.as_bytes())?;
-    assert!(rt; is_answer(&read, 0, &[("", "not-object")]));
-    let too_deep = judge(alloc, "ACME", brackets(alloc, 128, 128)?.as_bytes())?;
-    assert!(rt; is_answer(&too_deep, 0, &[("", "not-json")]));
-    let unclosed = judge(alloc, "ACME", brackets(alloc, 1_048_576, 0)?.as_bytes())?;
-    assert!(rt; is_answer(&unclosed, 0, &[("", "not-json")]));
+    for (opened, closed, text) in [
+        (127, 127, " not-object;"),
+        (128, 128, " not-json;"),
+        (1_048_576, 0, " not-json;"),
+    ] {
+        let body = brackets(rt.alloc(), opened, closed)?;
+        is_told(&rt, rt.alloc(), &body, text)?;
+    }
     Ok(())
 }
 
-/// A report with one fact of so many dimensions, all wrong, under an identifier of as many letters.
+/// Members whose names are numbers of five digits, none of which is a text.
+fn numbered_members(alloc: Global, count: u32) -> Result<String, AllocError> {
+    let mut members = String::new(alloc);
+    for number in 0..count {
+        members.push_str(format!(in alloc; ",\"{number:05}\":1")?.as_str())?;
+    }
+    Ok(members)
+}
+
+/// A report with so many namespaces that are no texts.
+fn many_findings(alloc: Global, count: u32) -> Result<String, AllocError> {
+    let namespaces = numbered_members(alloc, count)?;
+    format!(in alloc;
+        r#"{{"documentInfo":{{"documentType":"https://xbrl.org/2021/xbrl-json","taxonomy":["t"],"namespaces":{{"x":"u"{namespaces}}}}}}}"#
+    )
+}
+
+/// The length of a place of a namespace and its code, as they are told.
+const LENGTH_OF_ONE: usize = "/documentInfo/namespaces/00000 namespace-uri;".len();
+
+#[test]
+fn too_many(rt: HostRuntime) -> Result<(), Fail> {
+    let most = told(rt.alloc(), &many_findings(rt.alloc(), 1000)?)?;
+    assert_eq!(rt; most.len(), 1000 * LENGTH_OF_ONE);
+    for count in [1001, 50_000] {
+        let body = many_findings(rt.alloc(), count)?;
+        is_told(&rt, rt.alloc(), &body, " too-many;")?;
+    }
+    Ok(())
+}
+
+/// A report with a fact that is no object, under an identifier of so many letters.
+fn long_place(alloc: Global, letters: u32) -> Result<String, AllocError> {
+    let identifier = repeated(alloc, 'a', letters)?;
+    format!(in alloc; "{START}}},\"facts\":{{\"{identifier}\":1}}}}")
+}
+
+#[test]
+fn long_places(rt: HostRuntime) -> Result<(), Fail> {
+    let longest = told(rt.alloc(), &long_place(rt.alloc(), 1017)?)?;
+    assert!(rt; longest.ends_with("a fact;") && longest.len() == 1024 + " fact;".len());
+    for letters in [1018, 500_000] {
+        let body = long_place(rt.alloc(), letters)?;
+        is_told(&rt, rt.alloc(), &body, " too-many;")?;
+    }
+    Ok(())
+}
+
+/// A report with one fact of so many dimensions, all wrong, under an identifier of so many letters.
 fn wide(alloc: Global, letters: u32, dimensions: u32) -> Result<String, AllocError> {
-    let mut body = String::from_str(alloc, START)?;
-    body.push_str("},\"facts\":{\"")?;
-    for _ in 0..letters {
-        body.push('a')?;
-    }
-    body.push_str("\":{\"value\":\"1\",\"dimensions\":{\"first\":1")?;
-    for number in 0..dimensions {
-        body.push_str(format!(in alloc; ",\"{number:05}\":1")?.as_str())?;
-    }
-    body.push_str("}}}}")?;
-    Ok(body)
+    let identifier = repeated(alloc, 'a', letters)?;
+    let members = numbered_members(alloc, dimensions)?;
+    format!(in alloc;
+        "{START}}},\"facts\":{{\"{identifier}\":{{\"value\":\"1\",\"dimensions\":{{\"first\":1{members}}}}}}}}}"
+    )
 }
 
 #[test]
 fn a_wide_report(rt: HostRuntime) -> Result<(), Fail> {
-    let alloc = rt.alloc();
-    let judged = judge(alloc, "ACME", wide(alloc, 500_000, 50_000)?.as_bytes())?;
-    assert!(rt; is_answer(&judged, 0, &[("", "too-many")]));
-    Ok(())
+    let body = wide(rt.alloc(), 500_000, 50_000)?;
+    is_told(&rt, rt.alloc(), &body, " too-many;")
 }
