@@ -1,5 +1,5 @@
 -- A connection that is stopped at a place.
-use Rattle.std.proofs.Common.{◌≡◌, ◌≢◌, ℕ, suc, ◌+◌, List, [], ◌∷◌, ◌++◌, length, take, map, Option, Some, None, refl, sym, ap, ◌∙◌, subst, arith}
+use Rattle.std.proofs.Common.{◌≡◌, ℕ, suc, ◌+◌, List, [], ◌∷◌, ◌++◌, length, take, map, Option, Some, None, sym, ap, ◌∙◌, subst, arith}
 use Rattle.std.proofs.lemmas.Bool.Decides.{nat_tests}
 use Rattle.std.proofs.lemmas.Grind.{common_steps}
 use Rattle.std.proofs.lemmas.List.{length-append, length-map}
@@ -16,7 +16,7 @@ use Rattle.gateway_server.specs.declared.serving.Turn.{Turn}
 use Rattle.gateway_server.specs.declared.serving.Turn.TheVariants.{On, Stopped, Ended as Ends}
 use Rattle.gateway_server.specs.Answered.{IsMarked}
 use Rattle.gateway_server.specs.Progress.{HasServed, ServesConnection}
-use Rattle.gateway_server.specs.Stopping.{IsBefore, IsAfter, IsCountAtStop, IsCountAt, StopsConnection, StopsOrEnds, ServesConnectionUntil, IsCountUntil}
+use Rattle.gateway_server.specs.Stopping.{IsBefore, IsAfter, IsStoppedAfter, IsCountAtStop, IsCountAt, StopsConnection, StopsOrEnds, ServesConnectionUntil, IsCountUntil}
 use Rattle.gateway_server.proofs.Places.{marked-one, completed-one}
 use Rattle.gateway_server.proofs.Progress.{marked_on, written_on, kept_on}
 
@@ -28,12 +28,6 @@ come-next No count come before after = tt
 come-next (Before j) count come before after = omega (arith, come, before)
 come-next (After j) count come before after = omega (arith, come, after)
 
--- the same, where it wasn't stopped at all
-pub IsCountAt-next : (crash : Crash) (count new : ℕ) (turn : Turn) → turn ≢ Stopped → ComeBefore crash count → ¬ (IsBefore crash (count + 1)) → ¬ (IsAfter crash (count + 1)) → new ≡ count + 1 → IsCountAt crash new turn
-IsCountAt-next crash count new On whole come before after e = subst (ComeBefore crash) (sym e) (come-next crash count come before after)
-IsCountAt-next crash count new Stopped whole come before after e = absurd (whole refl)
-IsCountAt-next crash count new (Ends ended) whole come before after e = subst (ComeBefore crash) (sym e) (come-next crash count come before after)
-
 -- it is stopped before one more
 pub IsCountAtStop-before : (crash : Crash) (count : ℕ) → IsBefore crash (count + 1) → IsCountAtStop crash count
 IsCountAtStop-before No count here = here
@@ -41,10 +35,16 @@ IsCountAtStop-before (Before j) count here = omega (arith, here)
 IsCountAtStop-before (After j) count here = absurd here
 
 -- it is stopped after the last
-pub IsCountAtStop-after : (crash : Crash) (count : ℕ) → IsAfter crash count → IsCountAtStop crash count
+IsCountAtStop-after : (crash : Crash) (count : ℕ) → IsAfter crash count → IsCountAtStop crash count
 IsCountAtStop-after No count here = here
 IsCountAtStop-after (Before j) count here = absurd here
 IsCountAtStop-after (After j) count here = here
+
+-- one more is marked, and it isn't stopped before it
+pub IsCountAt-next : (crash : Crash) (count new : ℕ) (turn : Turn) → ComeBefore crash count → ¬ (IsBefore crash (count + 1)) → IsStoppedAfter crash (count + 1) turn → new ≡ count + 1 → IsCountAt crash new turn
+IsCountAt-next crash count new On come before stops e = subst (ComeBefore crash) (sym e) (come-next crash count come before stops)
+IsCountAt-next crash count new Stopped come before stops e = IsCountAtStop-after crash new (subst (IsAfter crash) (sym e) stops)
+IsCountAt-next crash count new (Ends ended) come before stops e = subst (ComeBefore crash) (sym e) (come-next crash count come before stops)
 
 pub ComeBefore-none : (crash : Crash) → ComeBefore crash 0
 ComeBefore-none No = tt

@@ -105,10 +105,16 @@ TellsTurn inbox On = Unit {0}
 TellsTurn inbox Stopped = Unit {0}
 TellsTurn inbox (Ends ended) = TellsLimit inbox ended
 
--- A reply of this text was written, and the connection goes on or closes; or a fault came after a part of it.
+-- it was stopped where the stop is after the request of this number, and only there
+abbrev pub IsStoppedAfter : Crash → ℕ → Turn → Type 0
+IsStoppedAfter crash number On = ¬ (IsAfter crash number)
+IsStoppedAfter crash number Stopped = IsAfter crash number
+IsStoppedAfter crash number (Ends ended) = ¬ (IsAfter crash number)
+
+-- A reply of this text was written, and the connection goes on or closes; or nothing of it, or a fault came after a part of it.
 abbrev pub Replies : Option (List ℕ) → Option (List ℕ) → List ℕ → Bool → Turn → Type 0
 Replies from to text close On = Appends from to text × (close ≡ false)
-Replies from to text close Stopped = ⊥
+Replies from to text close Stopped = to ≡ from
 Replies from to text close (Ends how.Closed) = Appends from to text × (close ≡ true)
 Replies from to text close (Ends how.InputEnded) = ⊥
 Replies from to text close (Ends (how.Fault fault)) = (sent : ℕ) × Appends from to (take sent text)

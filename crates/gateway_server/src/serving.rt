@@ -10,7 +10,7 @@ ghost use Rattle.filing_model.specs.Stopping.{Crash, ComeBefore};
 ghost use Rattle.intake_core.specs.Held.{limit_of, IsClean, Turns};
 ghost use Rattle.gateway_server.specs.Decided.{IsPhrased};
 ghost use Rattle.gateway_server.specs.Progress.{GoesOn, HasMessage, HasRefusal, ServesConnection, IsEndedBy, IsLimited, ReadsSome, TellsLimit};
-ghost use Rattle.gateway_server.specs.Stopping.{view_stop, ServesConnectionUntil, IsCountUntil, IsEndedOrStoppedBy, Continues, StopsOrEnds, IsCountAt, IsTurnBy, IsTurnByReply, TellsTurn, Replies};
+ghost use Rattle.gateway_server.specs.Stopping.{view_stop, ServesConnectionUntil, IsCountUntil, IsEndedOrStoppedBy, Continues, StopsOrEnds, IsCountAt, IsTurnBy, IsTurnByReply, TellsTurn, Replies, IsStoppedAfter};
 
 use crate::answer::{mark, mark_refusal, write_decided};
 use crate::decide::Decided;
@@ -192,10 +192,7 @@ fn serve_message<W: Sink, S: Alter>(
         Ok(decided) => decided,
         Err(_) => return Turn::Ended(Ended::Fault(ConnFault::Memory)),
     };
-    if stop.is_after(number) {
-        return Turn::Stopped;
-    }
-    reply(alloc, &decided, writer, message.head.closes())
+    reply(alloc, &decided, writer, message.head.closes(), stop, number)
 }
 
 /// Answers what was refused, and closes the connection.
@@ -220,20 +217,28 @@ fn serve_refusal<W: Sink>(
         Ok(decided) => decided,
         Err(_) => return Turn::Ended(Ended::Fault(ConnFault::Memory)),
     };
+    reply(alloc, &decided, writer, true, stop, number)
+}
+
+/// Writes what was decided of the request of this number, unless it is stopped after that. Then the
+/// connection goes on or closes.
+fn reply<W: Sink>(
+    alloc: Global,
+    decided: &Decided,
+    writer: &mut W,
+    close: bool,
+    stop: Stop,
+    number: usize,
+) -> Turn
+    requires { IsPhrased decided.now }
+    ensures written { (text : List ℕ) → IfOk decided.now.reply (λ r. render (reply_parts r) close ≡ text) → Replies (W.written writer.old) (W.written writer.new) text close result }
+    ensures stops { IsStoppedAfter (view_stop stop) number result }
+    ensures goes_on { result ≡ Turn.On → close ≡ false }
+    ensures fault { IsTurnByReply (W.write_failures writer.old) (W.write_failures writer.new) result }
+{
     if stop.is_after(number) {
         return Turn::Stopped;
     }
-    reply(alloc, &decided, writer, true)
-}
-
-/// Writes what was decided, after which the connection goes on or closes.
-fn reply<W: Sink>(alloc: Global, decided: &Decided, writer: &mut W, close: bool) -> Turn
-    requires { IsPhrased decided.now }
-    ensures written { (text : List ℕ) → IfOk decided.now.reply (λ r. render (reply_parts r) close ≡ text) → Replies (W.written writer.old) (W.written writer.new) text close result }
-    ensures goes_on { result ≡ Turn.On → close ≡ false }
-    ensures whole { result ≢ Turn.Stopped }
-    ensures fault { IsTurnByReply (W.write_failures writer.old) (W.write_failures writer.new) result }
-{
     match write_decided(alloc, decided, writer, close) {
         Ok(()) if close => Turn::Ended(Ended::Closed),
         Ok(()) => Turn::On,

@@ -10,10 +10,10 @@ use Rattle.filing_model.specs.Text.{reply_text}
 use Rattle.intake_core.specs.Held.{limit_of}
 use Rattle.gateway_server.specs.Answered.{IsDecided}
 use Rattle.gateway_server.specs.Route.{view_message}
-use Rattle.gateway_server.specs.Stopping.{IsBefore, IsAfter, view_stop}
+use Rattle.gateway_server.specs.Stopping.{IsBefore, IsStoppedAfter, view_stop}
 use Rattle.gateway_server.proofs.Lent.{lent_is, body_short}
 use Rattle.gateway_server.proofs.Stopping.{IsCountAt-next}
-use Rattle.gateway_server.proofs.Turns.{message_before, message_after, message_unmarked, message_replied}
+use Rattle.gateway_server.proofs.Turns.{message_before, message_unmarked, message_replied}
 use Rattle.gateway_server.proofs.serving.serve_message.Goals as goal
 
 pub mark-requires : goal.mark-requires
@@ -31,21 +31,6 @@ returns-then-is_before-clause-serves g c = λ clean now kept. (
       (subst (λ n. IsBefore (view_stop c.args.stop) (n + 1)) (c.len-number.ensures ∙ c.args.marks.now.ok.0) c.if-is_before.ensures),
 )
 
-pub returns-then-is_after-clause-serves : goal.returns-then-is_after-clause-serves
-returns-then-is_after-clause-serves g c = λ clean now kept.
-    let decided = c.in-Ok.ensures.marked clean now kept in (
-      decided.0,
-      decided.1,
-      λ before left left' written h.
-          let m : Message = view_message c.message-message.result in
-          let old = c.args.marks.now.items in
-          let new = c.mark.new.marks.items in
-          let same : m ≡ h.lends.request = sym (lent_is c.args.inbox.now h.lends m c.message-message.ensures) in
-          message_after (limit_of c.args.intake.now) before now left left' written (g.W.Sink.written c.args.writer.now) c.args.inbox.now old h (view_stop c.args.stop) decided.0 new
-          (subst (λ n. IsAfter (view_stop c.args.stop) (n + 1)) (c.len-number.ensures ∙ c.args.marks.now.ok.0) c.if-is_after.ensures)
-          (subst (λ (r : Message). IsDecided (limit_of c.args.intake.now) now decided.0 (Read r) old new c.in-Ok.decided) same decided.2).marked,
-    )
-
 pub returns-clause-serves : goal.returns-clause-serves
 returns-clause-serves g c = λ clean now kept.
     let decided = c.in-Ok.ensures.marked clean now kept in (
@@ -62,12 +47,12 @@ returns-clause-serves g c = λ clean now kept.
           decided.0 new (g.W.Sink.written c.reply.new.writer) c.closes.result c.reply.result (g.W.Sink.write_failures c.args.writer.now) (g.W.Sink.write_failures c.reply.new.writer)
           close is.marked
           (c.reply.ensures.written (reply_text now (Read h.lends.request) is.marked.mark) (subst (λ (b : Bool). IfOk c.in-Ok.decided.reply (λ r. render (reply_parts r) b ≡ reply_text now (Read h.lends.request) is.marked.mark)) (sym close) is.reply))
-          c.reply.ensures.fault,
+          (subst (λ n. IsStoppedAfter (view_stop c.args.stop) (n + 1) c.reply.result) (c.len-number.ensures ∙ c.args.marks.now.ok.0) c.reply.ensures.stops) c.reply.ensures.fault,
     )
 
 pub returns-clause-counted : goal.returns-clause-counted
-returns-clause-counted g c = IsCountAt-next (view_stop c.args.stop) c.len-number.result (vec_len c.mark.new.marks) c.reply.result c.reply.ensures.whole
-    (subst (ComeBefore (view_stop c.args.stop)) (sym c.len-number.ensures) c.requires.count) c.if-is_before.ensures c.if-is_after.ensures (omega (arith, c.in-Ok.ensures.counted, c.len-number.ensures))
+returns-clause-counted g c = IsCountAt-next (view_stop c.args.stop) c.len-number.result (vec_len c.mark.new.marks) c.reply.result
+    (subst (ComeBefore (view_stop c.args.stop)) (sym c.len-number.ensures) c.requires.count) c.if-is_before.ensures c.reply.ensures.stops (omega (arith, c.in-Ok.ensures.counted, c.len-number.ensures))
 
 pub returns-in-Err-clause-serves : goal.returns-in-Err-clause-serves
 returns-in-Err-clause-serves g c = λ clean now kept.
