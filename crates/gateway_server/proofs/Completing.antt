@@ -1,6 +1,6 @@
 -- The requests that marked places completed, found one after another.
-use Rattle.std.proofs.Common.{◌≡◌, ◌≢◌, ℕ, zero, suc, ◌+◌, ◌<◌, ◌≤◌, Bool, true, false, List, [], ◌∷◌, ◌++◌, length, take, drop, ◌-◌, refl, sym, ap, ◌∙◌, subst, append_assoc, arith, ⊎_elim}
-use Rattle.std.specs.Prelude.{slice_range, slice_index_or}
+use Rattle.std.proofs.Common.{◌≡◌, ◌≢◌, ℕ, ◌+◌, ◌<◌, ◌≤◌, Bool, true, false, List, [], ◌∷◌, ◌++◌, length, take, drop, ◌-◌, refl, sym, ap, ◌∙◌, subst, append_assoc, arith, ⊎_elim}
+use Rattle.std.specs.Prelude.{slice_range}
 use Rattle.std.proofs.lemmas.Grind.{common_steps}
 use Rattle.std.proofs.lemmas.Bool.{cases_Bool}
 use Rattle.http_wire.specs.declared.head.HeadFault.{HeadFault}
@@ -167,16 +167,6 @@ module _ (rest : List ℕ) (mark : Mark) (marks : List Mark) (all list : List Re
           })
           (cases_Bool (closes other.head))
 
--- the marks from a place on
-pub drop_next : (marks : List Mark) (at : ℕ) → at < length marks → (mark : Mark) × (drop at marks ≡ mark ∷ drop (suc at) marks)
-drop_next [] at within = absurd (omega (arith, within))
-drop_next (mark ∷ marks) zero within = (mark, refl)
-drop_next (mark ∷ marks) (suc at) within = drop_next marks at (omega (arith, within))
-
-pub drop_this : (marks : List Mark) (at : ℕ) (mark : Mark) → at < length marks → mark ≡ slice_index_or marks at mark → drop at marks ≡ mark ∷ drop (suc at) marks
-drop_this [] at mark within is = absurd (omega (arith, within))
-drop_this (first ∷ marks) zero mark within is = ap (λ m. m ∷ marks) (sym is)
-drop_this (first ∷ marks) (suc at) mark within is = drop_this marks at mark (omega (arith, within)) is
-
+-- no marks are left behind the last
 pub drop_all : (marks : List Mark) (at : ℕ) → length marks ≤ at → drop at marks ≡ []
 drop_all marks at past = grind (arith, common_steps)

@@ -1,6 +1,6 @@
 //! The requests that a connection completed, read again from its bytes.
 
-ghost use Rattle.std.specs.Prelude.{◌≡◌, ◌≤◌, ◌++◌, ℕ, List, length, drop, slice_index_or, ◌<◌, None, IfOk, IfSome, OnOk, MatchOption, MatchBool};
+ghost use Rattle.std.specs.Prelude.{◌≡◌, ◌≤◌, ◌++◌, ℕ, List, length, drop, None, IfOk, IfSome, OnOk, MatchOption, MatchBool};
 ghost use Rattle.http_wire.specs.Message.{Place, Ending, Read, BeginsRequest};
 ghost use Rattle.http_wire.specs.Request.{Request as Spelled};
 ghost use Rattle.filing_model.specs.Stopping.{BeginsPlaces};
@@ -21,24 +21,16 @@ pub fn completed(alloc: Global, bytes: &[u8], marks: &[Mark]) -> Result<Vec<Comp
 {
     let mut list = Vec::new(alloc);
     let mut rest = bytes;
-    for at in 0..marks.len() {
+    for mark in marks {
         match first_request(alloc, rest)? {
             Some((message, len)) => {
-                complete(alloc, mark_at(marks, at), &message, &mut list)?;
+                complete(alloc, *mark, &message, &mut list)?;
                 rest = after(rest, len);
             }
             None => return Ok(list),
         }
     }
     Ok(list)
-}
-
-/// The mark at a place.
-fn mark_at(marks: &[Mark], at: usize) -> Mark
-    requires { at < length marks.now }
-    ensures { result ≡ slice_index_or marks.now at result }
-{
-    marks[at]
 }
 
 /// The bytes after the first `len`.
