@@ -1,37 +1,65 @@
--- A place that is marked, and its reply.
-use Rattle.std.proofs.Common.{◌≡◌, ℕ, List, [], ◌∷◌, ◌++◌, Option, Result, Ok, Err, refl, sym, subst, IfOk, inr}
-use Rattle.http_wire.specs.declared.refusal.ConnFault.{ConnFault}
+-- A place that is decided, marked and answered.
+use Rattle.std.proofs.Common.{◌≡◌, ℕ, Bool, true, List, [], ◌∷◌, ◌++◌, take, Option, Result, Ok, Err, refl, sym, ap, ◌∙◌, subst, IfOk}
+use Rattle.std.specs.declared.alloc.AllocError.{AllocError}
+use Rattle.std.specs.Io.KnownBytes.{Appends}
+use Rattle.http_wire.specs.declared.refusal.Refusal.{Refusal}
+use Rattle.http_wire.specs.declared.reply.Reply.{Reply}
 use Rattle.http_wire.specs.Head.{closes}
-use Rattle.http_wire.specs.Message.{Place, Read}
+use Rattle.http_wire.specs.Message.{Place, Read, Refused}
 use Rattle.http_wire.specs.Replies.{reply_parts}
 use Rattle.http_wire.specs.Reply.{ReplyParts, render}
 use Rattle.http_wire.specs.Request.{Request as Message}
 use Rattle.filing_model.specs.declared.served.Mark.{Mark}
 use Rattle.filing_model.specs.declared.served.Mark.TheVariants.{Done, Unavailable, NotFiled}
 use Rattle.filing_model.specs.Request.{Request}
-use Rattle.filing_model.specs.Text.{Route, route, reply_text}
-use Rattle.gateway_server.specs.Answered.{IsMarked, Answers, WritesText}
+use Rattle.filing_model.specs.Text.{Route, route, reply_text, refusal_reply}
+use Rattle.gateway_server.specs.Answered.{IsMarked, IsDecided}
 use Rattle.gateway_server.specs.declared.decide.Decided.{Decided}
 use Rattle.gateway_server.specs.Decided.{Decides, marked_reply}
 
--- a marked place whose reply was written, or a part of it
-pub Answers-marked : (limit : ℕ) (before after : List Request) (place : Place) (old new : List Mark) (from to : Option (List ℕ)) (result : Result (Unit {0}) ConnFault) (marked : IsMarked limit before after place old new)
-    → WritesText from to (reply_text before place marked.mark) result → Answers limit before after place old new from to result
-Answers-marked limit before after place old new from to (Ok u) marked written = record { marked = marked; written = written }
-Answers-marked limit before after place old new from to (Err fault) marked written = inr (record { marked = marked; sent = written.0; written = written.1 })
+-- ---- what was decided
 
 reply_text-marked : (before : List Request) (m : Message) (mark : Mark) → render (marked_reply before (route m) mark) (closes m.head) ≡ reply_text before (Read m) mark
 reply_text-marked before m Done = refl
 reply_text-marked before m Unavailable = refl
 reply_text-marked before m NotFiled = refl
 
--- a message that was decided
-pub Answers-decided : (limit : ℕ) (before after : List Request) (m : Message) (to' : Route) (d : Decided) (old new : List Mark) (from to : Option (List ℕ)) (result : Result (Unit {0}) ConnFault)
-    → route m ≡ to' → Decides limit before after to' d → new ≡ old ++ d.mark ∷ []
-    → ((parts : ReplyParts) → IfOk d.reply (λ r. reply_parts r ≡ parts) → WritesText from to (render parts (closes m.head)) result)
-    → Answers limit before after (Read m) old new from to result
-Answers-decided limit before after m to' d old new from to result asked decides marks written =
+-- the bytes of a reply of these parts
+rendered : (r : Result Reply AllocError) (parts : ReplyParts) (close : Bool) (text : List ℕ) → render parts close ≡ text → IfOk r (λ reply. reply_parts reply ≡ parts) → IfOk r (λ reply. render (reply_parts reply) close ≡ text)
+rendered (Ok reply) parts close text e same = ap (λ p. render p close) same ∙ e
+rendered (Err fault) parts close text e same = tt
+
+-- a message that was decided, and its mark added
+pub IsDecided-message : (limit : ℕ) (before after : List Request) (m : Message) (to' : Route) (d : Decided) (old new : List Mark) → route m ≡ to' → Decides limit before after to' d → new ≡ old ++ d.mark ∷ [] → IsDecided limit before after (Read m) old new d
+IsDecided-message limit before after m to' d old new asked decides marks =
     let here = subst (λ (r : Route). Decides limit before after r d) (sym asked) decides in
-    Answers-marked limit before after (Read m) old new from to result
-    (record { mark = d.mark; marks = marks; fit = here.fit; kept = here.kept })
-    (subst (λ (text : List ℕ). WritesText from to text result) (reply_text-marked before m d.mark) (written (marked_reply before (route m) d.mark) here.reply))
+    record {
+      marked = record { mark = d.mark; marks = marks; fit = here.fit; kept = here.kept };
+      reply = rendered d.reply (marked_reply before (route m) d.mark) (closes m.head) (reply_text before (Read m) d.mark) (reply_text-marked before m d.mark) here.reply;
+    }
+
+-- what was refused, and its mark added
+pub IsDecided-refusal : (limit : ℕ) (before : List Request) (refusal : Refusal) (reply : Result Reply AllocError) (old new : List Mark) → IfOk reply (λ r. reply_parts r ≡ refusal_reply refusal) → new ≡ old ++ NotFiled ∷ [] → IsDecided limit before before (Refused refusal) old new (record { mark = NotFiled; reply = reply })
+IsDecided-refusal limit before refusal reply old new is marks = record {
+  marked = record { mark = NotFiled; marks = marks; fit = tt; kept = refl };
+  reply = rendered reply (refusal_reply refusal) true (render (refusal_reply refusal) true) refl is;
+}
+
+-- ---- what was written of the reply
+
+-- the reply was written
+pub record IsAnswered (limit : ℕ) (before after : List Request) (place : Place) (old new : List Mark) (from to : Option (List ℕ)) : Type 0 where
+  pub marked : IsMarked limit before after place old new
+  pub written : Appends from to (reply_text before place marked.mark)
+
+-- a part of it was
+pub record IsPartly (limit : ℕ) (before after : List Request) (place : Place) (old new : List Mark) (from to : Option (List ℕ)) : Type 0 where
+  pub marked : IsMarked limit before after place old new
+  pub sent : ℕ
+  pub written : Appends from to (take sent (reply_text before place marked.mark))
+
+-- nothing was marked, kept or written
+pub record IsUntouched (before after : List Request) (old new : List Mark) (from to : Option (List ℕ)) : Type 0 where
+  pub kept : after ≡ before
+  pub marks : new ≡ old
+  pub written : Appends from to []

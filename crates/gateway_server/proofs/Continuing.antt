@@ -21,8 +21,9 @@ use Rattle.filing_model.specs.Request.{Request}
 use Rattle.filing_model.specs.Serving.{IsServed, IsCutShort}
 use Rattle.filing_model.specs.Text.{interim_of, reply_text, next_interim}
 use Rattle.filing_model.proofs.Lists.{append_nil}
-use Rattle.gateway_server.specs.Answered.{IsAnswered, IsPartly, IsUntouched, IsReplyFault}
+use Rattle.gateway_server.specs.Answered.{IsReplyFault}
 use Rattle.gateway_server.specs.Progress.{HasServed, GoesOn, HasMessage, HasRefusal, ServesConnection}
+use Rattle.gateway_server.proofs.Answering.{IsAnswered, IsPartly, IsUntouched}
 use Rattle.gateway_server.proofs.Progress.{HasServed-none, HasServed-more, HasServed-end}
 use Rattle.gateway_server.proofs.Places.{served_last, served_push, served_part, served_read, served_asked, served_nothing, served_rest}
 

@@ -8,3 +8,6 @@ pub mod Continuing
 pub mod Lent
 pub mod Whole
 pub mod Ending
+pub mod Stopping
+pub mod Turns
+pub mod Completing

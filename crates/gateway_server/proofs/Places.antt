@@ -16,7 +16,7 @@ use Rattle.filing_model.proofs.Lists.{append_nil}
 use Rattle.gateway_server.specs.Progress.{HasServed}
 use Rattle.gateway_server.proofs.Progress.{closing, HasServed-last, HasServed-push, HasServed-cut}
 
-completed-one : (place : Place) (mark : Mark) → completed (place ∷ []) (mark ∷ []) ≡ completed_at place mark
+pub completed-one : (place : Place) (mark : Mark) → completed (place ∷ []) (mark ∷ []) ≡ completed_at place mark
 unfolding completed
 completed-one place mark = append_nil (completed_at place mark)
 
@@ -24,7 +24,7 @@ text-one : (now : List Request) (place : Place) (mark : Mark) → text now (plac
 unfolding text
 text-one now place mark = ap (λ t. interim_of place ++ t) (append_nil (reply_text now place mark))
 
-marked-one : (limit : ℕ) (now : List Request) (place : Place) (mark : Mark) → MarkFits limit now place mark → AreMarked limit now (place ∷ []) (mark ∷ [])
+pub marked-one : (limit : ℕ) (now : List Request) (place : Place) (mark : Mark) → MarkFits limit now place mark → AreMarked limit now (place ∷ []) (mark ∷ [])
 unfolding MarksFit
 marked-one limit now place mark fit = record { all = refl; fit = (fit, tt) }
 

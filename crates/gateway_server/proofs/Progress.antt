@@ -71,20 +71,20 @@ HasServed-more limit before now bytes rest more marks out h = record {
 }
 
 module _ (limit : ℕ) (before now : List Request) (bytes rest : List ℕ) (marks : List Mark) (out : List ℕ) (h : HasServed limit before now bytes rest marks out) where
-  abbrev done : List Request
+  abbrev pub done : List Request
   done = completed (map Read h.messages) marks
 
   -- marks, text and kept requests of further places
-  marked_on : (places : List Place) (ms : List Mark) → AreMarked limit now places ms → AreMarked limit before (map Read h.messages ++ places) (marks ++ ms)
+  pub marked_on : (places : List Place) (ms : List Mark) → AreMarked limit now places ms → AreMarked limit before (map Read h.messages ++ places) (marks ++ ms)
   marked_on places ms m = AreMarked-append limit before (map Read h.messages) marks places ms h.marked (are_marked_now now before done h.kept limit places ms m)
 
-  written_on : (places : List Place) (ending : Ending) (ms : List Mark) → out ++ text now places ending ms ≡ text before (map Read h.messages ++ places) ending (marks ++ ms)
+  pub written_on : (places : List Place) (ending : Ending) (ms : List Mark) → out ++ text now places ending ms ≡ text before (map Read h.messages ++ places) ending (marks ++ ms)
   written_on places ending ms =
       ap (λ o. o ++ text now places ending ms) h.written
       ∙ ap (λ t. text before (map Read h.messages) Ending.Closed marks ++ t) (text_now now before done h.kept places ending ms)
       ∙ sym (text-append before (map Read h.messages) marks places ending ms h.marked.all)
 
-  kept_on : (places : List Place) (ms : List Mark) → kept_by now (completed places ms) ≡ kept_by before (completed (map Read h.messages ++ places) (marks ++ ms))
+  pub kept_on : (places : List Place) (ms : List Mark) → kept_by now (completed places ms) ≡ kept_by before (completed (map Read h.messages ++ places) (marks ++ ms))
   kept_on places ms =
       ap (λ rs. kept_by rs (completed places ms)) h.kept
       ∙ kept_by-append before done (completed places ms)

@@ -1,38 +1,78 @@
--- What serving some bytes did, where no read and no write failed, is what the model says of all of them.
-use Rattle.std.proofs.Common.{◌≡◌, ℕ, ◌-◌, ◌^◌, ◌<◌, ◌≤◌, List, [], ◌++◌, length, Some, refl, sym, subst, inl, inr, arith}
+-- What serving some bytes did, up to its end or to a stop, where no read and no write failed, is what the model says of all of them.
+use Rattle.std.proofs.Common.{◌≡◌, ◌≢◌, ℕ, ◌-◌, ◌^◌, ◌<◌, ◌≤◌, List, [], ◌++◌, length, Option, Some, None, refl, sym, subst, inl, inr, ⊎_elim, arith}
+use Rattle.std.proofs.lemmas.Bool.Decides.{nat_tests}
 use Rattle.http_wire.specs.declared.refusal.ConnFault.TheVariants.{Read as ReadFault, Write, ReadLimit, Memory}
 use Rattle.http_wire.specs.Device.{HasFailed}
-use Rattle.http_wire.specs.Message.{Place}
+use Rattle.http_wire.specs.Message.{Place, Ending}
 use Rattle.http_wire.specs.Received.{max_reads}
 use Rattle.filing_model.specs.declared.served.Ended.{Ended}
 use Rattle.filing_model.specs.declared.served.Ended.TheVariants.{Closed, InputEnded, Fault}
 use Rattle.filing_model.specs.declared.served.Mark.{Mark}
 use Rattle.filing_model.specs.Request.{Request, firsts}
-use Rattle.filing_model.specs.Stopping.{No, IsEndOf, ServesUntil}
+use Rattle.filing_model.specs.Stopping.{Crash, No, Before, After, BeginsPlaces, IsEndOrStopOf, ServesUntil, marked}
 use Rattle.filing_model.specs.Text.{completed}
-use Rattle.filing_model.proofs.Serving.{carried}
+use Rattle.filing_model.proofs.Serving.{carried_until}
+use Rattle.filing_model.proofs.Stopping.{serves_begin}
 use Rattle.gateway_server.specs.Progress.{ServesConnection, IsEndedBy}
+use Rattle.gateway_server.specs.Stopping.{ServesConnectionUntil, IsEndedOrStoppedBy}
+use Rattle.gateway_server.proofs.Stopping.{ServesConnectionUntil-either}
 
 -- a count that stands tells no failure, as long as it counts
 no_failure : (count : ℕ) → count < 2 ^ 64 - 1 → ¬ (HasFailed count count)
 no_failure count low (inl less) = omega (arith, less)
 no_failure count low (inr full) = omega (arith, low, full)
 
-end_of_reading : (r w : ℕ) (got left : List ℕ) (ended : Ended) → r < 2 ^ 64 - 1 → w < 2 ^ 64 - 1 → (ended ≡ InputEnded → left ≡ []) → (ended ≡ Fault ReadLimit → max_reads ≤ length got) → IsEndedBy r r w w ended → IsEndOf got left ended
-end_of_reading r w got left Closed low low' at_end limited fine = tt
-end_of_reading r w got left InputEnded low low' at_end limited fine = at_end refl
-end_of_reading r w got left (Fault ReadFault) low low' at_end limited fine = absurd (no_failure r low fine.0)
-end_of_reading r w got left (Fault (Write sent)) low low' at_end limited fine = absurd (no_failure w low' fine.1)
-end_of_reading r w got left (Fault ReadLimit) low low' at_end limited fine = limited refl
-end_of_reading r w got left (Fault Memory) low low' at_end limited fine = tt
+end_until : (r w w' : ℕ) (got left : List ℕ) (ended : Option Ended) → r < 2 ^ 64 - 1 → ((sent : ℕ) → ended ≢ Some (Fault (Write sent))) → (ended ≡ Some InputEnded → left ≡ []) → (ended ≡ Some (Fault ReadLimit) → max_reads ≤ length got) → IsEndedOrStoppedBy r r w w' ended → IsEndOrStopOf got left ended
+end_until r w w' got left None low written at_end limited fine = tt
+end_until r w w' got left (Some Closed) low written at_end limited fine = tt
+end_until r w w' got left (Some InputEnded) low written at_end limited fine = at_end refl
+end_until r w w' got left (Some (Fault ReadFault)) low written at_end limited fine = absurd (no_failure r low fine.0)
+end_until r w w' got left (Some (Fault (Write sent))) low written at_end limited fine = absurd (written sent refl)
+end_until r w w' got left (Some (Fault ReadLimit)) low written at_end limited fine = limited refl
+end_until r w w' got left (Some (Fault Memory)) low written at_end limited fine = tt
 
--- after any requests whose firsts were kept
+-- after any requests whose firsts were kept, where no read failed and it didn't end by a write
+pub serves_until_whole : (limit r w w' : ℕ) (done before after : List Request) (bytes left out : List ℕ) (crash : Crash) (marks : List Mark) (ended : Option Ended) → before ≡ firsts done
+    → ServesConnectionUntil limit before after (Some bytes) (Some left) (Some []) (Some out) crash marks ended
+    → r < 2 ^ 64 - 1 → ((sent : ℕ) → ended ≢ Some (Fault (Write sent))) → IsEndedOrStoppedBy r r w w' ended
+    → (places : List Place) × ServesUntil limit done bytes crash places marks ended out × (after ≡ firsts (done ++ completed places marks))
+serves_until_whole limit r w w' done before after bytes left out crash marks ended kept served low written fine =
+    let end = end_until r w w' served.got left ended low written served.at_end served.limited fine in
+    let whole = carried_until limit done before after kept served.got left crash marks ended served.sent end served.serves in (
+      whole.0,
+      subst (λ bs. ServesUntil limit done bs crash whole.0 marks ended out) (sym served.read) (subst (λ text. ServesUntil limit done (served.got ++ left) crash whole.0 marks ended text) (sym served.wrote) whole.1),
+      whole.2,
+    )
+
+-- a writer of which no failure is counted ended nothing
+pub no_write : (r r' w : ℕ) (ended : Option Ended) → w < 2 ^ 64 - 1 → IsEndedOrStoppedBy r r' w w ended → (sent : ℕ) → ended ≢ Some (Fault (Write sent))
+no_write r r' w None low fine sent e = absurd (cc)
+no_write r r' w (Some Closed) low fine sent e = absurd (cc)
+no_write r r' w (Some InputEnded) low fine sent e = absurd (cc)
+no_write r r' w (Some (Fault ReadFault)) low fine sent e = absurd (cc)
+no_write r r' w (Some (Fault (Write other))) low fine sent e = no_failure w low fine.1
+no_write r r' w (Some (Fault ReadLimit)) low fine sent e = absurd (cc)
+no_write r r' w (Some (Fault Memory)) low fine sent e = absurd (cc)
+
+-- the same, where it wasn't to be stopped and no write failed
 pub serves_whole : (limit r w : ℕ) (done before after : List Request) (bytes left out : List ℕ) (marks : List Mark) (ended : Ended) → before ≡ firsts done → ServesConnection limit before after (Some bytes) (Some left) (Some []) (Some out) marks ended → r < 2 ^ 64 - 1 → w < 2 ^ 64 - 1 → IsEndedBy r r w w ended
     → (places : List Place) × ServesUntil limit done bytes No places marks (Some ended) out × (after ≡ firsts (done ++ completed places marks))
 serves_whole limit r w done before after bytes left out marks ended kept served low low' fine =
-    let end = end_of_reading r w served.got left ended low low' served.at_end served.limited fine in
-    let whole = carried limit done before after kept served.got left marks served.sent ended end served.serves in (
-      whole.0,
-      subst (λ bs. ServesUntil limit done bs No whole.0 marks (Some ended) out) (sym served.read) (subst (λ text. ServesUntil limit done (served.got ++ left) No whole.0 marks (Some ended) text) (sym served.wrote) whole.1),
-      whole.2,
-    )
+    serves_until_whole limit r w w done before after bytes left out No marks (Some ended) kept (ServesConnectionUntil-either limit before after (Some bytes) (Some left) (Some []) (Some out) No marks (Some ended) tt served) low (no_write r r w (Some ended) low' fine) fine
+
+-- ---- what was completed
+
+marked_few : (crash : Crash) (n : ℕ) → marked crash n ≤ n
+marked_few No n = omega arith
+marked_few (Before j) n = grind (arith, nat_tests)
+marked_few (After j) n = omega arith
+
+-- The places that the model names are some with which the bytes begin, and there are no more marks than these. So `completed` of the bytes
+-- and the marks is what the model says was completed.
+pub marked_places : (limit : ℕ) (done : List Request) (bytes : List ℕ) (crash : Crash) (places : List Place) (marks : List Mark) (ended : Option Ended) (out : List ℕ) → ServesUntil limit done bytes crash places marks ended out
+    → (ending : Ending) × BeginsPlaces bytes places ending × (length marks ≤ length places)
+marked_places limit done bytes crash places marks ended out s = (
+  s.ending,
+  serves_begin limit done bytes crash places marks ended out s,
+  ⊎_elim (λ w. omega (arith, w.all, marked_few crash (length places))) (λ c. omega (arith, c.few, marked_few crash (length places))) s.gives,
+)

@@ -1,14 +1,24 @@
 -- What answering one place does. No public clause cites this file.
-use Rattle.std.specs.Prelude.{◌≡◌, ℕ, ◌⊎◌, List, [], ◌∷◌, ◌++◌, take, Option, Result, MatchResult}
+use Rattle.std.specs.Prelude.{◌≡◌, ℕ, Bool, true, List, [], ◌∷◌, ◌++◌, take, Option, Result, IfOk, MatchResult}
+use Rattle.std.specs.declared.alloc.AllocError.{AllocError}
 use Rattle.std.specs.Io.KnownBytes.{Appends}
 use Rattle.http_wire.specs.declared.refusal.ConnFault.{ConnFault}
 use Rattle.http_wire.specs.declared.refusal.ConnFault.TheVariants.{Read as ReadFault, Write, ReadLimit, Memory}
 use Rattle.http_wire.specs.Device.{HasFailed}
-use Rattle.http_wire.specs.Message.{Place}
+use Rattle.http_wire.specs.Head.{closes}
+use Rattle.http_wire.specs.Message.{Place, Read, Refused}
+use Rattle.http_wire.specs.Replies.{reply_parts}
+use Rattle.http_wire.specs.Reply.{render}
 use Rattle.filing_model.specs.declared.served.Mark.{Mark}
 use Rattle.filing_model.specs.Request.{Request}
 use Rattle.filing_model.specs.Serving.{kept_by}
 use Rattle.filing_model.specs.Text.{MarkFits, completed_at, reply_text}
+use Rattle.gateway_server.specs.declared.decide.Decided.{Decided}
+
+-- whether the connection closes after the reply to the place
+abbrev pub closes_after : Place → Bool
+closes_after (Read message) = closes message.head
+closes_after (Refused refusal) = true
 
 -- the place has a mark more, and what is kept follows from it
 pub record IsMarked (limit : ℕ) (before after : List Request) (place : Place) (old new : List Mark) : Type 0 where
@@ -17,27 +27,15 @@ pub record IsMarked (limit : ℕ) (before after : List Request) (place : Place) 
   pub fit : MarkFits limit before place mark
   pub kept : after ≡ kept_by before (completed_at place mark)
 
--- its reply was written
-pub record IsAnswered (limit : ℕ) (before after : List Request) (place : Place) (old new : List Mark) (from to : Option (List ℕ)) : Type 0 where
+-- the place is marked, and the reply that was decided for it, if there was memory for one, is its reply
+pub record IsDecided (limit : ℕ) (before after : List Request) (place : Place) (old new : List Mark) (d : Decided) : Type 0 where
   pub marked : IsMarked limit before after place old new
-  pub written : Appends from to (reply_text before place marked.mark)
+  pub reply : IfOk d.reply (λ r. render (reply_parts r) (closes_after place) ≡ reply_text before place marked.mark)
 
--- a part of it was
-pub record IsPartly (limit : ℕ) (before after : List Request) (place : Place) (old new : List Mark) (from to : Option (List ℕ)) : Type 0 where
-  pub marked : IsMarked limit before after place old new
-  pub sent : ℕ
-  pub written : Appends from to (take sent (reply_text before place marked.mark))
-
--- nothing was marked, kept or written
-pub record IsUntouched (before after : List Request) (old new : List Mark) (from to : Option (List ℕ)) : Type 0 where
-  pub kept : after ≡ before
-  pub marks : new ≡ old
-  pub written : Appends from to []
-
-abbrev pub Answers : ℕ → List Request → List Request → Place → List Mark → List Mark → Option (List ℕ) → Option (List ℕ) → Result (Unit {0}) ConnFault → Type 0
-Answers limit before after place old new from to result =
-    MatchResult result (λ _. IsAnswered limit before after place old new from to)
-    (λ _. IsUntouched before after old new from to ⊎ IsPartly limit before after place old new from to)
+-- the place was decided, or nothing was marked and kept
+abbrev pub Marks : ℕ → List Request → List Request → Place → List Mark → List Mark → Result Decided AllocError → Type 0
+Marks limit before after place old new result =
+    MatchResult result (λ d. IsDecided limit before after place old new d) (λ _. (after ≡ before) × (new ≡ old))
 
 -- the text was written, or a part of it
 abbrev pub WritesText : Option (List ℕ) → Option (List ℕ) → List ℕ → Result (Unit {0}) ConnFault → Type 0

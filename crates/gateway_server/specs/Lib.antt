@@ -1,4 +1,5 @@
 pub mod Progress
+pub mod Stopping
 pub mod Route
 pub mod Decided
 pub mod Answered

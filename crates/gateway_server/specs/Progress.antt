@@ -1,5 +1,5 @@
 -- How far a connection was served, and what serving it to its end does.
-use Rattle.std.specs.Prelude.{◌≡◌, ℕ, ◌+◌, ◌≤◌, false, List, ◌++◌, length, map, Option, Some, None}
+use Rattle.std.specs.Prelude.{◌≡◌, ℕ, ◌+◌, ◌≤◌, false, List, ◌++◌, length, map, Option}
 use Rattle.std.specs.Io.KnownBytes.{Consumes, Appends, IsAtEnd}
 use Rattle.http_wire.specs.declared.inbox.Inbox.{Inbox}
 use Rattle.http_wire.specs.declared.refusal.ConnFault.{ConnFault}
@@ -66,11 +66,6 @@ pub record ServesConnection (limit : ℕ) (before after : List Request) (left le
   pub serves : Serves limit before after got marks ended sent
   pub at_end : ended ≡ InputEnded → IsAtEnd left'
   pub limited : ended ≡ Fault fault.ReadLimit → max_reads ≤ length got
-
--- it goes on, or it has ended so
-abbrev pub Continues : ℕ → List Request → List Request → Option (List ℕ) → Option (List ℕ) → Option (List ℕ) → Option (List ℕ) → Inbox → List Mark → Option Ended → Type 0
-Continues limit before now left left' written written' inbox marks None = GoesOn limit before now left left' written written' inbox marks
-Continues limit before now left left' written written' inbox marks (Some ended) = ServesConnection limit before now left left' written written' marks ended
 
 -- why a connection ended by a fault, by the failures of the reader and of the writer before and after: the one failed, and the other
 -- didn't; or neither did

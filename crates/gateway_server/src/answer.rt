@@ -1,15 +1,15 @@
-//! One place answered: its mark is given, and its reply written.
+//! One place answered: it is decided and marked, and then its reply is written.
 
-ghost use Rattle.std.specs.Prelude.{◌≡◌, ◌<◌, ◌≤◌, ◌+◌, ℕ, List, length, vec_len, vec_capacity, IfOk, IfErr, OnOk};
+ghost use Rattle.std.specs.Prelude.{◌≡◌, ◌<◌, ◌≤◌, ◌+◌, ℕ, List, length, vec_len, vec_capacity, IfOk, IfErr, OnOk, MatchResult};
 ghost use Rattle.http_wire.specs.Head.{max_body_len};
 ghost use Rattle.http_wire.specs.Message.{Read as ReadPlace, Refused as RefusedPlace};
 ghost use Rattle.http_wire.specs.Replies.{reply_parts};
-ghost use Rattle.http_wire.specs.Reply.{ReplyParts, render};
+ghost use Rattle.http_wire.specs.Reply.{render};
 ghost use Rattle.filing_model.specs.Request.{Request};
 ghost use Rattle.filing_model.specs.Text.{route, bare, is_head, refusal_reply, fault_reply};
 ghost use Rattle.intake_core.specs.Held.{limit_of, IsClean, Turns};
 ghost use Rattle.gateway_server.specs.Decided.{IsPhrased};
-ghost use Rattle.gateway_server.specs.Answered.{Answers, WritesText, IsReplyFault};
+ghost use Rattle.gateway_server.specs.Answered.{IsDecided, Marks, WritesText, IsReplyFault};
 ghost use Rattle.gateway_server.specs.Route.{view_message, view_route, HasFiler};
 
 use crate::decide::{Decided, decide};
@@ -20,61 +20,75 @@ use intake_core::{Intake, word_reply};
 use sqlite::Alter;
 use std::alloc::{AllocError, Global};
 
-/// Answers a message. Where memory runs out before it is decided, it has no mark.
-pub(crate) fn answer<W: Sink, S: Alter>(
+/// Decides a message and marks it. Where memory runs out before it is decided, it has no mark.
+pub(crate) fn mark<S: Alter>(
     alloc: Global,
     message: &Message,
-    writer: &mut W,
     intake: &mut Intake<S>,
     marks: &mut Vec<Mark>,
-) -> Result<(), ConnFault>
+) -> Result<Decided, AllocError>
     requires { length message.now.body.now ≤ max_body_len }
-    ensures answers { Turns S.Store intake.old intake.new (λ before after. Answers (limit_of intake.old) before after (ReadPlace (view_message message.now)) marks.old.items marks.new.items (W.written writer.old) (W.written writer.new) result) }
-    ensures counted { OnOk result (vec_len marks.new ≡ vec_len marks.old + 1) }
+    ensures marked { Turns S.Store intake.old intake.new (λ before after. Marks (limit_of intake.old) before after (ReadPlace (view_message message.now)) marks.old.items marks.new.items result) }
+    ensures phrase { IfOk result IsPhrased }
+    ensures counted { MatchResult result (λ _. vec_len marks.new ≡ vec_len marks.old + 1) (λ _. vec_len marks.new ≡ vec_len marks.old) }
     ensures clean { IsClean S.Store intake.new → IsClean S.Store intake.old }
     ensures limit { limit_of intake.new ≡ limit_of intake.old }
-    ensures fine { OnOk result (W.write_failures writer.new ≡ W.write_failures writer.old) }
-    ensures fault { IfErr result (IsReplyFault (W.write_failures writer.old) (W.write_failures writer.new)) }
 {
     marks.reserve(1)?;
     let asked = route_of(alloc, message)?;
-    answer_route(alloc, message, asked, writer, intake, marks)
+    Ok(mark_route(alloc, message, asked, intake, marks))
 }
 
-/// Answers a message that asks for this.
-fn answer_route<W: Sink, S: Alter>(
+/// Decides and marks a message that asks for this.
+fn mark_route<S: Alter>(
     alloc: Global,
     message: &Message,
     asked: Route<'_>,
-    writer: &mut W,
     intake: &mut Intake<S>,
     marks: &mut Vec<Mark>,
-) -> Result<(), ConnFault>
+) -> Decided
     requires room { vec_len marks.old < vec_capacity marks.old }
     requires body { length message.now.body.now ≤ max_body_len }
     requires filer { HasFiler asked }
     requires asked { route (view_message message.now) ≡ bare (is_head (view_message message.now)) (view_route asked message.now.body.now) }
-    ensures answers { Turns S.Store intake.old intake.new (λ before after. Answers (limit_of intake.old) before after (ReadPlace (view_message message.now)) marks.old.items marks.new.items (W.written writer.old) (W.written writer.new) result) }
-    ensures counted { OnOk result (vec_len marks.new ≡ vec_len marks.old + 1) }
+    ensures marked { Turns S.Store intake.old intake.new (λ before after. IsDecided (limit_of intake.old) before after (ReadPlace (view_message message.now)) marks.old.items marks.new.items result) }
+    ensures phrase { IsPhrased result }
+    ensures counted { vec_len marks.new ≡ vec_len marks.old + 1 }
     ensures clean { IsClean S.Store intake.new → IsClean S.Store intake.old }
     ensures limit { limit_of intake.new ≡ limit_of intake.old }
-    ensures fine { OnOk result (W.write_failures writer.new ≡ W.write_failures writer.old) }
-    ensures fault { IfErr result (IsReplyFault (W.write_failures writer.old) (W.write_failures writer.new)) }
 {
     let decided = decide(alloc, intake, asked, message.body, is_head(message));
     marks.push_reserved(decided.mark);
-    write_decided(alloc, &decided, writer, message.head.closes())
+    decided
+}
+
+/// Marks what was refused in the place of a message.
+pub(crate) fn mark_refusal(
+    alloc: Global,
+    refusal: Refusal,
+    marks: &mut Vec<Mark>,
+) -> Result<Decided, AllocError>
+    ensures marked { (limit : ℕ) (before : List Request) → Marks limit before before (RefusedPlace refusal) marks.old.items marks.new.items result }
+    ensures phrase { IfOk result IsPhrased }
+    ensures counted { MatchResult result (λ _. vec_len marks.new ≡ vec_len marks.old + 1) (λ _. vec_len marks.new ≡ vec_len marks.old) }
+{
+    marks.reserve(1)?;
+    marks.push_reserved(Mark::NotFiled);
+    Ok(Decided {
+        mark: Mark::NotFiled,
+        reply: refusal_reply(alloc, refusal),
+    })
 }
 
 /// Writes what was decided, if there was memory for it.
-fn write_decided<W: Sink>(
+pub(crate) fn write_decided<W: Sink>(
     alloc: Global,
     decided: &Decided,
     writer: &mut W,
     close: bool,
 ) -> Result<(), ConnFault>
     requires { IsPhrased decided.now }
-    ensures written { (parts : ReplyParts) → IfOk decided.now.reply (λ r. reply_parts r ≡ parts) → WritesText (W.written writer.old) (W.written writer.new) (render parts close) result }
+    ensures written { (text : List ℕ) → IfOk decided.now.reply (λ r. render (reply_parts r) close ≡ text) → WritesText (W.written writer.old) (W.written writer.new) text result }
     ensures fine { OnOk result (W.write_failures writer.new ≡ W.write_failures writer.old) }
     ensures fault { IfErr result (IsReplyFault (W.write_failures writer.old) (W.write_failures writer.new)) }
 {
@@ -82,22 +96,6 @@ fn write_decided<W: Sink>(
         Ok(reply) => write_reply(alloc, writer, reply, close),
         Err(_) => Err(ConnFault::Memory),
     }
-}
-
-/// Answers what was refused in the place of a message.
-pub(crate) fn refuse<W: Sink>(
-    alloc: Global,
-    refusal: Refusal,
-    writer: &mut W,
-    marks: &mut Vec<Mark>,
-) -> Result<(), ConnFault>
-    ensures answers { (limit : ℕ) (before : List Request) → Answers limit before before (RefusedPlace refusal) marks.old.items marks.new.items (W.written writer.old) (W.written writer.new) result }
-    ensures fine { OnOk result (W.write_failures writer.new ≡ W.write_failures writer.old) }
-    ensures fault { IfErr result (IsReplyFault (W.write_failures writer.old) (W.write_failures writer.new)) }
-{
-    marks.push(Mark::NotFiled)?;
-    let reply = refusal_reply(alloc, refusal)?;
-    write_reply(alloc, writer, &reply, true)
 }
 
 fn refusal_reply(alloc: Global, refusal: Refusal) -> Result<Reply, AllocError>

@@ -3,11 +3,15 @@
 #![tactic(auto)]
 
 mod answer;
+mod completion;
 mod decide;
 mod line;
 mod route;
 mod serving;
+mod stop;
 
+pub use completion::completed;
 pub use filing_model::{Ended, Mark};
 pub use line::fact_line;
-pub use serving::{Served, serve};
+pub use serving::{Partly, Served, serve, serve_until};
+pub use stop::Stop;

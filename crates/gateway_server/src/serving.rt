@@ -1,13 +1,20 @@
 //! Serving a connection: its places are read one after another and answered.
 
-ghost use Rattle.std.specs.Prelude.{◌≡◌, ◌-◌, ◌^◌, ◌+◌, ℕ, List, Option, Some, None, IfSome, false, vec_len};
+ghost use Rattle.std.specs.Prelude.{◌≡◌, ◌≢◌, ◌+◌, ℕ, List, Option, Some, None, IfOk, IfSome, IsSome, false, length, vec_len};
 ghost use Rattle.http_wire.specs.Inbox.{LendsFirst, is_over};
+ghost use Rattle.http_wire.specs.Replies.{reply_parts};
+ghost use Rattle.http_wire.specs.Reply.{render};
 ghost use Rattle.http_wire.specs.declared.inbox.Inbox.{Inbox};
 ghost use Rattle.filing_model.specs.Request.{Request};
+ghost use Rattle.filing_model.specs.Stopping.{Crash, ComeBefore};
 ghost use Rattle.intake_core.specs.Held.{limit_of, IsClean, Turns};
-ghost use Rattle.gateway_server.specs.Progress.{GoesOn, HasMessage, HasRefusal, ServesConnection, Continues, IsEndedBy, IsEndedByReply, IsLimited, ReadsSome, TellsLimit};
+ghost use Rattle.gateway_server.specs.Decided.{IsPhrased};
+ghost use Rattle.gateway_server.specs.Progress.{GoesOn, HasMessage, HasRefusal, ServesConnection, IsEndedBy, IsLimited, ReadsSome, TellsLimit};
+ghost use Rattle.gateway_server.specs.Stopping.{view_stop, ServesConnectionUntil, IsCountUntil, IsEndedOrStoppedBy, Continues, StopsOrEnds, IsCountAt, IsTurnBy, IsTurnByReply, TellsTurn, Replies, IsStoppedAfter};
 
-use crate::answer::{answer, refuse};
+use crate::answer::{mark, mark_refusal, write_decided};
+use crate::decide::Decided;
+use crate::stop::Stop;
 use filing_model::{Ended, Mark};
 use http_wire::{ConnFault, Inbox, Next, Refusal, Sink, Source};
 use intake_core::Intake;
@@ -20,6 +27,25 @@ pub struct Served {
     /// A mark for each request that was read, and for what was refused in the place of one.
     pub marks: Vec<Mark>,
     pub ended: Ended,
+}
+
+/// What serving a connection came to that may be stopped at one of its requests.
+#[derive(Drop)]
+pub struct Partly {
+    /// A mark for each request that was decided, and for what was refused in the place of one.
+    pub marks: Vec<Mark>,
+    /// How the connection ended; nothing where it was stopped.
+    pub ended: Option<Ended>,
+}
+
+/// What one place came to.
+#[derive(Drop)]
+enum Turn {
+    /// The connection goes on.
+    On,
+    /// It was stopped at this place.
+    Stopped,
+    Ended(Ended),
 }
 
 /// Serves a connection up to its end: reads its requests one after another, decides each on the
@@ -37,40 +63,72 @@ pub fn serve<R: Source, W: Sink, S: Alter>(
         (W.write_failures writer.new) result.ended }
     ensures limited { IsLimited (R.left reader.old) (R.left reader.new) result.ended }
 {
+    let partly = serve_until(alloc, reader, writer, intake, Stop::Never);
+    Served {
+        marks: partly.marks,
+        ended: partly.ended.unwrap(),
+    }
+}
+
+/// Serves a connection as `serve` does, up to its end or to a stop. Stopped before a request, it has
+/// read that whole, written the interim response that it asks for, and decided nothing of it. Stopped
+/// after one, it has decided and marked it too, and written nothing of its reply. A connection that
+/// ends before it comes to the stop isn't stopped.
+pub fn serve_until<R: Source, W: Sink, S: Alter>(
+    alloc: Global,
+    reader: &mut R,
+    writer: &mut W,
+    intake: &mut Intake<S>,
+    stop: Stop,
+) -> Partly
+    ensures serves { Turns S.Store intake.old intake.new (λ before after. ServesConnectionUntil (limit_of intake.old) before after (R.left reader.old) (R.left reader.new) (W.written writer.old) (W.written writer.new) (view_stop stop) result.marks.items result.ended) }
+    ensures clean { IsClean S.Store intake.new → IsClean S.Store intake.old }
+    ensures limit { limit_of intake.new ≡ limit_of intake.old }
+    ensures fault { IsEndedOrStoppedBy (R.read_failures reader.old) (R.read_failures reader.new) (W.write_failures writer.old)
+        (W.write_failures writer.new) result.ended }
+    ensures limited { IfSome result.ended (IsLimited (R.left reader.old) (R.left reader.new)) }
+    ensures counted { IsCountUntil (view_stop stop) (length result.marks.items) result.ended }
+    ensures never { stop ≡ Stop.Never → IsSome result.ended }
+{
     let mut marks = Vec::new(alloc);
     match Inbox::new(alloc) {
         Ok(mut inbox) => {
-            let ended = serve_places(alloc, &mut inbox, reader, writer, intake, &mut marks);
-            Served { marks, ended }
+            let ended = serve_places(alloc, &mut inbox, reader, writer, intake, stop, &mut marks);
+            Partly { marks, ended }
         }
-        Err(_) => Served {
+        Err(_) => Partly {
             marks,
-            ended: Ended::Fault(ConnFault::Memory),
+            ended: Some(Ended::Fault(ConnFault::Memory)),
         },
     }
 }
 
-/// Serves one place after another.
+/// Serves one place after another, and says how the connection ended unless it was stopped.
 fn serve_places<R: Source, W: Sink, S: Alter>(
     alloc: Global,
     inbox: &mut Inbox,
     reader: &mut R,
     writer: &mut W,
     intake: &mut Intake<S>,
+    stop: Stop,
     marks: &mut Vec<Mark>,
-) -> Ended
-    requires { is_over inbox.old ≡ false }
-    ensures serves { Turns S.Store intake.old intake.new (λ now after. (before : List Request) (left written : Option (List ℕ)) → GoesOn (limit_of intake.old) before now left (R.left reader.old) written (W.written writer.old) inbox.old marks.old.items → ServesConnection (limit_of intake.old) before after left (R.left reader.new) written (W.written writer.new) marks.new.items result) }
+) -> Option<Ended>
+    requires over { is_over inbox.old ≡ false }
+    requires count { ComeBefore (view_stop stop) (vec_len marks.old) }
+    ensures serves { Turns S.Store intake.old intake.new (λ now after. (before : List Request) (left written : Option (List ℕ)) → GoesOn (limit_of intake.old) before now left (R.left reader.old) written (W.written writer.old) inbox.old marks.old.items → StopsOrEnds (limit_of intake.old) before after left (R.left reader.new) written (W.written writer.new) (view_stop stop) marks.new.items result) }
+    ensures counted { IsCountUntil (view_stop stop) (vec_len marks.new) result }
     ensures clean { IsClean S.Store intake.new → IsClean S.Store intake.old }
     ensures limit { limit_of intake.new ≡ limit_of intake.old }
-    ensures fault { IsEndedBy (R.read_failures reader.old) (R.read_failures reader.new) (W.write_failures writer.old)
+    ensures fault { IsEndedOrStoppedBy (R.read_failures reader.old) (R.read_failures reader.new) (W.write_failures writer.old)
         (W.write_failures writer.new) result }
     ensures read { ReadsSome (R.left reader.old) (R.left reader.new) inbox.old inbox.new }
-    ensures told { TellsLimit inbox.new result }
+    ensures told { IfSome result (TellsLimit inbox.new) }
 {
-    loop {
-        if let Some(ended) = serve_place(alloc, inbox, reader, writer, intake, marks) {
-            return ended;
+    'places: loop {
+        match serve_place(alloc, inbox, reader, writer, intake, stop, marks) {
+            Turn::On => {}
+            Turn::Stopped => return None,
+            Turn::Ended(ended) => return Some(ended),
         }
     }
 }
@@ -82,26 +140,27 @@ fn serve_place<R: Source, W: Sink, S: Alter>(
     reader: &mut R,
     writer: &mut W,
     intake: &mut Intake<S>,
+    stop: Stop,
     marks: &mut Vec<Mark>,
-) -> Option<Ended>
-    requires { is_over inbox.old ≡ false }
-    ensures serves { Turns S.Store intake.old intake.new (λ now after. (before : List Request) (left written : Option (List ℕ)) → GoesOn (limit_of intake.old) before now left (R.left reader.old) written (W.written writer.old) inbox.old marks.old.items → Continues (limit_of intake.old) before after left (R.left reader.new) written (W.written writer.new) inbox.new marks.new.items result) }
-    ensures more { result ≡ None → is_over inbox.new ≡ false }
-    ensures counted { result ≡ None → vec_len marks.new ≡ vec_len marks.old + 1 }
+) -> Turn
+    requires over { is_over inbox.old ≡ false }
+    requires count { ComeBefore (view_stop stop) (vec_len marks.old) }
+    ensures serves { Turns S.Store intake.old intake.new (λ now after. (before : List Request) (left written : Option (List ℕ)) → GoesOn (limit_of intake.old) before now left (R.left reader.old) written (W.written writer.old) inbox.old marks.old.items → Continues (limit_of intake.old) before after left (R.left reader.new) written (W.written writer.new) inbox.new (view_stop stop) marks.new.items result) }
+    ensures more { result ≡ Turn.On → is_over inbox.new ≡ false }
+    ensures one { result ≡ Turn.On → vec_len marks.new ≡ vec_len marks.old + 1 }
+    ensures counted { IsCountAt (view_stop stop) (vec_len marks.new) result }
     ensures clean { IsClean S.Store intake.new → IsClean S.Store intake.old }
     ensures limit { limit_of intake.new ≡ limit_of intake.old }
-    ensures fine_reads { result ≡ None → R.read_failures reader.new ≡ R.read_failures reader.old }
-    ensures fine_writes { result ≡ None → W.write_failures writer.new ≡ W.write_failures writer.old }
-    ensures fault { IfSome result (IsEndedBy (R.read_failures reader.old) (R.read_failures reader.new) (W.write_failures writer.old)
-        (W.write_failures writer.new)) }
+    ensures fault { IsTurnBy (R.read_failures reader.old) (R.read_failures reader.new) (W.write_failures writer.old)
+        (W.write_failures writer.new) result }
     ensures read { ReadsSome (R.left reader.old) (R.left reader.new) inbox.old inbox.new }
-    ensures told { IfSome result (TellsLimit inbox.new) }
+    ensures told { TellsTurn inbox.new result }
 {
     match inbox.next(reader, writer) {
-        Ok(Next::Message) => serve_message(alloc, inbox, writer, intake, marks),
-        Ok(Next::Refuse(refusal)) => Some(serve_refusal(alloc, refusal, writer, marks)),
-        Ok(Next::End) => Some(Ended::InputEnded),
-        Err(fault) => Some(Ended::Fault(fault)),
+        Ok(Next::Message) => serve_message(alloc, inbox, writer, intake, stop, marks),
+        Ok(Next::Refuse(refusal)) => serve_refusal(alloc, refusal, writer, stop, marks),
+        Ok(Next::End) => Turn::Ended(Ended::InputEnded),
+        Err(fault) => Turn::Ended(Ended::Fault(fault)),
     }
 }
 
@@ -111,23 +170,29 @@ fn serve_message<W: Sink, S: Alter>(
     inbox: &Inbox,
     writer: &mut W,
     intake: &mut Intake<S>,
+    stop: Stop,
     marks: &mut Vec<Mark>,
-) -> Option<Ended>
-    requires { LendsFirst inbox.now }
-    ensures serves { Turns S.Store intake.old intake.new (λ now after. (before : List Request) (left left' written : Option (List ℕ)) → HasMessage (limit_of intake.old) before now left left' written (W.written writer.old) inbox.now marks.old.items → Continues (limit_of intake.old) before after left left' written (W.written writer.new) inbox.now marks.new.items result) }
-    ensures more { result ≡ None → is_over inbox.now ≡ false }
-    ensures counted { result ≡ None → vec_len marks.new ≡ vec_len marks.old + 1 }
+) -> Turn
+    requires lends { LendsFirst inbox.now }
+    requires count { ComeBefore (view_stop stop) (vec_len marks.old) }
+    ensures serves { Turns S.Store intake.old intake.new (λ now after. (before : List Request) (left left' written : Option (List ℕ)) → HasMessage (limit_of intake.old) before now left left' written (W.written writer.old) inbox.now marks.old.items → Continues (limit_of intake.old) before after left left' written (W.written writer.new) inbox.now (view_stop stop) marks.new.items result) }
+    ensures more { result ≡ Turn.On → is_over inbox.now ≡ false }
+    ensures one { result ≡ Turn.On → vec_len marks.new ≡ vec_len marks.old + 1 }
+    ensures counted { IsCountAt (view_stop stop) (vec_len marks.new) result }
     ensures clean { IsClean S.Store intake.new → IsClean S.Store intake.old }
     ensures limit { limit_of intake.new ≡ limit_of intake.old }
-    ensures fine { result ≡ None → W.write_failures writer.new ≡ W.write_failures writer.old }
-    ensures fault { IfSome result (IsEndedByReply (W.write_failures writer.old) (W.write_failures writer.new)) }
+    ensures fault { IsTurnByReply (W.write_failures writer.old) (W.write_failures writer.new) result }
 {
-    let message = inbox.message();
-    match answer(alloc, &message, writer, intake, marks) {
-        Ok(()) if message.head.closes() => Some(Ended::Closed),
-        Ok(()) => None,
-        Err(reply_fault) => Some(Ended::Fault(reply_fault)),
+    let number = marks.len() + 1;
+    if stop.is_before(number) {
+        return Turn::Stopped;
     }
+    let message = inbox.message();
+    let decided = match mark(alloc, &message, intake, marks) {
+        Ok(decided) => decided,
+        Err(_) => return Turn::Ended(Ended::Fault(ConnFault::Memory)),
+    };
+    reply(alloc, &decided, writer, message.head.closes(), stop, number)
 }
 
 /// Answers what was refused, and closes the connection.
@@ -135,13 +200,48 @@ fn serve_refusal<W: Sink>(
     alloc: Global,
     refusal: Refusal,
     writer: &mut W,
+    stop: Stop,
     marks: &mut Vec<Mark>,
-) -> Ended
-    ensures fault { IsEndedByReply (W.write_failures writer.old) (W.write_failures writer.new) result }
-    ensures serves { (limit : ℕ) (before now : List Request) (left left' written : Option (List ℕ)) (inbox : Inbox) → HasRefusal limit before now left left' written (W.written writer.old) inbox refusal marks.old.items → ServesConnection limit before now left left' written (W.written writer.new) marks.new.items result }
+) -> Turn
+    requires { ComeBefore (view_stop stop) (vec_len marks.old) }
+    ensures serves { (limit : ℕ) (before now : List Request) (left left' written : Option (List ℕ)) (inbox : Inbox) → HasRefusal limit before now left left' written (W.written writer.old) inbox refusal marks.old.items → Continues limit before now left left' written (W.written writer.new) inbox (view_stop stop) marks.new.items result }
+    ensures closes { result ≢ Turn.On }
+    ensures counted { IsCountAt (view_stop stop) (vec_len marks.new) result }
+    ensures fault { IsTurnByReply (W.write_failures writer.old) (W.write_failures writer.new) result }
 {
-    match refuse(alloc, refusal, writer, marks) {
-        Ok(()) => Ended::Closed,
-        Err(fault) => Ended::Fault(fault),
+    let number = marks.len() + 1;
+    if stop.is_before(number) {
+        return Turn::Stopped;
+    }
+    let decided = match mark_refusal(alloc, refusal, marks) {
+        Ok(decided) => decided,
+        Err(_) => return Turn::Ended(Ended::Fault(ConnFault::Memory)),
+    };
+    reply(alloc, &decided, writer, true, stop, number)
+}
+
+/// Writes what was decided of the request of this number, unless it is stopped after that. Then the
+/// connection goes on or closes.
+fn reply<W: Sink>(
+    alloc: Global,
+    decided: &Decided,
+    writer: &mut W,
+    close: bool,
+    stop: Stop,
+    number: usize,
+) -> Turn
+    requires { IsPhrased decided.now }
+    ensures written { (text : List ℕ) → IfOk decided.now.reply (λ r. render (reply_parts r) close ≡ text) → Replies (W.written writer.old) (W.written writer.new) text close result }
+    ensures stops { IsStoppedAfter (view_stop stop) number result }
+    ensures goes_on { result ≡ Turn.On → close ≡ false }
+    ensures fault { IsTurnByReply (W.write_failures writer.old) (W.write_failures writer.new) result }
+{
+    if stop.is_after(number) {
+        return Turn::Stopped;
+    }
+    match write_decided(alloc, decided, writer, close) {
+        Ok(()) if close => Turn::Ended(Ended::Closed),
+        Ok(()) => Turn::On,
+        Err(fault) => Turn::Ended(Ended::Fault(fault)),
     }
 }

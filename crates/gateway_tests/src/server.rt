@@ -11,6 +11,7 @@ mod facts;
 mod failing;
 mod limits;
 mod memory;
+mod stopping;
 mod streams;
 mod waiting;
 

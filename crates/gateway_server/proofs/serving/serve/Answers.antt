@@ -1,14 +1,19 @@
+use Rattle.std.proofs.Common.{Option, subst}
+use Rattle.filing_model.specs.declared.served.Ended.{Ended}
+use Rattle.filing_model.specs.Stopping.{No}
 use Rattle.intake_core.specs.Held.{limit_of}
-use Rattle.gateway_server.proofs.Continuing.{GoesOn-new, Serves-none}
+use Rattle.gateway_server.specs.Stopping.{ServesConnectionUntil}
+use Rattle.gateway_server.proofs.Stopping.{ServesConnection-ended}
 use Rattle.gateway_server.proofs.serving.serve.Goals as goal
 
-pub returns-in-Ok-clause-serves : goal.returns-in-Ok-clause-serves
-returns-in-Ok-clause-serves g c = λ clean before h.
+pub returns-clause-serves : goal.returns-clause-serves
+returns-clause-serves g c = λ clean before h.
+    let limit = limit_of c.args.intake.now in
     let left = g.R.Source.left c.args.reader.now in
+    let left' = g.R.Source.left c.serve_until-partly.new.reader in
     let written = g.W.Sink.written c.args.writer.now in
-    let served = c.serve_places-ended.ensures.serves clean before h in
-    (served.0, served.1, served.2 before left written (GoesOn-new (limit_of c.args.intake.now) before left written c.in-Ok.inbox c.new-marks.result.items c.in-Ok.ensures c.new-marks.ensures.items))
-
-pub returns-in-Err-clause-serves : goal.returns-in-Err-clause-serves
-returns-in-Err-clause-serves g c = λ clean before h.
-    (before, h, Serves-none (limit_of c.args.intake.now) before (g.R.Source.left c.args.reader.now) (g.W.Sink.written c.args.writer.now) c.new-marks.result.items c.new-marks.ensures.items)
+    let written' = g.W.Sink.written c.serve_until-partly.new.writer in
+    let marks = c.serve_until-partly.result.marks.items in
+    let served = c.serve_until-partly.ensures.serves clean before h in
+    let ended = subst (λ (how : Option Ended). ServesConnectionUntil limit before served.0 left left' written written' No marks how) c.unwrap.ensures served.2 in
+    (served.0, served.1, ServesConnection-ended limit before served.0 left left' written written' No marks c.unwrap.result ended)

@@ -1,71 +1,65 @@
-use Rattle.std.proofs.Common.{◌≡◌, length, true, false, sym, ◌∙◌, subst, ◌⊎◌, ◌≤◌}
+use Rattle.std.proofs.Common.{◌≡◌, ◌+◌, ◌≤◌, ◌∙◌, length, ap, sym, subst, IfOk, Bool, vec_len, arith}
 use Rattle.http_wire.specs.Head.{closes, max_body_len}
 use Rattle.http_wire.specs.Inbox.{held, lent_len}
 use Rattle.http_wire.specs.Message.{Read}
+use Rattle.http_wire.specs.Replies.{reply_parts}
+use Rattle.http_wire.specs.Reply.{render}
 use Rattle.http_wire.specs.Request.{Request as Message}
+use Rattle.filing_model.specs.Stopping.{ComeBefore}
+use Rattle.filing_model.specs.Text.{reply_text}
 use Rattle.intake_core.specs.Held.{limit_of}
-use Rattle.gateway_server.specs.Answered.{IsAnswered, IsUntouched, IsPartly}
+use Rattle.gateway_server.specs.Answered.{IsDecided}
 use Rattle.gateway_server.specs.Route.{view_message}
-use Rattle.gateway_server.proofs.Continuing.{Serves-closed, GoesOn-answered, Serves-unanswered, is_no_limit}
+use Rattle.gateway_server.specs.Stopping.{IsBefore, IsStoppedAfter, view_stop}
 use Rattle.gateway_server.proofs.Lent.{lent_is, body_short}
+use Rattle.gateway_server.proofs.Stopping.{IsCountAt-next}
+use Rattle.gateway_server.proofs.Turns.{message_before, message_unmarked, message_replied}
 use Rattle.gateway_server.proofs.serving.serve_message.Goals as goal
 
-pub answer-requires : goal.answer-requires
-answer-requires g c =
+pub mark-requires : goal.mark-requires
+mark-requires g c =
     let m : Message = view_message c.message-message.result in
-    let same = lent_is c.args.inbox.now c.requires m c.message-message.ensures in
-    subst (λ (r : Message). length r.body ≤ max_body_len) same (body_short (held c.args.inbox.now) c.requires.request (lent_len c.args.inbox.now) c.requires.begins)
+    let same = lent_is c.args.inbox.now c.requires.lends m c.message-message.ensures in
+    subst (λ (r : Message). length r.body ≤ max_body_len) same (body_short (held c.args.inbox.now) c.requires.lends.request (lent_len c.args.inbox.now) c.requires.lends.begins)
 
-pub returns-in-Ok-clause-serves : goal.returns-in-Ok-clause-serves
-returns-in-Ok-clause-serves g c = λ clean now kept.
-    let answered = c.in-Ok.ensures.answers clean now kept in (
-      answered.0,
-      answered.1,
+pub returns-then-is_before-clause-serves : goal.returns-then-is_before-clause-serves
+returns-then-is_before-clause-serves g c = λ clean now kept. (
+  now,
+  kept,
+  λ before left left' written h.
+      message_before (limit_of c.args.intake.now) before now left left' written (g.W.Sink.written c.args.writer.now) c.args.inbox.now c.args.marks.now.items h (view_stop c.args.stop)
+      (subst (λ n. IsBefore (view_stop c.args.stop) (n + 1)) (c.len-number.ensures ∙ c.args.marks.now.ok.0) c.if-is_before.ensures),
+)
+
+pub returns-clause-serves : goal.returns-clause-serves
+returns-clause-serves g c = λ clean now kept.
+    let decided = c.in-Ok.ensures.marked clean now kept in (
+      decided.0,
+      decided.1,
       λ before left left' written h.
           let m : Message = view_message c.message-message.result in
-          let from = g.W.Sink.written c.args.writer.now in
-          let to = g.W.Sink.written c.answer.new.writer in
           let old = c.args.marks.now.items in
-          let new = c.answer.new.marks.items in
+          let new = c.mark.new.marks.items in
           let same : m ≡ h.lends.request = sym (lent_is c.args.inbox.now h.lends m c.message-message.ensures) in
-          Serves-closed (limit_of c.args.intake.now) before now left left' written from c.args.inbox.now old h
-          answered.0 new to
-          (subst (λ (r : Message). closes r.head ≡ true) same (sym c.closes.ensures ∙ c.if-closes.true))
-          (subst (λ (r : Message). IsAnswered (limit_of c.args.intake.now) now answered.0 (Read r) old new from to) same answered.2),
+          let close : c.closes.result ≡ closes h.lends.request.head = c.closes.ensures ∙ ap (λ (r : Message). closes r.head) same in
+          let is = subst (λ (r : Message). IsDecided (limit_of c.args.intake.now) now decided.0 (Read r) old new c.in-Ok.decided) same decided.2 in
+          message_replied (limit_of c.args.intake.now) before now left left' written (g.W.Sink.written c.args.writer.now) c.args.inbox.now old h (view_stop c.args.stop)
+          decided.0 new (g.W.Sink.written c.reply.new.writer) c.closes.result c.reply.result (g.W.Sink.write_failures c.args.writer.now) (g.W.Sink.write_failures c.reply.new.writer)
+          close is.marked
+          (c.reply.ensures.written (reply_text now (Read h.lends.request) is.marked.mark) (subst (λ (b : Bool). IfOk c.in-Ok.decided.reply (λ r. render (reply_parts r) b ≡ reply_text now (Read h.lends.request) is.marked.mark)) (sym close) is.reply))
+          (subst (λ n. IsStoppedAfter (view_stop c.args.stop) (n + 1) c.reply.result) (c.len-number.ensures ∙ c.args.marks.now.ok.0) c.reply.ensures.stops) c.reply.ensures.fault,
     )
 
-pub returns-in-Ok-2-clause-serves : goal.returns-in-Ok-2-clause-serves
-returns-in-Ok-2-clause-serves g c = λ clean now kept.
-    let answered = c.in-Ok-2.ensures.answers clean now kept in (
-      answered.0,
-      answered.1,
-      λ before left left' written h.
-          let m : Message = view_message c.message-message.result in
-          let from = g.W.Sink.written c.args.writer.now in
-          let to = g.W.Sink.written c.answer.new.writer in
-          let old = c.args.marks.now.items in
-          let new = c.answer.new.marks.items in
-          let same : m ≡ h.lends.request = sym (lent_is c.args.inbox.now h.lends m c.message-message.ensures) in
-          GoesOn-answered (limit_of c.args.intake.now) before now left left' written from c.args.inbox.now old h
-          answered.0 new to
-          (subst (λ (r : Message). closes r.head ≡ false) same (sym c.closes.ensures ∙ c.if-closes.false))
-          (subst (λ (r : Message). IsAnswered (limit_of c.args.intake.now) now answered.0 (Read r) old new from to) same answered.2),
-    )
+pub returns-clause-counted : goal.returns-clause-counted
+returns-clause-counted g c = IsCountAt-next (view_stop c.args.stop) c.len-number.result (vec_len c.mark.new.marks) c.reply.result
+    (subst (ComeBefore (view_stop c.args.stop)) (sym c.len-number.ensures) c.requires.count) c.if-is_before.ensures c.reply.ensures.stops (omega (arith, c.in-Ok.ensures.counted, c.len-number.ensures))
 
 pub returns-in-Err-clause-serves : goal.returns-in-Err-clause-serves
 returns-in-Err-clause-serves g c = λ clean now kept.
-    let answered = c.in-Err.ensures.answers clean now kept in (
-      answered.0,
-      answered.1,
+    let decided = c.in-Err.ensures.marked clean now kept in (
+      decided.0,
+      decided.1,
       λ before left left' written h.
-          let m : Message = view_message c.message-message.result in
-          let from = g.W.Sink.written c.args.writer.now in
-          let to = g.W.Sink.written c.answer.new.writer in
-          let old = c.args.marks.now.items in
-          let new = c.answer.new.marks.items in
-          let same : m ≡ h.lends.request = sym (lent_is c.args.inbox.now h.lends m c.message-message.ensures) in
-          Serves-unanswered (limit_of c.args.intake.now) before now left left' written from c.args.inbox.now old h
-          answered.0 new to c.in-Err.reply_fault
-          (is_no_limit (g.W.Sink.write_failures c.args.writer.now) (g.W.Sink.write_failures c.answer.new.writer) c.in-Err.reply_fault c.in-Err.ensures.fault)
-          (subst (λ (r : Message). IsUntouched now answered.0 old new from to ⊎ IsPartly (limit_of c.args.intake.now) now answered.0 (Read r) old new from to) same answered.2),
+          message_unmarked (limit_of c.args.intake.now) before now left left' written (g.W.Sink.written c.args.writer.now) c.args.inbox.now c.args.marks.now.items h (view_stop c.args.stop)
+          decided.0 c.mark.new.marks.items decided.2.0 decided.2.1,
     )

@@ -40,9 +40,9 @@ returns-in-Ok-End-clause-serves g c = λ clean now kept. (
   λ before left written h.
       let place = rw c.in-Ok-End.field-0-is at c.in-Ok-End.ensures.place in
       let interim = rw c.in-Ok-End.field-0-is at c.in-Ok-End.ensures.interim in
-      let rest : IsRest (held c.next.new.self) = elim place.1 [ inl over ↦ absurd (true≢false (sym over ∙ c.requires)) | inr r ↦ r.0 ] in
-      let ended : IsAtEnd (g.R.Source.left c.next.new.reader) = elim place.1 [ inl over ↦ absurd (true≢false (sym over ∙ c.requires)) | inr r ↦ r.1 ] in
-      let asked : WritesAsked (g.W.Sink.written c.args.writer.now) (g.W.Sink.written c.next.new.writer) (held c.next.new.self) = elim interim [ inl over ↦ absurd (true≢false (sym over.0 ∙ c.requires)) | inr w ↦ w ] in
+      let rest : IsRest (held c.next.new.self) = elim place.1 [ inl over ↦ absurd (true≢false (sym over ∙ c.requires.over)) | inr r ↦ r.0 ] in
+      let ended : IsAtEnd (g.R.Source.left c.next.new.reader) = elim place.1 [ inl over ↦ absurd (true≢false (sym over ∙ c.requires.over)) | inr r ↦ r.1 ] in
+      let asked : WritesAsked (g.W.Sink.written c.args.writer.now) (g.W.Sink.written c.next.new.writer) (held c.next.new.self) = elim interim [ inl over ↦ absurd (true≢false (sym over.0 ∙ c.requires.over)) | inr w ↦ w ] in
       Serves-end (limit_of c.args.intake.now) before now left (g.R.Source.left c.args.reader.now) (g.R.Source.left c.next.new.reader) written (g.W.Sink.written c.args.writer.now) c.args.inbox.now c.next.new.self c.args.marks.now.items h
       c.next.ensures.reads (g.W.Sink.written c.next.new.writer) ended rest asked,
 )

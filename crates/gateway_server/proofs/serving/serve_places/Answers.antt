@@ -1,28 +1,38 @@
-use Rattle.std.proofs.Common.{◌≡◌, None, rules}
+use Rattle.std.proofs.Common.{rules}
 use Rattle.gateway_server.proofs.Ending.{ReadsSome-join}
 use Rattle.gateway_server.proofs.serving.serve_places.Goals as goal
 
--- what the last place came to, after those before it
-pub returns-in-Some-clause-serves : goal.returns-in-Some-clause-serves
-returns-in-Some-clause-serves g c = λ clean first h.
-    let goes = c.loop-ended.invariant.goes (c.serve_place.ensures.clean clean) first h in
-    let served = rw c.loop-ended.invariant.limit at (c.in-Some.ensures.serves clean goes.0 goes.1) in
+-- where it was stopped, after the places before
+pub returns-in-Stopped-clause-serves : goal.returns-in-Stopped-clause-serves
+returns-in-Stopped-clause-serves g c = λ clean first h.
+    let goes = c.places.invariant.goes (c.serve_place.ensures.clean clean) first h in
+    let served = rw c.places.invariant.limit at (c.in-Stopped.ensures.serves clean goes.0 goes.1) in
     (served.0, served.1, λ before left written on. served.2 before left written (goes.2 before left written on))
 
-pub returns-in-Some-clause-read : goal.returns-in-Some-clause-read
-returns-in-Some-clause-read g c = ReadsSome-join _ _ _ c.args.inbox.now c.loop-ended.inbox c.serve_place.new.inbox c.loop-ended.invariant.read c.serve_place.ensures.read
+pub returns-in-Stopped-clause-read : goal.returns-in-Stopped-clause-read
+returns-in-Stopped-clause-read g c = ReadsSome-join _ _ _ c.args.inbox.now c.places.inbox c.serve_place.new.inbox c.places.invariant.read c.serve_place.ensures.read
 
-pub loop-ended-preserved : goal.loop-ended-preserved
-loop-ended-preserved g c = record {
+-- what the last place came to, after those before it
+pub returns-in-Ended-clause-serves : goal.returns-in-Ended-clause-serves
+returns-in-Ended-clause-serves g c = λ clean first h.
+    let goes = c.places.invariant.goes (c.serve_place.ensures.clean clean) first h in
+    let served = rw c.places.invariant.limit at (c.in-Ended.ensures.serves clean goes.0 goes.1) in
+    (served.0, served.1, λ before left written on. served.2 before left written (goes.2 before left written on))
+
+pub returns-in-Ended-clause-read : goal.returns-in-Ended-clause-read
+returns-in-Ended-clause-read g c = ReadsSome-join _ _ _ c.args.inbox.now c.places.inbox c.serve_place.new.inbox c.places.invariant.read c.serve_place.ensures.read
+
+pub places-preserved : goal.places-preserved
+places-preserved g c = record {
   over = search rules;
+  count = search rules;
   reads = search rules;
   writes = search rules;
-  read = ReadsSome-join _ _ _ c.args.inbox.now c.loop-ended.inbox c.serve_place.new.inbox c.loop-ended.invariant.read c.serve_place.ensures.read;
+  read = ReadsSome-join _ _ _ c.args.inbox.now c.places.inbox c.serve_place.new.inbox c.places.invariant.read c.serve_place.ensures.read;
   limit = search rules;
   clean = search rules;
   goes = λ clean first h.
-      let goes = c.loop-ended.invariant.goes (c.serve_place.ensures.clean clean) first h in
-      let served = rw c.loop-ended.invariant.limit at (c.serve_place.ensures.serves clean goes.0 goes.1) in
-      let none : c.serve_place.result ≡ None = search rules in
-      (served.0, served.1, λ before left written on. rw none at (served.2 before left written (goes.2 before left written on)));
+      let goes = c.places.invariant.goes (c.serve_place.ensures.clean clean) first h in
+      let served = rw c.places.invariant.limit at (c.in-On.ensures.serves clean goes.0 goes.1) in
+      (served.0, served.1, λ before left written on. served.2 before left written (goes.2 before left written on));
 }

@@ -1,13 +1,16 @@
 use Rattle.std.proofs.Common.{◌≡◌, ℕ, ◌-◌, ◌^◌, false, List, Option, vec_len}
 use Rattle.http_wire.specs.Inbox.{is_over}
 use Rattle.filing_model.specs.Request.{Request}
+use Rattle.filing_model.specs.Stopping.{ComeBefore}
 use Rattle.intake_core.specs.Held.{limit_of, IsClean, Turns}
 use Rattle.gateway_server.specs.Progress.{GoesOn, ReadsSome}
+use Rattle.gateway_server.specs.Stopping.{view_stop}
 use Rattle.gateway_server.proofs.serving.serve_places.Given as goal
 
-abbrev pub invariant-loop-ended : goal.invariant-loop-ended
-invariant-loop-ended g l = record {
+abbrev pub invariant-places : goal.invariant-places
+invariant-places g l = record {
   over : is_over l.inbox ≡ false;
+  count : ComeBefore (view_stop l.fn.stop) (vec_len l.marks);
   reads : g.R.Source.read_failures l.reader ≡ g.R.Source.read_failures l.fn.reader;
   writes : g.W.Sink.write_failures l.writer ≡ g.W.Sink.write_failures l.fn.writer;
   read : ReadsSome (g.R.Source.left l.fn.reader) (g.R.Source.left l.reader) l.fn.inbox l.inbox;
@@ -16,5 +19,5 @@ invariant-loop-ended g l = record {
   goes : Turns g.S.Store l.fn.intake l.intake (λ now after. (before : List Request) (left written : Option (List ℕ)) → GoesOn (limit_of l.fn.intake) before now left (g.R.Source.left l.fn.reader) written (g.W.Sink.written l.fn.writer) l.fn.inbox l.fn.marks.items → GoesOn (limit_of l.fn.intake) before after left (g.R.Source.left l.reader) written (g.W.Sink.written l.writer) l.inbox l.marks.items);
 }
 
-abbrev pub decreases-loop-ended : goal.decreases-loop-ended
-decreases-loop-ended g l = 2 ^ 63 - vec_len l.marks
+abbrev pub decreases-places : goal.decreases-places
+decreases-places g l = 2 ^ 63 - vec_len l.marks

@@ -1,0 +1,172 @@
+-- The requests that marked places completed, found one after another.
+use Rattle.std.proofs.Common.{◌≡◌, ◌≢◌, ℕ, ◌+◌, ◌<◌, ◌≤◌, Bool, true, false, List, [], ◌∷◌, ◌++◌, length, take, drop, ◌-◌, refl, sym, ap, ◌∙◌, subst, append_assoc, arith, ⊎_elim}
+use Rattle.std.specs.Prelude.{slice_range}
+use Rattle.std.proofs.lemmas.Grind.{common_steps}
+use Rattle.std.proofs.lemmas.Bool.{cases_Bool}
+use Rattle.http_wire.specs.declared.head.HeadFault.{HeadFault}
+use Rattle.http_wire.specs.declared.head.HeadFault.TheVariants.{Memory}
+use Rattle.http_wire.specs.declared.refusal.Refusal.TheVariants.{Head}
+use Rattle.http_wire.specs.Block.{EndsAt, IsBlockEnd, IsWholeBlock, skipped_len, from_block}
+use Rattle.http_wire.specs.Head.{RequestParts, IsHead, IsHeadFault, body_length, closes}
+use Rattle.http_wire.specs.Message.{Place, Read, Refused, Ending, BeginsRequest}
+use Rattle.http_wire.specs.Request.{Request as Message}
+use Rattle.http_wire.proofs.BlockLemmas.{EndsAt-within}
+use Rattle.http_wire.proofs.MoreBytes.{EndsAt-more, EndsAt-front, IsBlockEnd-within, skipped_len-more, from_block-more, block-more}
+use Rattle.http_wire.proofs.Unique.{BeginsHead-unique, BeginsRequest-unique, IsRefused-excludes}
+use Rattle.filing_model.specs.declared.served.Mark.{Mark}
+use Rattle.filing_model.specs.declared.served.Mark.TheVariants.{Done, Unavailable, NotFiled}
+use Rattle.filing_model.specs.Request.{Request}
+use Rattle.filing_model.specs.Stopping.{BeginsPlaces}
+use Rattle.filing_model.specs.Text.{Route, Told, Listed, Filed, route, bare, completed, completed_at, requests_of_route}
+use Rattle.filing_model.proofs.Lists.{append_nil}
+
+-- ---- one place
+
+nothing_unavailable : (to : Route) → requests_of_route to Unavailable ≡ []
+nothing_unavailable (Told reply) = refl
+nothing_unavailable (Listed filer) = refl
+nothing_unavailable (Filed r) = refl
+
+nothing_unfiled : (to : Route) → requests_of_route to NotFiled ≡ []
+nothing_unfiled (Told reply) = refl
+nothing_unfiled (Listed filer) = refl
+nothing_unfiled (Filed r) = refl
+
+-- a message that isn't marked Done completed nothing
+pub unavailable_adds : (list : List Request) (m : Message) → list ≡ list ++ completed_at (Read m) Unavailable
+unavailable_adds list m = sym (ap (λ more. list ++ more) (nothing_unavailable (route m)) ∙ append_nil list)
+
+pub unfiled_adds : (list : List Request) (m : Message) → list ≡ list ++ completed_at (Read m) NotFiled
+unfiled_adds list m = sym (ap (λ more. list ++ more) (nothing_unfiled (route m)) ∙ append_nil list)
+
+requests_bare : (b : Bool) (to : Route) → requests_of_route (bare b to) Done ≡ requests_of_route to Done
+requests_bare true (Told reply) = refl
+requests_bare true (Listed filer) = refl
+requests_bare true (Filed r) = refl
+requests_bare false to = refl
+
+-- what a message that is marked Done completed, by what it asks for
+pub done_adds : (m : Message) (b : Bool) (to : Route) → route m ≡ bare b to → completed_at (Read m) Done ≡ requests_of_route to Done
+done_adds m b to asks = ap (λ r. requests_of_route r Done) asks ∙ requests_bare b to
+
+-- ---- the block that bytes begin with, alone
+
+module _ (front rest : List ℕ) (b : IsBlockEnd (front ++ rest) (length front)) where
+  four : 4 ≤ length front
+  four = omega (arith, (EndsAt-within (from_block (front ++ rest)) b.0 b.1.ends).0, b.2)
+
+  alone : IsWholeBlock front
+  alone =
+      let same = from_block-more front rest four in
+      let skipped = skipped_len-more front rest four in
+      let size : length (from_block front) ≡ length front - skipped_len front = grind (arith, common_steps) in
+      let within : b.0 ≤ length (from_block front) = omega (arith, b.2, skipped, size) in (
+        b.0,
+        record {
+          ends = EndsAt-front (from_block front) rest b.0 within (subst (λ text. EndsAt text b.0) same b.1.ends);
+          first = λ k low ends. b.1.first k low (subst (λ text. EndsAt text k) (sym same) (EndsAt-more (from_block front) rest k ends));
+          short = b.1.short;
+        },
+        b.2 ∙ ap (λ n. n + b.0) skipped,
+      )
+
+  alone-text : from_block front ≡ slice_range (front ++ rest) (skipped_len (front ++ rest)) (length front)
+  alone-text =
+      let whole : slice_range front (skipped_len front) (length front) ≡ from_block front = grind (arith, common_steps) in
+      sym (block-more front rest (length front) alone ∙ whole)
+
+-- the first bytes, up to the end of the block, are a whole block
+pub first_block : (bytes : List ℕ) (end : ℕ) → IsBlockEnd bytes end → IsWholeBlock (take end bytes) × (from_block (take end bytes) ≡ slice_range bytes (skipped_len bytes) end)
+first_block bytes end block =
+    let within = (IsBlockEnd-within bytes end block).2 in
+    let joined : take end bytes ++ drop end bytes ≡ bytes = grind (arith, common_steps) in
+    let count : length (take end bytes) ≡ end = grind (arith, common_steps, within) in
+    let here : IsBlockEnd (take end bytes ++ drop end bytes) (length (take end bytes)) = subst (λ bs. IsBlockEnd bs (length (take end bytes))) (sym joined) (subst (IsBlockEnd bytes) (sym count) block) in
+    (alone (take end bytes) (drop end bytes) here, alone-text (take end bytes) (drop end bytes) here ∙ ap (λ bs. slice_range bs (skipped_len bs) (length (take end bytes))) joined ∙ ap (slice_range bytes (skipped_len bytes)) count)
+
+-- ---- the request that bytes begin with
+
+module _ (bytes : List ℕ) (end : ℕ) (block : IsBlockEnd bytes end) where
+  -- its body isn't whole
+  pub none_short : (parts : RequestParts) (len : ℕ) → IsHead (slice_range bytes (skipped_len bytes) end) parts → len ≡ body_length parts → length bytes < end + len → (m : Message) (n : ℕ) → ¬ (BeginsRequest bytes m n)
+  none_short parts len head is short m n b =
+      let one = BeginsHead-unique bytes parts m.head end b.head_len (record { block = block; head = head }) b.head in
+      let size : body_length parts ≡ body_length m.head = ap body_length one.0 in
+      omega (arith, one.1, size, is, short, b.length_is, b.whole)
+
+  -- it is whole
+  pub begins_request : (parts : RequestParts) (len : ℕ) (body : List ℕ) → IsHead (slice_range bytes (skipped_len bytes) end) parts → len ≡ body_length parts → end + len ≤ length bytes → body ≡ slice_range bytes end (end + len) → BeginsRequest bytes (record { head = parts; body = body }) (end + len)
+  begins_request parts len body head is within part = record { head_len = end; head = record { block = block; head = head }; length_is = ap (λ n. end + n) is; whole = within; body = part }
+
+  -- its head has a fault
+  pub none_fault : (fault : HeadFault) → fault ≢ Memory → IsHeadFault (slice_range bytes (skipped_len bytes) end) fault → (m : Message) (n : ℕ) → ¬ (BeginsRequest bytes m n)
+  none_fault fault other is m n b = IsRefused-excludes bytes m.head b.head_len (Head fault) b.head (end, block, other, is)
+
+-- ---- one after another
+
+-- of the requests that were completed these are found, and the other marks are those of the places that the rest begins with
+pub record IsAhead (rest : List ℕ) (marks : List Mark) (all list : List Request) : Type 0 where
+  pub places : List Place
+  pub ending : Ending
+  pub begins : BeginsPlaces rest places ending
+  pub few : length marks ≤ length places
+  pub same : all ≡ list ++ completed places marks
+
+pub ahead_first : (bytes : List ℕ) (marks : List Mark) (places : List Place) (ending : Ending) → BeginsPlaces bytes places ending → length marks ≤ length places → IsAhead bytes marks (completed places marks) []
+ahead_first bytes marks places ending begins few = record { places = places; ending = ending; begins = begins; few = few; same = refl }
+
+no_marks : (places : List Place) → completed places [] ≡ []
+unfolding completed
+no_marks [] = refl
+no_marks (place ∷ places) = refl
+
+-- no marks are left
+pub ahead_none : (rest : List ℕ) (all list : List Request) → IsAhead rest [] all list → list ≡ all
+ahead_none rest all list a = sym (a.same ∙ ap (λ more. list ++ more) (no_marks a.places) ∙ append_nil list)
+
+module _ (rest : List ℕ) (mark : Mark) (marks : List Mark) (all list : List Request) where
+  -- the rest begins with no message
+  pub ahead_over : IsAhead rest (mark ∷ marks) all list → ((m : Message) (n : ℕ) → ¬ (BeginsRequest rest m n)) → list ≡ all
+  unfolding completed
+  ahead_over a none = by_places a.places a.ending a.begins a.few a.same
+    where
+      by_places : (places : List Place) (ending : Ending) → BeginsPlaces rest places ending → length (mark ∷ marks) ≤ length places → all ≡ list ++ completed places (mark ∷ marks) → list ≡ all
+      by_places [] ending begins few same = absurd (omega (arith, few))
+      by_places (Read m ∷ places) ending begins few same = absurd (none m begins.0 begins.1)
+      by_places (Refused refusal ∷ places) ending begins few same = sym (same ∙ ap (λ ps. list ++ completed ps marks) begins.1 ∙ append_nil list)
+
+  -- it begins with this message
+  pub ahead_more : IsAhead rest (mark ∷ marks) all list → (m : Message) (n : ℕ) → BeginsRequest rest m n → IsAhead (drop n rest) marks all (list ++ completed_at (Read m) mark)
+  unfolding completed
+  ahead_more a m n here = by_places a.places a.ending a.begins a.few a.same
+    where
+      by_places : (places : List Place) (ending : Ending) → BeginsPlaces rest places ending → length (mark ∷ marks) ≤ length places → all ≡ list ++ completed places (mark ∷ marks) → IsAhead (drop n rest) marks all (list ++ completed_at (Read m) mark)
+      by_places [] ending begins few same = absurd (omega (arith, few))
+      by_places (Refused refusal ∷ places) ending begins few same = absurd (IsRefused-excludes rest m.head here.head_len refusal here.head begins.0)
+      by_places (Read other ∷ places) ending (k, there, closed, open') few same =
+          let one = BeginsRequest-unique rest other m k n there here in
+          let step : all ≡ (list ++ completed_at (Read m) mark) ++ completed places marks =
+          same ∙ ap (λ (o : Message). list ++ (completed_at (Read o) mark ++ completed places marks)) one.0 ∙ sym (append_assoc list (completed_at (Read m) mark) (completed places marks)) in
+          let fewer : length marks ≤ length places = omega (arith, few) in
+          ⊎_elim
+          (λ (yes : closes other.head ≡ true).
+          let last = (closed yes).0 in
+          record {
+            places = [];
+            ending = Ending.Closed;
+            begins = tt;
+            few = subst (λ (ps : List Place). length marks ≤ length ps) last fewer;
+            same = step ∙ ap (λ (ps : List Place). (list ++ completed_at (Read m) mark) ++ completed ps marks) last;
+          })
+          (λ (no' : closes other.head ≡ false). record {
+            places = places;
+            ending = ending;
+            begins = subst (λ (j : ℕ). BeginsPlaces (drop j rest) places ending) one.1 (open' no');
+            few = fewer;
+            same = step;
+          })
+          (cases_Bool (closes other.head))
+
+-- no marks are left behind the last
+pub drop_all : (marks : List Mark) (at : ℕ) → length marks ≤ at → drop at marks ≡ []
+drop_all marks at past = grind (arith, common_steps)

@@ -1,0 +1,172 @@
+-- A connection that is stopped at a place.
+use Rattle.std.proofs.Common.{◌≡◌, ℕ, suc, ◌+◌, List, [], ◌∷◌, ◌++◌, length, take, map, Option, Some, None, sym, ap, ◌∙◌, subst, arith}
+use Rattle.std.proofs.lemmas.Bool.Decides.{nat_tests}
+use Rattle.std.proofs.lemmas.Grind.{common_steps}
+use Rattle.std.proofs.lemmas.List.{length-append, length-map}
+use Rattle.std.specs.Io.KnownBytes.{Consumes, Appends}
+use Rattle.http_wire.specs.Message.{Place, Read, Ending}
+use Rattle.filing_model.specs.declared.served.Ended.{Ended}
+use Rattle.filing_model.specs.declared.served.Mark.{Mark}
+use Rattle.filing_model.specs.Request.{Request}
+use Rattle.filing_model.specs.Serving.{kept_by, MayBegin}
+use Rattle.filing_model.specs.Stopping.{Crash, No, Before, After, ComeBefore, IsStopAt, marked}
+use Rattle.filing_model.specs.Text.{MarksFit, completed, completed_at, interim_of, text}
+use Rattle.filing_model.proofs.Lists.{append_nil}
+use Rattle.gateway_server.specs.declared.serving.Turn.{Turn}
+use Rattle.gateway_server.specs.declared.serving.Turn.TheVariants.{On, Stopped, Ended as Ends}
+use Rattle.gateway_server.specs.Answered.{IsMarked}
+use Rattle.gateway_server.specs.Progress.{HasServed, ServesConnection}
+use Rattle.gateway_server.specs.Stopping.{IsBefore, IsAfter, IsStoppedAfter, IsCountAtStop, IsCountAt, StopsConnection, StopsOrEnds, ServesConnectionUntil, IsCountUntil}
+use Rattle.gateway_server.proofs.Places.{marked-one, completed-one}
+use Rattle.gateway_server.proofs.Progress.{marked_on, written_on, kept_on}
+
+-- ---- how many marks there are
+
+-- one more than before, where it is stopped neither before nor after it
+come-next : (crash : Crash) (count : ℕ) → ComeBefore crash count → ¬ (IsBefore crash (count + 1)) → ¬ (IsAfter crash (count + 1)) → ComeBefore crash (count + 1)
+come-next No count come before after = tt
+come-next (Before j) count come before after = omega (arith, come, before)
+come-next (After j) count come before after = omega (arith, come, after)
+
+-- it is stopped before one more
+pub IsCountAtStop-before : (crash : Crash) (count : ℕ) → IsBefore crash (count + 1) → IsCountAtStop crash count
+IsCountAtStop-before No count here = here
+IsCountAtStop-before (Before j) count here = omega (arith, here)
+IsCountAtStop-before (After j) count here = absurd here
+
+-- it is stopped after the last
+IsCountAtStop-after : (crash : Crash) (count : ℕ) → IsAfter crash count → IsCountAtStop crash count
+IsCountAtStop-after No count here = here
+IsCountAtStop-after (Before j) count here = absurd here
+IsCountAtStop-after (After j) count here = here
+
+-- one more is marked, and it isn't stopped before it
+pub IsCountAt-next : (crash : Crash) (count new : ℕ) (turn : Turn) → ComeBefore crash count → ¬ (IsBefore crash (count + 1)) → IsStoppedAfter crash (count + 1) turn → new ≡ count + 1 → IsCountAt crash new turn
+IsCountAt-next crash count new On come before stops e = subst (ComeBefore crash) (sym e) (come-next crash count come before stops)
+IsCountAt-next crash count new Stopped come before stops e = IsCountAtStop-after crash new (subst (IsAfter crash) (sym e) stops)
+IsCountAt-next crash count new (Ends ended) come before stops e = subst (ComeBefore crash) (sym e) (come-next crash count come before stops)
+
+pub ComeBefore-none : (crash : Crash) → ComeBefore crash 0
+ComeBefore-none No = tt
+ComeBefore-none (Before j) = omega arith
+ComeBefore-none (After j) = omega arith
+
+-- ---- one place
+
+at-before : (crash : Crash) (count : ℕ) → IsBefore crash (count + 1) → IsStopAt crash (suc count) × (count ≡ marked crash (suc count))
+at-before No count here = absurd here
+at-before (Before j) count here = (omega (arith, here), grind (arith, nat_tests, here))
+at-before (After j) count here = absurd here
+
+at-after : (crash : Crash) (count : ℕ) → IsAfter crash (count + 1) → IsStopAt crash (suc count) × (suc count ≡ marked crash (suc count))
+at-after No count here = absurd here
+at-after (Before j) count here = absurd here
+at-after (After j) count here = (omega (arith, here), omega (arith, here))
+
+-- marks fit the first of more places
+fit-more : (limit : ℕ) (requests : List Request) (places more : List Place) (marks : List Mark) → MarksFit limit requests places marks → MarksFit limit requests (places ++ more) marks
+unfolding MarksFit
+fit-more limit requests places more [] fit = tt
+fit-more limit requests [] more (mark ∷ marks) fit = absurd fit
+fit-more limit requests (place ∷ places) more (mark ∷ marks) fit = (fit.0, fit-more limit (requests ++ completed_at place mark) places more marks fit.1)
+
+take-first : (marks : List Mark) (mark : Mark) (n : ℕ) → length marks ≡ n → take n (marks ++ mark ∷ []) ≡ marks
+take-first marks mark n all = grind (arith, common_steps, all)
+
+take-whole : (marks : List Mark) (n : ℕ) → length marks ≡ n → take n marks ≡ marks
+take-whole marks n all = grind (arith, common_steps, all)
+
+module _ (limit : ℕ) (before now : List Request) (left left' written written' : Option (List ℕ)) (got sent rest : List ℕ) (marks : List Mark) (place : Place) (read : Consumes left left' got) (wrote : Appends written written' (sent ++ interim_of place)) (h : HasServed limit before now got rest marks sent) (begins : MayBegin rest (place ∷ [])) (crash : Crash) where
+  count : length marks ≡ length h.messages
+  count = h.marked.all ∙ length-map h.messages (λ m. Read m)
+
+  written_up : sent ++ interim_of place ≡ text before (map Read h.messages ++ place ∷ []) Ending.Closed marks
+  unfolding text
+  written_up = subst (λ (ms : List Mark). sent ++ interim_of place ≡ text before (map Read h.messages ++ place ∷ []) Ending.Closed ms) (append_nil marks) (written_on limit before now got rest marks sent h (place ∷ []) Ending.Closed [])
+
+  kept_up : now ≡ kept_by before (completed (map Read h.messages ++ place ∷ []) marks)
+  unfolding completed
+  kept_up = subst (λ (ms : List Mark). now ≡ kept_by before (completed (map Read h.messages ++ place ∷ []) ms)) (append_nil marks) (kept_on limit before now got rest marks sent h (place ∷ []) [])
+
+  -- the place is known, and nothing was decided of it
+  pub StopsConnection-before : IsBefore crash (length marks + 1) → StopsConnection limit before now left left' written written' crash marks
+  StopsConnection-before stop =
+      let at = at-before crash (length h.messages) (subst (λ n. IsBefore crash (n + 1)) count stop) in
+      record {
+        got = got;
+        sent = sent ++ interim_of place;
+        read = read;
+        wrote = wrote;
+        stopped = record {
+          messages = h.messages;
+          rest = rest;
+          goes = h.goes;
+          place = place;
+          begins = begins;
+          here = at.0;
+          all = count ∙ at.1;
+          fit = fit-more limit before (map Read h.messages) (place ∷ []) marks h.marked.fit;
+          written = written_up ∙ ap (text before (map Read h.messages ++ place ∷ []) Ending.Closed) (sym (take-whole marks (length h.messages) count));
+          kept = kept_up;
+        };
+      }
+
+  -- it is marked, and nothing of its reply was written
+  pub StopsConnection-after : (after : List Request) (new : List Mark) → IsAfter crash (length marks + 1) → IsMarked limit now after place marks new → StopsConnection limit before after left left' written written' crash new
+  StopsConnection-after after new stop m =
+      let more : length new ≡ suc (length h.messages) = omega (arith, ap length m.marks, length-append marks (m.mark ∷ []), count) in
+      let at = at-after crash (length h.messages) (subst (λ n. IsAfter crash (n + 1)) count stop) in
+      let fit = (marked_on limit before now got rest marks sent h (place ∷ []) (m.mark ∷ []) (marked-one limit now place m.mark m.fit)).fit in
+      record {
+        got = got;
+        sent = sent ++ interim_of place;
+        read = read;
+        wrote = wrote;
+        stopped = record {
+          messages = h.messages;
+          rest = rest;
+          goes = h.goes;
+          place = place;
+          begins = begins;
+          here = at.0;
+          all = more ∙ at.1;
+          fit = subst (MarksFit limit before (map Read h.messages ++ place ∷ [])) (sym m.marks) fit;
+          written = written_up ∙ ap (text before (map Read h.messages ++ place ∷ []) Ending.Closed) (sym (ap (take (length h.messages)) m.marks ∙ take-first marks m.mark (length h.messages) count));
+          kept = m.kept ∙ ap (kept_by now) (sym (completed-one place m.mark)) ∙ kept_on limit before now got rest marks sent h (place ∷ []) (m.mark ∷ []) ∙ ap (λ ms. kept_by before (completed (map Read h.messages ++ place ∷ []) ms)) (sym m.marks);
+        };
+      }
+
+-- ---- the whole connection
+
+-- it was stopped, or has ended before the place to stop at
+pub ServesConnectionUntil-either : (limit : ℕ) (before after : List Request) (left left' written written' : Option (List ℕ)) (crash : Crash) (marks : List Mark) (ended : Option Ended) → IsCountUntil crash (length marks) ended → StopsOrEnds limit before after left left' written written' crash marks ended → ServesConnectionUntil limit before after left left' written written' crash marks ended
+ServesConnectionUntil-either limit before after left left' written written' crash marks None count s = record {
+  got = s.got;
+  sent = s.sent;
+  read = s.read;
+  wrote = s.wrote;
+  serves = s.stopped;
+  at_end = λ e. absurd (cc);
+  limited = λ e. absurd (cc);
+}
+ServesConnectionUntil-either limit before after left left' written written' crash marks (Some ended) count s = record {
+  got = s.got;
+  sent = s.sent;
+  read = s.read;
+  wrote = s.wrote;
+  serves = (s.serves, count);
+  at_end = λ e. s.at_end (cc);
+  limited = λ e. s.limited (cc);
+}
+
+-- where it ended, it was served to its end
+pub ServesConnection-ended : (limit : ℕ) (before after : List Request) (left left' written written' : Option (List ℕ)) (crash : Crash) (marks : List Mark) (ended : Ended) → ServesConnectionUntil limit before after left left' written written' crash marks (Some ended) → ServesConnection limit before after left left' written written' marks ended
+ServesConnection-ended limit before after left left' written written' crash marks ended s = record {
+  got = s.got;
+  sent = s.sent;
+  read = s.read;
+  wrote = s.wrote;
+  serves = s.serves.0;
+  at_end = λ e. s.at_end (ap Some e);
+  limited = λ e. s.limited (ap Some e);
+}

@@ -1,0 +1,120 @@
+-- What serving a connection does that may be stopped at one of its requests.
+use Rattle.std.specs.Prelude.{◌≡◌, ℕ, suc, ◌≤◌, max, Bool, true, false, List, length, take, Option, Some, None}
+use Rattle.std.specs.Io.KnownBytes.{Consumes, Appends, IsAtEnd}
+use Rattle.http_wire.specs.declared.inbox.Inbox.{Inbox}
+use Rattle.http_wire.specs.declared.refusal.ConnFault.TheVariants as fault
+use Rattle.http_wire.specs.Device.{NoneFailed}
+use Rattle.http_wire.specs.Received.{max_reads}
+use Rattle.filing_model.specs.declared.served.Ended.{Ended}
+use Rattle.filing_model.specs.declared.served.Ended.TheVariants as how
+use Rattle.filing_model.specs.declared.served.Mark.{Mark}
+use Rattle.filing_model.specs.Request.{Request}
+use Rattle.filing_model.specs.Stopping.{Crash, No, Before, After, ComeBefore, IsStopped, StopsOrServes}
+use Rattle.gateway_server.specs.declared.serving.Turn.{Turn}
+use Rattle.gateway_server.specs.declared.serving.Turn.TheVariants.{On, Stopped, Ended as Ends}
+use Rattle.gateway_server.specs.declared.stop.Stop.{Stop}
+use Rattle.gateway_server.specs.declared.stop.Stop.TheVariants as stop
+use Rattle.gateway_server.specs.Progress.{GoesOn, ServesConnection, IsEndedBy, IsEndedByReply, TellsLimit}
+
+-- the stop as the model has it
+abbrev pub view_stop : Stop → Crash
+view_stop stop.Never = No
+view_stop (stop.Before number) = Before number
+view_stop (stop.After number) = After number
+
+-- what the connection came to, up to its end or to the stop
+pub record ServesConnectionUntil (limit : ℕ) (before after : List Request) (left left' written written' : Option (List ℕ)) (crash : Crash) (marks : List Mark) (ended : Option Ended) : Type 0 where
+  pub got : List ℕ
+  pub sent : List ℕ
+  pub read : Consumes left left' got
+  pub wrote : Appends written written' sent
+  pub serves : StopsOrServes limit before after got crash marks ended sent
+  pub at_end : ended ≡ Some how.InputEnded → IsAtEnd left'
+  pub limited : ended ≡ Some (how.Fault fault.ReadLimit) → max_reads ≤ length got
+
+-- So many marks there are where it was stopped: those of the requests before the one to stop at, and where it stopped after that, its mark too.
+abbrev pub IsCountAtStop : Crash → ℕ → Type 0
+IsCountAtStop No count = ⊥
+IsCountAtStop (Before j) count = suc count ≡ max 1 j
+IsCountAtStop (After j) count = count ≡ max 1 j
+
+-- So many marks there are where it was stopped, or where it ended before the request to stop at.
+abbrev pub IsCountUntil : Crash → ℕ → Option Ended → Type 0
+IsCountUntil crash count None = IsCountAtStop crash count
+IsCountUntil crash count (Some ended) = ComeBefore crash count
+
+-- why it ended; where it was stopped, neither the reader nor the writer failed
+abbrev pub IsEndedOrStoppedBy : ℕ → ℕ → ℕ → ℕ → Option Ended → Type 0
+IsEndedOrStoppedBy read read' write write' None = NoneFailed read read' write write'
+IsEndedOrStoppedBy read read' write write' (Some ended) = IsEndedBy read read' write write' ended
+
+-- ---- of a part of a connection; no public clause cites what follows
+
+-- the stop is before the request of this number is decided
+abbrev pub IsBefore : Crash → ℕ → Type 0
+IsBefore No number = ⊥
+IsBefore (Before j) number = number ≡ max 1 j
+IsBefore (After j) number = ⊥
+
+-- the stop is after the request of this number is decided
+abbrev pub IsAfter : Crash → ℕ → Type 0
+IsAfter No number = ⊥
+IsAfter (Before j) number = ⊥
+IsAfter (After j) number = number ≡ max 1 j
+
+-- what a connection came to that was stopped
+pub record StopsConnection (limit : ℕ) (before after : List Request) (left left' written written' : Option (List ℕ)) (crash : Crash) (marks : List Mark) : Type 0 where
+  pub got : List ℕ
+  pub sent : List ℕ
+  pub read : Consumes left left' got
+  pub wrote : Appends written written' sent
+  pub stopped : IsStopped limit before after got crash marks sent
+
+-- it goes on, or was stopped, or has ended so
+abbrev pub Continues : ℕ → List Request → List Request → Option (List ℕ) → Option (List ℕ) → Option (List ℕ) → Option (List ℕ) → Inbox → Crash → List Mark → Turn → Type 0
+Continues limit before now left left' written written' inbox crash marks On = GoesOn limit before now left left' written written' inbox marks
+Continues limit before now left left' written written' inbox crash marks Stopped = StopsConnection limit before now left left' written written' crash marks
+Continues limit before now left left' written written' inbox crash marks (Ends ended) = ServesConnection limit before now left left' written written' marks ended
+
+-- it was stopped, or has ended so
+abbrev pub StopsOrEnds : ℕ → List Request → List Request → Option (List ℕ) → Option (List ℕ) → Option (List ℕ) → Option (List ℕ) → Crash → List Mark → Option Ended → Type 0
+StopsOrEnds limit before now left left' written written' crash marks None = StopsConnection limit before now left left' written written' crash marks
+StopsOrEnds limit before now left left' written written' crash marks (Some ended) = ServesConnection limit before now left left' written written' marks ended
+
+-- so many marks there are after it
+abbrev pub IsCountAt : Crash → ℕ → Turn → Type 0
+IsCountAt crash count On = ComeBefore crash count
+IsCountAt crash count Stopped = IsCountAtStop crash count
+IsCountAt crash count (Ends ended) = ComeBefore crash count
+
+-- by the failures of the reader and of the writer before and after: neither failed, unless it ended so
+abbrev pub IsTurnBy : ℕ → ℕ → ℕ → ℕ → Turn → Type 0
+IsTurnBy read read' write write' On = NoneFailed read read' write write'
+IsTurnBy read read' write write' Stopped = NoneFailed read read' write write'
+IsTurnBy read read' write write' (Ends ended) = IsEndedBy read read' write write' ended
+
+-- the same of an answer, by the failures of the writer
+abbrev pub IsTurnByReply : ℕ → ℕ → Turn → Type 0
+IsTurnByReply failures failures' On = failures' ≡ failures
+IsTurnByReply failures failures' Stopped = failures' ≡ failures
+IsTurnByReply failures failures' (Ends ended) = IsEndedByReply failures failures' ended
+
+-- which fault ended it, if one did
+abbrev pub TellsTurn : Inbox → Turn → Type 0
+TellsTurn inbox On = Unit {0}
+TellsTurn inbox Stopped = Unit {0}
+TellsTurn inbox (Ends ended) = TellsLimit inbox ended
+
+-- it was stopped where the stop is after the request of this number, and only there
+abbrev pub IsStoppedAfter : Crash → ℕ → Turn → Type 0
+IsStoppedAfter crash number On = ¬ (IsAfter crash number)
+IsStoppedAfter crash number Stopped = IsAfter crash number
+IsStoppedAfter crash number (Ends ended) = ¬ (IsAfter crash number)
+
+-- A reply of this text was written, and the connection goes on or closes; or nothing of it, or a fault came after a part of it.
+abbrev pub Replies : Option (List ℕ) → Option (List ℕ) → List ℕ → Bool → Turn → Type 0
+Replies from to text close On = Appends from to text × (close ≡ false)
+Replies from to text close Stopped = to ≡ from
+Replies from to text close (Ends how.Closed) = Appends from to text × (close ≡ true)
+Replies from to text close (Ends how.InputEnded) = ⊥
+Replies from to text close (Ends (how.Fault fault)) = (sent : ℕ) × Appends from to (take sent text)
