@@ -1,0 +1,7 @@
+mod Bytes
+mod Digits
+mod Fitting
+mod Heads
+mod Keys
+mod Parts
+mod Reading

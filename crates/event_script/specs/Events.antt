@@ -1,0 +1,23 @@
+-- Events without where they lie in memory: what the world knows them as.
+use Rattle.filing_model.specs.Stopping.{Crash}
+use Rattle.filing_world.specs.World.{Event}
+use Rattle.event_script.specs.declared.event.Crash.{Crash as Told}
+use Rattle.event_script.specs.declared.event.Crash.TheVariants as told
+use Rattle.event_script.specs.declared.event.Event.{Event as Listed}
+use Rattle.event_script.specs.declared.event.Event.TheVariants as listed
+
+-- where an end stops
+abbrev pub view_crash : Told → Crash
+view_crash told.No = Crash.No
+view_crash (told.Before place) = Crash.Before place
+view_crash (told.After place) = Crash.After place
+
+-- what happens
+abbrev pub view_event : Listed → Event
+view_event (listed.Put outbox key body) = Event.Put outbox key body.items
+view_event (listed.Send outbox entry) = Event.Send outbox entry
+view_event (listed.Stranger bytes) = Event.Stranger bytes.items
+view_event (listed.Deliver item bytes crash) = Event.Deliver item bytes (view_crash crash)
+view_event (listed.Hand output bytes crash) = Event.Hand output bytes (view_crash crash)
+view_event listed.RestartServer = Event.RestartServer
+view_event (listed.RestartOutbox outbox) = Event.RestartOutbox outbox

@@ -1,0 +1,5 @@
+pub mod Events
+pub mod Words
+pub mod Lines
+pub mod Text
+pub mod Scripts

@@ -1,0 +1,5 @@
+pub mod Entries
+pub mod GoingThrough
+pub mod Hearing
+pub mod Lending
+pub mod Steps

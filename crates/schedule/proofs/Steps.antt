@@ -1,0 +1,163 @@
+-- What each event did to the parts of a world, said as its step.
+use Rattle.std.proofs.Common.{◌≡◌, ℕ, zero, suc, true, false, List, [], ◌∷◌, ◌++◌, Option, Some, None, Result, Ok, Err, refl, sym, ap, ap₂, take, ◌∙◌, subst, inl, inr, slice_get, slice_set, slice_index_or, ◌<◌, ◌⊎◌, OnOk, length, arith}
+use Rattle.key_string.specs.Key.{IsKey}
+use Rattle.http_wire.specs.Message.{Place}
+use Rattle.http_wire.specs.Reply.{ReplyParts}
+use Rattle.filing_model.specs.declared.served.Mark.{Mark}
+use Rattle.filing_model.specs.declared.served.Ended.{Ended}
+use Rattle.filing_model.specs.Outbox.{Entry, request_of, bytes_of}
+use Rattle.filing_model.specs.Stopping.{Crash, ServesUntil}
+use Rattle.filing_model.specs.Text.{completed}
+use Rattle.filing_world.specs.World.{Outbox, Sent, Output, numbered, renewed}
+use Rattle.filing_world.specs.Step.{Puts, Sends, Delivers, Hands, Restarts, Hears, with_entry, box_after, is_no, IsAway}
+use Rattle.filing_world.specs.Invariant.{AllOwn}
+use Rattle.schedule.specs.declared.fault.Cause.{Cause}
+use Rattle.schedule.specs.declared.fault.Cause.TheVariants as cause
+use Rattle.schedule.specs.declared.fault.Fault.TheVariants as fault
+use Rattle.schedule.specs.Faults.{fault_at}
+use Rattle.schedule.specs.Played.{Served, world_of, IsRequest}
+
+-- the element at a place within a list
+pub element_at : {X : Type 0} → (xs : List X) (at : ℕ) (x : X) → at < length xs → x ≡ slice_index_or xs at x → slice_get xs at ≡ Some x
+element_at [] at x within is = absurd (omega (arith, within))
+element_at (y ∷ ys) zero x within is = ap Some (sym is)
+element_at (y ∷ ys) (suc at) x within is = element_at ys at x (omega (arith, within)) is
+
+-- what is there stands at its place
+pub element_is : {X : Type 0} → (xs : List X) (at : ℕ) (x y : X) → slice_get xs at ≡ Some x → y ≡ slice_index_or xs at y → y ≡ x
+element_is [] at x y there is = absurd (cc)
+element_is (z ∷ zs) zero x y there is = let e : z ≡ x = cc in is ∙ e
+element_is (z ∷ zs) (suc at) x y there is = element_is zs at x y there is
+
+-- there is nothing past the end
+pub none_past : {X : Type 0} → (xs : List X) (number : ℕ) → (number ≡ 0) ⊎ (length xs < number) → numbered xs number ≡ None
+none_past xs zero past = refl
+none_past xs (suc at) (inl zero_is) = absurd (omega (arith, zero_is))
+none_past [] (suc at) (inr past) = refl
+none_past (x ∷ xs) (suc zero) (inr past) = absurd (omega (arith, past))
+none_past (x ∷ xs) (suc (suc at)) (inr past) = none_past xs (suc at) (inr (omega (arith, past)))
+
+pub named : {X : Type 0} → (xs : List X) (number at : ℕ) (x : X) → number ≡ suc at → slice_get xs at ≡ Some x → numbered xs number ≡ Some x
+named xs number at x is here = subst (λ n. numbered xs n ≡ Some x) (sym is) here
+
+-- no outbox has a number past the end
+pub away_past : (boxes : List Outbox) (number : ℕ) → (number ≡ 0) ⊎ (length boxes < number) → IsAway boxes number
+away_past boxes number past = λ box there. let none = none_past boxes number past in absurd (cc)
+
+-- one that is down is away
+pub away_down : (boxes : List Outbox) (number at : ℕ) (box : Outbox) → number ≡ suc at → slice_get boxes at ≡ Some box → box.up ≡ false → IsAway boxes number
+away_down boxes number at box is here down = λ other there.
+    let first = named boxes number at box is here in
+    let same : box ≡ other = cc in
+    subst (λ (b : Outbox). b.up ≡ false) same down
+
+-- an element that is set to itself
+pub set_same : {X : Type 0} → (xs : List X) (k : ℕ) (x : X) → slice_get xs k ≡ Some x → slice_set xs k x ≡ xs
+set_same [] k x h = absurd (cc)
+set_same (y ∷ ys) zero x h = let e : y ≡ x = cc in ap (λ z. z ∷ ys) (sym e)
+set_same (y ∷ ys) (suc k) x h = ap (λ zs. y ∷ zs) (set_same ys k x h)
+
+module _ (boxes : List Outbox) (at number : ℕ) (is : number ≡ suc at) (box : Outbox) (here : slice_get boxes at ≡ Some box) where
+  set : (new : Outbox) → slice_set boxes at new ≡ renewed boxes number new
+  set new = ap (λ n. renewed boxes n new) (sym is)
+
+  pub put_step : box.up ≡ true → (entry : Entry) (new : Outbox) (result : Result (Unit {0}) Cause) → OnOk result (new ≡ with_entry box entry) → OnOk result (IsKey entry.key)
+      → OnOk result ((server : Served) (sent : List Sent) (outputs : List Output) → Puts (world_of server sent outputs boxes) number entry (world_of server sent outputs (slice_set boxes at new)))
+  put_step up entry new (Ok u) becomes key = λ server sent outputs. record {
+    is_key = key;
+    box = box;
+    here = named boxes number at box is here;
+    up = up;
+    becomes = ap (world_of server sent outputs) (set new ∙ ap (renewed boxes number) becomes);
+  }
+  put_step up entry new (Err e) becomes key = tt
+
+  pub send_step : box.up ≡ true → (entry : ℕ) (text : List ℕ) (sent more : List Sent) (new : Outbox) → IsRequest box entry text → new ≡ box → more ≡ sent ++ record { from = Some (number, entry); bytes = text } ∷ []
+      → (server : Served) (outputs : List Output) → Sends (world_of server sent outputs boxes) number entry (world_of server more outputs (slice_set boxes at new))
+  send_step up entry text sent more new request same pushed server outputs = record {
+    box = box;
+    here = named boxes number at box is here;
+    up = up;
+    what = request.entry;
+    there = request.there;
+    becomes =
+        let lists : more ≡ sent ++ record { from = Some (number, entry); bytes = bytes_of (request_of box.filer request.entry) } ∷ [] = pushed ∙ ap (λ bs. sent ++ record { from = Some (number, entry); bytes = bs } ∷ []) request.bytes in
+        let kept : slice_set boxes at new ≡ boxes = ap (slice_set boxes at) same ∙ set_same boxes at box here in
+        λ i. world_of server (lists i) outputs (kept i);
+  }
+
+  -- no entry of the outbox has the number
+  pub no_entry : (entry : ℕ) → numbered box.entries entry ≡ None → (other : Outbox) → numbered boxes number ≡ Some other → numbered other.entries entry ≡ None
+  no_entry entry none other there =
+      let same : box ≡ other = let first = named boxes number at box is here in cc in
+      subst (λ (b : Outbox). numbered b.entries entry ≡ None) same none
+
+  pub hand_step : box.up ≡ true → (sent : List Sent) (outputs : List Output) (output given entry : ℕ) (crash : Crash) (from : Output) (item : Sent) → numbered outputs output ≡ Some from → numbered sent from.item ≡ Some item → item.from ≡ Some (number, entry)
+      → (new : Outbox) (result : Result (Unit {0}) Cause)
+      → OnOk result ((what : Entry) → numbered box.entries entry ≡ Some what → (heard : Option ReplyParts) × Hears (take given from.bytes) crash heard × (new ≡ box_after box entry what heard crash))
+      → OnOk result ((server : Served) → AllOwn boxes sent → Hands (world_of server sent outputs boxes) output given crash (world_of server sent outputs (slice_set boxes at new)))
+  hand_step up sent outputs output given entry crash from item out_here item_here sender new (Err e) moves = tt
+  hand_step up sent outputs output given entry crash from item out_here item_here sender new (Ok u) moves = λ server own.
+      let its = own_entry sent from.item item item_here sender own in
+      let step = moves its.0 its.1 in record {
+        from = from;
+        here = out_here;
+        item = item;
+        item_here = item_here;
+        outbox = number;
+        number = entry;
+        sender = sender;
+        box = box;
+        box_here = named boxes number at box is here;
+        up = up;
+        entry = its.0;
+        entry_here = its.1;
+        heard = step.0;
+        hears = step.1;
+        becomes = ap (world_of server sent outputs) (set new ∙ ap (renewed boxes number) step.2);
+      }
+    where
+      own_entry : (sent : List Sent) (k : ℕ) (item : Sent) → numbered sent k ≡ Some item → item.from ≡ Some (number, entry) → AllOwn boxes sent → (what : Entry) × (numbered box.entries entry ≡ Some what)
+      own_entry sent zero item there sender own = absurd (cc)
+      own_entry sent (suc k) item there sender own =
+          let its = own k number entry item there sender in
+          let same : its.box ≡ box = let first = named boxes number at box is here in let second = its.here in cc in
+          (its.entry, subst (λ (b : Outbox). numbered b.entries entry ≡ Some its.entry) same its.there)
+
+  pub restart_step : (new : Outbox) (result : Result (Unit {0}) Cause) → OnOk result (new ≡ record box { up = true })
+      → OnOk result ((server : Served) (sent : List Sent) (outputs : List Output) → Restarts (world_of server sent outputs boxes) number (world_of server sent outputs (slice_set boxes at new)))
+  restart_step new (Err e) becomes = tt
+  restart_step new (Ok u) becomes = λ server sent outputs. record {
+    box = box;
+    here = named boxes number at box is here;
+    becomes = ap (world_of server sent outputs) (set new ∙ ap (renewed boxes number) becomes);
+  }
+
+-- what was delivered and served
+pub deliver_step : (old new : Served) (sent : List Sent) (outputs after : List Output) (outboxes : List Outbox) (item bytes : ℕ) (crash : Crash) (from : Sent) → numbered sent item ≡ Some from → old.up ≡ true
+    → (before given : ℕ) (marks : List Mark) (ended : Option Ended) (out : List ℕ)
+    → given ≡ length (take bytes from.bytes) → before ≡ length old.done
+    → (places : List Place) × ServesUntil old.limit old.done (take bytes from.bytes) crash places marks ended out × (new ≡ record old { done = old.done ++ completed places marks; up = is_no crash })
+    → after ≡ outputs ++ record { item = item; given = given; before = before; marks = marks; ended = ended; bytes = out } ∷ []
+    → Delivers (world_of old sent outputs outboxes) item bytes crash (world_of new sent after outboxes)
+deliver_step old new sent outputs after outboxes item bytes crash from here up before given marks ended out size count (places, serves, becomes) pushed = record {
+  up = up;
+  from = from;
+  here = here;
+  places = places;
+  marks = marks;
+  ended = ended;
+  out = out;
+  serves = serves;
+  becomes =
+      let lists : after ≡ outputs ++ record { item = item; given = length (take bytes from.bytes); before = length old.done; marks = marks; ended = ended; bytes = out } ∷ [] =
+      pushed ∙ ap₂ (λ g b. outputs ++ record { item = item; given = g; before = b; marks = marks; ended = ended; bytes = out } ∷ []) size count in
+      ap₂ (λ (served : Served) (left : List Output). world_of served sent left outboxes) becomes lists;
+}
+
+-- what is told as NoSuch was it
+pub no_such_cause : (event n : ℕ) (why : Cause) → fault_at event why ≡ fault.NoSuch n → why ≡ cause.NoSuch
+no_such_cause event n cause.NoSuch is = refl
+no_such_cause event n cause.Memory is = absurd (cc)
+no_such_cause event n cause.Store is = absurd (cc)
+no_such_cause event n cause.Reopen is = absurd (cc)

@@ -1,0 +1,18 @@
+use Rattle.std.proofs.Common.{◌∙◌, sym, refl}
+use Rattle.schedule.proofs.Steps.{element_at, away_past, away_down}
+use Rattle.schedule.proofs.element.up_at.Goals as goal
+
+pub returns-in_err-at-clause-none : goal.returns-in_err-at-clause-none
+returns-in_err-at-clause-none g c = λ _. away_past c.args.filers.now c.args.outbox (c.in_err-at.ensures.none refl)
+
+pub returns-then-is_up-clause-some : goal.returns-then-is_up-clause-some
+returns-then-is_up-clause-some g c =
+    let box = c.index-filers-at.result in
+    let at = c.in_ok-at.ensures.some in
+    (at.0, box, element_at c.args.filers.now c.in_ok-at.at box at.1 c.index-filers-at.is, sym c.is_up.ensures ∙ c.if-is_up.true, at.1)
+
+pub returns-else-is_up-clause-none : goal.returns-else-is_up-clause-none
+returns-else-is_up-clause-none g c = λ _.
+    let box = c.index-filers-at.result in
+    let at = c.in_ok-at.ensures.some in
+    away_down c.args.filers.now c.args.outbox c.in_ok-at.at box at.0 (element_at c.args.filers.now c.in_ok-at.at box at.1 c.index-filers-at.is) (sym c.is_up.ensures ∙ c.if-is_up.false)

@@ -1,0 +1,19 @@
+use Rattle.std.proofs.Common.{sym, subst}
+use Rattle.filing_world.specs.Invariant.{Keeps}
+use Rattle.schedule.specs.Played.{world_of}
+use Rattle.schedule.proofs.world.World.confirmed.Goals as goal
+
+pub invariant_of-self : goal.invariant_of-self
+invariant_of-self g c = λ none.
+    let inside = c.self.inside in
+    subst (λ boxes. Keeps (world_of inside.server inside.sent.items inside.outputs.items boxes)) (sym c.all_states.ensures.same) (c.self.invariant none)
+
+pub invariant_of-self-in-Ok : goal.invariant_of-self-in-Ok
+invariant_of-self-in-Ok g c = λ none.
+    let inside = c.self.inside in
+    subst (λ boxes. Keeps (world_of inside.server inside.sent.items inside.outputs.items boxes)) (sym c.all_states.ensures.same) (c.self.invariant none)
+
+pub invariant_of-self-2 : goal.invariant_of-self-2
+invariant_of-self-2 g c = λ none.
+    let inside = c.self.inside in
+    subst (λ boxes. Keeps (world_of inside.server inside.sent.items inside.outputs.items boxes)) (sym c.all_states.ensures.same) (c.self.invariant none)

@@ -1,0 +1,41 @@
+use Rattle.std.proofs.Common.{rules, ◌≡◌, ◌∙◌, Some, None, Err, sym, ap, refl}
+use Rattle.event_script.specs.Events.{view_event}
+use Rattle.filing_world.proofs.Keeping.{keeps_step, holds}
+use Rattle.schedule.specs.declared.fault.Fault.TheVariants.{NoSuch}
+use Rattle.schedule.specs.Played.{Played, world_of}
+use Rattle.schedule.proofs.Steps.{no_such_cause}
+use Rattle.schedule.proofs.world.World.play.Goals as goal
+
+pub invariant_of-self : goal.invariant_of-self
+invariant_of-self g c = λ none.
+    let old = c.self.inside in
+    let keeps = c.self.invariant none in
+    let before = world_of old.server old.sent.items old.outputs.items old.filers.items in
+    let after = world_of c.play_on-played.new.server c.play_on-played.new.sent.items c.play_on-played.new.outputs.items c.play_on-played.new.filers.items in
+    keeps_step before (view_event c.args.event.now) after keeps (c.in-Ok.ensures.step keeps.own)
+
+pub returns-in-Ok-clause-holds : goal.returns-in-Ok-clause-holds
+returns-in-Ok-clause-holds g c =
+    let none : c.self.inside.fault ≡ None = search rules in
+    let old = c.self.inside in
+    let keeps = c.self.invariant none in
+    let before = world_of old.server old.sent.items old.outputs.items old.filers.items in
+    let after = world_of c.play_on-played.new.server c.play_on-played.new.sent.items c.play_on-played.new.outputs.items c.play_on-played.new.filers.items in
+    holds after (keeps_step before (view_event c.args.event.now) after keeps (c.in-Ok.ensures.step keeps.own))
+
+pub returns-in-Ok-clause-step : goal.returns-in-Ok-clause-step
+returns-in-Ok-clause-step g c =
+    let none : c.self.inside.fault ≡ None = search rules in
+    rw (sym c.self.view_is) (c.in-Ok.ensures.step (c.self.invariant none).own)
+
+pub returns-in-Err-clause-no_such : goal.returns-in-Err-clause-no_such
+returns-in-Err-clause-no_such g c = λ n e none.
+    let told : c.at-fault.result ≡ NoSuch n = cc e in
+    let is = no_such_cause c.saturating_add-number.result n c.in-Err.cause (sym c.at-fault.ensures ∙ told) in
+    rw (sym c.self.view_is) (c.in-Err.ensures.no_such (ap Err is))
+
+pub returns-in-Some-clause-ended : goal.returns-in-Some-clause-ended
+returns-in-Some-clause-ended g c = λ fault e.
+    let same : Some c.in-Some.fault ≡ Some fault = sym c.in-Some.is ∙ ap (λ (w : Played). w.fault) c.self.view_is ∙ e in
+    let is : c.in-Some.fault ≡ fault = cc same in
+    (ap Err is, refl)

@@ -1,0 +1,37 @@
+use Rattle.std.proofs.Common.{◌≡◌, ◌∙◌, ◌+◌, ◌++◌, ◌∷◌, [], suc, sym, ap, map, take, subst, arith}
+use Rattle.std.proofs.lemmas.List.{map-append, take_all}
+use Rattle.event_script.specs.Events.{view_event}
+use Rattle.filing_world.specs.Headline.{start}
+use Rattle.filing_world.specs.Step.{Run}
+use Rattle.filing_world.proofs.Keeping.{run_push, holds_after}
+use Rattle.schedule.proofs.GoingThrough.{take_next}
+use Rattle.schedule.proofs.world.run.Goals as goal
+
+pub loop-event-init : goal.loop-event-init
+loop-event-init g c = record {
+  run = c.in_ok-world.ensures.start.0;
+  fine = c.in_ok-world.ensures.start.1;
+}
+
+pub loop-event-preserved : goal.loop-event-preserved
+loop-event-preserved g c =
+    let first = start (map (λ f. f.now) c.args.filers.now) c.args.limit in
+    let events = c.args.events.now in
+    let i = c.loop-event.event-index in
+    let next : i + 1 ≡ suc i = omega arith in
+    let new = c.play.new.self.world in
+    let more = run_push first (map view_event (take i events)) c.loop-event.world.world (view_event c.event-item.result) new c.loop-event.invariant.run c.in_ok-play.ensures.step in
+    let all : map view_event (take (suc i) events) ≡ map view_event (take i events) ++ view_event c.event-item.result ∷ [] =
+    ap (map view_event) (take_next events i c.event-item.result c.loop-event-test.true ∙ ap (λ e. take i events ++ e ∷ []) (sym c.event-item.is)) ∙ map-append view_event (take i events) (c.event-item.result ∷ []) in
+    record {
+      run = subst (λ n. Run first (map view_event (take n events)) new) (sym next) (subst (λ es. Run first es new) (sym all) more);
+      fine = c.in_ok-play.ensures.goes_on.1;
+    }
+
+pub returns-clause-run : goal.returns-clause-run
+returns-clause-run g c =
+    subst (λ es. Run (start (map (λ f. f.now) c.args.filers.now) c.args.limit) (map view_event es) c.loop-event.world.world) (take_all c.loop-event.event-index c.args.events.now c.loop-event-test.false) c.loop-event.invariant.run
+
+pub returns-clause-holds : goal.returns-clause-holds
+returns-clause-holds g c =
+    holds_after (map (λ f. f.now) c.args.filers.now) c.args.limit (map view_event (take c.loop-event.event-index c.args.events.now)) c.loop-event.world.world c.requires.filers c.requires.limit c.loop-event.invariant.run

@@ -1,0 +1,7 @@
+pub mod Bytes
+pub mod Faults
+pub mod Filer
+pub mod Listed
+pub mod Outboxes
+pub mod Played
+pub mod Server

@@ -1,0 +1,250 @@
+//! The filer's end: an outbox in files, or these files where it is down, with a copy of its entries.
+
+ghost use Rattle.std.specs.Prelude.{◌≡◌, ◌≢◌, ◌↔◌, ℕ, List, map, true, false, Option, Some, None, IsSome, IfOk, IfSome, OnOk, Err};
+ghost use Rattle.key_string.specs.Key.{IsKey};
+ghost use Rattle.key_string.specs.Filer.{is_filer};
+ghost use Rattle.http_wire.specs.Reply.{ReplyParts};
+ghost use Rattle.filing_model.specs.Outbox.{Entry as Item};
+ghost use Rattle.filing_model.specs.Stopping.{No};
+ghost use Rattle.filing_world.specs.World.{numbered, new_outbox};
+ghost use Rattle.filing_world.specs.Step.{with_entry, Hears, box_after};
+ghost use Rattle.filing_world.specs.Headline.{states_of};
+ghost use Rattle.sqlite.specs.Files.{over_files};
+ghost use Rattle.outbox_core.specs.Box.{HasEntries};
+ghost use Rattle.outbox_core.specs.Entries.{opened};
+ghost use Rattle.event_script.specs.Events.{view_crash};
+ghost use Rattle.schedule.specs.Listed.{listed};
+ghost use Rattle.schedule.specs.Played.{IsRequest};
+
+use crate::fault::Cause;
+use crate::honest::Honest;
+use crate::outboxes::{
+    files_of_outbox, hear_in, make_outbox, outbox_in, put_into, request_from, states_in,
+};
+use crate::report::{Report, set_state};
+use event_script::Crash;
+use key_string::KeyText;
+use outbox_core::{Outbox, State, StoreFault};
+use sqlite::{FileStore, Files};
+use sqlite_disk::Disk;
+use std::alloc::Global;
+use std::marker::Model;
+use std::mem;
+
+/// Where an outbox is.
+pub(crate) enum OutboxPlace<D: Disk + Drop> {
+    Up(Outbox<FileStore<D>>),
+    Down(Files<D>),
+    /// A fault took it, after which nothing is played.
+    Gone,
+}
+
+impl<D: Disk + Drop> Drop for OutboxPlace<D> {
+    fn drop(self) {
+        match self {
+            OutboxPlace::Up(_outbox) => {}
+            OutboxPlace::Down(_files) => {}
+            OutboxPlace::Gone => {}
+        }
+    }
+}
+
+impl<D: Honest> OutboxPlace<D> {
+    ghost use Rattle.schedule.specs.Filer.{Keeps, is_up};
+
+    /// The files in the place of the outbox.
+    fn stopped(self) -> Result<OutboxPlace<D>, Cause>
+        ensures kept { (filer : List ℕ) (entries : List Item) → Keeps self filer entries
+            → IfOk result (λ place. Keeps place filer entries) }
+        ensures down { IfOk result (λ place. is_up place ≡ false) }
+        ensures other { result ≢ Err Cause.NoSuch }
+    {
+        match self {
+            OutboxPlace::Up(outbox) => Ok(OutboxPlace::Down(files_of_outbox(outbox)?)),
+            OutboxPlace::Down(files) => Ok(OutboxPlace::Down(files)),
+            OutboxPlace::Gone => Err(Cause::Reopen),
+        }
+    }
+
+    /// The outbox in the place of its files.
+    fn started(self, alloc: Global) -> Result<OutboxPlace<D>, Cause>
+        ensures kept { (filer : List ℕ) (entries : List Item) → Keeps self filer entries
+            → IfOk result (λ place. Keeps place filer entries) }
+        ensures up { IfOk result (λ place. is_up place ≡ true) }
+        ensures other { result ≢ Err Cause.NoSuch }
+    {
+        match self {
+            OutboxPlace::Up(outbox) => Ok(OutboxPlace::Up(outbox)),
+            OutboxPlace::Down(files) => Ok(OutboxPlace::Up(outbox_in(alloc, files)?)),
+            OutboxPlace::Gone => Err(Cause::Reopen),
+        }
+    }
+}
+
+/// The outbox of a filer with copies of its entries, whether it is up or down.
+pub(crate) struct Filer<D: Honest> {
+    alloc: Global,
+    code: String,
+    entries: Vec<Report>,
+    place: OutboxPlace<D>,
+}
+
+impl<D: Honest> Model for Filer<D> {
+    ghost use Rattle.std.specs.Prelude.{string_bytes};
+    ghost use Rattle.filing_world.specs.World.{Outbox as Box};
+    ghost use Rattle.schedule.specs.Filer.{Keeps, is_up};
+
+    ghost Value = { Box };
+
+    ghost view = { λ f. record { filer = string_bytes f.code; entries = f.entries.items; up = is_up f.place } };
+
+    ghost invariant = { λ f. Keeps f.place (string_bytes f.code) f.entries.items };
+}
+
+impl<D: Honest> Drop for Filer<D> {
+    fn drop(self) {
+        let Filer {
+            alloc: _,
+            code: _,
+            entries: _,
+            place: _,
+        } = self;
+    }
+}
+
+impl<D: Honest> Filer<D> {
+    /// A filer with an outbox that is up and has no entry. For another cause than memory, `Reopen` comes
+    /// where its files were not opened, and `Store` where its tables were not made.
+    pub(crate) fn new(alloc: Global, code: &str) -> Result<Filer<D>, Cause>
+        requires { is_filer code.now ≡ true }
+        ensures made { IfOk result (λ f. f ≡ new_outbox code.now) }
+        ensures other { result ≢ Err Cause.NoSuch }
+    {
+        Ok(Filer {
+            alloc,
+            code: String::from_str(alloc, code)?,
+            entries: Vec::new(alloc),
+            place: OutboxPlace::Up(make_outbox(alloc, code)?),
+        })
+    }
+
+    /// Whether the outbox is up.
+    pub(crate) fn is_up(&self) -> bool
+        ensures { result ≡ self.now.up }
+    {
+        matches!(self.place, OutboxPlace::Up(_))
+    }
+
+    /// Puts a report into the outbox. One whose body is too long, or whose key is used, is not taken, and
+    /// that is no error. `Store` comes where the outbox refused for another cause than memory.
+    pub(crate) fn put(&mut self, key: &KeyText, body: &[u8]) -> Result<(), Cause>
+        requires { self.old.up ≡ true }
+        ensures put { OnOk result (self.new ≡ with_entry self.old (opened key.now body.now)) }
+        ensures key { OnOk result (IsKey key.now) }
+        ensures other { result ≢ Err Cause.NoSuch }
+    {
+        let report = Report::open(self.alloc, key, body)?;
+        self.entries.reserve(1)?;
+        let OutboxPlace::Up(outbox) = &mut self.place else {
+            return Err(Cause::Store);
+        };
+        if put_into(self.alloc, outbox, key, body)? {
+            self.entries.push_reserved(report);
+        }
+        Ok(())
+    }
+
+    /// The bytes of the request of the entry of this number, whatever its state. `NoSuch` comes where
+    /// there is none, and `Store` where the outbox refused for another cause than memory.
+    pub(crate) fn request(&mut self, entry: u64) -> Result<Vec<u8>, Cause>
+        requires { self.old.up ≡ true }
+        ensures bytes { IfOk result (λ text. IsRequest self.old entry text.items) }
+        ensures same { OnOk result (self.new ≡ self.old) }
+        ensures no_such { result ≡ Err Cause.NoSuch → numbered self.old.entries entry ≡ None }
+    {
+        let OutboxPlace::Up(outbox) = &mut self.place else {
+            return Err(Cause::Store);
+        };
+        request_from(self.alloc, outbox, entry)
+    }
+
+    /// Hands these bytes to the entry of this number as the reply to its request. Bytes that give no reply
+    /// move nothing, and are no error. Before a stop nothing is read of them. For another cause than memory,
+    /// `Store` comes where the outbox did not take the reply, and `Reopen` where it did not give its files.
+    pub(crate) fn hand(&mut self, entry: u64, bytes: &[u8], crash: Crash) -> Result<(), Cause>
+        requires { self.old.up ≡ true }
+        ensures heard { OnOk result ((what : Item) → numbered self.old.entries entry ≡ Some what
+            → (heard : Option ReplyParts) × Hears bytes.now (view_crash crash) heard × (self.new ≡ box_after self.old entry what heard (view_crash crash))) }
+        ensures other { result ≢ Err Cause.NoSuch }
+    {
+        match crash {
+            Crash::No => self.hear(entry, bytes),
+            Crash::Before(_) => self.stop(),
+            Crash::After(_) => {
+                self.hear(entry, bytes)?;
+                self.stop()
+            }
+        }
+    }
+
+    /// The same without a stop.
+    fn hear(&mut self, entry: u64, bytes: &[u8]) -> Result<(), Cause>
+        requires { self.old.up ≡ true }
+        ensures heard { OnOk result ((what : Item) → numbered self.old.entries entry ≡ Some what
+            → (heard : Option ReplyParts) × Hears bytes.now No heard × (self.new ≡ box_after self.old entry what heard No)) }
+        ensures other { result ≢ Err Cause.NoSuch }
+    {
+        let OutboxPlace::Up(outbox) = &mut self.place else {
+            return Err(Cause::Store);
+        };
+        if let Some(state) = hear_in(self.alloc, outbox, entry, bytes)? {
+            set_state(&mut self.entries, entry, state);
+        }
+        Ok(())
+    }
+
+    /// Takes the files, where it is up. `Reopen` comes where they were not given for another cause than
+    /// memory.
+    fn stop(&mut self) -> Result<(), Cause>
+        ensures down { OnOk result (self.new ≡ record self.old { up = false }) }
+        ensures other { result ≢ Err Cause.NoSuch }
+    {
+        let place = mem::replace(&mut self.place, OutboxPlace::Gone);
+        self.place = place.stopped()?;
+        Ok(())
+    }
+
+    /// Takes the files, where it is up, and opens them. The outbox then has the entries that it had.
+    /// `Reopen` comes where it was not closed or opened for another cause than memory.
+    pub(crate) fn restart(&mut self) -> Result<(), Cause>
+        ensures restarted { OnOk result (self.new ≡ record self.old { up = true }) }
+        ensures other { result ≢ Err Cause.NoSuch }
+    {
+        let place = mem::replace(&mut self.place, OutboxPlace::Gone);
+        self.place = place.stopped()?.started(self.alloc)?;
+        Ok(())
+    }
+
+    /// The number and the state of each entry, in the order of the numbers. `Store` comes where it is down.
+    pub(crate) fn states(&mut self) -> Result<Vec<(u64, State)>, StoreFault>
+        ensures same { self.new ≡ self.old }
+        ensures list { IfOk result (λ s. (number : ℕ) → map (listed number) s.items ≡ states_of number 1 self.old.entries) }
+        ensures down { self.old.up ≡ false → result ≡ Err StoreFault.Store }
+    {
+        let OutboxPlace::Up(outbox) = &mut self.place else {
+            return Err(StoreFault::Store);
+        };
+        states_in(outbox)
+    }
+
+    /// The outbox, where it is up.
+    pub(crate) fn outbox(&self) -> Option<&Outbox<FileStore<D>>>
+        ensures lent { IsSome result ↔ (self.now.up ≡ true) }
+        ensures keeps { IfSome result (λ b. HasEntries over_files b.now self.now.entries × (b.now.filer ≡ self.now.filer)) }
+    {
+        match &self.place {
+            OutboxPlace::Up(outbox) => Some(outbox),
+            OutboxPlace::Down(_) | OutboxPlace::Gone => None,
+        }
+    }
+}

@@ -1,0 +1,71 @@
+//! The entries of all outboxes in one list.
+
+ghost use Rattle.std.specs.Prelude.{◌≡◌, ◌++◌, ◌∷◌, [], map, filter_map, IfOk, OnOk};
+ghost use Rattle.filing_world.specs.Headline.{states_from, number_in};
+ghost use Rattle.schedule.specs.Listed.{listed, view_listed};
+
+use crate::filer::Filer;
+use crate::honest::Honest;
+use outbox_core::{State, StoreFault};
+use std::alloc::{AllocError, Global};
+
+/// Appends the entries of the outbox of this number.
+fn append(
+    list: &mut Vec<(u64, u64, State)>,
+    outbox: u64,
+    states: &[(u64, State)],
+) -> Result<(), StoreFault>
+    ensures { OnOk result (map view_listed list.new.items ≡ map view_listed list.old.items ++ map (listed outbox) states.now) }
+{
+    for &(entry, state) in states {
+        match list.reserve(1) {
+            Ok(()) => list.push_reserved((outbox, entry, state)),
+            Err(_) => return Err(StoreFault::Memory),
+        }
+    }
+    Ok(())
+}
+
+/// Every entry of every outbox with its state, by the numbers of the outbox and the entry. No outbox changes.
+pub(crate) fn all_states<D: Honest>(
+    alloc: Global,
+    filers: &mut Vec<Filer<D>>,
+) -> Result<Vec<(u64, u64, State)>, StoreFault>
+    ensures list { IfOk result (λ list. map view_listed list.items ≡ states_from 1 filers.old.items) }
+    ensures same { filers.new.items ≡ filers.old.items }
+{
+    let mut list = Vec::new(alloc);
+    for at in 0..filers.len() {
+        let states = filers[at].states()?;
+        append(&mut list, at as u64 + 1, states.as_slice())?;
+    }
+    Ok(list)
+}
+
+/// Appends the entry with its number in the register, where it is confirmed.
+fn append_confirmed(
+    list: &mut Vec<(u64, u64, u64)>,
+    entry: (u64, u64, State),
+) -> Result<(), AllocError>
+    ensures { OnOk result (list.new.items ≡ list.old.items ++ filter_map number_in (view_listed entry ∷ [])) }
+{
+    if let (outbox, entry, State::Confirmed(number)) = entry {
+        list.reserve(1)?;
+        list.push_reserved((outbox, entry, number));
+    }
+    Ok(())
+}
+
+/// The confirmed ones, with their numbers in the register.
+pub(crate) fn confirmed_of(
+    alloc: Global,
+    states: &[(u64, u64, State)],
+) -> Result<Vec<(u64, u64, u64)>, AllocError>
+    ensures { IfOk result (λ list. list.items ≡ filter_map number_in (map view_listed states.now)) }
+{
+    let mut list = Vec::new(alloc);
+    for entry in states {
+        append_confirmed(&mut list, *entry)?;
+    }
+    Ok(list)
+}

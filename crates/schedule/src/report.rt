@@ -1,0 +1,76 @@
+//! Copies of the reports that an outbox has.
+
+ghost use Rattle.std.specs.Prelude.{◌≡◌, IfOk};
+ghost use Rattle.key_string.specs.Key.{IsKey};
+ghost use Rattle.outbox_core.specs.Entries.{opened, set_state};
+ghost use Rattle.outbox_core.specs.Reading.{view_state};
+
+use key_string::{KeyFault, KeyText};
+use outbox_core::State;
+use std::alloc::{AllocError, Global};
+use std::marker::Model;
+
+/// A report under its key, and what is known of it.
+#[derive(Drop)]
+pub(crate) struct Report {
+    key: KeyText,
+    body: Vec<u8>,
+    state: State,
+}
+
+impl Model for Report {
+    ghost use Rattle.filing_model.specs.Outbox.{Entry};
+    ghost use Rattle.outbox_core.specs.Reading.{view_state};
+
+    ghost Value = { Entry };
+
+    ghost view = { λ r. record { key = r.key; body = r.body.items; state = view_state r.state } };
+}
+
+impl Report {
+    /// A report of which nothing is known yet, with copies of its key and its body.
+    pub(crate) fn open(alloc: Global, key: &KeyText, body: &[u8]) -> Result<Report, AllocError>
+        ensures { IfOk result (λ report. report ≡ opened key.now body.now) }
+    {
+        Ok(Report {
+            key: copy_key(alloc, key)?,
+            body: Vec::from_slice(alloc, body)?,
+            state: State::Open,
+        })
+    }
+
+    /// Replaces what is known of it.
+    fn set_state(&mut self, state: State)
+        ensures { self.new ≡ record self.old { state = view_state state } }
+    {
+        self.state = state;
+    }
+}
+
+/// Another key of the same text.
+pub(crate) fn copy_key(alloc: Global, key: &KeyText) -> Result<KeyText, AllocError>
+    ensures same { IfOk result (λ copy. copy ≡ key.now) }
+    ensures key { IsKey key.now }
+{
+    match KeyText::new(alloc, key.as_str()) {
+        Ok(copy) => Ok(copy),
+        Err(fault) => {
+            prove!(fault == KeyFault::Memory);
+            Err(AllocError)
+        }
+    }
+}
+
+/// Replaces what is known of the report of this number, counted from 1.
+pub(crate) fn set_state(reports: &mut Vec<Report>, number: u64, state: State)
+    ensures { reports.new.items ≡ set_state reports.old.items number (view_state state) }
+{
+    if number == 0 {
+        return;
+    }
+    let at = (number - 1) as usize;
+    if at < reports.len() {
+        let report = &mut reports[at];
+        report.set_state(state);
+    }
+}

@@ -1,0 +1,24 @@
+//! An outbox is opened again.
+
+ghost use Rattle.std.specs.Prelude.{◌≡◌, List, OnOk, Err};
+ghost use Rattle.filing_world.specs.World.{Sent as Item, Output as Left, RestartOutbox};
+ghost use Rattle.filing_world.specs.Step.{Restarts, CannotPlay};
+ghost use Rattle.schedule.specs.Played.{Served, world_of};
+
+use crate::element::place_of;
+use crate::fault::Cause;
+use crate::filer::Filer;
+use crate::honest::Honest;
+
+pub(crate) fn restart_outbox<D: Honest>(
+    filers: &mut Vec<Filer<D>>,
+    outbox: u64,
+) -> Result<(), Cause>
+    ensures step { OnOk result ((server : Served) (sent : List Item) (outputs : List Left) → Restarts (world_of server sent outputs filers.old.items) outbox (world_of server sent outputs filers.new.items)) }
+    ensures no_such { result ≡ Err Cause.NoSuch → (server : Served) (sent : List Item) (outputs : List Left) → CannotPlay (world_of server sent outputs filers.old.items) (RestartOutbox outbox) }
+{
+    let Some(at) = place_of(outbox, filers.len()) else {
+        return Err(Cause::NoSuch);
+    };
+    filers[at].restart()
+}

@@ -1,0 +1,286 @@
+//! The intake's end: an intake over a register in files, or these files where it is down.
+
+ghost use Rattle.std.specs.Prelude.{◌≡◌, ◌≢◌, ◌≤◌, ◌^◌, ◌++◌, ◌↔◌, [], ℕ, List, true, false, Some, IsSome, IfOk, IfSome, OnOk, Err, length};
+ghost use Rattle.http_wire.specs.Message.{Place as Spot, Ending};
+ghost use Rattle.event_script.specs.Events.{view_crash};
+ghost use Rattle.filing_model.specs.Request.{Request, firsts};
+ghost use Rattle.filing_model.specs.Register.{register};
+ghost use Rattle.filing_model.specs.Stopping.{BeginsPlaces, ServesUntil};
+ghost use Rattle.filing_model.specs.Text.{completed};
+ghost use Rattle.filing_world.specs.Step.{is_no};
+ghost use Rattle.sqlite.specs.Files.{over_files};
+ghost use Rattle.intake_core.specs.Held.{Holds};
+ghost use Rattle.gateway_server.specs.Stopping.{view_stop};
+ghost use Rattle.schedule.specs.Server.{Keeps, is_up};
+
+use crate::fault::Cause;
+use crate::honest::Honest;
+use crate::registers::{
+    Answered, files_of_register, make_register, register_in, register_of, serve_on,
+};
+use event_script::Crash;
+use filing_model::{Ended, Mark};
+use gateway_server::{Stop, completed};
+use intake_core::{Intake, Unavailable};
+use register_store::{Completed, Registered};
+use sqlite::{FileStore, Files};
+use std::alloc::{AllocError, Global};
+use std::marker::Model;
+use std::mem;
+
+/// Where the register is.
+pub(crate) enum Place<D: Honest> {
+    Up(Intake<FileStore<D>>),
+    Down(Files<D>),
+    /// A fault took it, after which nothing is played.
+    Gone,
+}
+
+impl<D: Honest> Drop for Place<D> {
+    fn drop(self) {
+        match self {
+            Place::Up(_intake) => {}
+            Place::Down(_files) => {}
+            Place::Gone => {}
+        }
+    }
+}
+
+/// The intake with the requests that it completed.
+pub(crate) struct Server<D: Honest> {
+    alloc: Global,
+    limit: u64,
+    done: Vec<Completed>,
+    place: Place<D>,
+}
+
+impl<D: Honest> Model for Server<D> {
+    ghost use Rattle.std.specs.Prelude.{◌≤◌, ◌^◌};
+    ghost use Rattle.filing_model.specs.Request.{firsts};
+    ghost use Rattle.schedule.specs.Played.{Served};
+    ghost use Rattle.schedule.specs.Server.{Keeps, is_up};
+
+    ghost Value = { Served };
+
+    ghost view = { λ s. record { limit = s.limit; done = s.done.items; up = is_up s.place } };
+
+    ghost invariant = { λ s. (s.limit ≤ 2 ^ 62) × Keeps s.place s.limit (firsts s.done.items) };
+}
+
+impl<D: Honest> Drop for Server<D> {
+    fn drop(self) {
+        let Server {
+            alloc: _,
+            limit: _,
+            done: _,
+            place: _,
+        } = self;
+    }
+}
+
+/// What one delivery came to, after so many completed requests.
+#[derive(Drop)]
+pub(crate) struct Delivered {
+    pub(crate) before: usize,
+    pub(crate) marks: Vec<Mark>,
+    pub(crate) ended: Option<Ended>,
+    pub(crate) text: Vec<u8>,
+}
+
+/// Where serving a delivery stops.
+fn stop_of(crash: Crash) -> Stop
+    ensures { view_stop result ≡ view_crash crash }
+{
+    match crash {
+        Crash::No => Stop::Never,
+        Crash::Before(request) => Stop::Before(request),
+        Crash::After(request) => Stop::After(request),
+    }
+}
+
+impl<D: Honest> Place<D> {
+    /// An intake over an empty register.
+    fn new(alloc: Global, limit: u64) -> Result<Place<D>, Cause>
+        requires { limit ≤ 2 ^ 62 }
+        ensures kept { IfOk result (λ place. Keeps place limit (firsts [])) }
+        ensures up { IfOk result (λ place. is_up place ≡ true) }
+        ensures other { result ≢ Err Cause.NoSuch }
+    {
+        let store = make_register(alloc)?;
+        Ok(Place::Up(Intake::new(alloc, store, limit)))
+    }
+
+    /// What serving these bytes came to, and the place after it.
+    fn serve(self, alloc: Global, bytes: &[u8], stop: Stop) -> Result<(Answered, Place<D>), Cause>
+        ensures serves { (limit : ℕ) (done : List Request) → Keeps self limit (firsts done) → is_up self ≡ true → IfOk result (λ t. (places : List Spot) × ServesUntil limit done bytes.now (view_stop stop) places t.0.marks.items t.0.ended t.0.text.items × Keeps t.1 limit (firsts (done ++ completed places t.0.marks.items))) }
+        ensures up { IfOk result (λ t. is_up t.1 ≡ true) }
+        ensures other { result ≢ Err Cause.NoSuch }
+    {
+        match self {
+            Place::Up(mut intake) => {
+                let answered = serve_on(alloc, &mut intake, bytes, stop)?;
+                Ok((answered, Place::Up(intake)))
+            }
+            Place::Down(_files) => Err(Cause::Store),
+            Place::Gone => Err(Cause::Store),
+        }
+    }
+
+    /// The files in the place of the register.
+    fn stopped(self) -> Result<Place<D>, Cause>
+        ensures kept { (limit : ℕ) (F : List Request) → Keeps self limit F → IfOk result (λ place. Keeps place limit F) }
+        ensures down { IfOk result (λ place. is_up place ≡ false) }
+        ensures other { result ≢ Err Cause.NoSuch }
+    {
+        match self {
+            Place::Up(intake) => Ok(Place::Down(files_of_register(intake.into_store())?)),
+            Place::Down(files) => Ok(Place::Down(files)),
+            Place::Gone => Err(Cause::Store),
+        }
+    }
+
+    /// The place after a delivery: with a crash the files, and else the place itself.
+    fn after(self, crash: Crash) -> Result<Place<D>, Cause>
+        ensures kept { (limit : ℕ) (F : List Request) → Keeps self limit F → IfOk result (λ place. Keeps place limit F) }
+        ensures up { is_up self ≡ true → IfOk result (λ place. is_up place ≡ is_no (view_crash crash)) }
+        ensures other { result ≢ Err Cause.NoSuch }
+    {
+        match crash {
+            Crash::No => Ok(self),
+            Crash::Before(_) => self.stopped(),
+            Crash::After(_) => self.stopped(),
+        }
+    }
+
+    /// The register in the place of the files.
+    fn started(self, alloc: Global, limit: u64) -> Result<Place<D>, Cause>
+        requires { limit ≤ 2 ^ 62 }
+        ensures kept { (F : List Request) → firsts F ≡ F → Keeps self limit F → IfOk result (λ place. Keeps place limit F) }
+        ensures up { IfOk result (λ place. is_up place ≡ true) }
+        ensures other { result ≢ Err Cause.NoSuch }
+    {
+        match self {
+            Place::Up(intake) => Ok(Place::Up(intake)),
+            Place::Down(files) => {
+                let store = register_in(alloc, files)?;
+                Ok(Place::Up(Intake::new(alloc, store, limit)))
+            }
+            Place::Gone => Err(Cause::Store),
+        }
+    }
+
+    /// The registered requests under their numbers.
+    fn register(&mut self) -> Result<Vec<Registered>, Unavailable>
+        ensures list { (limit : ℕ) (F : List Request) → Keeps self.old limit F → IfOk result (λ rows. rows.items ≡ register F) }
+        ensures kept { (limit : ℕ) (F : List Request) → Keeps self.old limit F → Keeps self.new limit F }
+        ensures up { is_up self.new ≡ is_up self.old }
+        ensures down { is_up self.old ≡ false → result ≡ Err Unavailable.Down }
+    {
+        match self {
+            Place::Up(intake) => register_of(intake),
+            Place::Down(_files) => Err(Unavailable::Down),
+            Place::Gone => Err(Unavailable::Down),
+        }
+    }
+}
+
+/// Appends the requests that these bytes completed.
+fn append_completed(
+    alloc: Global,
+    done: &mut Vec<Completed>,
+    bytes: &[u8],
+    marks: &[Mark],
+) -> Result<(), AllocError>
+    ensures { OnOk result ((places : List Spot) (ending : Ending) → BeginsPlaces bytes.now places ending → length marks.now ≤ length places → done.new.items ≡ done.old.items ++ completed places marks.now) }
+{
+    for request in completed(alloc, bytes, marks)? {
+        done.reserve(1)?;
+        done.push_reserved(request);
+    }
+    Ok(())
+}
+
+impl<D: Honest> Server<D> {
+    /// An intake that is up, over an empty register, which keeps at most `limit` keys.
+    pub(crate) fn new(alloc: Global, limit: u64) -> Result<Server<D>, Cause>
+        requires { limit ≤ 2 ^ 62 }
+        ensures made { IfOk result (λ s. s ≡ record { limit = limit; done = []; up = true }) }
+        ensures other { result ≢ Err Cause.NoSuch }
+    {
+        Ok(Server {
+            alloc,
+            limit,
+            done: Vec::new(alloc),
+            place: Place::new(alloc, limit)?,
+        })
+    }
+
+    pub(crate) fn is_up(&self) -> bool
+        ensures { result ≡ self.now.up }
+    {
+        matches!(self.place, Place::Up(_))
+    }
+
+    /// The requests that were completed so far.
+    pub(crate) fn done(&self) -> &[Completed]
+        ensures { result.now ≡ self.now.done }
+    {
+        self.done.as_slice()
+    }
+
+    /// The intake, where it is up.
+    pub(crate) fn intake(&self) -> Option<&Intake<FileStore<D>>>
+        ensures lent { IsSome result ↔ (self.now.up ≡ true) }
+        ensures keeps { IfSome result (λ intake. Holds over_files intake.now (firsts self.now.done)) }
+    {
+        match &self.place {
+            Place::Up(intake) => Some(intake),
+            Place::Down(_files) => None,
+            Place::Gone => None,
+        }
+    }
+
+    /// Serves the bytes of a delivery, and stops where the crash says.
+    pub(crate) fn deliver(&mut self, bytes: &[u8], crash: Crash) -> Result<Delivered, Cause>
+        requires { self.old.up ≡ true }
+        ensures before { IfOk result (λ d. d.before ≡ length self.old.done) }
+        ensures serves { IfOk result (λ d. (places : List Spot) × ServesUntil self.old.limit self.old.done bytes.now (view_crash crash) places d.marks.items d.ended d.text.items
+            × (self.new ≡ record self.old { done = self.old.done ++ completed places d.marks.items; up = is_no (view_crash crash) })) }
+        ensures other { result ≢ Err Cause.NoSuch }
+    {
+        let before = self.done.len();
+        let place = mem::replace(&mut self.place, Place::Gone);
+        let (answered, served) = place.serve(self.alloc, bytes, stop_of(crash))?;
+        append_completed(self.alloc, &mut self.done, bytes, answered.marks.as_slice())?;
+        let after = served.after(crash)?;
+        self.place = after;
+        let Answered { marks, ended, text } = answered;
+        Ok(Delivered {
+            before,
+            marks,
+            ended,
+            text,
+        })
+    }
+
+    /// Gives the files back, where it is up, and opens them.
+    pub(crate) fn restart(&mut self) -> Result<(), Cause>
+        ensures restarted { OnOk result (self.new ≡ record self.old { up = true }) }
+        ensures other { result ≢ Err Cause.NoSuch }
+    {
+        let place = mem::replace(&mut self.place, Place::Gone);
+        let files = place.stopped()?;
+        let opened = files.started(self.alloc, self.limit)?;
+        self.place = opened;
+        Ok(())
+    }
+
+    /// The registered requests under their numbers, ascending. `Down` comes where it is down, and after `Store`.
+    pub(crate) fn register(&mut self) -> Result<Vec<Registered>, Unavailable>
+        ensures list { IfOk result (λ rows. rows.items ≡ register self.old.done) }
+        ensures down { self.old.up ≡ false → result ≡ Err Unavailable.Down }
+        ensures same { self.new ≡ self.old }
+    {
+        self.place.register()
+    }
+}
