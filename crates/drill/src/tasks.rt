@@ -1,0 +1,165 @@
+//! Reads a script, plays it, and shows what came of it.
+
+ghost use Rattle.std.specs.Prelude.{◌≡◌, ◌≤◌, ◌^◌, map, string_bytes, IfOk};
+ghost use Rattle.filing_world.specs.Headline.{AreFilers};
+
+use crate::fault::Fault;
+use crate::report::report;
+use crate::{calls, options};
+use command_line::{DONE, read_up_to, show, show_refusal, words};
+use event_script::{Event, Script, read_script};
+use http_wire::Device;
+use register_store::Registered;
+use schedule::World;
+use sqlite_disk::Memory;
+use std::alloc::{AllocError, Global};
+use std::io::{Read, Write};
+
+/// The longest script that is read (own rule).
+const MAX_SCRIPT_LEN: usize = 8_388_608;
+
+/// The bytes of the script.
+fn read_bytes<R: Read>(alloc: Global, input: &mut R) -> Result<Vec<u8>, Fault> {
+    let mut reader = Device::new(input);
+    match read_up_to(alloc, &mut reader, MAX_SCRIPT_LEN + 1) {
+        Ok(bytes) if bytes.len() > MAX_SCRIPT_LEN => Err(Fault::TooLong),
+        Ok(bytes) => Ok(bytes),
+        Err(fault) => Err(Fault::Read(fault)),
+    }
+}
+
+/// What the bytes say.
+fn script_of(alloc: Global, bytes: &[u8]) -> Result<Script, Fault>
+    ensures filers { IfOk result (λ script. AreFilers (map string_bytes script.filers.items)) }
+    ensures limit { IfOk result (λ script. script.limit ≤ 2 ^ 62) }
+{
+    let Ok(text) = str::from_utf8(bytes) else {
+        return Err(Fault::NotText);
+    };
+    match read_script(alloc, text) {
+        Ok(script) => Ok(script),
+        Err(fault) => Err(Fault::Script(fault)),
+    }
+}
+
+fn filer_codes<'a>(alloc: Global, filers: &'a [String]) -> Result<Vec<&'a str>, AllocError>
+    ensures { IfOk result (λ codes. map (λ code. code.now) codes.items ≡ map string_bytes filers.now) }
+{
+    filers.iter().map(|filer| filer.as_str()).collect(alloc)
+}
+
+/// The world in which the events have happened.
+fn play(alloc: Global, script: &Script) -> Result<World<Memory>, Fault>
+    requires filers { AreFilers (map string_bytes script.now.filers.items) }
+    requires limit { script.now.limit ≤ 2 ^ 62 }
+{
+    let filers = filer_codes(alloc, script.filers.as_slice())?;
+    match calls::run(
+        alloc,
+        filers.as_slice(),
+        script.limit,
+        script.events.as_slice(),
+    ) {
+        Ok(world) => Ok(world),
+        Err(fault) => Err(Fault::World(fault)),
+    }
+}
+
+fn restart(world: &mut World<Memory>, end: &Event) -> Result<(), Fault> {
+    match calls::play(world, end) {
+        Ok(()) => Ok(()),
+        Err(fault) => Err(Fault::World(fault)),
+    }
+}
+
+/// Starts every end again, so that none is down. Nothing changes of one that is up.
+fn restart_all(world: &mut World<Memory>, outboxes: usize) -> Result<(), Fault> {
+    restart(world, &Event::RestartServer)?;
+    for outbox in 0..outboxes as u64 {
+        let outbox = outbox + 1;
+        restart(world, &Event::RestartOutbox { outbox })?;
+    }
+    Ok(())
+}
+
+fn filings(world: &mut World<Memory>) -> Result<Vec<Registered>, Fault> {
+    match calls::register(world) {
+        Ok(filings) => Ok(filings),
+        Err(fault) => Err(Fault::Register(fault)),
+    }
+}
+
+/// What is shown of the world, all of whose ends are up.
+fn report_of(alloc: Global, world: &mut World<Memory>) -> Result<Vec<u8>, Fault> {
+    let filings = filings(world)?;
+    match calls::states(world) {
+        Ok(entries) => report(
+            alloc,
+            filings.as_slice(),
+            entries.as_slice(),
+            calls::done_count(world),
+        ),
+        Err(fault) => Err(Fault::Outbox(fault)),
+    }
+}
+
+/// Plays the script, and answers what is shown.
+fn drill(alloc: Global, bytes: &[u8]) -> Result<Vec<u8>, Fault> {
+    let script = script_of(alloc, bytes)?;
+    let mut world = play(alloc, &script)?;
+    restart_all(&mut world, script.filers.len())?;
+    report_of(alloc, &mut world)
+}
+
+fn perform_script<R: Read, O: Write>(
+    alloc: Global,
+    input: &mut R,
+    output: &mut O,
+) -> Result<u8, Fault> {
+    let bytes = read_bytes(alloc, input)?;
+    let text = drill(alloc, bytes.as_slice())?;
+    show(output, text.as_slice())?;
+    Ok(DONE)
+}
+
+fn refuse<O: Write, E: Write>(
+    error: &clap::Error,
+    output: &mut O,
+    errors: &mut E,
+) -> Result<u8, Fault> {
+    Ok(show_refusal(error, output, errors)?)
+}
+
+/// Performs what these words ask for, the program's name first, and answers the status. A fault's text
+/// goes to `errors`, and then nothing is written to `output`.
+pub fn perform<R: Read, O: Write, E: Write>(
+    alloc: Global,
+    words: &[String],
+    input: &mut R,
+    output: &mut O,
+    errors: &mut E,
+) -> u8 {
+    let done = match options::read(alloc, words) {
+        Ok(()) => perform_script(alloc, input, output),
+        Err(error) => refuse(&error, output, errors),
+    };
+    match done {
+        Ok(status) => status,
+        Err(fault) => fault.tell(errors),
+    }
+}
+
+/// The program: performs the words that it was started with, over the standard streams, and answers
+/// the status.
+pub fn main(rt: &HostRuntime) -> u8 {
+    match words(rt) {
+        Ok(words) => perform(
+            rt.alloc(),
+            words.as_slice(),
+            &mut rt.reader(),
+            &mut rt.stdout(),
+            &mut rt.stderr(),
+        ),
+        Err(fault) => Fault::Command(fault).tell(&mut rt.stderr()),
+    }
+}
