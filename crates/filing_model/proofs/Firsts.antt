@@ -22,9 +22,6 @@ same_key-like r s t h =
     let key = (bytes_eq-Decides r.key s.key).0 both.1 in
     (rw (filer, key) refl, rw (filer, key) refl)
 
-pub same_key-sym : (r s : Request) → same_key r s ≡ true → same_key s r ≡ true
-same_key-sym r s h = sym (same_key-like r s r h).0 ∙ same_key-refl r
-
 pub has_key-firsts : (requests : List Request) (r : Request) → has_key (firsts requests) r ≡ has_key requests r
 unfolding firsts
 has_key-firsts [] r = refl
@@ -126,13 +123,6 @@ firsts-firsts (x ∷ requests) = ap (λ rest. x ∷ rest)
 
     alike : (r s : Request) → same_key r s ≡ true → other r ≡ other s
     alike r s h = ap not (same_key-like r s x h).1
-
--- what is kept needs the firsts alone
-pub firsts_step : (requests : List Request) (r : Request) → firsts (firsts requests ++ r ∷ []) ≡ firsts (requests ++ r ∷ [])
-firsts_step requests r = ⊎_elim
-    (λ (h : has_key requests r ≡ true). firsts_repeat (firsts requests) r (has_key-firsts requests r ∙ h) ∙ firsts-firsts requests ∙ sym (firsts_repeat requests r h))
-    (λ (h : has_key requests r ≡ false). firsts_new (firsts requests) r (has_key-firsts requests r ∙ h) ∙ ap (λ front. front ++ r ∷ []) (firsts-firsts requests) ∙ sym (firsts_new requests r h))
-    (cases_Bool (has_key requests r))
 
 short : (p : Request → Bool) (requests : List Request) → length (filter p requests) ≤ length requests
 short p requests = omega (arith, length-filter_both p (λ s. not (p s)) (λ s. refl) requests)

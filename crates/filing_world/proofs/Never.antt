@@ -1,6 +1,6 @@
 -- What no run does.
 use Rattle.std.proofs.Common.{◌≡◌, ◌≢◌, ◌⊎◌, ℕ, zero, suc, ◌+◌, ◌^◌, ◌<◌, ◌≤◌, Bool, true, false, cond, List, [], ◌∷◌, ◌++◌, map, length, take, Option, Some, None, refl, sym, ap, ◌∙◌, subst, ⊎_elim, arith}
-use Rattle.std.specs.Prelude.{slice_get, slice_set, filter}
+use Rattle.std.specs.Prelude.{slice_get, filter}
 use Rattle.std.specs.List.{range_with_len}
 use Rattle.std.proofs.lemmas.Bool.{cases_Bool, and_parts}
 use Rattle.std.proofs.lemmas.Slice.Eq.{bytes_eq-Decides}
@@ -24,6 +24,7 @@ use Rattle.filing_model.proofs.Finals.{answer-readable, unavailable-readable}
 use Rattle.filing_model.proofs.Keeping.{register_numbered}
 use Rattle.filing_model.proofs.Lists.{append_nil, take_prefix, take_all}
 use Rattle.filing_model.proofs.Stopping.{serves_begin, serves_front}
+use Rattle.filing_model.specs.Numbered.{changed_at}
 use Rattle.filing_world.specs.World.{World, Outbox, Output, Sent, Deliver, Hand, numbered, renewed}
 use Rattle.filing_world.specs.Step.{Hears, heard_by, box_after, Hands, Step}
 use Rattle.filing_world.specs.Headline.{IsReached, IsConfirmed, start, states, states_from, states_of}
@@ -31,23 +32,14 @@ use Rattle.filing_world.specs.Invariant.{Keeps}
 use Rattle.filing_world.specs.Posting.{IsAlone, FilesAlone}
 use Rattle.filing_world.proofs.Hearing.{hears_gives}
 use Rattle.filing_world.proofs.Keeping.{keeps_start, keeps_run, holds}
-use Rattle.filing_world.proofs.Lists.{same_element}
+use Rattle.filing_world.proofs.Lists.{same_element, renewed_same}
 use Rattle.filing_world.proofs.Plays.{gives_none}
 use Rattle.filing_world.proofs.Posting.{posted, own_front}
 
 -- ---- a part of a reply
 
-set_same : {X : Type 0} (xs : List X) (i : ℕ) (x : X) → slice_get xs i ≡ Some x → slice_set xs i x ≡ xs
-set_same [] i x e = absurd (cc)
-set_same (y ∷ xs) zero x e = let same : x ≡ y = cc in ap (λ z. z ∷ xs) same
-set_same (y ∷ xs) (suc i) x e = ap (λ ys. y ∷ ys) (set_same xs i x e)
-
-renewed_same : {X : Type 0} (xs : List X) (i : ℕ) (x : X) → numbered xs i ≡ Some x → renewed xs i x ≡ xs
-renewed_same xs zero x e = refl
-renewed_same xs (suc i) x e = set_same xs i x e
-
 -- the states are those of the entries
-states_set : (from : ℕ) (boxes : List Outbox) (i : ℕ) (old new : Outbox) → slice_get boxes i ≡ Some old → new.entries ≡ old.entries → states_from from (slice_set boxes i new) ≡ states_from from boxes
+states_set : (from : ℕ) (boxes : List Outbox) (i : ℕ) (old new : Outbox) → slice_get boxes i ≡ Some old → new.entries ≡ old.entries → states_from from (changed_at (λ old. new) boxes i) ≡ states_from from boxes
 states_set from [] i old new here same = absurd (cc)
 states_set from (box ∷ boxes) zero old new here same =
     let is : old ≡ box = cc in

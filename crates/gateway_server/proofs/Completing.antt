@@ -22,33 +22,6 @@ use Rattle.filing_model.proofs.Lists.{append_nil}
 
 -- ---- one place
 
-nothing_unavailable : (to : Route) → requests_of_route to Unavailable ≡ []
-nothing_unavailable (Told reply) = refl
-nothing_unavailable (Listed filer) = refl
-nothing_unavailable (Filed r) = refl
-
-nothing_unfiled : (to : Route) → requests_of_route to NotFiled ≡ []
-nothing_unfiled (Told reply) = refl
-nothing_unfiled (Listed filer) = refl
-nothing_unfiled (Filed r) = refl
-
--- a message that isn't marked Done completed nothing
-pub unavailable_adds : (list : List Request) (m : Message) → list ≡ list ++ completed_at (Read m) Unavailable
-unavailable_adds list m = sym (ap (λ more. list ++ more) (nothing_unavailable (route m)) ∙ append_nil list)
-
-pub unfiled_adds : (list : List Request) (m : Message) → list ≡ list ++ completed_at (Read m) NotFiled
-unfiled_adds list m = sym (ap (λ more. list ++ more) (nothing_unfiled (route m)) ∙ append_nil list)
-
-requests_bare : (b : Bool) (to : Route) → requests_of_route (bare b to) Done ≡ requests_of_route to Done
-requests_bare true (Told reply) = refl
-requests_bare true (Listed filer) = refl
-requests_bare true (Filed r) = refl
-requests_bare false to = refl
-
--- what a message that is marked Done completed, by what it asks for
-pub done_adds : (m : Message) (b : Bool) (to : Route) → route m ≡ bare b to → completed_at (Read m) Done ≡ requests_of_route to Done
-done_adds m b to asks = ap (λ r. requests_of_route r Done) asks ∙ requests_bare b to
-
 -- ---- the block that bytes begin with, alone
 
 module _ (front rest : List ℕ) (b : IsBlockEnd (front ++ rest) (length front)) where
@@ -111,9 +84,6 @@ pub record IsAhead (rest : List ℕ) (marks : List Mark) (all list : List Reques
   pub begins : BeginsPlaces rest places ending
   pub few : length marks ≤ length places
   pub same : all ≡ list ++ completed places marks
-
-pub ahead_first : (bytes : List ℕ) (marks : List Mark) (places : List Place) (ending : Ending) → BeginsPlaces bytes places ending → length marks ≤ length places → IsAhead bytes marks (completed places marks) []
-ahead_first bytes marks places ending begins few = record { places = places; ending = ending; begins = begins; few = few; same = refl }
 
 no_marks : (places : List Place) → completed places [] ≡ []
 unfolding completed

@@ -1,20 +1,14 @@
 -- What the key's field gives.
-use Rattle.std.proofs.Common.{◌≡◌, ℕ, List, [], ◌∷◌, None, refl, subst, arith, inl}
+use Rattle.std.proofs.Common.{◌≡◌, ℕ, List, [], ◌∷◌, None, refl, arith, inl}
 use Rattle.key_string.specs.declared.fault.KeyFault.{KeyFault}
 use Rattle.key_string.specs.declared.fault.KeyFault.TheVariants.{NotString, Empty, TooLong, NotPrintable, Memory}
-use Rattle.key_string.specs.Key.{SpellsKey, IsKey, IsFieldFault, key_of_field}
-use Rattle.key_string.proofs.Fields.{key_of_field-none}
-use Rattle.key_string.proofs.Reading.{SpellsKey-same}
+use Rattle.key_string.specs.Key.{IsFieldFault, key_of_field}
+use Rattle.key_string.proofs.Fields.{key_of_field-none, key_of_field-not_key}
 use Rattle.gateway_server.specs.Route.{NoKeyOf, no_key}
-
--- a field whose text is no key spells none
-none_of : (field text : List ℕ) → SpellsKey field text → ¬ (IsKey text) → key_of_field field ≡ None
-none_of field text s not_key =
-    key_of_field-none field (λ other t key. not_key (subst IsKey (SpellsKey-same field other text t s) key))
 
 pub NoKeyOf-fault : (field : List ℕ) (fault : KeyFault) → IsFieldFault field fault → NoKeyOf (field ∷ []) (no_key fault)
 NoKeyOf-fault field NotString f = inl (field, refl, key_of_field-none field (λ text s. absurd (f text s)))
-NoKeyOf-fault field Empty f = inl (field, refl, none_of field [] f (λ key. omega (arith, key.nonempty)))
-NoKeyOf-fault field TooLong f = inl (field, refl, none_of field f.0 f.1 (λ key. omega (arith, key.short, f.2)))
+NoKeyOf-fault field Empty f = inl (field, refl, key_of_field-not_key field [] f (λ key. omega (arith, key.nonempty)))
+NoKeyOf-fault field TooLong f = inl (field, refl, key_of_field-not_key field f.0 f.1 (λ key. omega (arith, key.short, f.2)))
 NoKeyOf-fault field (NotPrintable at) f = absurd f
 NoKeyOf-fault field Memory f = tt

@@ -14,12 +14,9 @@ lent_is inbox l m e =
     let both : Some l.request ≡ Some m = sym l.lent ∙ e in
     cc
 
-declared_short : (p : RequestParts) → framing_fault p ≡ None → body_length p ≤ max_body_len
-declared_short p sound = grind (arith, nat_tests, sound)
-
 -- its body is within the limit
 pub body_short : (bytes : List ℕ) (m : Message) (n : ℕ) → BeginsRequest bytes m n → length m.body ≤ max_body_len
 body_short bytes m n b =
-    let short = declared_short m.head b.head.head.sound in
+    let short = body_length-bound m.head b.head.head.sound in
     let len : length m.body ≤ body_length m.head = grind (arith, common_steps, b.body, b.length_is, b.whole) in
     omega arith

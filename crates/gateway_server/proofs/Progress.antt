@@ -14,13 +14,11 @@ use Rattle.filing_model.specs.Request.{Request}
 use Rattle.filing_model.specs.Serving.{kept_by, AreMarked, GoesThrough, MayBegin, IsServed, IsCutShort}
 use Rattle.filing_model.specs.Text.{MarksFit, completed, text, next_interim}
 use Rattle.filing_model.proofs.Lists.{append_nil}
+use Rattle.filing_model.proofs.Serving.{drop-more}
 use Rattle.filing_model.proofs.Appending.{completed-append, text-append, text_now, are_marked_now, kept_by-append, AreMarked-append}
 use Rattle.gateway_server.specs.Progress.{HasServed}
 
 -- ---- the bytes
-
-drop-more : (n : ℕ) (bytes more : List ℕ) → n ≤ length bytes → drop n (bytes ++ more) ≡ drop n bytes ++ more
-drop-more n bytes more within = grind (arith, common_steps)
 
 -- what was gone through stays so where more is read
 goes-more : (bytes : List ℕ) (messages : List Message) (rest more : List ℕ) → GoesThrough bytes messages rest → GoesThrough (bytes ++ more) messages (rest ++ more)

@@ -28,12 +28,6 @@ come-next No count come before after = tt
 come-next (Before j) count come before after = omega (arith, come, before)
 come-next (After j) count come before after = omega (arith, come, after)
 
--- it is stopped before one more
-pub IsCountAtStop-before : (crash : Crash) (count : ℕ) → IsBefore crash (count + 1) → IsCountAtStop crash count
-IsCountAtStop-before No count here = here
-IsCountAtStop-before (Before j) count here = omega (arith, here)
-IsCountAtStop-before (After j) count here = absurd here
-
 -- it is stopped after the last
 IsCountAtStop-after : (crash : Crash) (count : ℕ) → IsAfter crash count → IsCountAtStop crash count
 IsCountAtStop-after No count here = here

@@ -44,22 +44,6 @@ serves_until_whole limit r w w' done before after bytes left out crash marks end
       whole.2,
     )
 
--- a writer of which no failure is counted ended nothing
-pub no_write : (r r' w : ℕ) (ended : Option Ended) → w < 2 ^ 64 - 1 → IsEndedOrStoppedBy r r' w w ended → (sent : ℕ) → ended ≢ Some (Fault (Write sent))
-no_write r r' w None low fine sent e = absurd (cc)
-no_write r r' w (Some Closed) low fine sent e = absurd (cc)
-no_write r r' w (Some InputEnded) low fine sent e = absurd (cc)
-no_write r r' w (Some (Fault ReadFault)) low fine sent e = absurd (cc)
-no_write r r' w (Some (Fault (Write other))) low fine sent e = no_failure w low fine.1
-no_write r r' w (Some (Fault ReadLimit)) low fine sent e = absurd (cc)
-no_write r r' w (Some (Fault Memory)) low fine sent e = absurd (cc)
-
--- the same, where it wasn't to be stopped and no write failed
-pub serves_whole : (limit r w : ℕ) (done before after : List Request) (bytes left out : List ℕ) (marks : List Mark) (ended : Ended) → before ≡ firsts done → ServesConnection limit before after (Some bytes) (Some left) (Some []) (Some out) marks ended → r < 2 ^ 64 - 1 → w < 2 ^ 64 - 1 → IsEndedBy r r w w ended
-    → (places : List Place) × ServesUntil limit done bytes No places marks (Some ended) out × (after ≡ firsts (done ++ completed places marks))
-serves_whole limit r w done before after bytes left out marks ended kept served low low' fine =
-    serves_until_whole limit r w w done before after bytes left out No marks (Some ended) kept (ServesConnectionUntil-either limit before after (Some bytes) (Some left) (Some []) (Some out) No marks (Some ended) tt served) low (no_write r r w (Some ended) low' fine) fine
-
 -- ---- what was completed
 
 marked_few : (crash : Crash) (n : ℕ) → marked crash n ≤ n

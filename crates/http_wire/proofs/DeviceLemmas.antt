@@ -27,12 +27,3 @@ Consumes-join (Some xs) (Some ys) (Some zs) x y h k = grind (arith, common_steps
 pub Consumes-nil : (a : Option (List ℕ)) → Consumes a a []
 Consumes-nil None = tt
 Consumes-nil (Some xs) = refl
-
--- what a read put into the middle of a list, by its place
-pub drop-take-middle : (front room post rest : List ℕ) (len count whole : ℕ) → length front ≡ len → count ≤ length room → len + count ≤ whole
-    → drop len (take (len + count) (take whole ((front ++ (room ++ post)) ++ rest))) ≡ take count room
-drop-take-middle front room post rest len count whole at fits within =
-    let cut : take (len + count) (take whole ((front ++ (room ++ post)) ++ rest)) ≡ take (len + count) ((front ++ (room ++ post)) ++ rest) = grind (arith, common_steps) in
-    let past : drop len ((front ++ (room ++ post)) ++ rest) ≡ (room ++ post) ++ rest = grind (arith, common_steps) in
-    let first : take count ((room ++ post) ++ rest) ≡ take count room = grind (arith, common_steps) in
-    ap (drop len) cut ∙ drop-take len count ((front ++ (room ++ post)) ++ rest) ∙ ap (take count) past ∙ first

@@ -24,7 +24,7 @@ abbrev pub head_parts : List ℕ → Parsed → RequestParts
 head_parts bytes p = parts_at (slice_range bytes p.start p.end) p.spans
 
 -- a head without fault declares no longer body than may be
-body_length-bound : (p : RequestParts) → framing_fault p ≡ None → body_length p ≤ max_body_len
+pub body_length-bound : (p : RequestParts) → framing_fault p ≡ None → body_length p ≤ max_body_len
 body_length-bound p sound = grind (arith, nat_tests, sound)
 
 -- where a head and its request lie
@@ -131,21 +131,6 @@ IsFault-send before after asked r w w' reads held Memory f = absurd f
 -- bytes without a block ask for nothing
 pub Asks-unended : (bytes : List ℕ) → IsUnended bytes → Asks bytes false
 Asks-unended bytes u = λ parts n head. absurd (u.unended head.block.0 head.block.1.short head.block.1.ends)
-
-interim-front : (before after : Option (List ℕ)) (asks : Bool) → Appends before after (interim_if asks) → (n : ℕ) × Appends before after (take n interim)
-interim-front before after true w = (25, w)
-interim-front before after false w = (0, w)
-
-WritesAsked-front : (before after : Option (List ℕ)) (bytes : List ℕ) → WritesAsked before after bytes → (n : ℕ) × Appends before after (take n interim)
-WritesAsked-front before after bytes w = interim-front before after w.1.0 (subst (Appends before after) w.1.2 w.2)
-
--- what a call that failed had written is a front of the interim response
-pub WritesUpTo-front : (before after : Option (List ℕ)) (bytes : List ℕ) (fault : ConnFault) → WritesUpTo before after bytes fault → (n : ℕ) × Appends before after (take n interim)
-WritesUpTo-front before after bytes Read w = WritesAsked-front before after bytes w
-WritesUpTo-front before after bytes (Write sent) w = (sent, w.2)
-WritesUpTo-front before after bytes ReadLimit w = WritesAsked-front before after bytes w
-WritesUpTo-front before after bytes Memory (inl w) = WritesAsked-front before after bytes w
-WritesUpTo-front before after bytes Memory (inr w) = (0, w)
 
 -- a place has an end of a block, or room for none
 pub HoldsPlace-ended : (bytes : List ℕ) → HoldsPlace bytes → ¬ (IsUnended bytes)

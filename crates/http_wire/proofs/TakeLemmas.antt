@@ -16,10 +16,6 @@ use Rattle.http_wire.specs.Response.{ResponseParts, BeginsResponseHead}
 use Rattle.http_wire.proofs.DeviceLemmas.{Consumes-join, Consumes-nil}
 use Rattle.http_wire.proofs.MoreBytes.{IsBlockEnd-within}
 
--- nothing is taken
-pub Takes-nil : (a : Option (List ℕ)) (x : Received) → Takes a a x x []
-Takes-nil a x = record { read = []; given = Consumes-nil a; bytes = append-nil (held_bytes x); count = omega arith }
-
 -- reads take nothing
 pub Takes-receives : (a b : Option (List ℕ)) (x y : Received) → Receives a b x y → Takes a b x y []
 Takes-receives a b x y r = record { read = drop (length (held_bytes x)) (held_bytes y); given = r.given; bytes = sym r.bytes; count = r.each }

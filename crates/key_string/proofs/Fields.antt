@@ -1,5 +1,5 @@
 -- The key of a field as a function, and what it says.
-use Rattle.std.proofs.Common.{◌≡◌, ℕ, true, false, ◌&&◌, List, [], ◌∷◌, ◌++◌, length, Some, None, arith, refl, ap, ◌∙◌}
+use Rattle.std.proofs.Common.{◌≡◌, ℕ, true, false, ◌&&◌, List, [], ◌∷◌, ◌++◌, length, Some, None, arith, refl, ap, subst, ◌∙◌}
 use Rattle.std.specs.Prelude.{bytes_eq}
 use Rattle.std.specs.List.{flat_map}
 use Rattle.std.proofs.lemmas.Grind.{common_steps}
@@ -8,6 +8,7 @@ use Rattle.std.proofs.lemmas.Bool.Decides.{nat_tests}
 use Rattle.std.proofs.lemmas.List.Sums.{AllPass-from_list_all, list_all-from_AllPass}
 use Rattle.std.proofs.lemmas.Slice.Eq.{bytes_eq-Decides}
 use Rattle.key_string.specs.Key.{double_quote, is_printable, character, spelling, SpellsKey, IsKey, is_key, without_escapes, inside, key_of_field}
+use Rattle.key_string.proofs.Reading.{SpellsKey-same}
 
 -- one character is read back
 without_escapes-character : (c : ℕ) (rest : List ℕ) → without_escapes false (character c ++ rest) ≡ c ∷ without_escapes false rest
@@ -50,3 +51,8 @@ unfolding key_of_field
 key_of_field-none field none =
     let text = without_escapes false (inside field) in
     cond-false (is_key text && bytes_eq field (spelling text)) (Some text) None (false_from_ne_true _ (λ h. let p = key_of_field-at field text h in none text p.0 p.1))
+
+-- nor has one whose text is no key
+pub key_of_field-not_key : (field text : List ℕ) → SpellsKey field text → ¬ (IsKey text) → key_of_field field ≡ None
+key_of_field-not_key field text s not_key =
+    key_of_field-none field (λ other t key. not_key (subst IsKey (SpellsKey-same field other text t s) key))

@@ -19,10 +19,6 @@ HasRead bytes rest count = (text : List ℕ) × HasReadText bytes rest text × (
 abbrev Printable : ℕ → Type 0
 Printable c = IsTrue (is_printable c)
 
--- at first nothing was read
-pub HasReadText-none : (bytes : List ℕ) → HasReadText bytes bytes []
-HasReadText-none bytes = record { printable = All-nil Printable; spelled = refl }
-
 -- one more character
 pub HasReadText-more : (bytes rest after text : List ℕ) (c : ℕ) → HasReadText bytes rest text → IsCharacterAt rest c after → HasReadText bytes after (text ++ c ∷ [])
 HasReadText-more bytes rest after text c h next =
@@ -39,9 +35,6 @@ character-same c d x y e = (grind (arith, nat_tests, e), grind (arith, nat_tests
 -- the double quote at the end begins no character
 quote-ends : BeginsNoCharacter (double_quote ∷ [])
 quote-ends c rest h = grind (arith, nat_tests, h.1)
-
-abbrev printed : List ℕ → List ℕ
-printed text = flat_map character text
 
 -- two readings of the same bytes agree as far as both go
 pub same_characters : (text other rest end : List ℕ) → BeginsNoCharacter end → IsPrintable text → IsPrintable other → flat_map character text ++ rest ≡ flat_map character other ++ end
@@ -68,10 +61,6 @@ HasReadText-all bytes rest text other h last s =
     let r = same_characters text other rest (double_quote ∷ []) quote-ends h.printable s.printable (sym h.spelled ∙ inside) in
     let none : r.0 ≡ [] = none-more r.0 rest (double_quote ∷ []) last r.1 r.3 in
     (grind (arith, common_steps, r.2, none), rw none at r.3)
-
--- a String begins with a double quote
-pub SpellsKey-opens : (bytes text : List ℕ) → SpellsKey bytes text → (inside : List ℕ) × (bytes ≡ double_quote ∷ inside)
-SpellsKey-opens bytes text s = (flat_map character text ++ double_quote ∷ [], s.spelled)
 
 -- a String has one text
 pub SpellsKey-same : (bytes text other : List ℕ) → SpellsKey bytes text → SpellsKey bytes other → text ≡ other

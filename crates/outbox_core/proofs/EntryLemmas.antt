@@ -4,8 +4,10 @@ use Rattle.std.specs.List.{AllByRecursion}
 use Rattle.std.proofs.lemmas.Bool.Decides.{nat_tests}
 use Rattle.std.proofs.lemmas.Slice.Eq.{bytes_eq-Decides}
 use Rattle.sqlite_trees.specs.Tree.{IsAscending}
+use Rattle.filing_model.specs.Numbered.{changed_at}
 use Rattle.filing_model.specs.Outbox.{Entry, State}
-use Rattle.outbox_core.specs.Entries.{numbered, numbered_from, has_id, has_text, entry_at, set_state, put_state, AreDistinct}
+use Rattle.filing_model.proofs.Keeping.{all_push}
+use Rattle.outbox_core.specs.Entries.{numbered, numbered_from, has_id, has_text, entry_at, in_state, set_state, AreDistinct}
 
 -- ---- ids
 
@@ -45,13 +47,9 @@ get_past [] k far = refl
 get_past (x ∷ es) zero far = absurd (omega arith)
 get_past (x ∷ es) (suc k) far = get_past es k (omega arith)
 
-pub past_end : (es : List Entry) (id : ℕ) → length es < id → entry_at es id ≡ None
-past_end es zero far = refl
-past_end es (suc k) far = get_past es k (omega arith)
-
 -- ---- states
 
-put_same : (es : List Entry) (k : ℕ) (state : State) → option_map (λ (e : Entry). e.state) (slice_get es k) ≡ Some state → put_state es k state ≡ es
+put_same : (es : List Entry) (k : ℕ) (state : State) → option_map (λ (e : Entry). e.state) (slice_get es k) ≡ Some state → changed_at (in_state state) es k ≡ es
 put_same [] k state at = refl
 put_same (x ∷ es) zero state at = let same : x.state ≡ state = cc in ap (λ s. record x { state = s } ∷ es) (sym same)
 put_same (x ∷ es) (suc k) state at = ap (λ l. x ∷ l) (put_same es k state at)
@@ -61,7 +59,7 @@ pub same_state : (es : List Entry) (id : ℕ) (state : State) → option_map (λ
 same_state es zero state at = refl
 same_state es (suc k) state at = put_same es k state at
 
-length_put : (es : List Entry) (k : ℕ) (state : State) → length (put_state es k state) ≡ length es
+length_put : (es : List Entry) (k : ℕ) (state : State) → length (changed_at (in_state state) es k) ≡ length es
 length_put [] k state = refl
 length_put (x ∷ es) zero state = refl
 length_put (x ∷ es) (suc k) state = ap suc (length_put es k state)
@@ -71,7 +69,7 @@ length_set es zero state = refl
 length_set es (suc k) state = length_put es k state
 
 -- what holds of each entry whatever its state is holds still
-all_put : (P : Entry → Type 0) → ((e : Entry) (state : State) → P e → P (record e { state = state })) → (es : List Entry) (k : ℕ) (state : State) → AllByRecursion P es → AllByRecursion P (put_state es k state)
+all_put : (P : Entry → Type 0) → ((e : Entry) (state : State) → P e → P (record e { state = state })) → (es : List Entry) (k : ℕ) (state : State) → AllByRecursion P es → AllByRecursion P (changed_at (in_state state) es k)
 all_put P keeps [] k state all = tt
 all_put P keeps (x ∷ es) zero state all = (keeps x state all.0, all.1)
 all_put P keeps (x ∷ es) (suc k) state all = (all.0, all_put P keeps es k state all.1)
@@ -81,7 +79,7 @@ all_set P keeps es zero state all = all
 all_set P keeps es (suc k) state all = all_put P keeps es k state all
 
 -- what holds of every state that is put in
-put_all : (P : State → Type 0) (es : List Entry) (k : ℕ) (state : State) → P state → AllByRecursion (λ (e : Entry). P e.state) es → AllByRecursion (λ (e : Entry). P e.state) (put_state es k state)
+put_all : (P : State → Type 0) (es : List Entry) (k : ℕ) (state : State) → P state → AllByRecursion (λ (e : Entry). P e.state) es → AllByRecursion (λ (e : Entry). P e.state) (changed_at (in_state state) es k)
 put_all P [] k state p all = tt
 put_all P (x ∷ es) zero state p all = (p, all.1)
 put_all P (x ∷ es) (suc k) state p all = (all.0, put_all P es k state p all.1)
@@ -92,7 +90,7 @@ set_all P es (suc k) state p all = put_all P es k state p all
 
 -- ---- keys
 
-distinct_put : (es : List Entry) (k : ℕ) (state : State) → AreDistinct es → AreDistinct (put_state es k state)
+distinct_put : (es : List Entry) (k : ℕ) (state : State) → AreDistinct es → AreDistinct (changed_at (in_state state) es k)
 distinct_put [] k state all = tt
 distinct_put (x ∷ es) zero state all = all
 distinct_put (x ∷ es) (suc k) state all = (all_put (λ b. bytes_eq b.key x.key ≡ false) (λ e s apart. apart) es k state all.0, distinct_put es k state all.1)
@@ -113,10 +111,6 @@ unused_from n (x ∷ es) key none = go (bytes_eq x.key key) refl none (unused_fr
 -- a key that no entry is found to have is that of none
 pub unused : (es : List Entry) (key : List ℕ) → find (has_text key) (numbered es) ≡ None → AllByRecursion (λ (e : Entry). bytes_eq e.key key ≡ false) es
 unused es key none = unused_from 1 es key none
-
-pub all_push : {X : Type 0} (P : X → Type 0) (xs : List X) (x : X) → AllByRecursion P xs → P x → AllByRecursion P (xs ++ x ∷ [])
-all_push P [] x all p = (p, tt)
-all_push P (y ∷ xs) x all p = (all.0, all_push P xs x all.1 p)
 
 turned : (a b : List ℕ) → bytes_eq a b ≡ false → bytes_eq b a ≡ false
 turned a b apart = go (bytes_eq b a) refl

@@ -9,11 +9,12 @@ use Rattle.sqlite.specs.State.{State as Shown}
 use Rattle.key_string.specs.Key.{IsKey}
 use Rattle.http_wire.specs.Head.{max_body_len}
 use Rattle.filing_model.specs.Outbox.{Entry, State, IsSendable, request_of}
+use Rattle.filing_model.proofs.Keeping.{all_push}
 use Rattle.outbox_core.specs.Entries.{Contents, contents_of, IsOutbox, AreDistinct, FitsNumber, numbered, has_text, opened, with_entry, with_state}
 use Rattle.table_rows.specs.Standing.{Stands}
 use Rattle.table_rows.proofs.StandLemmas.{lasting}
 use Rattle.outbox_core.specs.Rows.{IsOutboxOf, Leaves}
-use Rattle.outbox_core.proofs.EntryLemmas.{all_push, all_set, set_all, distinct_push, distinct_set, unused}
+use Rattle.outbox_core.proofs.EntryLemmas.{all_set, set_all, distinct_push, distinct_set, unused}
 
 -- an entry more, under a key that was not used
 pub one_more : (it : Contents) (key body : List ℕ) → IsKey key → length body ≤ max_body_len → find (has_text key) (numbered it.entries) ≡ None → IsOutbox it → IsOutbox (with_entry it (opened key body))

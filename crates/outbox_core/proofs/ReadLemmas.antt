@@ -41,23 +41,6 @@ one_state Clashed Clashed c n = refl
 same_entry : (e : Read) (n : ℕ) (it : Entry) → e.id ≡ n → e.key ≡ it.key → e.body.items ≡ it.body → view_state e.state ≡ it.state → Some (view_entry e) ≡ Some (n, it)
 same_entry e n it p q r s = λ i. Some (p i, record { key = q i; body = r i; state = s i })
 
--- the entry that was read is the one that the row shows
-pub entry_shown : (o : Option (ℕ × Entry)) (row : Row) (e : Read) → Some row ≡ option_map entry_row o → Shows row e → Some (view_entry e) ≡ o
-entry_shown None row e is says = cc
-entry_shown (Some x) row e is says =
-    let same : row ≡ entry_row x = cc in
-    let id = rw same at says.id in
-    let key = rw same at says.key in
-    let body = rw same at says.body in
-    let code = rw same at says.code in
-    let number = rw same at says.number in
-    let codes : code_of x.1.state ≡ code_of (view_state e.state) = cc in
-    let state = one_state x.1.state (view_state e.state) codes number in
-    let same_id : e.id ≡ x.0 = cc in
-    let same_key : e.key ≡ x.1.key = cc in
-    let same_body : e.body.items ≡ x.1.body = cc in
-    same_entry e x.0 x.1 same_id same_key same_body (sym state)
-
 pub some_mapped : {X Y : Type 0} (f : X → Y) (o : Option X) (y : Y) → option_map f o ≡ Some y → IsSome o
 some_mapped f None y e = cc
 some_mapped f (Some x) y e = refl
@@ -85,10 +68,6 @@ state_back Open = refl
 state_back (Confirmed n) = refl
 state_back Refused = refl
 state_back Clashed = refl
-
--- two columns that a state was read from tell that state
-pub state_columns_told : (code number : Value) (state : State) → code ≡ Int (pos (code_of state)) → number ≡ number_of state → state_in code number ≡ state
-state_columns_told code number state c n = ap₂ state_in c n ∙ state_back state
 
 pub told_rows : (xs : List (ℕ × Entry)) → map state_told (map state_row xs) ≡ map id_and_state xs
 told_rows [] = refl

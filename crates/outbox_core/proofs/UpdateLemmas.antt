@@ -32,8 +32,9 @@ use Rattle.table_rows.proofs.GainLemmas.{cast_int, cast_null, same_rows}
 use Rattle.table_rows.proofs.SelectLemmas.{selects}
 use Rattle.table_rows.proofs.WriteLemmas.{LeadsTo, EndsNone, written_stands, crash_leaves}
 use Rattle.table_rows.proofs.UpdateLemmas.{other_rows, updated}
+use Rattle.filing_model.specs.Numbered.{changed_at}
 use Rattle.outbox_core.specs.Schema.{outbox_tables, meta_table, entry_table, IsDeclared}
-use Rattle.outbox_core.specs.Entries.{Contents, IsOutbox, numbered, numbered_from, has_id, entry_at, with_state, put_state}
+use Rattle.outbox_core.specs.Entries.{Contents, IsOutbox, numbered, numbered_from, has_id, entry_at, with_state, in_state}
 use Rattle.outbox_core.specs.Rows.{IsOutboxOf, Leaves, code_of, number_of, entry_row, entry_rows, meta_row}
 use Rattle.outbox_core.proofs.Texts.{equals, changed_columns, update_text, update_command, update_query, update_is, update_plain}
 use Rattle.outbox_core.proofs.SelectLemmas.{matches, id_matches, same_ids, passing}
@@ -77,7 +78,7 @@ only_one n (suc k) id (x ∷ es) e at found =
 
 -- the rows are those of the others, and the new one
 parted : (n k id : ℕ) (es : List Entry) (e : Entry) (state : Place) → id ≡ n + k → slice_get es k ≡ Some e
-    → IsPermutation (map entry_row (numbered_from n (put_state es k state))) (entry_row (id, record e { state = state }) ∷ map entry_row (filter (apart_from id) (numbered_from n es)))
+    → IsPermutation (map entry_row (numbered_from n (changed_at (in_state state) es k))) (entry_row (id, record e { state = state }) ∷ map entry_row (filter (apart_from id) (numbered_from n es)))
 parted n k id [] e state at found = cc
 parted n zero id (x ∷ es) e state at found =
     let here : nat_eq n id ≡ true = grind (arith, nat_tests) in
@@ -131,7 +132,7 @@ module _ (es : List Entry) (trees : Trees) (held : IsPermutation (entry_rows es)
       let mine = passing (other at) (apart_from at) (other_row at) es in
       subst (λ l. IsPermutation l (map (shown entry_table) left)) mine (subst (IsPermutation (filter (other at) (entry_rows es))) (filter-map (other at) (shown entry_table) (trees 1)) kept)
 
-  rows_changed : is_taken left (stored_row at e state) ≡ false → IsPermutation (entry_rows (put_state es k state)) (map (shown entry_table) (put_row (stored_row at e state) left))
+  rows_changed : is_taken left (stored_row at e state) ≡ false → IsPermutation (entry_rows (changed_at (in_state state) es k)) (map (shown entry_table) (put_row (stored_row at e state) left))
   rows_changed free =
       IsPermutation-trans _ _ _ (parted 1 k at es e state refl found)
       (IsPermutation-trans _ _ _ (IsPermutation-cons (entry_row (at, record e { state = state })) _ _ left_shown)
@@ -163,7 +164,7 @@ module _ (s : State) (it : Contents) (was : IsOutboxOf it s.now) (k : ℕ) (e : 
         rows = record {
           declared = subst IsDeclared (sym (u.schema_is ∙ sym d.begins.is)) d;
           meta_is = same_rows meta_table (meta_row it.filer ∷ []) s.now after (u.others.0 (λ same. omega (arith, same))) was.rows.meta_is;
-          entries_are = subst (λ l. IsPermutation (entry_rows (put_state it.entries k state)) (map (shown entry_table) l)) (sym rows) (rows_changed it.entries db was.rows.entries_are k e found state fresh);
+          entries_are = subst (λ l. IsPermutation (entry_rows (changed_at (in_state state) it.entries k)) (map (shown entry_table) l)) (sym rows) (rows_changed it.entries db was.rows.entries_are k e found state fresh);
         };
         list = fits;
       }

@@ -2,7 +2,7 @@
 use Rattle.std.specs.Prelude.{◌≡◌, ℕ, zero, suc, ◌≤◌, ◌<◌, ◌^◌, ◌==◌, Bool, true, false, List, [], ◌∷◌, ◌++◌, bytes_eq, Option}
 use Rattle.std.specs.List.{AllByRecursion}
 use Rattle.key_string.specs.Filer.{is_filer}
-use Rattle.filing_model.specs.Numbered.{numbered as element}
+use Rattle.filing_model.specs.Numbered.{numbered as element, changed}
 use Rattle.filing_model.specs.Outbox.{Entry, State, Open, Confirmed, IsSendable, request_of}
 
 -- what a filer has to send
@@ -50,15 +50,13 @@ opened key body = record { key = key; body = body; state = Open }
 abbrev pub with_entry : Contents → Entry → Contents
 with_entry it e = record { filer = it.filer; entries = it.entries ++ e ∷ [] }
 
-abbrev pub put_state : List Entry → ℕ → State → List Entry
-put_state [] n state = []
-put_state (e ∷ es) zero state = record e { state = state } ∷ es
-put_state (e ∷ es) (suc n) state = e ∷ put_state es n state
+-- an entry in another state
+abbrev pub in_state : State → Entry → Entry
+in_state state e = record e { state = state }
 
 -- the entries, with the one of this id in this state
 abbrev pub set_state : List Entry → ℕ → State → List Entry
-set_state entries zero state = entries
-set_state entries (suc n) state = put_state entries n state
+set_state entries id state = changed (in_state state) entries id
 
 -- the contents, with the entry of this id in this state
 abbrev pub with_state : Contents → ℕ → State → Contents

@@ -9,7 +9,7 @@ use Rattle.filing_model.specs.Request.{Request, firsts, has_key, same_key}
 use Rattle.filing_model.specs.Register.{Outcome, Kept, filings, kept_after, verdict, judged, kept, register}
 use Rattle.filing_model.specs.Register.Outcome.{Registered, Refused}
 use Rattle.filing_model.proofs.Firsts.{firsts_new, firsts-append, firsts_short}
-use Rattle.filing_model.proofs.Keeping.{kept_new, requests_of_kept}
+use Rattle.filing_model.proofs.Keeping.{kept_new, requests_of_kept, all_push}
 use Rattle.table_rows.specs.Rows.{counted_from}
 use Rattle.register_store.specs.Audit.{Others, IsNext, kept_in}
 use Rattle.register_store.specs.Columns.{request_in}
@@ -36,10 +36,6 @@ pub counted_append : (at : ℕ) (ks ms : List Kept) → counted_from kept_row at
 counted_append at [] ms = ap (λ n. counted_from kept_row n ms) (omega arith)
 counted_append at (k ∷ ks) ms =
     ap (λ l. kept_row at k ∷ l) (counted_append (at + 1) ks ms ∙ ap (λ n. counted_from kept_row (at + 1) ks ++ counted_from kept_row n ms) (omega arith))
-
-all_push : (P : Request → Type 0) (F : List Request) (r : Request) → AllByRecursion P F → P r → AllByRecursion P (F ++ r ∷ [])
-all_push P [] r all one = (one, tt)
-all_push P (q ∷ F) r all one = (all.0, all_push P F r all.1 one)
 
 pub all_at : (P : Request → Type 0) (F : List Request) (r : Request) (G : List Request) → AllByRecursion P (F ++ r ∷ G) → P r
 all_at P [] r G all = all.0

@@ -46,7 +46,3 @@ creates_fact = record { command = refl; statement = refl; defined = refl; plain 
 -- the indexes that SQLite makes for the keys
 abbrev pub own_indexes : List Index
 own_indexes = automatic kept_table 0 (2 ∷ 3 ∷ []) 2 ∷ automatic finding_table 0 (1 ∷ 2 ∷ []) 4 ∷ automatic filing_table 0 (2 ∷ []) 6 ∷ automatic fact_table 0 (1 ∷ 2 ∷ []) 8 ∷ []
-
--- the five in turn make the tables as they are declared
-pub all_created : created fourth_schema (record fact_table { tree = 0 }) ≡ schema_with register_tables [] own_indexes []
-all_created = refl

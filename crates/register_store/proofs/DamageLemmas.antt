@@ -109,6 +109,3 @@ module _ (rows : List Row) (others : Others) (at number : ℕ) (row : Row) (low 
 pub first_number : (rows : List Row) → 1 ≡ number_after 0 rows
 unfolding firsts kept_after filings
 first_number rows = refl
-
-pub told_at : (rows : List Row) (others : Others) (at : ℕ) → at < length rows → ((i : ℕ) → i < at → IsSoundAt rows others i) → (IsSoundAt rows others at → ⊥) → IsTold rows others (at + 1)
-told_at rows others at low before here = inl (record { before = at; place = omega arith; within = low; sound = before; unsound = here })

@@ -14,6 +14,7 @@ use Rattle.xbrl_report.specs.ReportParts.{facts}
 use Rattle.filing_model.specs.Request.{Request}
 use Rattle.filing_model.specs.Register.{Outcome, Kept, Filing, filings, kept, register}
 use Rattle.filing_model.specs.Register.Outcome.{Registered, Refused}
+use Rattle.filing_model.proofs.Lists.{length-map}
 use Rattle.filing_model.proofs.Keeping.{register_numbered}
 use Rattle.table_rows.specs.Rows.{counted_from}
 use Rattle.table_rows.specs.Reading.{RisesBy, ReadsRows}
@@ -25,6 +26,7 @@ use Rattle.register_store.specs.Reads.{has_number, by_second, place_alone, said}
 use Rattle.register_store.specs.Register.{fact_row, fact_rows, joined_from}
 use Rattle.register_store.specs.Schema.{fact_table}
 use Rattle.register_store.specs.Store.{IsRegisterOf}
+use Rattle.register_store.proofs.SegmentLemmas.{length_counted}
 
 -- the rows of a filing's facts
 abbrev pub rows_of : Filing → List Row
@@ -118,14 +120,6 @@ said_back n at (x ∷ xs) = ap₂ (λ y ys. y ∷ ys) (same x.value x.decimals) 
         → fact_in (said (fact_row n at (record { id = x.id; concept = x.concept; dimensions = x.dimensions; value = value; decimals = decimals }))) ≡ record { id = x.id; concept = x.concept; dimensions = x.dimensions; value = value; decimals = decimals }
     same value decimals = ap₂ (λ v d. record { id = x.id; concept = x.concept; dimensions = x.dimensions; value = v; decimals = d }) (back value decimals) (again decimals)
 
-length_map : {X Y : Type 0} (f : X → Y) (xs : List X) → length (map f xs) ≡ length xs
-length_map f [] = refl
-length_map f (x ∷ xs) = ap suc (length_map f xs)
-
-length_counted : {X : Type 0} (row : ℕ → X → Row) (at : ℕ) (xs : List X) → length (counted_from row at xs) ≡ length xs
-length_counted row at [] = refl
-length_counted row at (x ∷ xs) = ap suc (length_counted row (at + 1) xs)
-
 module _ (F : List Request) (old new : State) (rows : List Row) (was : Stands (IsRegisterOf F) old) (n : ℕ) where
   its_table : filter (has_number n) (joined_from fact_rows 1 (kept F)) ≡ counted_from (fact_row n) 1 (unwrap_or (facts_numbered n (register F)) [])
   its_table = ap (filter (has_number n)) (table_is 1 (kept F)) ∙ its_rows n 1 (register F) (register_numbered F)
@@ -141,7 +135,7 @@ module _ (F : List Request) (old new : State) (rows : List Row) (was : Stands (I
 
   -- and are as many
   pub places_read : ReadsRows fact_table (has_number n) by_second place_alone rows old new → length rows ≡ length (unwrap_or (facts_numbered n (register F)) [])
-  places_read r = ap length (read_as place_alone r) ∙ length_map place_alone _ ∙ length_counted (fact_row n) 1 (unwrap_or (facts_numbered n (register F)) [])
+  places_read r = ap length (read_as place_alone r) ∙ length-map place_alone _ ∙ length_counted (fact_row n) 1 (unwrap_or (facts_numbered n (register F)) [])
 
 -- a list that was read is that of the number, where there is one
 pub some_list : {X Y : Type 0} (f : X → Y) (o : Option X) (y : Y) (d : Y) → IsSome o → y ≡ unwrap_or (option_map f o) d → Some y ≡ option_map f o

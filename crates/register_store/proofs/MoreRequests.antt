@@ -11,7 +11,7 @@ use Rattle.filing_model.specs.Request.{Request, firsts, has_key}
 use Rattle.filing_model.specs.Register.{Outcome, Kept, filings, verdict, outcome_by, judged, kept, register}
 use Rattle.filing_model.proofs.Firsts.{firsts_new}
 use Rattle.filing_model.proofs.Lists.{length-map}
-use Rattle.filing_model.proofs.Keeping.{kept_new, requests_of_kept, filings-append}
+use Rattle.filing_model.proofs.Keeping.{kept_new, requests_of_kept, filings-append, all_push}
 use Rattle.table_rows.specs.Rows.{counted_from}
 use Rattle.table_rows.proofs.StepLemmas.{counted_push}
 use Rattle.register_store.specs.Outcomes.{outcome_of, filings_by}
@@ -25,10 +25,6 @@ joined_push rows at (x ∷ ks) k =
     ap (λ l. rows at x ++ l) (joined_push rows (at + 1) ks k)
     ∙ sym (append_assoc (rows at x) (joined_from rows (at + 1) ks) (rows (at + 1 + length ks) k))
     ∙ ap (λ n. (rows at x ++ joined_from rows (at + 1) ks) ++ rows n k) (omega arith)
-
-all_push : (P : Request → Type 0) (F : List Request) (r : Request) → AllByRecursion P F → P r → AllByRecursion P (F ++ r ∷ [])
-all_push P [] r all one = (one, tt)
-all_push P (q ∷ F) r all one = (all.0, all_push P F r all.1 one)
 
 -- as many are kept as there are firsts
 pub kept_length : (F : List Request) → firsts F ≡ F → length (kept F) ≡ length F

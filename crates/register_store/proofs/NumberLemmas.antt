@@ -16,6 +16,7 @@ use Rattle.filing_model.specs.Listing.{listing, listings}
 use Rattle.filing_model.specs.Request.{Request}
 use Rattle.filing_model.specs.Register.{Outcome, Kept, Filing, filings, kept, register}
 use Rattle.filing_model.specs.Register.Outcome.{Registered, Refused}
+use Rattle.filing_model.proofs.Lists.{length-map}
 use Rattle.filing_model.proofs.Keeping.{register_numbered}
 use Rattle.table_rows.specs.Rows.{counted_from}
 use Rattle.table_rows.specs.Reading.{ReadsRows}
@@ -85,12 +86,8 @@ each_found m (f ∷ fs) h =
     let here : nat_eq f.number f.number ≡ true = grind (arith, nat_tests) in
     (rw here refl, found_later f fs fs (numbers_above f.number (m + 1) fs (omega (arith, first)) rest) (each_found (m + 1) fs rest))
 
-length_map : {X Y : Type 0} (f : X → Y) (xs : List X) → length (map f xs) ≡ length xs
-length_map f [] = refl
-length_map f (x ∷ xs) = ap suc (length_map f xs)
-
 as_many : (body : List ℕ) → length (facts body) ≡ fact_count body
-as_many body = length_map fact_record (entries_of (option_and_then (value_at path.facts) (tree body)))
+as_many body = length-map fact_record (entries_of (option_and_then (value_at path.facts) (tree body)))
 
 listed_under : (all : List Filing) (f : Filing) → filing_numbered f.number all ≡ Some f → counted_under all f.number ≡ listing f
 listed_under all f found = ap (λ (o : Option Filing). record { number = f.number; facts = length (unwrap_or (option_map (λ (g : Filing). facts g.request.body) o) []) }) found

@@ -92,10 +92,6 @@ module _ (old new : State) (rows : List Row) (d : IsDeclared old.now.schema) whe
   pub got_facts : Shown all_facts [] old new rows → IsUnchanged old new × Gets fact_table by_both rows old.now
   got_facts h = let r = reads_facts old new (λ _. d) rows h in (r.same, gets _ _ rows old new r)
 
--- and so the next query meets declared tables
-next_meta : (old new : State) (rows : List Row) → Shown all_meta [] old new rows → IsDeclared old.now.schema → IsDeclared new.now.schema
-next_meta old new rows h d = still old new (got_meta old new rows d h).0 d
-
 next_kept : (old new : State) (rows : List Row) → Shown all_kept [] old new rows → IsDeclared old.now.schema → IsDeclared new.now.schema
 next_kept old new rows h d = still old new (got_kept old new rows d h).0 d
 
@@ -303,15 +299,6 @@ module _ {S : Type 0} (g : Ghosts S) (a b e : Held S) (kept_are : List Row) (oth
       counts_them F here =
           let same : is.0 ≡ F = sym (no_others (state g a).now kept_are others four is.0 is.1 F here) in
           (stood F here, as_many ∙ ap length same, is.2 ∙ ap (λ H. length (register H)) same)
-
--- where `intake_meta` cannot be read
-pub unread_meta : {S : Type 0} (g : Ghosts S) (a e : Held S) (error : Error) → FailsToQuery all_meta [] (state g a) (state g e) error → IsRefused g (meta_fault error) a e
-unread_meta g a e error fails = go (cause_of error) refl
-  where
-    go : (why : Cause) → cause_of error ≡ why → IsRefused g (meta_fault_by why) a e
-    go cause.Memory is = inl (inl (error, fails, is))
-    go cause.Disk is = inl (error, fails, is)
-    go cause.Other is = inl (inl (error, fails, is))
 
 -- where one of the four tables cannot be read
 pub unread : {S : Type 0} (g : Ghosts S) (a b e : Held S) → IsRead g all_meta a b (meta_row ∷ []) → (error : Error) → StopsFor g (cause_of error) table_texts b e → IsRefused g (table_fault error) a e

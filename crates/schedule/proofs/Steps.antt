@@ -133,26 +133,6 @@ module _ (boxes : List Outbox) (at number : ℕ) (is : number ≡ suc at) (box :
     becomes = ap (world_of server sent outputs) (set new ∙ ap (renewed boxes number) becomes);
   }
 
--- what was delivered and served
-pub deliver_step : (old new : Served) (sent : List Sent) (outputs after : List Output) (outboxes : List Outbox) (item bytes : ℕ) (crash : Crash) (from : Sent) → numbered sent item ≡ Some from → old.up ≡ true
-    → (before given : ℕ) (marks : List Mark) (ended : Option Ended) (out : List ℕ)
-    → given ≡ length (take bytes from.bytes) → before ≡ length old.done
-    → (places : List Place) × ServesUntil old.limit old.done (take bytes from.bytes) crash places marks ended out × (new ≡ record old { done = old.done ++ completed places marks; up = is_no crash })
-    → after ≡ outputs ++ record { item = item; given = given; before = before; marks = marks; ended = ended; bytes = out } ∷ []
-    → Delivers (world_of old sent outputs outboxes) item bytes crash (world_of new sent after outboxes)
-deliver_step old new sent outputs after outboxes item bytes crash from here up before given marks ended out size count (places, serves, becomes) pushed = record {
-  up = up;
-  from = from;
-  here = here;
-  places = places;
-  marks = marks;
-  ended = ended;
-  out = out;
-  serves = serves;
-  becomes =
-      let lists : after ≡ outputs ++ record { item = item; given = length (take bytes from.bytes); before = length old.done; marks = marks; ended = ended; bytes = out } ∷ [] =
-      pushed ∙ ap₂ (λ g b. outputs ++ record { item = item; given = g; before = b; marks = marks; ended = ended; bytes = out } ∷ []) size count in
-      ap₂ (λ (served : Served) (left : List Output). world_of served sent left outboxes) becomes lists;
 }
 
 -- what is told as NoSuch was it

@@ -99,19 +99,6 @@ module _ (sql : List ℕ) (params : Row) (old new : State) (plain : IsTrue old.i
   failed_with_rows (inl (inr failed)) = store_errors failed.0 failed.1
   failed_with_rows (inr h) = shows_errors h.0 h.1 (timed params h.0.formats h.1.now) h.0.returning refl h.2
 
--- it commits nothing
-pub nothing_written : {X : Type 0} (Is : X → Database → Type 0) (sql : List ℕ) → ((x : X) (db : Database) → Is x db → IsPlain (understood db.schema sql)) → (params : Row) (old new : State)
-    → Survives old new (CommitsShowing sql params old) → Survives old new (Commits Is old (λ _ _. ⊥))
-nothing_written Is sql plain params old new =
-    survives_weaker old new _ _ (λ _ db h x was alive. never_commits sql params old db (plain x old.now (was.now alive)) h)
-
--- one call after another that commits nothing
-pub nothing_then : {X : Type 0} (Is : X → Database → Type 0) (first mid last : State)
-    → (HasCleanDisk mid → (x : X) → Stands (Is x) first → IsTrue first.is_open → Stands (Is x) mid × IsTrue mid.is_open)
-    → Survives first mid (Commits Is first (λ _ _. ⊥)) → Survives mid last (Commits Is mid (λ _ _. ⊥)) → Survives first last (Commits Is first (λ _ _. ⊥))
-nothing_then Is first mid last on p q =
-    survives_then first mid last _ _ _ (λ _ trees none. none) (λ clean trees none x was alive. let there = on (omega (arith, q.clean)) x was alive in none x there.0 there.1) p q
-
 -- what a crash leaves of an open store are the rows that it shows
 pub lasting : (Is : Database → Type 0) (s : State) → Stands Is s → IsTrue s.is_open → (trees : Trees) → trees ≡ s.committed.trees → trees ≡ s.now.trees
 lasting Is s h alive trees last = last ∙ ap (λ (d : Database). d.trees) (h.committed alive)
