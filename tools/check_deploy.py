@@ -14,6 +14,7 @@ import pathlib
 import re
 import shutil
 import socket
+import sqlite3
 import ssl
 import subprocess
 import sys
@@ -167,6 +168,25 @@ SELECT * FROM filings; SELECT * FROM refused; SELECT * FROM facts; SELECT * FROM
     hold("the views of reading.sql", done.stdout + done.stderr, wanted)
 
 
+def try_log(folder):
+    """A log of three answers 201, of which the register has two."""
+    copy = folder / "copy.db"
+    database = sqlite3.connect(copy)
+    database.executescript("\n".join(tables_of_protocol()))
+    database.execute("INSERT INTO kept VALUES (1, 'ACME', 'a\"b', x'', 1), (2, 'ACME', 'k-2', x'', 2), (3, 'ACME', 'k-3', x'', NULL)")
+    database.commit()
+    database.close()
+    lines = [("ACME", '"a\\"b"', "201"), ("ACME", '"k-2"', "201"), ("ACME", '"k-3"', "422")] + [("BETA", '"k-2"', "201")] * 2
+    log = folder / "filings.log"
+    log.write_text(
+        "".join(json.dumps({"time": "T", "uri": f"/filings/{f}", "key": k, "intake_status": s}) + "\n" for f, k, s in lines)
+    )
+    done = run(DEPLOY / "told-and-kept", copy, log)
+    hold("told-and-kept names what is missing", (done.returncode, done.stdout), (1, 'T BETA "k-2"\n'))
+    log.write_text("")
+    hold("told-and-kept, where nothing is", run(DEPLOY / "told-and-kept", copy, log).returncode, 0)
+
+
 # ---- nginx
 
 
@@ -245,8 +265,8 @@ def nginx_file(folder, intake_port, port, outbox_port):
     behind = behind.replace("127.0.0.1:8081", f"127.0.0.1:{outbox_port}").replace("https://intake.example", f"https://127.0.0.1:{port}")
     behind = behind.replace("/etc/berruzpil/intake-ca.pem", f"{folder}/ca.pem").replace("/etc/berruzpil/filer", f"{folder}/acme")
     temporary = "".join(f"    {kind}_temp_path {folder}/{kind};\n" for kind in ["client_body", "proxy", "fastcgi", "uwsgi", "scgi"])
-    text = f"daemon off;\npid {folder}/pid;\nerror_log {folder}/error.log;\nevents {{}}\nhttp {{\naccess_log off;\n{temporary}{front}{behind}}}\n"
-    (folder / "nginx.conf").write_text(text)
+    whole = f"daemon off;\npid {folder}/pid;\nerror_log {folder}/error.log;\nevents {{}}\n"
+    (folder / "nginx.conf").write_text(f"{whole}http {{\n    access_log off;\n{temporary}{front}{behind}}}\n")
     return folder / "nginx.conf"
 
 
@@ -329,6 +349,7 @@ def main():
             try_probe()
         try_units(folders[2])
         try_views()
+        try_log(folders[2])
         try_nginx(folders[3])
     print(f"{len(failures)} failed")
     return 1 if failures else 0
