@@ -119,6 +119,32 @@ def try_snapshot(folder):
     hold("register-snapshot leaves a copy that is there", run(*words, cwd=folder, env=paths).returncode, 1)
 
 
+def try_new(folder):
+    """A register that is made by a program that serves one connection."""
+    write_program(
+        folder / "intake",
+        """#!/usr/bin/env python3
+import pathlib, socket, sys
+words = sys.argv[1:]
+database = words[words.index("--db") + 1]
+if words[0] == "check":
+    sys.exit(print("sound: 0 kept, 0 filings"))
+assert words[-3:] == ["--connections", "1", "--new"], words
+pathlib.Path(database).write_text("made")
+with socket.create_server(("127.0.0.1", int(words[words.index("--port") + 1]))) as listener:
+    peer, _ = listener.accept()
+    with peer:
+        peer.recv(65536)
+        peer.sendall(b"HTTP/1.1 200 OK\\r\\nContent-Length: 14\\r\\nConnection: close\\r\\n\\r\\n" + b'{"filings":[]}')
+""",
+    )
+    paths = {**os.environ, "PATH": f"{folder}:{os.environ['PATH']}"}
+    words = [DEPLOY / "register-new", "made.db", str(free_port())]
+    done = run(*words, cwd=folder, env=paths)
+    hold("register-new", (done.returncode, done.stdout), (0, "sound: 0 kept, 0 filings\n"))
+    hold("register-new leaves a register that is there", run(*words, cwd=folder, env=paths).returncode, 1)
+
+
 def try_probe():
     for status, wanted in [(200, 0), (503, 1)]:
         with Intake(status) as intake:
@@ -133,7 +159,7 @@ def try_units(folder):
     if analyze := find("systemd-analyze"):
         units = []
         for unit in sorted(DEPLOY.glob("*.service")) + sorted(DEPLOY.glob("*.timer")):
-            text = re.sub(r"(?m)^(Exec\w+=)/usr/local/\S+", r"\1/bin/true", unit.read_text())
+            text = re.sub(r"(?m)^(Exec\w+=-?)/usr/local/\S+", r"\1/bin/true", unit.read_text())
             (folder / unit.name).write_text(text)
             units.append(folder / unit.name)
         done = run(analyze, "verify", *units)
@@ -346,6 +372,7 @@ def main():
         try_round(folders[0])
         try_snapshot(folders[1])
         if find("curl"):
+            try_new(folders[2])
             try_probe()
         try_units(folders[2])
         try_views()
