@@ -1,0 +1,386 @@
+#!/usr/bin/env python3
+"""Tries the files of deploy/ as far as the programs that they are for are installed, and names each that is not.
+
+    tools/check_deploy.py
+
+Scripts are parsed, held to shellcheck and run with stand-ins for `intake` and `outbox`; units are verified by systemd; the views are
+asked over the tables that docs/PROTOCOL.md declares; nginx tests its files, and then serves requests with and without certificates
+in front of a stand-in for the intake. Status 1 where a trial fails. What could not be tried is no failure.
+"""
+import http.client
+import json
+import os
+import pathlib
+import re
+import shutil
+import socket
+import sqlite3
+import ssl
+import subprocess
+import sys
+import tempfile
+import threading
+import time
+
+ROOT = pathlib.Path(__file__).resolve().parent.parent
+DEPLOY = ROOT / "deploy"
+SCRIPTS = ["register-new", "register-snapshot", "intake-probe", "outbox-round"]
+failures = []
+
+
+def tell(what, fault=None):
+    """Says that something was tried, and what was wrong with it."""
+    print(f"{'failed' if fault else 'ok'}: {what}" + (f": {fault}" if fault else ""))
+    if fault:
+        failures.append(what)
+
+
+def hold(what, found, wanted):
+    tell(what, None if found == wanted else f"{found!r} in place of {wanted!r}")
+
+
+def find(program):
+    """Where a program is, also in the folders of the administrator; says so where it is not."""
+    path = shutil.which(program, path=os.environ.get("PATH", "") + ":/usr/sbin:/sbin")
+    if path is None:
+        print(f"not tried: {program} is not installed")
+    return path
+
+
+def run(*words, **options):
+    return subprocess.run(words, capture_output=True, text=True, check=False, timeout=120, **options)
+
+
+def tell_run(what, done):
+    tell(what, None if done.returncode == 0 else (done.stderr or done.stdout).strip())
+
+
+# ---- scripts
+
+
+def write_program(path, text):
+    path.write_text(text)
+    path.chmod(0o755)
+
+
+def try_scripts():
+    for script in SCRIPTS:
+        tell_run(f"sh -n {script}", run("sh", "-n", DEPLOY / script))
+    if shellcheck := find("shellcheck"):
+        tell_run("shellcheck", run(shellcheck, *(DEPLOY / script for script in SCRIPTS)))
+
+
+def try_round(folder):
+    """A round over five entries, of which one was settled before, and over an intake that goes away."""
+    write_program(
+        folder / "outbox",
+        """#!/bin/sh
+case "$1" in
+    status) printf 'entry 1 open\\nentry 2 confirmed 7\\nentry 3 open\\nentry 4 open\\n' ;;
+    send)
+        for id; do :; done
+        echo "$id" >> sent
+        case "$id" in
+            1) echo 'entry 1 confirmed 8' ;;
+            3) echo "entry 3 $ANSWER"; [ "$ANSWER" != open ] || exit "$STATUS" ;;
+            4) echo 'entry 4 refused' ;;
+        esac ;;
+esac
+""",
+    )
+    words = [DEPLOY / "outbox-round", "outbox.db", "1"]
+    rounds = [("confirmed 9", 0, (0, "134")), ("open", 0, (75, "134")), ("open", 3, (75, "13")), ("open", 1, (1, "13"))]
+    for answer, status, wanted in rounds:
+        (folder / "sent").unlink(missing_ok=True)
+        paths = {**os.environ, "PATH": f"{folder}:{os.environ['PATH']}", "ANSWER": answer, "STATUS": str(status)}
+        done = run(*words, cwd=folder, env=paths)
+        sent = (folder / "sent").read_text().replace("\n", "")
+        hold(f"outbox-round, entry 3 {answer} with status {status}", (done.returncode, sent), wanted)
+
+
+def try_snapshot(folder):
+    """A copy of two files, and one whose log begins again while the first is copied."""
+    write_program(folder / "intake", '#!/bin/sh\necho "sound: 0 kept, 0 filings"\n')
+    write_program(
+        folder / "cp",
+        """#!/bin/sh
+/bin/cp "$@"
+[ -e again ] || { : > again; printf '%041d' 2 > register.db-wal; printf new > register.db; }
+""",
+    )
+    paths = {**os.environ, "PATH": f"{folder}:{os.environ['PATH']}"}
+    (folder / "register.db").write_text("old")
+    (folder / "register.db-wal").write_text("1" * 41)
+    words = [DEPLOY / "register-snapshot", "register.db", "copy.db"]
+    done = run(*words, cwd=folder, env=paths)
+    copy = folder / "copy.db"
+    copied = copy.read_text() if copy.exists() else ""
+    hold("register-snapshot copies again where the log began again", (done.returncode, copied), (0, "new"))
+    hold("register-snapshot leaves a copy that is there", run(*words, cwd=folder, env=paths).returncode, 1)
+
+
+def try_new(folder):
+    """A register that is made by a program that serves one connection."""
+    write_program(
+        folder / "intake",
+        """#!/usr/bin/env python3
+import pathlib, socket, sys
+words = sys.argv[1:]
+database = words[words.index("--db") + 1]
+if words[0] == "check":
+    sys.exit(print("sound: 0 kept, 0 filings"))
+assert words[-3:] == ["--connections", "1", "--new"], words
+pathlib.Path(database).write_text("made")
+with socket.create_server(("127.0.0.1", int(words[words.index("--port") + 1]))) as listener:
+    peer, _ = listener.accept()
+    with peer:
+        peer.recv(65536)
+        peer.sendall(b"HTTP/1.1 200 OK\\r\\nContent-Length: 14\\r\\nConnection: close\\r\\n\\r\\n" + b'{"filings":[]}')
+""",
+    )
+    paths = {**os.environ, "PATH": f"{folder}:{os.environ['PATH']}"}
+    words = [DEPLOY / "register-new", "made.db", str(free_port())]
+    done = run(*words, cwd=folder, env=paths)
+    hold("register-new", (done.returncode, done.stdout), (0, "sound: 0 kept, 0 filings\n"))
+    hold("register-new leaves a register that is there", run(*words, cwd=folder, env=paths).returncode, 1)
+
+
+def try_probe():
+    for status, wanted in [(200, 0), (503, 1)]:
+        with Intake(status) as intake:
+            hold(f"intake-probe of an intake that answers {status}", run(DEPLOY / "intake-probe", str(intake.port)).returncode, wanted)
+    hold("intake-probe where nothing listens", run(DEPLOY / "intake-probe", str(free_port())).returncode, 3)
+
+
+# ---- units and views
+
+
+def try_units(folder):
+    if analyze := find("systemd-analyze"):
+        units = []
+        for unit in sorted(DEPLOY.glob("*.service")) + sorted(DEPLOY.glob("*.timer")):
+            text = re.sub(r"(?m)^(Exec\w+=-?)/usr/local/\S+", r"\1/bin/true", unit.read_text())
+            (folder / unit.name).write_text(text)
+            units.append(folder / unit.name)
+        done = run(analyze, "verify", *units)
+        said = "\n".join(line for line in done.stderr.splitlines() if "berruzpil" in line)
+        tell("systemd-analyze verify", said or (done.stderr.strip() if done.returncode else None))
+
+
+def tables_of_protocol():
+    """The tables that docs/PROTOCOL.md declares, as statements."""
+    text = (ROOT / "docs" / "PROTOCOL.md").read_text()
+    found = re.findall(r"(?m)^    (\w+ \(id INTEGER PRIMARY KEY.*|\w+ \((?:seq|number) INTEGER.*)((?:\n {8,}.*)*)", text)
+    return [f"CREATE TABLE {first}{rest} STRICT;" for first, rest in found]
+
+
+def try_views():
+    if not (sqlite := find("sqlite3")):
+        return
+    tables = tables_of_protocol()
+    hold("the tables of docs/PROTOCOL.md", len(tables), 7)
+    dimensions = '{"concept":"eg:A","entity":"lei:ACME","period":"2024-12-31T00:00:00","unit":"iso4217:EUR"}'
+    script = "\n".join(tables) + f"""
+INSERT INTO kept VALUES (1, 'ACME', 'k-1', CAST('body' AS BLOB), 1), (2, 'ACME', 'k-2', CAST('x' AS BLOB), NULL);
+INSERT INTO filing VALUES (1, 1);
+INSERT INTO fact VALUES (1, 1, CAST('f1' AS BLOB), CAST('eg:A' AS BLOB), CAST('{dimensions}' AS BLOB), CAST('100' AS BLOB), 0);
+INSERT INTO finding VALUES (2, 1, 1, CAST('' AS BLOB));
+INSERT INTO entry VALUES (1, 'k-1', CAST('body' AS BLOB), 1, 1);
+.read {DEPLOY / "reading.sql"}
+SELECT * FROM filings; SELECT * FROM refused; SELECT * FROM facts; SELECT * FROM entries;
+"""
+    done = run(sqlite, "-batch", ":memory:", input=script)
+    wanted = f"1|1|ACME|k-1|4\n2|ACME|k-2|1|1|\n1|ACME|1|f1|eg:A|2024-12-31T00:00:00|iso4217:EUR|100|0|{dimensions}\n1|k-1|4|confirmed|1\n"
+    hold("the views of reading.sql", done.stdout + done.stderr, wanted)
+
+
+def try_log(folder):
+    """A log of three answers 201, of which the register has two."""
+    copy = folder / "copy.db"
+    database = sqlite3.connect(copy)
+    database.executescript("\n".join(tables_of_protocol()))
+    database.execute("INSERT INTO kept VALUES (1, 'ACME', 'a\"b', x'', 1), (2, 'ACME', 'k-2', x'', 2), (3, 'ACME', 'k-3', x'', NULL)")
+    database.commit()
+    database.close()
+    lines = [("ACME", '"a\\"b"', "201"), ("ACME", '"k-2"', "201"), ("ACME", '"k-3"', "422")] + [("BETA", '"k-2"', "201")] * 2
+    log = folder / "filings.log"
+    log.write_text(
+        "".join(json.dumps({"time": "T", "uri": f"/filings/{f}", "key": k, "intake_status": s}) + "\n" for f, k, s in lines)
+    )
+    done = run(DEPLOY / "told-and-kept", copy, log)
+    hold("told-and-kept names what is missing", (done.returncode, done.stdout), (1, 'T BETA "k-2"\n'))
+    log.write_text("")
+    hold("told-and-kept, where nothing is", run(DEPLOY / "told-and-kept", copy, log).returncode, 0)
+
+
+# ---- nginx
+
+
+def free_port():
+    with socket.socket() as it:
+        it.bind(("127.0.0.1", 0))
+        return it.getsockname()[1]
+
+
+class Intake:
+    """A stand-in for the intake: one connection at a time, one reply on each, and what it was sent."""
+
+    def __init__(self, status):
+        self.status, self.requests, self.listener = status, [], socket.create_server(("127.0.0.1", 0))
+        self.port = self.listener.getsockname()[1]
+
+    def __enter__(self):
+        threading.Thread(target=self.serve, daemon=True).start()
+        return self
+
+    def __exit__(self, *_):
+        self.leave()
+
+    def leave(self):
+        """Listens no more."""
+        if self.listener.fileno() >= 0:
+            self.listener.shutdown(socket.SHUT_RDWR)
+            self.listener.close()
+
+    def serve(self):
+        while True:
+            try:
+                peer, _ = self.listener.accept()
+            except OSError:
+                return
+            with peer:
+                self.requests.append(read_message(peer))
+                content = b'{"number":1,"status":"registered"}'
+                head = f"HTTP/1.1 {self.status} Whatever\r\nContent-Type: application/json\r\nContent-Length: {len(content)}\r\n"
+                peer.sendall(head.encode() + b"Connection: close\r\n\r\n" + content)
+
+
+def read_message(peer):
+    """The bytes of a message with a head and as much as it declares."""
+    held = b""
+    while b"\r\n\r\n" not in held:
+        held += peer.recv(65536) or b"\r\n\r\n"
+    length = re.search(rb"(?i)content-length: *(\d+)", held)
+    whole = held.index(b"\r\n\r\n") + 4 + (int(length[1]) if length else 0)
+    while len(held) < whole:
+        held += peer.recv(65536) or b" " * whole
+    return held
+
+
+def make_certificates(openssl, folder):
+    """An authority, and certificates of the server, of a filer and of somebody without a line in the map."""
+    run(openssl, "req", "-x509", "-newkey", "ec", "-pkeyopt", "ec_paramgen_curve:P-256", "-nodes", "-subj", "/CN=authority",
+        "-keyout", folder / "ca.key", "-out", folder / "ca.pem", "-days", "2")
+    subjects = {"server": "/CN=intake.example", "acme": "/O=ACME/CN=acme-filing", "other": "/O=x,CN=acme-filing,O=ACME/CN=other"}
+    for name, subject in subjects.items():
+        run(openssl, "req", "-newkey", "ec", "-pkeyopt", "ec_paramgen_curve:P-256", "-nodes", "-subj", subject,
+            "-keyout", folder / f"{name}.key", "-out", folder / f"{name}.csr")
+        names = folder / "names"
+        names.write_text("subjectAltName=DNS:intake.example")
+        run(openssl, "x509", "-req", "-in", folder / f"{name}.csr", "-CA", folder / "ca.pem", "-CAkey", folder / "ca.key",
+            "-CAcreateserial", "-days", "2", "-extfile", names, "-out", folder / f"{name}.pem")
+
+
+def nginx_file(folder, intake_port, port, outbox_port):
+    """The two files of deploy/ as one that runs in a folder."""
+    front = (DEPLOY / "nginx-intake.conf").read_text()
+    front = front.replace("127.0.0.1:8080", f"127.0.0.1:{intake_port}").replace("listen 443", f"listen 127.0.0.1:{port}")
+    front = front.replace("/etc/nginx/tls/filers-ca.pem", f"{folder}/ca.pem").replace("/etc/nginx/tls", str(folder))
+    front = front.replace("/var/log/nginx/filings.log", f"{folder}/filings.log")
+    behind = (DEPLOY / "nginx-outbox.conf").read_text()
+    behind = behind.replace("127.0.0.1:8081", f"127.0.0.1:{outbox_port}").replace("https://intake.example", f"https://127.0.0.1:{port}")
+    behind = behind.replace("/etc/berruzpil/intake-ca.pem", f"{folder}/ca.pem").replace("/etc/berruzpil/filer", f"{folder}/acme")
+    temporary = "".join(f"    {kind}_temp_path {folder}/{kind};\n" for kind in ["client_body", "proxy", "fastcgi", "uwsgi", "scgi"])
+    whole = f"daemon off;\npid {folder}/pid;\nerror_log {folder}/error.log;\nevents {{}}\n"
+    (folder / "nginx.conf").write_text(f"{whole}http {{\n    access_log off;\n{temporary}{front}{behind}}}\n")
+    return folder / "nginx.conf"
+
+
+def ask(folder, port, user, filer, method="POST", body=b"{}", **fields):
+    """The status and content that nginx gives a user's request."""
+    context = ssl.create_default_context(cafile=folder / "ca.pem")
+    if user:
+        context.load_cert_chain(folder / f"{user}.pem", folder / f"{user}.key")
+    peer = socket.create_connection(("127.0.0.1", port), timeout=60)
+    connection = http.client.HTTPSConnection("intake.example", port, context=context)
+    connection.sock = context.wrap_socket(peer, server_hostname="intake.example")
+    fields = {"Idempotency-Key": '"k-1"', **fields}
+    connection.request(method, f"/filings/{filer}", body, fields, encode_chunked="Transfer-Encoding" in fields)
+    reply = connection.getresponse()
+    return reply.status, reply.read()
+
+
+def try_requests(folder, intake, port, outbox_port):
+    own = b'{"number":1,"status":"registered"}'
+    hold("a filer's own report", ask(folder, port, "acme", "ACME"), (201, own))
+    sent = intake.requests[-1]
+    whole = sent.endswith(b"{}") and b"Content-Length: 2" in sent and b"Connection: close" in sent
+    hold("it comes whole, with its length, and closes", whole, True)
+    status, _ = ask(folder, port, "acme", "ACME", body=iter([b"{", b"}"]), **{"Transfer-Encoding": "chunked"})
+    hold("a chunked report gets its length", (status, b"Content-Length: 2" in intake.requests[-1]), (201, True))
+    before = len(intake.requests)
+    refusals = [
+        ("another's filer code", ("acme", "BETA"), 403, "not-yours"),
+        ("the same code in lower case", ("acme", "acme"), 403, "not-yours"),
+        ("a subject that has another's inside", ("other", "ACME"), 403, "not-yours"),
+        ("no certificate", (None, "ACME"), 403, "no-certificate"),
+        ("a path that is no filer's", ("acme", "a/b"), 404, "no-path"),
+    ]
+    for what, who, status, word in refusals:
+        hold(what, ask(folder, port, *who), (status, b'{"status":"%s"}' % word.encode()))
+    hold("a body that is too large", ask(folder, port, "acme", "ACME", body=b" " * 1048577), (413, b'{"status":"too-large"}'))
+    hold("none of these reached the intake", len(intake.requests), before)
+    slow = socket.create_connection(("127.0.0.1", outbox_port))
+    slow.sendall(b"POST /filings/ACME HTTP/1.1\r\nHost: localhost\r\nContent-Length: 2\r\n\r\n{")
+    hold("a silent filer keeps nobody waiting", ask(folder, port, "acme", "ACME")[0], 201)
+    slow.sendall(b"}")
+    hold("through the filer's own nginx", b"201" in read_message(slow).split(b"\r\n")[0], True)
+    line = json.loads((folder / "filings.log").read_text().splitlines()[0])
+    logged = (line["user"], line["key"], line["status"], line["intake_status"])
+    hold("the line of the log", logged, ("acme", '"k-1"', 201, "201"))
+
+
+def try_nginx(folder):
+    nginx, openssl = find("nginx"), find("openssl")
+    if not nginx or not openssl:
+        return
+    make_certificates(openssl, folder)
+    with Intake(201) as intake:
+        port, outbox_port = free_port(), free_port()
+        file = nginx_file(folder, intake.port, port, outbox_port)
+        tested = run(nginx, "-t", "-p", folder, "-c", file)
+        tell_run("nginx -t", tested)
+        if tested.returncode:
+            return
+        with subprocess.Popen([nginx, "-p", folder, "-c", file], stderr=subprocess.DEVNULL) as server:
+            try:
+                time.sleep(1)
+                try_requests(folder, intake, port, outbox_port)
+                intake.leave()
+                hold("an intake that is away", ask(folder, port, "acme", "ACME"), (503, b'{"status":"unavailable"}'))
+            finally:
+                server.terminate()
+
+
+def main():
+    with tempfile.TemporaryDirectory() as name:
+        folders = [pathlib.Path(name) / part for part in ("round", "snapshot", "units", "nginx")]
+        for folder in folders:
+            folder.mkdir()
+        pathlib.Path(name).chmod(0o755)
+        try_scripts()
+        try_round(folders[0])
+        try_snapshot(folders[1])
+        if find("curl"):
+            try_new(folders[2])
+            try_probe()
+        try_units(folders[2])
+        try_views()
+        try_log(folders[2])
+        try_nginx(folders[3])
+    print(f"{len(failures)} failed")
+    return 1 if failures else 0
+
+
+if __name__ == "__main__":
+    sys.exit(main())
