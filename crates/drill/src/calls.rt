@@ -8,8 +8,7 @@ use event_script::Event;
 use intake_core::Unavailable;
 use outbox_core::{State, StoreFault};
 use register_store::Registered;
-use schedule::{Fault, World, run as run_events};
-use sqlite_disk::Memory;
+use schedule::{Durable, Fault, World, run as run_events};
 use std::alloc::Global;
 
 /// Plays the events on a new world, whose databases lie in memory.
@@ -18,7 +17,7 @@ pub fn run(
     filers: &[&str],
     limit: u64,
     events: &[Event],
-) -> Result<World<Memory>, Fault>
+) -> Result<World<Durable>, Fault>
     requires filers { AreFilers (map (λ f. f.now) filers.now) }
     requires limit { limit ≤ 2 ^ 62 }
 {
@@ -26,21 +25,21 @@ pub fn run(
 }
 
 /// Plays one event more.
-pub fn play(world: &mut World<Memory>, event: &Event) -> Result<(), Fault> {
+pub fn play(world: &mut World<Durable>, event: &Event) -> Result<(), Fault> {
     world.play(event)
 }
 
 /// The registered requests.
-pub fn register(world: &mut World<Memory>) -> Result<Vec<Registered>, Unavailable> {
+pub fn register(world: &mut World<Durable>) -> Result<Vec<Registered>, Unavailable> {
     world.register()
 }
 
 /// The state of each entry, by the number of its outbox and its own.
-pub fn states(world: &mut World<Memory>) -> Result<Vec<(u64, u64, State)>, StoreFault> {
+pub fn states(world: &mut World<Durable>) -> Result<Vec<(u64, u64, State)>, StoreFault> {
     world.states()
 }
 
 /// How many requests were completed.
-pub fn done_count(world: &World<Memory>) -> usize {
+pub fn done_count(world: &World<Durable>) -> usize {
     world.done().len()
 }

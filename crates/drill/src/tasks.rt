@@ -10,8 +10,7 @@ use command_line::{DONE, read_up_to, show, show_refusal, words};
 use event_script::{Event, Script, read_script};
 use http_wire::Device;
 use register_store::Registered;
-use schedule::World;
-use sqlite_disk::Memory;
+use schedule::{Durable, World};
 use std::alloc::{AllocError, Global};
 use std::io::{Read, Write};
 
@@ -49,7 +48,7 @@ fn filer_codes<'a>(alloc: Global, filers: &'a [String]) -> Result<Vec<&'a str>, 
 }
 
 /// The world in which the events have happened.
-fn play(alloc: Global, script: &Script) -> Result<World<Memory>, Fault>
+fn play(alloc: Global, script: &Script) -> Result<World<Durable>, Fault>
     requires filers { AreFilers (map string_bytes script.now.filers.items) }
     requires limit { script.now.limit ≤ 2 ^ 62 }
 {
@@ -65,7 +64,7 @@ fn play(alloc: Global, script: &Script) -> Result<World<Memory>, Fault>
     }
 }
 
-fn restart(world: &mut World<Memory>, end: &Event) -> Result<(), Fault> {
+fn restart(world: &mut World<Durable>, end: &Event) -> Result<(), Fault> {
     match calls::play(world, end) {
         Ok(()) => Ok(()),
         Err(fault) => Err(Fault::World(fault)),
@@ -73,7 +72,7 @@ fn restart(world: &mut World<Memory>, end: &Event) -> Result<(), Fault> {
 }
 
 /// Starts every end again, so that none is down. Nothing changes of one that is up.
-fn restart_all(world: &mut World<Memory>, outboxes: usize) -> Result<(), Fault> {
+fn restart_all(world: &mut World<Durable>, outboxes: usize) -> Result<(), Fault> {
     restart(world, &Event::RestartServer)?;
     for outbox in 0..outboxes as u64 {
         let outbox = outbox + 1;
@@ -82,7 +81,7 @@ fn restart_all(world: &mut World<Memory>, outboxes: usize) -> Result<(), Fault> 
     Ok(())
 }
 
-fn filings(world: &mut World<Memory>) -> Result<Vec<Registered>, Fault> {
+fn filings(world: &mut World<Durable>) -> Result<Vec<Registered>, Fault> {
     match calls::register(world) {
         Ok(filings) => Ok(filings),
         Err(fault) => Err(Fault::Register(fault)),
@@ -90,7 +89,7 @@ fn filings(world: &mut World<Memory>) -> Result<Vec<Registered>, Fault> {
 }
 
 /// What is shown of the world, all of whose ends are up.
-fn report_of(alloc: Global, world: &mut World<Memory>) -> Result<Vec<u8>, Fault> {
+fn report_of(alloc: Global, world: &mut World<Durable>) -> Result<Vec<u8>, Fault> {
     let filings = filings(world)?;
     match calls::states(world) {
         Ok(entries) => report(

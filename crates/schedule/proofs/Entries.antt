@@ -6,40 +6,24 @@ use Rattle.std.proofs.lemmas.Bool.{cases_Bool}
 use Rattle.std.proofs.lemmas.Bool.Decides.{nat_tests}
 use Rattle.http_wire.specs.Head.{max_body_len}
 use Rattle.http_wire.specs.Reply.{ReplyParts}
+use Rattle.filing_model.specs.Numbered.{changed_at}
 use Rattle.filing_model.specs.Outbox.{Entry, State, request_of, bytes_of}
 use Rattle.filing_model.specs.Stopping.{No, Before}
 use Rattle.filing_world.specs.World.{Outbox, numbered, renewed}
 use Rattle.filing_world.specs.Step.{takes, heard_by, box_after}
 use Rattle.filing_world.specs.Headline.{states_of}
+use Rattle.filing_world.proofs.Lists.{changed_renewed, renewed_same, written}
 use Rattle.outbox_core.specs.declared.fault.StoreFault.{StoreFault}
 use Rattle.outbox_core.specs.declared.state.State.{State as Stored}
-use Rattle.outbox_core.specs.Entries.{numbered_from, numbered as with_ids, has_text, opened, put_state, set_state}
+use Rattle.outbox_core.specs.Entries.{numbered_from, numbered as with_ids, has_text, opened, in_state, set_state}
 use Rattle.outbox_core.specs.Reading.{view_state, view_pair, id_and_state}
 use Rattle.filer_client.specs.Exchange.{request_at}
 use Rattle.schedule.specs.Listed.{listed}
 use Rattle.schedule.specs.Outboxes.{up_with, state_or, entries_after}
 use Rattle.schedule.specs.Played.{IsRequest}
+use Rattle.schedule.proofs.Steps.{element_at}
 
 -- ---- one entry's state
-
-put_same : (entries : List Entry) (n : ℕ) (e : Entry) (state : State) → slice_get entries n ≡ Some e → put_state entries n state ≡ slice_set entries n (record e { state = state })
-put_same [] n e state here = absurd (cc)
-put_same (x ∷ xs) zero e state here = let is : x ≡ e = cc in ap (λ (y : Entry). record y { state = state } ∷ xs) is
-put_same (x ∷ xs) (suc n) e state here = ap (λ es. x ∷ es) (put_same xs n e state here)
-
-set_same : (entries : List Entry) (number : ℕ) (e : Entry) (state : State) → numbered entries number ≡ Some e → set_state entries number state ≡ renewed entries number (record e { state = state })
-set_same entries zero e state here = absurd (cc)
-set_same entries (suc n) e state here = put_same entries n e state here
-
-put_past : (entries : List Entry) (n : ℕ) (state : State) → length entries ≤ n → put_state entries n state ≡ entries
-put_past [] n state past = refl
-put_past (x ∷ xs) zero state past = absurd (omega (arith, past))
-put_past (x ∷ xs) (suc n) state past = ap (λ es. x ∷ es) (put_past xs n state (omega (arith, past)))
-
-element_at : (entries : List Entry) (at : ℕ) (e : Entry) → at < length entries → e ≡ slice_index_or entries at e → slice_get entries at ≡ Some e
-element_at [] at e within is = absurd (omega (arith, within))
-element_at (x ∷ xs) zero e within is = ap Some (sym is)
-element_at (x ∷ xs) (suc at) e within is = element_at xs at e (omega (arith, within)) is
 
 -- an entry of the list got another state
 pub state_written : (entries : List Entry) (number : ℕ) (e : Entry) (state : State) → number ≢ 0 → number - 1 < length entries → e ≡ slice_index_or entries (number - 1) e
@@ -47,29 +31,24 @@ pub state_written : (entries : List Entry) (number : ℕ) (e : Entry) (state : S
 state_written entries zero e state some within is = absurd (some refl)
 state_written entries (suc n) e state some within is =
     let same : suc n - 1 ≡ n = omega arith in
-    subst (λ at. slice_set entries at (record e { state = state }) ≡ put_state entries n state) (sym same)
-    (sym (put_same entries n e state (element_at entries n e (omega (arith, within)) (subst (λ at. e ≡ slice_index_or entries at e) same is))))
+    let here = element_at entries n e (omega (arith, within)) (subst (λ at. e ≡ slice_index_or entries at e) same is) in
+    ap (λ at. slice_set entries at (record e { state = state })) same ∙ written entries n (record e { state = state }) ∙ sym (changed_renewed (in_state state) entries (suc n) e here)
+
+past_end : (entries : List Entry) (n : ℕ) (state : State) → length entries ≤ n → changed_at (in_state state) entries n ≡ entries
+past_end [] n state past = refl
+past_end (x ∷ xs) zero state past = absurd (omega (arith, past))
+past_end (x ∷ xs) (suc n) state past = ap (λ es. x ∷ es) (past_end xs n state (omega (arith, past)))
 
 -- there is no entry of this number
 pub state_of_none : (entries : List Entry) (number : ℕ) (state : State) → number ≢ 0 → length entries ≤ number - 1 → entries ≡ set_state entries number state
 state_of_none entries zero state some past = absurd (some refl)
-state_of_none entries (suc n) state some past = sym (put_past entries n state (omega (arith, past)))
-
-own_place : (entries : List Entry) (n : ℕ) (e : Entry) → slice_get entries n ≡ Some e → slice_set entries n e ≡ entries
-own_place [] n e here = absurd (cc)
-own_place (x ∷ xs) zero e here = let is : x ≡ e = cc in ap (λ y. y ∷ xs) (sym is)
-own_place (x ∷ xs) (suc n) e here = ap (λ es. x ∷ es) (own_place xs n e here)
-
--- an entry in its own place leaves the list as it is
-renewed_same : (entries : List Entry) (number : ℕ) (e : Entry) → numbered entries number ≡ Some e → renewed entries number e ≡ entries
-renewed_same entries zero e here = absurd (cc)
-renewed_same entries (suc n) e here = own_place entries n e here
+state_of_none entries (suc n) state some past = sym (past_end entries n state (omega (arith, past)))
 
 -- the entries after a hearing, in the words of the world
 heard_entries : (entries : List Entry) (number : ℕ) (e : Entry) (to : Option Stored) (state : State) → numbered entries number ≡ Some e → state_or e.state to ≡ state
     → entries_after entries number to ≡ renewed entries number (record e { state = state })
 heard_entries entries number e None state here is = sym (ap (λ s. renewed entries number (record e { state = s })) (sym is) ∙ renewed_same entries number e here)
-heard_entries entries number e (Some to) state here is = set_same entries number e (view_state to) here ∙ ap (λ s. renewed entries number (record e { state = s })) is
+heard_entries entries number e (Some to) state here is = changed_renewed (in_state (view_state to)) entries number e here ∙ ap (λ s. renewed entries number (record e { state = s })) is
 
 -- the outbox after that
 pub box_heard : (box : Outbox) (number : ℕ) (e : Entry) (to : Option Stored) (entries : List Entry) (heard : Option ReplyParts) → numbered box.entries number ≡ Some e

@@ -1,7 +1,9 @@
 -- Lists of which the first elements were gone through.
 use Rattle.std.proofs.Common.{◌≡◌, ℕ, zero, suc, ◌<◌, Bool, true, List, [], ◌∷◌, ◌++◌, Some, length, take, drop, map, filter_map, slice_get, slice_index_or, refl, sym, ap, ◌∙◌, append_assoc, arith}
 use Rattle.std.specs.List.{list_all}
+use Rattle.std.proofs.Math.Seq.{take-suc, drop-cons}
 use Rattle.std.proofs.lemmas.List.{map-append}
+use Rattle.std.proofs.lemmas.Option.{slice_get_within, get_or_from_slice_get}
 use Rattle.std.proofs.lemmas.List.Elements.{filter_map-append}
 use Rattle.xbrl_report.proofs.Bools.{left_of, right_of}
 use Rattle.filing_world.specs.World.{Outbox, new_outbox}
@@ -10,16 +12,8 @@ use Rattle.filing_model.specs.Outbox.{State as Kept}
 use Rattle.outbox_core.specs.declared.state.State.{State}
 use Rattle.schedule.specs.Listed.{listed, view_listed}
 
--- one element more
-pub take_next : {X : Type 0} → (xs : List X) (at : ℕ) (or : X) → at < length xs → take (suc at) xs ≡ take at xs ++ slice_index_or xs at or ∷ []
-take_next [] at or within = absurd (omega (arith, within))
-take_next (x ∷ xs) zero or within = refl
-take_next (x ∷ xs) (suc at) or within = ap (λ zs. x ∷ zs) (take_next xs at or (omega (arith, within)))
-
 pub drop_at : {X : Type 0} → (xs : List X) (at : ℕ) (x : X) → slice_get xs at ≡ Some x → drop at xs ≡ x ∷ drop (suc at) xs
-drop_at [] at x there = absurd (cc)
-drop_at (y ∷ ys) zero x there = let e : y ≡ x = cc in ap (λ z. z ∷ ys) e
-drop_at (y ∷ ys) (suc at) x there = drop_at ys at x there
+drop_at xs at x there = drop-cons xs at x (slice_get_within xs at x there) ∙ ap (λ y. y ∷ drop (suc at) xs) (get_or_from_slice_get xs at x x there)
 
 -- ---- entries
 
@@ -31,7 +25,7 @@ listed_next outbox states at or old list new within before pushed =
     let x = slice_index_or states at or in
     ap (map view_listed) pushed ∙ map-append view_listed list ((outbox, x.0, x.1) ∷ []) ∙ ap (λ l. l ++ listed outbox x ∷ []) before
     ∙ append_assoc (map view_listed old) (map (listed outbox) (take at states)) (listed outbox x ∷ [])
-    ∙ ap (λ l. map view_listed old ++ l) (sym (ap (map (listed outbox)) (take_next states at or within) ∙ map-append (listed outbox) (take at states) (x ∷ [])))
+    ∙ ap (λ l. map view_listed old ++ l) (sym (ap (map (listed outbox)) (take-suc states at or within) ∙ map-append (listed outbox) (take at states) (x ∷ [])))
 
 pub states_next : (boxes : List Outbox) (at : ℕ) (box : Outbox) (all front new : List (ℕ × ℕ × Kept)) → slice_get boxes at ≡ Some box
     → front ++ states_from (suc at) (drop at boxes) ≡ all → new ≡ front ++ states_of (suc at) 1 box.entries
@@ -47,7 +41,7 @@ pub confirmed_next : (states : List (ℕ × ℕ × State)) (at : ℕ) (or : ℕ 
 confirmed_next states at or list new within before more =
     let x = slice_index_or states at or in
     more ∙ ap (λ l. l ++ filter_map number_in (view_listed x ∷ [])) before
-    ∙ sym (ap (λ l. filter_map number_in (map view_listed l)) (take_next states at or within) ∙ ap (filter_map number_in) (map-append view_listed (take at states) (x ∷ [])) ∙ filter_map-append number_in (map view_listed (take at states)) (view_listed x ∷ []))
+    ∙ sym (ap (λ l. filter_map number_in (map view_listed l)) (take-suc states at or within) ∙ ap (filter_map number_in) (map-append view_listed (take at states) (x ∷ [])) ∙ filter_map-append number_in (map view_listed (take at states)) (view_listed x ∷ []))
 
 -- ---- filers
 
@@ -62,4 +56,4 @@ pub outboxes_next : {X : Type 0} (code : X → List ℕ) (filers : List X) (at :
 outboxes_next code filers at or list new box within before is pushed =
     let x = slice_index_or filers at or in
     pushed ∙ ap (λ b. list ++ b ∷ []) is ∙ ap (λ l. l ++ new_outbox (code x) ∷ []) before
-    ∙ sym (ap (λ l. map new_outbox (map code l)) (take_next filers at or within) ∙ ap (map new_outbox) (map-append code (take at filers) (x ∷ [])) ∙ map-append new_outbox (map code (take at filers)) (code x ∷ []))
+    ∙ sym (ap (λ l. map new_outbox (map code l)) (take-suc filers at or within) ∙ ap (map new_outbox) (map-append code (take at filers) (x ∷ [])) ∙ map-append new_outbox (map code (take at filers)) (code x ∷ []))

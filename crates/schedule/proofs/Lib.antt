@@ -1,3 +1,4 @@
+pub mod Ending
 pub mod Entries
 pub mod GoingThrough
 pub mod Hearing

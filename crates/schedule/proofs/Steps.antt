@@ -1,5 +1,6 @@
 -- What each event did to the parts of a world, said as its step.
-use Rattle.std.proofs.Common.{◌≡◌, ℕ, zero, suc, true, false, List, [], ◌∷◌, ◌++◌, Option, Some, None, Result, Ok, Err, refl, sym, ap, ap₂, take, ◌∙◌, subst, inl, inr, slice_get, slice_set, slice_index_or, ◌<◌, ◌⊎◌, OnOk, length, arith}
+use Rattle.std.proofs.Common.{◌≡◌, ℕ, zero, suc, true, false, List, [], ◌∷◌, ◌++◌, Option, Some, None, Result, Ok, Err, refl, sym, ap, ap₂, take, ◌∙◌, subst, ⊎_elim, slice_get, slice_set, slice_index_or, ◌<◌, ◌⊎◌, OnOk, length, arith}
+use Rattle.std.proofs.lemmas.Option.{slice_get-get_or, slice_get_past, get_or_from_slice_get}
 use Rattle.key_string.specs.Key.{IsKey}
 use Rattle.http_wire.specs.Message.{Place}
 use Rattle.http_wire.specs.Reply.{ReplyParts}
@@ -11,31 +12,22 @@ use Rattle.filing_model.specs.Text.{completed}
 use Rattle.filing_world.specs.World.{Outbox, Sent, Output, numbered, renewed}
 use Rattle.filing_world.specs.Step.{Puts, Sends, Delivers, Hands, Restarts, Hears, with_entry, box_after, is_no, IsAway}
 use Rattle.filing_world.specs.Invariant.{AllOwn}
+use Rattle.filing_world.proofs.Lists.{renewed_same, written}
 use Rattle.schedule.specs.declared.fault.Cause.{Cause}
-use Rattle.schedule.specs.declared.fault.Cause.TheVariants as cause
-use Rattle.schedule.specs.declared.fault.Fault.TheVariants as fault
-use Rattle.schedule.specs.Faults.{fault_at}
 use Rattle.schedule.specs.Played.{Served, world_of, IsRequest}
 
 -- the element at a place within a list
 pub element_at : {X : Type 0} → (xs : List X) (at : ℕ) (x : X) → at < length xs → x ≡ slice_index_or xs at x → slice_get xs at ≡ Some x
-element_at [] at x within is = absurd (omega (arith, within))
-element_at (y ∷ ys) zero x within is = ap Some (sym is)
-element_at (y ∷ ys) (suc at) x within is = element_at ys at x (omega (arith, within)) is
+element_at xs at x within is = slice_get-get_or xs at x within ∙ ap Some (sym is)
 
 -- what is there stands at its place
 pub element_is : {X : Type 0} → (xs : List X) (at : ℕ) (x y : X) → slice_get xs at ≡ Some x → y ≡ slice_index_or xs at y → y ≡ x
-element_is [] at x y there is = absurd (cc)
-element_is (z ∷ zs) zero x y there is = let e : z ≡ x = cc in is ∙ e
-element_is (z ∷ zs) (suc at) x y there is = element_is zs at x y there is
+element_is xs at x y there is = is ∙ get_or_from_slice_get xs at x y there
 
 -- there is nothing past the end
 pub none_past : {X : Type 0} → (xs : List X) (number : ℕ) → (number ≡ 0) ⊎ (length xs < number) → numbered xs number ≡ None
 none_past xs zero past = refl
-none_past xs (suc at) (inl zero_is) = absurd (omega (arith, zero_is))
-none_past [] (suc at) (inr past) = refl
-none_past (x ∷ xs) (suc zero) (inr past) = absurd (omega (arith, past))
-none_past (x ∷ xs) (suc (suc at)) (inr past) = none_past xs (suc at) (inr (omega (arith, past)))
+none_past xs (suc at) past = slice_get_past xs at (⊎_elim (λ (e : suc at ≡ 0). absurd (omega (arith, e))) (λ (e : length xs < suc at). omega (arith, e)) past)
 
 pub named : {X : Type 0} → (xs : List X) (number at : ℕ) (x : X) → number ≡ suc at → slice_get xs at ≡ Some x → numbered xs number ≡ Some x
 named xs number at x is here = subst (λ n. numbered xs n ≡ Some x) (sym is) here
@@ -53,13 +45,11 @@ away_down boxes number at box is here down = λ other there.
 
 -- an element that is set to itself
 pub set_same : {X : Type 0} → (xs : List X) (k : ℕ) (x : X) → slice_get xs k ≡ Some x → slice_set xs k x ≡ xs
-set_same [] k x h = absurd (cc)
-set_same (y ∷ ys) zero x h = let e : y ≡ x = cc in ap (λ z. z ∷ ys) (sym e)
-set_same (y ∷ ys) (suc k) x h = ap (λ zs. y ∷ zs) (set_same ys k x h)
+set_same xs k x here = written xs k x ∙ renewed_same xs (suc k) x here
 
 module _ (boxes : List Outbox) (at number : ℕ) (is : number ≡ suc at) (box : Outbox) (here : slice_get boxes at ≡ Some box) where
   set : (new : Outbox) → slice_set boxes at new ≡ renewed boxes number new
-  set new = ap (λ n. renewed boxes n new) (sym is)
+  set new = written boxes at new ∙ ap (λ n. renewed boxes n new) (sym is)
 
   pub put_step : box.up ≡ true → (entry : Entry) (new : Outbox) (result : Result (Unit {0}) Cause) → OnOk result (new ≡ with_entry box entry) → OnOk result (IsKey entry.key)
       → OnOk result ((server : Served) (sent : List Sent) (outputs : List Output) → Puts (world_of server sent outputs boxes) number entry (world_of server sent outputs (slice_set boxes at new)))
@@ -132,12 +122,3 @@ module _ (boxes : List Outbox) (at number : ℕ) (is : number ≡ suc at) (box :
     here = named boxes number at box is here;
     becomes = ap (world_of server sent outputs) (set new ∙ ap (renewed boxes number) becomes);
   }
-
-}
-
--- what is told as NoSuch was it
-pub no_such_cause : (event n : ℕ) (why : Cause) → fault_at event why ≡ fault.NoSuch n → why ≡ cause.NoSuch
-no_such_cause event n cause.NoSuch is = refl
-no_such_cause event n cause.Memory is = absurd (cc)
-no_such_cause event n cause.Store is = absurd (cc)
-no_such_cause event n cause.Reopen is = absurd (cc)

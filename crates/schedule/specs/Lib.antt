@@ -1,4 +1,5 @@
 pub mod Bytes
+pub mod Durable
 pub mod Faults
 pub mod Filer
 pub mod Listed

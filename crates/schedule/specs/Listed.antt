@@ -1,6 +1,8 @@
--- Entries as they are listed.
-use Rattle.std.specs.Prelude.{ℕ}
+-- Entries as they are listed, where all outboxes are up.
+use Rattle.std.specs.Prelude.{ℕ, Bool, List}
+use Rattle.std.specs.List.{list_all}
 use Rattle.filing_model.specs.Outbox.{State}
+use Rattle.filing_world.specs.World.{Outbox}
 use Rattle.outbox_core.specs.declared.state.State.{State as Stored}
 use Rattle.outbox_core.specs.Reading.{view_state}
 
@@ -11,3 +13,7 @@ listed outbox (number, state) = (outbox, number, view_state state)
 -- the same, with the number of the outbox
 abbrev pub view_listed : ℕ × ℕ × Stored → ℕ × ℕ × State
 view_listed (outbox, number, state) = (outbox, number, view_state state)
+
+-- whether all outboxes are up
+abbrev pub are_up : List Outbox → Bool
+are_up = list_all (λ box. box.up)

@@ -1,13 +1,15 @@
 -- The world as its parts show it, and what ended it.
-use Rattle.std.specs.Prelude.{◌≡◌, ℕ, Bool, true, List, Option, Some}
+use Rattle.std.specs.Prelude.{◌≡◌, ℕ, ◌+◌, ◌-◌, ◌^◌, ◌⊎◌, Bool, true, List, Option, Some, min, take}
 use Rattle.sqlite_disk.specs.declared.Disk.{Ghosts}
 use Rattle.sqlite_store.specs.declared.store.FileStore.{FileStore}
 use Rattle.sqlite.specs.Files.{over_files}
 use Rattle.outbox_core.specs.Box.{Box, HasEntries}
 use Rattle.filing_model.specs.Request.{Request}
 use Rattle.filing_model.specs.Outbox.{Entry, request_of, bytes_of}
-use Rattle.filing_world.specs.World.{Outbox, Sent, Output, World, numbered}
+use Rattle.filing_world.specs.World.{Outbox, Sent, Output, World, Event, numbered}
+use Rattle.filing_world.specs.Step.{Run, CannotPlay}
 use Rattle.schedule.specs.declared.fault.Fault.{Fault}
+use Rattle.schedule.specs.declared.fault.Fault.TheVariants.{NoSuch, Memory, Store, Reopen}
 
 -- a limit, the requests that were completed so far, and whether the intake is up
 pub record Served : Type 0 where
@@ -19,10 +21,38 @@ pub record Served : Type 0 where
 abbrev pub world_of : Served → List Sent → List Output → List Outbox → World
 world_of server sent outputs outboxes = record { limit = server.limit; done = server.done; sent = sent; outputs = outputs; outboxes = outboxes; up = server.up }
 
--- the world, and the fault that ended it
+-- the world, how many events came to it, and the fault that ended it at the last of them
 pub record Played : Type 0 where
   pub world : World
+  pub events : ℕ
   pub fault : Option Fault
+
+-- ---- the numbers of events
+
+-- the number of the event after so many, as far as a u64 counts
+abbrev pub next_number : ℕ → ℕ
+next_number events = min (events + 1) (2 ^ 64 - 1)
+
+-- the fault tells this event, where it tells one
+abbrev pub Tells : ℕ → Fault → Type 0
+Tells number (NoSuch event) = event ≡ number
+Tells number Memory = Unit {0}
+Tells number (Store event) = event ≡ number
+Tells number (Reopen event) = event ≡ number
+
+-- the event of this number comes in this world, to which those before it lead
+pub record Comes (first : World) (events : List Event) (number : ℕ) (world : World) (event : Event) : Type 0 where
+  pub there : numbered events number ≡ Some event
+  pub run : Run first (take (number - 1) events) world
+
+-- Why a run of these events ended. An event that a fault tells was come to, and with NoSuch it can't be played. The making of the world counts as 0.
+abbrev pub EndsBy : World → List Event → Fault → Type 0
+EndsBy first events (NoSuch n) = (world : World) × (event : Event) × Comes first events n world event × CannotPlay world event
+EndsBy first events Memory = Unit {0}
+EndsBy first events (Store n) = (n ≡ 0) ⊎ ((world : World) × (event : Event) × Comes first events n world event)
+EndsBy first events (Reopen n) = (n ≡ 0) ⊎ ((world : World) × (event : Event) × Comes first events n world event)
+
+-- ---- what is lent
 
 -- the bytes of the request of the entry of this number
 pub record IsRequest (box : Outbox) (number : ℕ) (text : List ℕ) : Type 0 where

@@ -26,7 +26,8 @@ pub(crate) fn place_of(number: u64, count: usize) -> Option<usize>
 
 /// The place of the outbox of this number, where it is up.
 pub(crate) fn up_at<D: Honest>(filers: &[Filer<D>], outbox: u64) -> Option<usize>
-    ensures some { IfSome result (λ at. (outbox ≡ suc at) × (box : Ours) × (slice_get filers.now at ≡ Some box) × (box.up ≡ true) × (at < length filers.now)) }
+    ensures some { IfSome result (λ at. (outbox ≡ suc at)
+        × (box : Ours) × (slice_get filers.now at ≡ Some box) × (box.up ≡ true) × (at < length filers.now)) }
     ensures none { result ≡ None → IsAway filers.now outbox }
 {
     let at = place_of(outbox, filers.len())?;

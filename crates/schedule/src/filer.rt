@@ -174,7 +174,8 @@ impl<D: Honest> Filer<D> {
     pub(crate) fn hand(&mut self, entry: u64, bytes: &[u8], crash: Crash) -> Result<(), Cause>
         requires { self.old.up ≡ true }
         ensures heard { OnOk result ((what : Item) → numbered self.old.entries entry ≡ Some what
-            → (heard : Option ReplyParts) × Hears bytes.now (view_crash crash) heard × (self.new ≡ box_after self.old entry what heard (view_crash crash))) }
+            → (heard : Option ReplyParts) × Hears bytes.now (view_crash crash) heard
+                × (self.new ≡ box_after self.old entry what heard (view_crash crash))) }
         ensures other { result ≢ Err Cause.NoSuch }
     {
         match crash {

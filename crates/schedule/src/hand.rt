@@ -23,8 +23,11 @@ pub(crate) fn hand<D: Honest>(
     bytes: usize,
     crash: Crash,
 ) -> Result<(), Cause>
-    ensures step { OnOk result ((server : Served) → AllOwn filers.old.items sent.now → Hands (world_of server sent.now outputs.now filers.old.items) output bytes (view_crash crash) (world_of server sent.now outputs.now filers.new.items)) }
-    ensures no_such { result ≡ Err Cause.NoSuch → (server : Served) → CannotPlay (world_of server sent.now outputs.now filers.old.items) (Hand output bytes (view_crash crash)) }
+    ensures step { OnOk result ((server : Served) → AllOwn filers.old.items sent.now
+        → Hands (world_of server sent.now outputs.now filers.old.items) output bytes (view_crash crash)
+            (world_of server sent.now outputs.now filers.new.items)) }
+    ensures no_such { result ≡ Err Cause.NoSuch → (server : Served)
+        → CannotPlay (world_of server sent.now outputs.now filers.old.items) (Hand output bytes (view_crash crash)) }
 {
     let Some(at) = place_of(output, outputs.len()) else {
         return Err(Cause::NoSuch);

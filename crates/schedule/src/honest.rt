@@ -2,6 +2,7 @@
 
 ghost use Rattle.std.specs.Prelude.{◌≡◌, true, refl, IsTrue};
 
+use crate::durable::Durable;
 use sqlite_disk::{Disk, Memory};
 use std::alloc::Global;
 
@@ -13,6 +14,14 @@ pub trait Honest: Disk + Drop {
 
     // No read of it ever gave anything else.
     ghost honest: { (disk : Self) → Self.Disk.is_clean disk ≡ true };
+}
+
+impl Honest for Durable {
+    fn empty(alloc: Global) -> Durable {
+        Durable::new(alloc)
+    }
+
+    ghost honest = { λ _. refl };
 }
 
 impl Honest for Memory {

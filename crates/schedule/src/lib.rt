@@ -5,6 +5,7 @@
 
 mod bytes;
 mod deliver;
+mod durable;
 mod element;
 mod fault;
 mod filer;
@@ -22,6 +23,7 @@ mod send;
 mod server;
 mod world;
 
+pub use durable::Durable;
 pub use event_script::{Crash, Event};
 pub use fault::Fault;
 pub use honest::Honest;

@@ -1,13 +1,19 @@
 //! The entries of all outboxes in one list.
 
-ghost use Rattle.std.specs.Prelude.{◌≡◌, ◌++◌, ◌∷◌, [], map, filter_map, IfOk, OnOk};
+ghost use Rattle.std.specs.Prelude.{◌≡◌, ◌++◌, ◌∷◌, [], map, filter_map, false, IfOk, OnOk, Err};
 ghost use Rattle.filing_world.specs.Headline.{states_from, number_in};
-ghost use Rattle.schedule.specs.Listed.{listed, view_listed};
+ghost use Rattle.schedule.specs.Listed.{listed, view_listed, are_up};
 
 use crate::filer::Filer;
 use crate::honest::Honest;
 use outbox_core::{State, StoreFault};
 use std::alloc::{AllocError, Global};
+
+fn are_up<D: Honest>(filers: &[Filer<D>]) -> bool
+    ensures { result ≡ are_up filers.now }
+{
+    filers.iter().all(|filer| filer.is_up())
+}
 
 /// Appends the entries of the outbox of this number.
 fn append(
@@ -27,13 +33,18 @@ fn append(
 }
 
 /// Every entry of every outbox with its state, by the numbers of the outbox and the entry. No outbox changes.
+/// `Store` comes where one is down.
 pub(crate) fn all_states<D: Honest>(
     alloc: Global,
     filers: &mut Vec<Filer<D>>,
 ) -> Result<Vec<(u64, u64, State)>, StoreFault>
     ensures list { IfOk result (λ list. map view_listed list.items ≡ states_from 1 filers.old.items) }
+    ensures down { are_up filers.old.items ≡ false → result ≡ Err StoreFault.Store }
     ensures same { filers.new.items ≡ filers.old.items }
 {
+    if !are_up(filers.as_slice()) {
+        return Err(StoreFault::Store);
+    }
     let mut list = Vec::new(alloc);
     for at in 0..filers.len() {
         let states = filers[at].states()?;

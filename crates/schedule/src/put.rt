@@ -18,8 +18,11 @@ pub(crate) fn put<D: Honest>(
     key: &KeyText,
     body: &[u8],
 ) -> Result<(), Cause>
-    ensures step { OnOk result ((server : Served) (sent : List Item) (outputs : List Left) → Puts (world_of server sent outputs filers.old.items) outbox (opened key.now body.now) (world_of server sent outputs filers.new.items)) }
-    ensures no_such { result ≡ Err Cause.NoSuch → (server : Served) (sent : List Item) (outputs : List Left) → CannotPlay (world_of server sent outputs filers.old.items) (Put outbox key.now body.now) }
+    ensures step { OnOk result ((server : Served) (sent : List Item) (outputs : List Left)
+        → Puts (world_of server sent outputs filers.old.items) outbox (opened key.now body.now)
+            (world_of server sent outputs filers.new.items)) }
+    ensures no_such { result ≡ Err Cause.NoSuch → (server : Served) (sent : List Item) (outputs : List Left)
+        → CannotPlay (world_of server sent outputs filers.old.items) (Put outbox key.now body.now) }
 {
     let Some(at) = up_at(filers.as_slice(), outbox) else {
         return Err(Cause::NoSuch);

@@ -40,7 +40,8 @@ pub(crate) fn make_register<D: Honest>(alloc: Global) -> Result<Store<FileStore<
 
 /// The files of a register.
 pub(crate) fn files_of_register<D: Honest>(store: Store<FileStore<D>>) -> Result<Files<D>, Cause>
-    ensures held { (F : List Request) → HasRequests over_files store F → IfOk result (λ files. HoldRegister D.Disk files F) }
+    ensures held { (F : List Request) → HasRequests over_files store F
+        → IfOk result (λ files. HoldRegister D.Disk files F) }
     ensures other { result ≢ Err Cause.NoSuch }
 {
     match store.into_files() {
@@ -55,7 +56,8 @@ pub(crate) fn register_in<D: Honest>(
     alloc: Global,
     files: Files<D>,
 ) -> Result<Store<FileStore<D>>, Cause>
-    ensures opened { (F : List Request) → HoldRegister D.Disk files F → IfOk result (λ store. HasRequests over_files store F) }
+    ensures opened { (F : List Request) → HoldRegister D.Disk files F
+        → IfOk result (λ store. HasRequests over_files store F) }
     ensures other { result ≢ Err Cause.NoSuch }
 {
     if !files.may_be_used() {
@@ -90,7 +92,10 @@ pub(crate) fn serve_on<D: Honest>(
     bytes: &[u8],
     stop: Stop,
 ) -> Result<Answered, Cause>
-    ensures serves { (done : List Request) → Holds over_files intake.old (firsts done) → IfOk result (λ a. (places : List Spot) × ServesUntil (limit_of intake.old) done bytes.now (view_stop stop) places a.marks.items a.ended a.text.items × Holds over_files intake.new (firsts (done ++ completed places a.marks.items))) }
+    ensures serves { (done : List Request) → Holds over_files intake.old (firsts done)
+        → IfOk result (λ a. (places : List Spot)
+            × ServesUntil (limit_of intake.old) done bytes.now (view_stop stop) places a.marks.items a.ended a.text.items
+            × Holds over_files intake.new (firsts (done ++ completed places a.marks.items))) }
     ensures limit { limit_of intake.new ≡ limit_of intake.old }
     ensures other { result ≢ Err Cause.NoSuch }
 {
@@ -111,7 +116,8 @@ pub(crate) fn serve_on<D: Honest>(
 pub(crate) fn register_of<D: Honest>(
     intake: &mut Intake<FileStore<D>>,
 ) -> Result<Vec<Registered>, Unavailable>
-    ensures list { (F : List Request) → Holds over_files intake.old F → IfOk result (λ rows. rows.items ≡ register F) }
+    ensures list { (F : List Request) → Holds over_files intake.old F
+        → IfOk result (λ rows. rows.items ≡ register F) }
     ensures kept { (F : List Request) → Holds over_files intake.old F → Holds over_files intake.new F }
     ensures limit { limit_of intake.new ≡ limit_of intake.old }
 {

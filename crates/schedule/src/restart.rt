@@ -14,8 +14,10 @@ pub(crate) fn restart_outbox<D: Honest>(
     filers: &mut Vec<Filer<D>>,
     outbox: u64,
 ) -> Result<(), Cause>
-    ensures step { OnOk result ((server : Served) (sent : List Item) (outputs : List Left) → Restarts (world_of server sent outputs filers.old.items) outbox (world_of server sent outputs filers.new.items)) }
-    ensures no_such { result ≡ Err Cause.NoSuch → (server : Served) (sent : List Item) (outputs : List Left) → CannotPlay (world_of server sent outputs filers.old.items) (RestartOutbox outbox) }
+    ensures step { OnOk result ((server : Served) (sent : List Item) (outputs : List Left)
+        → Restarts (world_of server sent outputs filers.old.items) outbox (world_of server sent outputs filers.new.items)) }
+    ensures no_such { result ≡ Err Cause.NoSuch → (server : Served) (sent : List Item) (outputs : List Left)
+        → CannotPlay (world_of server sent outputs filers.old.items) (RestartOutbox outbox) }
 {
     let Some(at) = place_of(outbox, filers.len()) else {
         return Err(Cause::NoSuch);

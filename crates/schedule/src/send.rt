@@ -18,8 +18,11 @@ pub(crate) fn send<D: Honest>(
     outbox: u64,
     entry: u64,
 ) -> Result<(), Cause>
-    ensures step { OnOk result ((server : Served) (outputs : List Left) → Sends (world_of server sent.old.items outputs filers.old.items) outbox entry (world_of server sent.new.items outputs filers.new.items)) }
-    ensures no_such { result ≡ Err Cause.NoSuch → (server : Served) (outputs : List Left) → CannotPlay (world_of server sent.old.items outputs filers.old.items) (Send outbox entry) }
+    ensures step { OnOk result ((server : Served) (outputs : List Left)
+        → Sends (world_of server sent.old.items outputs filers.old.items) outbox entry
+            (world_of server sent.new.items outputs filers.new.items)) }
+    ensures no_such { result ≡ Err Cause.NoSuch → (server : Served) (outputs : List Left)
+        → CannotPlay (world_of server sent.old.items outputs filers.old.items) (Send outbox entry) }
 {
     let Some(at) = up_at(filers.as_slice(), outbox) else {
         return Err(Cause::NoSuch);

@@ -112,7 +112,10 @@ impl<D: Honest> Place<D> {
 
     /// What serving these bytes came to, and the place after it.
     fn serve(self, alloc: Global, bytes: &[u8], stop: Stop) -> Result<(Answered, Place<D>), Cause>
-        ensures serves { (limit : ℕ) (done : List Request) → Keeps self limit (firsts done) → is_up self ≡ true → IfOk result (λ t. (places : List Spot) × ServesUntil limit done bytes.now (view_stop stop) places t.0.marks.items t.0.ended t.0.text.items × Keeps t.1 limit (firsts (done ++ completed places t.0.marks.items))) }
+        ensures serves { (limit : ℕ) (done : List Request) → Keeps self limit (firsts done) → is_up self ≡ true
+            → IfOk result (λ t. (places : List Spot)
+                × ServesUntil limit done bytes.now (view_stop stop) places t.0.marks.items t.0.ended t.0.text.items
+                × Keeps t.1 limit (firsts (done ++ completed places t.0.marks.items))) }
         ensures up { IfOk result (λ t. is_up t.1 ≡ true) }
         ensures other { result ≢ Err Cause.NoSuch }
     {
@@ -128,7 +131,8 @@ impl<D: Honest> Place<D> {
 
     /// The files in the place of the register.
     fn stopped(self) -> Result<Place<D>, Cause>
-        ensures kept { (limit : ℕ) (F : List Request) → Keeps self limit F → IfOk result (λ place. Keeps place limit F) }
+        ensures kept { (limit : ℕ) (F : List Request) → Keeps self limit F
+            → IfOk result (λ place. Keeps place limit F) }
         ensures down { IfOk result (λ place. is_up place ≡ false) }
         ensures other { result ≢ Err Cause.NoSuch }
     {
@@ -141,7 +145,8 @@ impl<D: Honest> Place<D> {
 
     /// The place after a delivery: with a crash the files, and else the place itself.
     fn after(self, crash: Crash) -> Result<Place<D>, Cause>
-        ensures kept { (limit : ℕ) (F : List Request) → Keeps self limit F → IfOk result (λ place. Keeps place limit F) }
+        ensures kept { (limit : ℕ) (F : List Request) → Keeps self limit F
+            → IfOk result (λ place. Keeps place limit F) }
         ensures up { is_up self ≡ true → IfOk result (λ place. is_up place ≡ is_no (view_crash crash)) }
         ensures other { result ≢ Err Cause.NoSuch }
     {
@@ -171,7 +176,8 @@ impl<D: Honest> Place<D> {
 
     /// The registered requests under their numbers.
     fn register(&mut self) -> Result<Vec<Registered>, Unavailable>
-        ensures list { (limit : ℕ) (F : List Request) → Keeps self.old limit F → IfOk result (λ rows. rows.items ≡ register F) }
+        ensures list { (limit : ℕ) (F : List Request) → Keeps self.old limit F
+            → IfOk result (λ rows. rows.items ≡ register F) }
         ensures kept { (limit : ℕ) (F : List Request) → Keeps self.old limit F → Keeps self.new limit F }
         ensures up { is_up self.new ≡ is_up self.old }
         ensures down { is_up self.old ≡ false → result ≡ Err Unavailable.Down }
@@ -191,7 +197,9 @@ fn append_completed(
     bytes: &[u8],
     marks: &[Mark],
 ) -> Result<(), AllocError>
-    ensures { OnOk result ((places : List Spot) (ending : Ending) → BeginsPlaces bytes.now places ending → length marks.now ≤ length places → done.new.items ≡ done.old.items ++ completed places marks.now) }
+    ensures { OnOk result ((places : List Spot) (ending : Ending)
+        → BeginsPlaces bytes.now places ending → length marks.now ≤ length places
+        → done.new.items ≡ done.old.items ++ completed places marks.now) }
 {
     for request in completed(alloc, bytes, marks)? {
         done.reserve(1)?;
@@ -244,7 +252,8 @@ impl<D: Honest> Server<D> {
     pub(crate) fn deliver(&mut self, bytes: &[u8], crash: Crash) -> Result<Delivered, Cause>
         requires { self.old.up ≡ true }
         ensures before { IfOk result (λ d. d.before ≡ length self.old.done) }
-        ensures serves { IfOk result (λ d. (places : List Spot) × ServesUntil self.old.limit self.old.done bytes.now (view_crash crash) places d.marks.items d.ended d.text.items
+        ensures serves { IfOk result (λ d. (places : List Spot)
+            × ServesUntil self.old.limit self.old.done bytes.now (view_crash crash) places d.marks.items d.ended d.text.items
             × (self.new ≡ record self.old { done = self.old.done ++ completed places d.marks.items; up = is_no (view_crash crash) })) }
         ensures other { result ≢ Err Cause.NoSuch }
     {

@@ -1,6 +1,6 @@
 //! The world: the intake, the outboxes, and what was sent and written so far.
 
-ghost use Rattle.std.specs.Prelude.{◌≡◌, ◌≤◌, ◌^◌, ◌++◌, ℕ, List, map, take, true, false, Some, None, Err, IsSome, IfOk, IfErr, IfSome, OnOk, ◌↔◌};
+ghost use Rattle.std.specs.Prelude.{◌≡◌, ◌≢◌, ◌≤◌, ◌^◌, ℕ, map, true, false, Some, None, Err, IsSome, IfOk, IfErr, IfSome, OnOk, ◌↔◌};
 ghost use Rattle.event_script.specs.Events.{view_event};
 ghost use Rattle.filing_model.specs.Request.{firsts};
 ghost use Rattle.filing_model.specs.Register.{register};
@@ -10,8 +10,8 @@ ghost use Rattle.filing_world.specs.Invariant.{AllOwn};
 ghost use Rattle.filing_world.specs.Headline.{AreFilers, Holds, start, states, confirmed};
 ghost use Rattle.sqlite.specs.Files.{over_files};
 ghost use Rattle.intake_core.specs.Held.{Holds as Lends};
-ghost use Rattle.schedule.specs.Played.{world_of, IsLent};
-ghost use Rattle.schedule.specs.Listed.{view_listed};
+ghost use Rattle.schedule.specs.Played.{world_of, next_number, Tells, EndsBy, IsLent};
+ghost use Rattle.schedule.specs.Listed.{view_listed, are_up};
 
 use crate::deliver::deliver;
 use crate::element::outbox_at;
@@ -52,7 +52,11 @@ impl<D: Honest> Model for World<D> {
 
     ghost Value = { Played };
 
-    ghost view = { λ w. record { world = world_of w.server w.sent.items w.outputs.items w.filers.items; fault = w.fault } };
+    ghost view = { λ w. record {
+        world = world_of w.server w.sent.items w.outputs.items w.filers.items;
+        events = w.events;
+        fault = w.fault;
+    } };
 
     ghost invariant = { λ w. w.fault ≡ None → Keeps (world_of w.server w.sent.items w.outputs.items w.filers.items) };
 }
@@ -80,8 +84,11 @@ fn play_on<D: Honest>(
     outputs: &mut Vec<Output>,
     event: &Event,
 ) -> Result<(), Cause>
-    ensures step { OnOk result (AllOwn filers.old.items sent.old.items → Step (world_of server.old sent.old.items outputs.old.items filers.old.items) (view_event event.now) (world_of server.new sent.new.items outputs.new.items filers.new.items)) }
-    ensures no_such { result ≡ Err Cause.NoSuch → CannotPlay (world_of server.old sent.old.items outputs.old.items filers.old.items) (view_event event.now) }
+    ensures step { OnOk result (AllOwn filers.old.items sent.old.items
+        → Step (world_of server.old sent.old.items outputs.old.items filers.old.items) (view_event event.now)
+            (world_of server.new sent.new.items outputs.new.items filers.new.items)) }
+    ensures no_such { result ≡ Err Cause.NoSuch
+        → CannotPlay (world_of server.old sent.old.items outputs.old.items filers.old.items) (view_event event.now) }
 {
     match event {
         Event::Put { outbox, key, body } => put(filers, *outbox, key, body),
@@ -110,7 +117,8 @@ fn play_on<D: Honest>(
 /// An empty outbox for each of these filer codes, in order.
 fn outboxes<D: Honest>(alloc: Global, filers: &[&str]) -> Result<Vec<Filer<D>>, Cause>
     requires { AreFilers (map (λ f. f.now) filers.now) }
-    ensures { IfOk result (λ list. list.items ≡ map new_outbox (map (λ f. f.now) filers.now)) }
+    ensures new { IfOk result (λ list. list.items ≡ map new_outbox (map (λ f. f.now) filers.now)) }
+    ensures other { result ≢ Err Cause.NoSuch }
 {
     let mut list = Vec::new(alloc);
     for code in filers {
@@ -124,7 +132,9 @@ fn outboxes<D: Honest>(alloc: Global, filers: &[&str]) -> Result<Vec<Filer<D>>, 
 fn start<D: Honest>(alloc: Global, filers: &[&str], limit: u64) -> Result<World<D>, Cause>
     requires filers { AreFilers (map (λ f. f.now) filers.now) }
     requires limit { limit ≤ 2 ^ 62 }
-    ensures start { IfOk result (λ w. (w.world ≡ start (map (λ f. f.now) filers.now) limit) × (w.fault ≡ None)) }
+    ensures start { IfOk result (λ w. w.world ≡ start (map (λ f. f.now) filers.now) limit) }
+    ensures fresh { IfOk result (λ w. (w.events ≡ 0) × (w.fault ≡ None)) }
+    ensures other { result ≢ Err Cause.NoSuch }
 {
     let server = Server::new(alloc, limit)?;
     let filers = outboxes(alloc, filers)?;
@@ -147,7 +157,10 @@ impl<D: Honest> World<D> {
     pub fn new(alloc: Global, filers: &[&str], limit: u64) -> Result<World<D>, Fault>
         requires filers { AreFilers (map (λ f. f.now) filers.now) }
         requires limit { limit ≤ 2 ^ 62 }
-        ensures start { IfOk result (λ w. (w.world ≡ start (map (λ f. f.now) filers.now) limit) × (w.fault ≡ None)) }
+        ensures start { IfOk result (λ w. w.world ≡ start (map (λ f. f.now) filers.now) limit) }
+        ensures fresh { IfOk result (λ w. (w.events ≡ 0) × (w.fault ≡ None)) }
+        ensures making { IfErr result (Tells 0) }
+        ensures other { (n : ℕ) → result ≢ Err (Fault.NoSuch n) }
     {
         match start(alloc, filers, limit) {
             Ok(world) => Ok(world),
@@ -155,11 +168,14 @@ impl<D: Honest> World<D> {
         }
     }
 
-    /// Plays the next event. After a fault each later call answers it again.
+    /// Plays the next event. Its fault tells its number. After a fault each later call answers it again.
     pub fn play(&mut self, event: &Event) -> Result<(), Fault>
         ensures step { OnOk result (Step self.old.world (view_event event.now) self.new.world) }
         ensures holds { OnOk result (Holds self.new.world) }
-        ensures no_such { (n : ℕ) → result ≡ Err (Fault.NoSuch n) → self.old.fault ≡ None → CannotPlay self.old.world (view_event event.now) }
+        ensures no_such { (n : ℕ) → result ≡ Err (Fault.NoSuch n) → self.old.fault ≡ None
+            → CannotPlay self.old.world (view_event event.now) }
+        ensures counts { self.old.fault ≡ None → self.new.events ≡ next_number self.old.events }
+        ensures numbered { self.old.fault ≡ None → IfErr result (Tells self.new.events) }
         ensures ended { (fault : Fault) → self.old.fault ≡ Some fault → (result ≡ Err fault) × (self.new ≡ self.old) }
         ensures stops { IfErr result (λ fault. self.new.fault ≡ Some fault) }
         ensures goes_on { OnOk result ((self.old.fault ≡ None) × (self.new.fault ≡ None)) }
@@ -197,17 +213,19 @@ impl<D: Honest> World<D> {
     }
 
     /// Every entry of every outbox, by the number of the outbox and its own, with its state, ascending. `Store` comes
-    /// where an outbox is down.
+    /// where one is down.
     pub fn states(&mut self) -> Result<Vec<(u64, u64, State)>, StoreFault>
         ensures list { IfOk result (λ list. map view_listed list.items ≡ states self.old.world) }
+        ensures down { are_up self.old.world.outboxes ≡ false → result ≡ Err StoreFault.Store }
         ensures same { self.new ≡ self.old }
     {
         all_states(self.alloc, &mut self.filers)
     }
 
-    /// The confirmed ones among them, with their numbers in the register.
+    /// The confirmed ones among them, with their numbers in the register. `Store` comes where an outbox is down.
     pub fn confirmed(&mut self) -> Result<Vec<(u64, u64, u64)>, StoreFault>
         ensures list { IfOk result (λ list. list.items ≡ confirmed self.old.world) }
+        ensures down { are_up self.old.world.outboxes ≡ false → result ≡ Err StoreFault.Store }
         ensures same { self.new ≡ self.old }
     {
         let states = all_states(self.alloc, &mut self.filers)?;
@@ -255,7 +273,7 @@ impl<D: Honest> World<D> {
     }
 }
 
-/// Plays the events on a new world, one after another.
+/// Plays the events on a new world, one after another, up to the first that has a fault.
 pub fn run<D: Honest>(
     alloc: Global,
     filers: &[&str],
@@ -264,9 +282,11 @@ pub fn run<D: Honest>(
 ) -> Result<World<D>, Fault>
     requires filers { AreFilers (map (λ f. f.now) filers.now) }
     requires limit { limit ≤ 2 ^ 62 }
-    ensures run { IfOk result (λ w. Run (start (map (λ f. f.now) filers.now) limit) (map view_event events.now) w.world) }
+    ensures run { IfOk result (λ w.
+        Run (start (map (λ f. f.now) filers.now) limit) (map view_event events.now) w.world) }
     ensures holds { IfOk result (λ w. Holds w.world) }
     ensures fine { IfOk result (λ w. w.fault ≡ None) }
+    ensures ends { IfErr result (EndsBy (start (map (λ f. f.now) filers.now) limit) (map view_event events.now)) }
 {
     let mut world = World::new(alloc, filers, limit)?;
     for event in events {

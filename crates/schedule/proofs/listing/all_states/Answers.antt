@@ -33,7 +33,7 @@ loop-at-preserved g c =
     let next : at + 1 ≡ suc at = omega arith in
     let its : map (listed (suc at)) c.in_ok-states.states.items ≡ states_of (suc at) 1 box.entries = c.in_ok-states.ensures.list (suc at) in
     let more : map view_listed c.append.new.list.items ≡ map view_listed c.loop-at.list.items ++ states_of (suc at) 1 box.entries =
-    c.in_ok-append.ensures ∙ ap (λ l. map view_listed c.loop-at.list.items ++ map (listed (at + 1)) l) c.as_slice.ensures.value
+    c.in_ok-append.ensures ∙ ap (λ l. map view_listed c.loop-at.list.items ++ map (listed (at + 1)) l) c.as_slice-in-loop-at.ensures.value
     ∙ ap (λ n. map view_listed c.loop-at.list.items ++ map (listed n) c.in_ok-states.states.items) next ∙ ap (λ l. map view_listed c.loop-at.list.items ++ l) its in
     record {
       same = ap (slice_set c.loop-at.filers.items at) c.states.ensures.same ∙ set_same c.loop-at.filers.items at box here ∙ c.loop-at.invariant.same;

@@ -18,5 +18,5 @@ loop-code-preserved g c =
     (outboxes_next (λ f. f.now) c.args.filers.now c.loop-code.code-index _ c.loop-code.list.items c.push_reserved.new.self.items c.in_ok-new.field-0 c.loop-code-test.true c.loop-code.invariant c.in_ok-new.ensures.made
     (rw c.reserve.ensures.items at c.push_reserved.ensures.items))
 
-pub returns : goal.returns
-returns g c = c.loop-code.invariant ∙ ap (λ l. map new_outbox (map (λ f. f.now) l)) (take_all c.loop-code.code-index c.args.filers.now c.loop-code-test.false)
+pub returns-clause-new : goal.returns-clause-new
+returns-clause-new g c = c.loop-code.invariant ∙ ap (λ l. map new_outbox (map (λ f. f.now) l)) (take_all c.loop-code.code-index c.args.filers.now c.loop-code-test.false)

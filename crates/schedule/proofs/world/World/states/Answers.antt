@@ -10,3 +10,6 @@ invariant_of-self g c = λ none.
 
 pub returns-clause-list : goal.returns-clause-list
 returns-clause-list g c = rw (sym c.self.view_is) c.all_states.ensures.list
+
+pub returns-clause-down : goal.returns-clause-down
+returns-clause-down g c = rw (sym c.self.view_is) c.all_states.ensures.down

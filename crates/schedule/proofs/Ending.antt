@@ -1,0 +1,54 @@
+-- Why a run of events ended.
+use Rattle.std.proofs.Common.{◌≡◌, ℕ, ◌+◌, ◌-◌, ◌^◌, ◌<◌, suc, List, map, take, length, slice_index_or, option_map, refl, sym, ap, ◌∙◌, subst, inl, inr, arith}
+use Rattle.std.proofs.lemmas.List.{take-map}
+use Rattle.std.proofs.lemmas.Option.{slice_get-map, slice_get-get_or}
+use Rattle.filing_world.specs.World.{World, Event}
+use Rattle.filing_world.specs.Step.{Run, CannotPlay}
+use Rattle.schedule.specs.declared.fault.Cause.{Cause}
+use Rattle.schedule.specs.declared.fault.Cause.TheVariants as cause
+use Rattle.schedule.specs.declared.fault.Fault.{Fault}
+use Rattle.schedule.specs.declared.fault.Fault.TheVariants.{NoSuch, Memory, Store, Reopen}
+use Rattle.schedule.specs.Faults.{fault_at}
+use Rattle.schedule.specs.Played.{next_number, Tells, Comes, EndsBy}
+
+-- what is told as NoSuch was it
+pub no_such_cause : (event n : ℕ) (why : Cause) → fault_at event why ≡ NoSuch n → why ≡ cause.NoSuch
+no_such_cause event n cause.NoSuch is = refl
+no_such_cause event n cause.Memory is = absurd (cc)
+no_such_cause event n cause.Store is = absurd (cc)
+no_such_cause event n cause.Reopen is = absurd (cc)
+
+pub tells_own : (event : ℕ) (why : Cause) → Tells event (fault_at event why)
+tells_own event cause.NoSuch = refl
+tells_own event cause.Memory = tt
+tells_own event cause.Store = refl
+tells_own event cause.Reopen = refl
+
+-- no count that a u64 has stops the number of the next event
+pub next_is : (before : ℕ) → before + 1 < 2 ^ 64 → next_number before ≡ before + 1
+next_is before within = omega (arith, within)
+
+-- the event after those that were played comes in the world to which they led
+pub comes_next : {X : Type 0} (view : X → Event) (events : List X) (at : ℕ) (or : X) (first world : World) → at < length events → Run first (map view (take at events)) world
+    → Comes first (map view events) (suc at) world (view (slice_index_or events at or))
+comes_next view events at or first world within run = record {
+  there = slice_get-map view events at ∙ ap (option_map view) (slice_get-get_or events at or within);
+  run =
+      let same : at ≡ suc at - 1 = omega arith in
+      subst (λ n. Run first (take n (map view events)) world) same (subst (λ es. Run first es world) (sym (take-map view at events)) run);
+}
+
+module _ (first : World) (events : List Event) where
+  pub ends_at : (number : ℕ) (world : World) (event : Event) (fault : Fault) → Comes first events number world event → Tells number fault → ((n : ℕ) → fault ≡ NoSuch n → CannotPlay world event)
+      → EndsBy first events fault
+  ends_at number world event (NoSuch n) comes tells cannot = (world, event, subst (λ k. Comes first events k world event) (sym tells) comes, cannot n refl)
+  ends_at number world event Memory comes tells cannot = tt
+  ends_at number world event (Store n) comes tells cannot = inr (world, event, subst (λ k. Comes first events k world event) (sym tells) comes)
+  ends_at number world event (Reopen n) comes tells cannot = inr (world, event, subst (λ k. Comes first events k world event) (sym tells) comes)
+
+  -- where the world was not made
+  pub not_made : (fault : Fault) → Tells 0 fault → ((n : ℕ) → fault ≡ NoSuch n → ⊥) → EndsBy first events fault
+  not_made (NoSuch n) tells other = absurd (other n refl)
+  not_made Memory tells other = tt
+  not_made (Store n) tells other = inl tells
+  not_made (Reopen n) tells other = inl tells
