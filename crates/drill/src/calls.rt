@@ -8,16 +8,16 @@ use event_script::Event;
 use intake_core::Unavailable;
 use outbox_core::{State, StoreFault};
 use register_store::Registered;
-use schedule::{Durable, Fault, World, run as run_events};
+use schedule::{Fault, Honest, World, run as run_events};
 use std::alloc::Global;
 
-/// Plays the events on a new world, whose databases lie in memory.
-pub fn run(
+/// Plays the events on a new world, whose databases lie on disks of this type.
+pub fn run<D: Honest>(
     alloc: Global,
     filers: &[&str],
     limit: u64,
     events: &[Event],
-) -> Result<World<Durable>, Fault>
+) -> Result<World<D>, Fault>
     requires filers { AreFilers (map (λ f. f.now) filers.now) }
     requires limit { limit ≤ 2 ^ 62 }
 {
@@ -25,21 +25,21 @@ pub fn run(
 }
 
 /// Plays one event more.
-pub fn play(world: &mut World<Durable>, event: &Event) -> Result<(), Fault> {
+pub fn play<D: Honest>(world: &mut World<D>, event: &Event) -> Result<(), Fault> {
     world.play(event)
 }
 
 /// The registered requests.
-pub fn register(world: &mut World<Durable>) -> Result<Vec<Registered>, Unavailable> {
+pub fn register<D: Honest>(world: &mut World<D>) -> Result<Vec<Registered>, Unavailable> {
     world.register()
 }
 
 /// The state of each entry, by the number of its outbox and its own.
-pub fn states(world: &mut World<Durable>) -> Result<Vec<(u64, u64, State)>, StoreFault> {
+pub fn states<D: Honest>(world: &mut World<D>) -> Result<Vec<(u64, u64, State)>, StoreFault> {
     world.states()
 }
 
 /// How many requests were completed.
-pub fn done_count(world: &World<Durable>) -> usize {
+pub fn done_count<D: Honest>(world: &World<D>) -> usize {
     world.done().len()
 }

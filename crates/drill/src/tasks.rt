@@ -10,7 +10,7 @@ use command_line::{DONE, read_up_to, show, show_refusal, words};
 use event_script::{Event, Script, read_script};
 use http_wire::Device;
 use register_store::Registered;
-use schedule::{Durable, World};
+use schedule::{Durable, Honest, World};
 use std::alloc::{AllocError, Global};
 use std::io::{Read, Write};
 
@@ -48,7 +48,7 @@ fn filer_codes<'a>(alloc: Global, filers: &'a [String]) -> Result<Vec<&'a str>, 
 }
 
 /// The world in which the events have happened.
-fn play(alloc: Global, script: &Script) -> Result<World<Durable>, Fault>
+fn play<D: Honest>(alloc: Global, script: &Script) -> Result<World<D>, Fault>
     requires filers { AreFilers (map string_bytes script.now.filers.items) }
     requires limit { script.now.limit ≤ 2 ^ 62 }
 {
@@ -64,7 +64,7 @@ fn play(alloc: Global, script: &Script) -> Result<World<Durable>, Fault>
     }
 }
 
-fn restart(world: &mut World<Durable>, end: &Event) -> Result<(), Fault> {
+fn restart<D: Honest>(world: &mut World<D>, end: &Event) -> Result<(), Fault> {
     match calls::play(world, end) {
         Ok(()) => Ok(()),
         Err(fault) => Err(Fault::World(fault)),
@@ -72,7 +72,7 @@ fn restart(world: &mut World<Durable>, end: &Event) -> Result<(), Fault> {
 }
 
 /// Starts every end again, so that none is down. Nothing changes of one that is up.
-fn restart_all(world: &mut World<Durable>, outboxes: usize) -> Result<(), Fault> {
+fn restart_all<D: Honest>(world: &mut World<D>, outboxes: usize) -> Result<(), Fault> {
     restart(world, &Event::RestartServer)?;
     for outbox in 0..outboxes as u64 {
         let outbox = outbox + 1;
@@ -81,7 +81,7 @@ fn restart_all(world: &mut World<Durable>, outboxes: usize) -> Result<(), Fault>
     Ok(())
 }
 
-fn filings(world: &mut World<Durable>) -> Result<Vec<Registered>, Fault> {
+fn filings<D: Honest>(world: &mut World<D>) -> Result<Vec<Registered>, Fault> {
     match calls::register(world) {
         Ok(filings) => Ok(filings),
         Err(fault) => Err(Fault::Register(fault)),
@@ -89,7 +89,7 @@ fn filings(world: &mut World<Durable>) -> Result<Vec<Registered>, Fault> {
 }
 
 /// What is shown of the world, all of whose ends are up.
-fn report_of(alloc: Global, world: &mut World<Durable>) -> Result<Vec<u8>, Fault> {
+fn report_of<D: Honest>(alloc: Global, world: &mut World<D>) -> Result<Vec<u8>, Fault> {
     let filings = filings(world)?;
     match calls::states(world) {
         Ok(entries) => report(
@@ -103,9 +103,9 @@ fn report_of(alloc: Global, world: &mut World<Durable>) -> Result<Vec<u8>, Fault
 }
 
 /// Plays the script, and answers what is shown.
-fn drill(alloc: Global, bytes: &[u8]) -> Result<Vec<u8>, Fault> {
+fn drill<D: Honest>(alloc: Global, bytes: &[u8]) -> Result<Vec<u8>, Fault> {
     let script = script_of(alloc, bytes)?;
-    let mut world = play(alloc, &script)?;
+    let mut world: World<D> = play(alloc, &script)?;
     restart_all(&mut world, script.filers.len())?;
     report_of(alloc, &mut world)
 }
@@ -116,7 +116,7 @@ fn perform_script<R: Read, O: Write>(
     output: &mut O,
 ) -> Result<u8, Fault> {
     let bytes = read_bytes(alloc, input)?;
-    let text = drill(alloc, bytes.as_slice())?;
+    let text = drill::<Durable>(alloc, bytes.as_slice())?;
     show(output, text.as_slice())?;
     Ok(DONE)
 }
