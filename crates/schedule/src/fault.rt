@@ -42,24 +42,20 @@ impl From<AllocError> for Cause {
     }
 }
 
-impl From<DatabaseError> for Cause {
-    ghost use Rattle.std.specs.Prelude.{◌≡◌};
-    ghost use Rattle.schedule.specs.Faults.{reopen_cause};
-
-    ghost from_gives = { λ error cause. cause ≡ reopen_cause error };
+impl Cause {
+    ghost use Rattle.std.specs.Prelude.{◌≡◌, ◌≢◌};
+    ghost use Rattle.schedule.specs.Faults.{fault_at, reopen_cause};
 
     /// The cause where a database was not opened.
-    fn from(error: DatabaseError) -> Cause {
+    pub(crate) fn of_opening(error: DatabaseError) -> Cause
+        ensures cause { result ≡ reopen_cause error }
+        ensures other { result ≢ Cause.NoSuch }
+    {
         match Refusal::from(error) {
             Refusal::Memory => Cause::Memory,
             Refusal::Disk | Refusal::Other => Cause::Reopen,
         }
     }
-}
-
-impl Cause {
-    ghost use Rattle.std.specs.Prelude.{◌≡◌};
-    ghost use Rattle.schedule.specs.Faults.{fault_at};
 
     /// The fault of the event of this number.
     pub(crate) fn at(self, event: u64) -> Fault

@@ -16,3 +16,9 @@ returns-else-is_up-clause-none g c = λ _.
     let box = c.index-filers-at.result in
     let at = c.in_ok-at.ensures.some in
     away_down c.args.filers.now c.args.outbox c.in_ok-at.at box at.0 (element_at c.args.filers.now c.in_ok-at.at box at.1 c.index-filers-at.is) (sym c.is_up.ensures ∙ c.if-is_up.false)
+
+pub returns-then-is_up-clause-none : goal.returns-then-is_up-clause-none
+returns-then-is_up-clause-none g c = λ e. absurd (cc)
+
+pub returns-else-is_up-clause-some : goal.returns-else-is_up-clause-some
+returns-else-is_up-clause-some g c = tt
