@@ -1,0 +1,16 @@
+//! The worked examples of schedules: each plays one script over the public calls, and tells whether what came of it is
+//! what is to come. What may live here: the scripts and what is to come as data, written out by hand, and what plays
+//! them, shows what came of them and compares.
+#![tactic(auto)]
+
+mod examples;
+mod fault;
+mod outcome;
+mod played;
+mod report;
+mod rows;
+
+pub use fault::Fault;
+pub use outcome::{Outcome, play};
+pub use played::{new_world, read};
+pub use rows::run;

@@ -1,0 +1,71 @@
+//! Scripts that are read and played, on disks of any type.
+
+ghost use Rattle.std.specs.Prelude.{◌≡◌, ◌≤◌, ◌^◌, map, string_bytes, IfOk};
+ghost use Rattle.filing_world.specs.Headline.{AreFilers};
+
+use crate::fault::Fault;
+use event_script::{Event, Script, read_script};
+use schedule::{Fault as WorldFault, Honest, World, run};
+use std::alloc::{AllocError, Global};
+
+/// What a text says.
+pub fn read(alloc: Global, text: &str) -> Result<Script, Fault>
+    ensures filers { IfOk result (λ script. AreFilers (map string_bytes script.filers.items)) }
+    ensures limit { IfOk result (λ script. script.limit ≤ 2 ^ 62) }
+{
+    Ok(read_script(alloc, text)?)
+}
+
+fn filer_codes<'a>(alloc: Global, filers: &'a [String]) -> Result<Vec<&'a str>, AllocError>
+    ensures { IfOk result (λ codes. map (λ code. code.now) codes.items ≡ map string_bytes filers.now) }
+{
+    filers.iter().map(|filer| filer.as_str()).collect(alloc)
+}
+
+/// The world before the events of a script.
+pub fn new_world<D: Honest>(alloc: Global, script: &Script) -> Result<World<D>, Fault>
+    requires filers { AreFilers (map string_bytes script.now.filers.items) }
+    requires limit { script.now.limit ≤ 2 ^ 62 }
+{
+    let filers = filer_codes(alloc, script.filers.as_slice())?;
+    Ok(World::new(alloc, filers.as_slice(), script.limit)?)
+}
+
+/// The world after them, all of whose ends are up.
+pub(crate) fn played<D: Honest>(alloc: Global, script: &Script) -> Result<World<D>, Fault>
+    requires filers { AreFilers (map string_bytes script.now.filers.items) }
+    requires limit { script.now.limit ≤ 2 ^ 62 }
+{
+    let mut world = after_events(alloc, script)?;
+    start_all(&mut world, script.filers.len())?;
+    Ok(world)
+}
+
+/// The world after the events of a script.
+fn after_events<D: Honest>(alloc: Global, script: &Script) -> Result<World<D>, Fault>
+    requires filers { AreFilers (map string_bytes script.now.filers.items) }
+    requires limit { script.now.limit ≤ 2 ^ 62 }
+{
+    let filers = filer_codes(alloc, script.filers.as_slice())?;
+    Ok(run(
+        alloc,
+        filers.as_slice(),
+        script.limit,
+        script.events.as_slice(),
+    )?)
+}
+
+/// Starts the intake and so many outboxes again.
+fn start_all<D: Honest>(world: &mut World<D>, outboxes: usize) -> Result<(), Fault> {
+    play_event(world, &Event::RestartServer)?;
+    for outbox in 0..outboxes as u64 {
+        let outbox = outbox + 1;
+        play_event(world, &Event::RestartOutbox { outbox })?;
+    }
+    Ok(())
+}
+
+/// Plays one event more.
+fn play_event<D: Honest>(world: &mut World<D>, event: &Event) -> Result<(), Fault> {
+    Ok(world.play(event)?)
+}

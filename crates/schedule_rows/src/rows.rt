@@ -1,0 +1,156 @@
+//! The vectors of schedules by their numbers.
+
+use crate::examples::{KEY_REUSED, REGISTERED, REPORT, SMALLEST};
+use crate::fault::Fault;
+use crate::outcome::{Outcome, play};
+use std::alloc::{AllocError, Global};
+
+/// Runs the vector of this number, of 24 its end, and tells whether it passed. A number that is none of schedules fails.
+/// Want of memory is answered where memory was refused.
+pub fn run(alloc: Global, number: u32) -> Result<bool, AllocError> {
+    let passed = match number {
+        15 => stopped_after_keeping(alloc),
+        16 => two_outboxes(alloc),
+        24 => nothing_to_deliver(alloc),
+        _ => Ok(false),
+    };
+    match passed {
+        Ok(passed) => Ok(passed),
+        Err(Fault::Memory) => Err(AllocError),
+        Err(Fault::Unreadable { .. } | Fault::NoSuch { .. } | Fault::Refused) => Ok(false),
+    }
+}
+
+/// A script, and what is to come of it.
+#[derive(Clone, Copy)]
+struct Scene<'a> {
+    script: &'a str,
+    /// What the program `drill` prints.
+    shown: &'a str,
+    /// The bodies of the filings, in the order of their numbers.
+    bodies: &'a [&'a str],
+    /// What each delivery writes.
+    written: &'a [&'a str],
+}
+
+impl Scene<'_> {
+    /// Whether this comes of it.
+    fn holds(&self, alloc: Global) -> Result<bool, Fault> {
+        let outcome = play(alloc, self.script)?;
+        Ok(
+            self.has_shown(alloc, &outcome)?
+                && self.has_bodies(&outcome)
+                && outcome.has_written(self.written),
+        )
+    }
+
+    fn has_shown(&self, alloc: Global, outcome: &Outcome) -> Result<bool, Fault> {
+        Ok(outcome.shown(alloc)?.as_slice() == self.shown.as_bytes())
+    }
+
+    fn has_bodies(&self, outcome: &Outcome) -> bool {
+        outcome.filings.len() == self.bodies.len()
+            && outcome
+                .filings
+                .iter()
+                .zip(self.bodies)
+                .all(|(filing, body)| filing.body.as_slice() == body.as_bytes())
+    }
+}
+
+/// Vector 15: the intake stops after it has kept the request and before it replies, both ends start again, and the
+/// request is sent again. A front of the reply confirms nothing.
+fn stopped_after_keeping(alloc: Global) -> Result<bool, Fault> {
+    let cut = format!(in alloc;
+        r#"outbox ACME
+put 1 "k-1" {REPORT}
+send 1 1
+deliver 1 all after 1
+restart server
+restart outbox 1
+send 1 1
+deliver 2 all
+hand 2 20
+"#
+    )?;
+    let whole = format!(in alloc; "{cut}hand 2 all\n")?;
+    let open = Scene {
+        script: &cut,
+        shown: r#"filing 1 ACME "k-1"
+entry 1 1 open
+done 2
+"#,
+        bodies: &[REPORT],
+        written: &["", REGISTERED],
+    };
+    let confirmed = Scene {
+        script: &whole,
+        shown: r#"filing 1 ACME "k-1"
+entry 1 1 confirmed 1
+done 2
+"#,
+        ..open
+    };
+    Ok(open.holds(alloc)? && confirmed.holds(alloc)?)
+}
+
+/// Vector 16: two outboxes of a filer send under one key, and what is delivered first is kept.
+fn two_outboxes(alloc: Global) -> Result<bool, Fault> {
+    Ok(one_body_twice(alloc)? && two_bodies(alloc)?)
+}
+
+fn one_body_twice(alloc: Global) -> Result<bool, Fault> {
+    let script = under_one_key(alloc, SMALLEST, SMALLEST)?;
+    Scene {
+        script: &script,
+        shown: r#"filing 1 ACME "k-1"
+entry 1 1 confirmed 1
+entry 2 1 confirmed 1
+done 2
+"#,
+        bodies: &[SMALLEST],
+        written: &[REGISTERED, REGISTERED],
+    }
+    .holds(alloc)
+}
+
+fn two_bodies(alloc: Global) -> Result<bool, Fault> {
+    let script = under_one_key(alloc, SMALLEST, REPORT)?;
+    Scene {
+        script: &script,
+        shown: r#"filing 1 ACME "k-1"
+entry 1 1 clashed
+entry 2 1 confirmed 1
+done 2
+"#,
+        bodies: &[REPORT],
+        written: &[REGISTERED, KEY_REUSED],
+    }
+    .holds(alloc)
+}
+
+/// Two outboxes send a body each, and the second's comes first. Each hears the reply to its own, the second twice.
+fn under_one_key(alloc: Global, first: &str, second: &str) -> Result<String, Fault> {
+    Ok(format!(in alloc;
+        r#"outbox ACME
+outbox ACME
+put 1 "k-1" {first}
+put 2 "k-1" {second}
+send 1 1
+send 2 1
+deliver 2 all
+deliver 1 all
+hand 2 all
+hand 1 all
+hand 1 all
+"#
+    )?)
+}
+
+/// The end of vector 24: nothing was sent that the first event could deliver.
+fn nothing_to_deliver(alloc: Global) -> Result<bool, Fault> {
+    match play(alloc, "outbox ACME\ndeliver 1 all\n").err() {
+        Some(Fault::Memory) => Err(Fault::Memory),
+        fault => Ok(fault == Some(Fault::NoSuch { event: 1 })),
+    }
+}

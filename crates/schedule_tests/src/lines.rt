@@ -1,0 +1,155 @@
+//! Which texts are scripts.
+
+use event_script::{ScriptFault, read_script};
+use std::alloc::Global;
+use std::test::Fail;
+
+/// Why a text is no script, if it is none.
+fn fault_of(alloc: Global, text: &str) -> Option<ScriptFault> {
+    read_script(alloc, text).err()
+}
+
+/// The same of a script of one outbox and this line.
+fn fault_of_line(alloc: Global, line: &str) -> Result<Option<ScriptFault>, Fail> {
+    let text = format!(in alloc; "outbox ACME\n{line}\n")?;
+    Ok(fault_of(alloc, &text))
+}
+
+#[test]
+fn lines_that_say_nothing(rt: HostRuntime) -> Result<(), Fail> {
+    for line in [
+        "",
+        " ",
+        " send 1 1",
+        "SEND 1 1",
+        "# send 1 1",
+        "stop server",
+        "limit 5",
+        // Reports that are put.
+        "put",
+        "put 1",
+        "put 1 \"k-1\"",
+        "put 1 k-1 x",
+        "put 1 \"\" x",
+        "put 1 \"k-1 x",
+        "put 1 \"k\\n\" x",
+        "put 1 \"k-1\"x",
+        "put \"k-1\" x",
+        "put  1 \"k-1\" x",
+        "put 01 \"k-1\" x",
+        "put -1 \"k-1\" x",
+        "put 9223372036854775808 \"k-1\" x",
+        // Requests that are sent.
+        "send",
+        "send 1",
+        "send 1 1 1",
+        "send 1  1",
+        "send 1 1 ",
+        "send 1 1\r",
+        "send 1\t1",
+        "send 1 01",
+        "send 1 +1",
+        "send 1 1.0",
+        "send 1 x",
+        "send 9223372036854775808 1",
+        "send 1 9223372036854775808",
+        // Bytes of a stranger.
+        "stranger",
+        "stranger \\t",
+        "stranger \\",
+        "stranger x\\\\\\",
+        // Deliveries.
+        "deliver 1",
+        "deliver all 1",
+        "deliver 1 All",
+        "deliver 1 -1",
+        "deliver 1 01",
+        "deliver 1 9223372036854775808",
+        "deliver 1 all before",
+        "deliver 1 all before 01",
+        "deliver 1 all before 4294967296",
+        "deliver 1 all before 1 2",
+        "deliver 1 all at 1",
+        "deliver 1 before 1",
+        // Replies that are handed over.
+        "hand 1",
+        "hand 1 every",
+        "hand 1 9223372036854775808",
+        "hand 1 all before 1",
+        "hand 1 all during",
+        "hand 01 all",
+        // Restarts.
+        "restart",
+        "restart intake",
+        "restart server 1",
+        "restart outbox",
+        "restart outbox x",
+        "restart outbox 1 1",
+        "restart outbox 01",
+    ] {
+        assert_eq!(rt;
+            fault_of_line(rt.alloc(), line)?,
+            Some(ScriptFault::Unreadable { line: 2 }),
+            "at {line}"
+        );
+    }
+    Ok(())
+}
+
+#[test]
+fn lines_that_say_something(rt: HostRuntime) -> Result<(), Fail> {
+    for line in [
+        "outbox a.b_c-9",
+        "put 1 \"k-1\" ",
+        "put 1 \"a\\\"b\\\\c\" x y \"z\"",
+        "put 0 \"a b\" \\n\rx",
+        "send 0 9223372036854775807",
+        "stranger ",
+        "stranger  a\\r\\n\\\\ b",
+        "deliver 1 0",
+        "deliver 9223372036854775807 9223372036854775807 after 4294967295",
+        "deliver 1 all before 0",
+        "hand 1 0",
+        "hand 1 all before",
+        "hand 1 20 after",
+        "restart server",
+        "restart outbox 9223372036854775807",
+    ] {
+        assert_eq!(rt; fault_of_line(rt.alloc(), line)?, None, "at {line}");
+    }
+    Ok(())
+}
+
+#[test]
+fn the_first_wrong_line_is_told(rt: HostRuntime) {
+    for (text, line) in [
+        ("", 1),
+        ("\n", 1),
+        ("outbox ACME", 1),
+        ("outbox ACME\r\n", 1),
+        ("outbox\n", 1),
+        ("outbox \n", 1),
+        ("outbox a b\n", 1),
+        ("outbox a/b\n", 1),
+        ("limit 5\n", 2),
+        ("limit 5", 1),
+        ("limit\noutbox ACME\n", 1),
+        ("limit 05\noutbox ACME\n", 1),
+        ("limit 5 5\noutbox ACME\n", 1),
+        ("limit 4611686018427387905\noutbox ACME\n", 1),
+        ("limit 5\nlimit 5\noutbox ACME\n", 2),
+        ("send 1 1\noutbox ACME\n", 1),
+        ("limit 5\nsend 1 1\n", 2),
+        ("outbox ACME\noutbox BETA\nsend 1 1\noutbox ACME\n", 4),
+        ("outbox ACME\nsend 1 1\nlimit 5\n", 3),
+        ("outbox ACME\nsend 1 1\nsend 1\nsend\n", 3),
+        ("outbox ACME\nsend 1 1", 2),
+        ("outbox ACME\nsend 1 1\n\n", 3),
+    ] {
+        assert_eq!(rt;
+            fault_of(rt.alloc(), text),
+            Some(ScriptFault::Unreadable { line }),
+            "at {text}"
+        );
+    }
+}
