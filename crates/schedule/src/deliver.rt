@@ -23,7 +23,7 @@ pub(crate) fn deliver<D: Honest>(
 ) -> Result<(), Cause>
     ensures step { OnOk result ((outboxes : List Outbox)
         → Delivers (world_of server.old sent.now outputs.old.items outboxes) item bytes (view_crash crash)
-            (world_of server.new sent.now outputs.new.items outboxes)) }
+        (world_of server.new sent.now outputs.new.items outboxes)) }
     ensures no_such { result ≡ Err Cause.NoSuch → (outboxes : List Outbox)
         → CannotPlay (world_of server.old sent.now outputs.old.items outboxes) (Deliver item bytes (view_crash crash)) }
 {

@@ -175,7 +175,7 @@ impl<D: Honest> Filer<D> {
         requires { self.old.up ≡ true }
         ensures heard { OnOk result ((what : Item) → numbered self.old.entries entry ≡ Some what
             → (heard : Option ReplyParts) × Hears bytes.now (view_crash crash) heard
-                × (self.new ≡ box_after self.old entry what heard (view_crash crash))) }
+            × (self.new ≡ box_after self.old entry what heard (view_crash crash))) }
         ensures other { result ≢ Err Cause.NoSuch }
     {
         match crash {

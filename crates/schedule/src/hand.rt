@@ -25,7 +25,7 @@ pub(crate) fn hand<D: Honest>(
 ) -> Result<(), Cause>
     ensures step { OnOk result ((server : Served) → AllOwn filers.old.items sent.now
         → Hands (world_of server sent.now outputs.now filers.old.items) output bytes (view_crash crash)
-            (world_of server sent.now outputs.now filers.new.items)) }
+        (world_of server sent.now outputs.now filers.new.items)) }
     ensures no_such { result ≡ Err Cause.NoSuch → (server : Served)
         → CannotPlay (world_of server sent.now outputs.now filers.old.items) (Hand output bytes (view_crash crash)) }
 {

@@ -37,11 +37,11 @@ impl Model for Output {
     ghost Value = { Left };
 
     ghost view = { λ o. record {
-        item = o.item;
-        given = o.given;
-        before = o.before;
-        marks = o.marks.items;
-        ended = o.ended;
-        bytes = o.bytes.items;
+      item = o.item;
+      given = o.given;
+      before = o.before;
+      marks = o.marks.items;
+      ended = o.ended;
+      bytes = o.bytes.items;
     } };
 }

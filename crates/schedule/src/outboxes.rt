@@ -88,7 +88,7 @@ pub(crate) fn put_into<D: Honest>(
         → IfOk result (λ is_taken. is_taken ≡ takes (up_with outbox.old.filer entries) (opened key.now body.now)) }
     ensures rows { (entries : List Item) → HasEntries over_files outbox.old entries
         → IfOk result (λ is_taken.
-            HasEntries over_files outbox.new (if is_taken then entries ++ opened key.now body.now ∷ [] else entries)) }
+        HasEntries over_files outbox.new (if is_taken then entries ++ opened key.now body.now ∷ [] else entries)) }
     ensures kept { (entries : List Item) → HasEntries over_files outbox.old entries
         → OnErr result (HasEntries over_files outbox.new entries) }
     ensures filer { outbox.new.filer ≡ outbox.old.filer }
@@ -148,7 +148,7 @@ pub(crate) fn hear_in<D: Honest>(
 ) -> Result<Option<State>, Cause>
     ensures heard { (entries : List Item) → HasEntries over_files outbox.old entries
         → IfOk result (λ to. (what : Item) → numbered entries number ≡ Some what
-            → (heard : Option ReplyParts) × Hears bytes.now No heard × (state_or what.state to ≡ heard_by what.state heard)) }
+        → (heard : Option ReplyParts) × Hears bytes.now No heard × (state_or what.state to ≡ heard_by what.state heard)) }
     ensures rows { (entries : List Item) → HasEntries over_files outbox.old entries
         → IfOk result (λ to. HasEntries over_files outbox.new (entries_after entries number to)) }
     ensures kept { (entries : List Item) → HasEntries over_files outbox.old entries

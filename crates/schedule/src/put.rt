@@ -20,7 +20,7 @@ pub(crate) fn put<D: Honest>(
 ) -> Result<(), Cause>
     ensures step { OnOk result ((server : Served) (sent : List Item) (outputs : List Left)
         → Puts (world_of server sent outputs filers.old.items) outbox (opened key.now body.now)
-            (world_of server sent outputs filers.new.items)) }
+        (world_of server sent outputs filers.new.items)) }
     ensures no_such { result ≡ Err Cause.NoSuch → (server : Served) (sent : List Item) (outputs : List Left)
         → CannotPlay (world_of server sent outputs filers.old.items) (Put outbox key.now body.now) }
 {

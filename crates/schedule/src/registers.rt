@@ -94,8 +94,8 @@ pub(crate) fn serve_on<D: Honest>(
 ) -> Result<Answered, Cause>
     ensures serves { (done : List Request) → Holds over_files intake.old (firsts done)
         → IfOk result (λ a. (places : List Spot)
-            × ServesUntil (limit_of intake.old) done bytes.now (view_stop stop) places a.marks.items a.ended a.text.items
-            × Holds over_files intake.new (firsts (done ++ completed places a.marks.items))) }
+        × ServesUntil (limit_of intake.old) done bytes.now (view_stop stop) places a.marks.items a.ended a.text.items
+        × Holds over_files intake.new (firsts (done ++ completed places a.marks.items))) }
     ensures limit { limit_of intake.new ≡ limit_of intake.old }
     ensures other { result ≢ Err Cause.NoSuch }
 {

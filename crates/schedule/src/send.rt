@@ -20,7 +20,7 @@ pub(crate) fn send<D: Honest>(
 ) -> Result<(), Cause>
     ensures step { OnOk result ((server : Served) (outputs : List Left)
         → Sends (world_of server sent.old.items outputs filers.old.items) outbox entry
-            (world_of server sent.new.items outputs filers.new.items)) }
+        (world_of server sent.new.items outputs filers.new.items)) }
     ensures no_such { result ≡ Err Cause.NoSuch → (server : Served) (outputs : List Left)
         → CannotPlay (world_of server sent.old.items outputs filers.old.items) (Send outbox entry) }
 {

@@ -114,8 +114,8 @@ impl<D: Honest> Place<D> {
     fn serve(self, alloc: Global, bytes: &[u8], stop: Stop) -> Result<(Answered, Place<D>), Cause>
         ensures serves { (limit : ℕ) (done : List Request) → Keeps self limit (firsts done) → is_up self ≡ true
             → IfOk result (λ t. (places : List Spot)
-                × ServesUntil limit done bytes.now (view_stop stop) places t.0.marks.items t.0.ended t.0.text.items
-                × Keeps t.1 limit (firsts (done ++ completed places t.0.marks.items))) }
+            × ServesUntil limit done bytes.now (view_stop stop) places t.0.marks.items t.0.ended t.0.text.items
+            × Keeps t.1 limit (firsts (done ++ completed places t.0.marks.items))) }
         ensures up { IfOk result (λ t. is_up t.1 ≡ true) }
         ensures other { result ≢ Err Cause.NoSuch }
     {

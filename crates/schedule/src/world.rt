@@ -53,9 +53,9 @@ impl<D: Honest> Model for World<D> {
     ghost Value = { Played };
 
     ghost view = { λ w. record {
-        world = world_of w.server w.sent.items w.outputs.items w.filers.items;
-        events = w.events;
-        fault = w.fault;
+      world = world_of w.server w.sent.items w.outputs.items w.filers.items;
+      events = w.events;
+      fault = w.fault;
     } };
 
     ghost invariant = { λ w. w.fault ≡ None → Keeps (world_of w.server w.sent.items w.outputs.items w.filers.items) };
@@ -86,7 +86,7 @@ fn play_on<D: Honest>(
 ) -> Result<(), Cause>
     ensures step { OnOk result (AllOwn filers.old.items sent.old.items
         → Step (world_of server.old sent.old.items outputs.old.items filers.old.items) (view_event event.now)
-            (world_of server.new sent.new.items outputs.new.items filers.new.items)) }
+        (world_of server.new sent.new.items outputs.new.items filers.new.items)) }
     ensures no_such { result ≡ Err Cause.NoSuch
         → CannotPlay (world_of server.old sent.old.items outputs.old.items filers.old.items) (view_event event.now) }
 {
