@@ -14,10 +14,6 @@ mod intake_commands;
 #[cfg(test)]
 mod loopback;
 #[cfg(test)]
-mod outbox;
-#[cfg(test)]
 mod outbox_commands;
-#[cfg(test)]
-mod register;
 #[cfg(test)]
 mod server;

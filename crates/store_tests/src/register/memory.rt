@@ -3,25 +3,25 @@
 
 use super::REPORT;
 use super::calls::{
-    add_short, all_filings, conn_of, counts, create, facts, filings, look_up, new_database, open,
-    requests,
+    add_short, all_filings, conn_of, counts, create, facts, filings, look_up, open, requests,
 };
+use crate::databases::Fresh;
 use key_string::{KeyFault, KeyText};
 use register_store::{CreateFault, KeptRow, OpenFault, Outcome, Store, StoreFault};
-use sqlite::{Connection, MemStore};
+use sqlite::{Alter, Connection, MemStore};
 use std::alloc::{AllocError, Global};
 use std::process::Abort;
 use std::test::Fail;
 
 /// A new database.
-fn connected(alloc: Global) -> Result<Connection<MemStore>, AllocError> {
-    match new_database(alloc) {
-        Err(_) => new_database(alloc),
+fn connected<S: Fresh>(alloc: Global) -> Result<Connection<S>, AllocError> {
+    match S::fresh(alloc) {
+        Err(AllocError) => S::fresh(alloc),
         answer => answer,
     }
 }
 
-fn created(alloc: Global) -> Result<Store<MemStore>, Fail> {
+fn created<S: Fresh>(alloc: Global) -> Result<Store<S>, Fail> {
     match create(alloc, connected(alloc)?)? {
         Err(CreateFault::Memory) => Ok(create(alloc, connected(alloc)?)??),
         answer => Ok(answer?),
@@ -35,30 +35,26 @@ fn key(alloc: Global) -> Result<KeyText, KeyFault> {
     }
 }
 
-/// What keeping the report under this key answers.
-fn add(
-    alloc: Global,
-    store: &mut Store<MemStore>,
-    key: &KeyText,
-) -> Result<Result<Outcome, StoreFault>, Fail> {
-    add_short(alloc, store, "ACME", key, REPORT)
-}
-
 /// Keeps the report, which is not kept where memory is refused.
-fn keep(rt: &impl Abort, alloc: Global, store: &mut Store<MemStore>) -> Result<Outcome, Fail> {
+fn keep<S: Alter>(rt: &impl Abort, alloc: Global, store: &mut Store<S>) -> Result<Outcome, Fail> {
     let key = key(alloc)?;
-    match add(alloc, store, &key)? {
-        Ok(outcome) => Ok(outcome),
-        Err(fault) => {
-            assert_eq!(rt; fault, StoreFault::Memory);
-            assert_eq!(rt; counts(store)?, (0, 0));
-            assert!(rt; found(store, &key)?.is_none());
-            Ok(add(alloc, store, &key)??)
+    match add_short(alloc, store, &key, REPORT)? {
+        Err(StoreFault::Memory) => {
+            has_none(rt, store, &key)?;
+            Ok(add_short(alloc, store, &key, REPORT)??)
         }
+        answer => Ok(answer?),
     }
 }
 
-fn found(store: &mut Store<MemStore>, key: &KeyText) -> Result<Option<KeptRow>, StoreFault> {
+/// Asserts that nothing is kept.
+fn has_none<S: Alter>(rt: &impl Abort, store: &mut Store<S>, key: &KeyText) -> Result<(), Fail> {
+    assert_eq!(rt; counts(store)?, (0, 0));
+    assert!(rt; found(store, key)?.is_none());
+    Ok(())
+}
+
+fn found<S: Alter>(store: &mut Store<S>, key: &KeyText) -> Result<Option<KeptRow>, StoreFault> {
     match look_up(store, "ACME", key) {
         Err(StoreFault::Memory) => look_up(store, "ACME", key),
         answer => answer,
@@ -66,7 +62,7 @@ fn found(store: &mut Store<MemStore>, key: &KeyText) -> Result<Option<KeptRow>, 
 }
 
 /// A register with the report.
-fn with_one(rt: &impl Abort, alloc: Global) -> Result<Store<MemStore>, Fail> {
+fn with_one<S: Fresh>(rt: &impl Abort, alloc: Global) -> Result<Store<S>, Fail> {
     let mut store = created(alloc)?;
     let outcome = keep(rt, alloc, &mut store)?;
     assert!(rt; matches!(outcome, Outcome::Registered(1)));
@@ -74,12 +70,12 @@ fn with_one(rt: &impl Abort, alloc: Global) -> Result<Store<MemStore>, Fail> {
 }
 
 /// The database of such a register.
-fn conn_with_one(rt: &impl Abort, alloc: Global) -> Result<Connection<MemStore>, Fail> {
+fn conn_with_one<S: Fresh>(rt: &impl Abort, alloc: Global) -> Result<Connection<S>, Fail> {
     Ok(conn_of(with_one(rt, alloc)?))
 }
 
 /// The register, opened again. A refusal gives the database up, so another one is made then.
-fn opened(rt: &impl Abort, alloc: Global) -> Result<Store<MemStore>, Fail> {
+fn opened<S: Fresh>(rt: &impl Abort, alloc: Global) -> Result<Store<S>, Fail> {
     match open(alloc, conn_with_one(rt, alloc)?)? {
         Err(OpenFault::Memory) => Ok(open(alloc, conn_with_one(rt, alloc)?)??),
         answer => Ok(answer?),
@@ -87,7 +83,7 @@ fn opened(rt: &impl Abort, alloc: Global) -> Result<Store<MemStore>, Fail> {
 }
 
 /// The keys of the requests that are kept.
-fn has_one_request(store: &mut Store<MemStore>) -> Result<bool, StoreFault> {
+fn has_one_request<S: Alter>(store: &mut Store<S>) -> Result<bool, StoreFault> {
     let list = match requests(store) {
         Err(StoreFault::Memory) => requests(store)?,
         answer => answer?,
@@ -97,7 +93,7 @@ fn has_one_request(store: &mut Store<MemStore>) -> Result<bool, StoreFault> {
     )
 }
 
-fn has_one_filing(store: &mut Store<MemStore>) -> Result<bool, StoreFault> {
+fn has_one_filing<S: Alter>(store: &mut Store<S>) -> Result<bool, StoreFault> {
     let list = match filings(store, "ACME") {
         Err(StoreFault::Memory) => filings(store, "ACME")?,
         answer => answer?,
@@ -105,7 +101,7 @@ fn has_one_filing(store: &mut Store<MemStore>) -> Result<bool, StoreFault> {
     Ok(matches!(list.as_slice(), [filing] if filing.number == 1 && filing.facts == 1))
 }
 
-fn has_one_number(store: &mut Store<MemStore>) -> Result<bool, StoreFault> {
+fn has_one_number<S: Alter>(store: &mut Store<S>) -> Result<bool, StoreFault> {
     let list = match all_filings(store) {
         Err(StoreFault::Memory) => all_filings(store)?,
         answer => answer?,
@@ -113,7 +109,7 @@ fn has_one_number(store: &mut Store<MemStore>) -> Result<bool, StoreFault> {
     Ok(matches!(list.as_slice(), [filing] if filing.number == 1))
 }
 
-fn has_one_fact(store: &mut Store<MemStore>) -> Result<bool, StoreFault> {
+fn has_one_fact<S: Alter>(store: &mut Store<S>) -> Result<bool, StoreFault> {
     let list = match facts(store, 1) {
         Err(StoreFault::Memory) => facts(store, 1)?,
         answer => answer?,
@@ -125,21 +121,32 @@ fn has_one_fact(store: &mut Store<MemStore>) -> Result<bool, StoreFault> {
 }
 
 /// Whether the report is found, as it was registered.
-fn is_found(alloc: Global, store: &mut Store<MemStore>) -> Result<bool, Fail> {
+fn is_found<S: Alter>(alloc: Global, store: &mut Store<S>) -> Result<bool, Fail> {
     let key = key(alloc)?;
     let row = found(store, &key)?.ok_or("it is not kept")?;
     Ok(row.body.as_slice() == REPORT && matches!(row.outcome, Outcome::Registered(1)))
 }
 
+/// Whether the register finds and lists the report, and nothing else.
+fn has_one<S: Alter>(alloc: Global, store: &mut Store<S>) -> Result<bool, Fail> {
+    Ok(
+        is_found(alloc, store)?
+            && has_one_request(store)?
+            && has_one_filing(store)?
+            && has_one_number(store)?
+            && has_one_fact(store)?,
+    )
+}
+
+/// Asserts what is found in the register that is opened.
+fn holds<S: Fresh>(rt: &impl Abort, alloc: Global) -> Result<(), Fail> {
+    let mut store: Store<S> = opened(rt, alloc)?;
+    assert_eq!(rt; counts(&store)?, (1, 1));
+    assert!(rt; has_one(alloc, &mut store)?);
+    Ok(())
+}
+
 #[test]
 fn refused_memory_changes_nothing(rt: HostRuntime) -> Result<(), Fail> {
-    let alloc = rt.alloc();
-    let mut store = opened(&rt, alloc)?;
-    assert_eq!(rt; counts(&store)?, (1, 1));
-    assert!(rt; is_found(alloc, &mut store)?);
-    assert!(rt; has_one_request(&mut store)?);
-    assert!(rt; has_one_filing(&mut store)?);
-    assert!(rt; has_one_number(&mut store)?);
-    assert!(rt; has_one_fact(&mut store)?);
-    Ok(())
+    holds::<MemStore>(&rt, rt.alloc())
 }

@@ -1,10 +1,11 @@
 //! The calls of an outbox with no clauses, of which the tests need none: a test that makes several is checked quickly.
 
-use super::ready;
+use crate::databases::ready;
 use http_wire::Reply;
 use key_string::KeyText;
 use outbox_core::{Entry, Outbox, OutboxFault, PutFault, State, StoreFault, TakeFault};
-use sqlite::{Alter, Connection};
+use sqlite::{Alter, Connection, FileStore};
+use sqlite_disk::{Disk, Files};
 use std::alloc::Global;
 use std::test::Fail;
 
@@ -58,9 +59,23 @@ pub(super) fn states<S: Alter>(outbox: &mut Outbox<S>) -> Result<Vec<(u64, State
     outbox.states()
 }
 
-pub(super) fn execute<S: Alter>(
-    conn: &mut Connection<S>,
-    sql: &str,
-) -> Result<usize, sqlite::Error> {
-    conn.execute(sql, &[])
+/// The store below an outbox.
+pub(super) fn store_of<S: Alter + Drop>(outbox: Outbox<S>) -> S {
+    outbox.into_conn().into_store()
+}
+
+pub(super) fn into_files<D: Disk + Drop>(
+    outbox: Outbox<FileStore<D>>,
+) -> Result<Files<D>, StoreFault> {
+    outbox.into_files()
+}
+
+/// The files, whatever `close` answers, and why it was refused.
+pub(super) fn close<D: Disk + Drop>(
+    outbox: Outbox<FileStore<D>>,
+) -> (Files<D>, Option<StoreFault>) {
+    match outbox.close() {
+        Ok(files) => (files, None),
+        Err((fault, files)) => (files, Some(fault)),
+    }
 }

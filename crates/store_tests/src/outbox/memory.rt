@@ -2,10 +2,11 @@
 //! before, and the second answer is that of ample memory. Run it with each allocation refused too, one in a run.
 
 use super::{BODY, calls};
+use crate::databases::Fresh;
 use http_wire::Reply;
 use key_string::{KeyFault, KeyText};
 use outbox_core::{Entry, Outbox, OutboxFault, PutFault, State, StoreFault, TakeFault, key_of};
-use sqlite::{Connection, MemStore};
+use sqlite::{Alter, Connection, MemStore};
 use std::alloc::{AllocError, Global};
 use std::process::Abort;
 use std::test::Fail;
@@ -25,43 +26,36 @@ fn bytes(alloc: Global, text: &[u8]) -> Result<Vec<u8>, AllocError> {
     }
 }
 
-fn reply(alloc: Global, status: u16, content: &[u8]) -> Result<Reply, AllocError> {
-    Ok(Reply {
-        status,
-        content: bytes(alloc, content)?,
-    })
-}
-
 /// A new database.
-fn connected(alloc: Global) -> Result<Connection<MemStore>, Fail> {
-    match Connection::open_in_memory(alloc) {
-        Err(_) => Ok(Connection::open_in_memory(alloc)?),
-        answer => Ok(answer?),
+fn connected<S: Fresh>(alloc: Global) -> Result<Connection<S>, AllocError> {
+    match S::fresh(alloc) {
+        Err(AllocError) => S::fresh(alloc),
+        answer => answer,
     }
 }
 
-fn created(alloc: Global) -> Result<Outbox<MemStore>, Fail> {
+fn created<S: Fresh>(alloc: Global) -> Result<Outbox<S>, Fail> {
     match calls::create(alloc, connected(alloc)?, "ACME")? {
         Err(OutboxFault::Memory) => Ok(calls::create(alloc, connected(alloc)?, "ACME")??),
         answer => Ok(answer?),
     }
 }
 
-fn states(outbox: &mut Outbox<MemStore>) -> Result<Vec<(u64, State)>, StoreFault> {
+fn states<S: Alter>(outbox: &mut Outbox<S>) -> Result<Vec<(u64, State)>, StoreFault> {
     match calls::states(outbox) {
         Err(StoreFault::Memory) => calls::states(outbox),
         answer => answer,
     }
 }
 
-fn entry(outbox: &mut Outbox<MemStore>, id: u64) -> Result<Option<Entry>, StoreFault> {
+fn entry<S: Alter>(outbox: &mut Outbox<S>, id: u64) -> Result<Option<Entry>, StoreFault> {
     match calls::entry(outbox, id) {
         Err(StoreFault::Memory) => calls::entry(outbox, id),
         answer => answer,
     }
 }
 
-fn next_open(outbox: &mut Outbox<MemStore>) -> Result<Option<Entry>, StoreFault> {
+fn next_open<S: Alter>(outbox: &mut Outbox<S>) -> Result<Option<Entry>, StoreFault> {
     match calls::next_open(outbox) {
         Err(StoreFault::Memory) => calls::next_open(outbox),
         answer => answer,
@@ -69,10 +63,10 @@ fn next_open(outbox: &mut Outbox<MemStore>) -> Result<Option<Entry>, StoreFault>
 }
 
 /// What a put answers on an outbox whose entries are in these states.
-fn put(
+fn put<S: Alter>(
     rt: &impl Abort,
     alloc: Global,
-    outbox: &mut Outbox<MemStore>,
+    outbox: &mut Outbox<S>,
     body: &[u8],
     before: &[(u64, State)],
 ) -> Result<Result<u64, PutFault>, Fail> {
@@ -86,9 +80,9 @@ fn put(
 }
 
 /// What a reply does to an entry of an outbox whose one entry is in this state.
-fn take(
+fn take<S: Alter>(
     rt: &impl Abort,
-    outbox: &mut Outbox<MemStore>,
+    outbox: &mut Outbox<S>,
     id: u64,
     reply: &Reply,
     before: State,
@@ -109,51 +103,93 @@ fn nil_key(alloc: Global) -> Result<KeyText, AllocError> {
     }
 }
 
-/// Puts the entry, and looks it up.
-fn is_put(rt: &impl Abort, alloc: Global, outbox: &mut Outbox<MemStore>) -> Result<(), Fail> {
+/// Puts the entry.
+fn is_put<S: Alter>(rt: &impl Abort, alloc: Global, outbox: &mut Outbox<S>) -> Result<(), Fail> {
     assert_eq!(rt; put(rt, alloc, outbox, BODY, &[])?, Ok(1));
     let again = put(rt, alloc, outbox, b"{}", &[(1, State::Open)])?;
     assert_eq!(rt; again, Err(PutFault::KeyUsed { id: 1 }));
-    let open = next_open(outbox)?.ok_or("no entry is open")?;
-    assert_eq!(rt; open.id, 1);
-    let first = entry(outbox, 1)?.ok_or("there is no entry 1")?;
-    assert_eq!(rt; first.key.as_str(), "k-1");
-    assert_eq!(rt; first.body.as_slice(), BODY);
-    assert_eq!(rt; first.state, State::Open);
     Ok(())
 }
 
+/// Looks it up.
+fn is_found<S: Alter>(rt: &impl Abort, outbox: &mut Outbox<S>) -> Result<(), Fail> {
+    let open = next_open(outbox)?.ok_or("no entry is open")?;
+    assert_eq!(rt; open.id, 1);
+    is_first(rt, &entry(outbox, 1)?.ok_or("there is no entry 1")?);
+    Ok(())
+}
+
+fn is_first(rt: &impl Abort, entry: &Entry) {
+    assert_eq!(rt; entry.key.as_str(), "k-1");
+    assert_eq!(rt; entry.body.as_slice(), BODY);
+    assert_eq!(rt; entry.state, State::Open);
+}
+
+/// An entry, the status and the content of a reply, the state of the entry 1 before, and what the reply does.
+type Move = (u64, u16, &'static [u8], State, Result<State, TakeFault>);
+
+const MOVES: [Move; 4] = [
+    (
+        1,
+        503,
+        b"{\"status\":\"unavailable\"}",
+        State::Open,
+        Ok(State::Open),
+    ),
+    (
+        1,
+        201,
+        b"{\"number\":1,\"status\":\"registered\"}",
+        State::Open,
+        Ok(State::Confirmed(1)),
+    ),
+    (
+        1,
+        422,
+        b"{\"status\":\"key-reused\"}",
+        State::Confirmed(1),
+        Ok(State::Confirmed(1)),
+    ),
+    (
+        2,
+        201,
+        b"{\"number\":1,\"status\":\"registered\"}",
+        State::Confirmed(1),
+        Err(TakeFault::NoEntry),
+    ),
+];
+
 /// Moves the entry, which is open.
-fn is_moved(rt: &impl Abort, alloc: Global, outbox: &mut Outbox<MemStore>) -> Result<(), Fail> {
+fn is_moved<S: Alter>(rt: &impl Abort, alloc: Global, outbox: &mut Outbox<S>) -> Result<(), Fail> {
+    for (id, status, content, before, answer) in MOVES {
+        let content = bytes(alloc, content)?;
+        let given = take(rt, outbox, id, &Reply { status, content }, before)?;
+        assert_eq!(rt; given, answer);
+    }
+    Ok(())
+}
+
+/// Asserts that no entry is open any more.
+fn is_settled<S: Alter>(rt: &impl Abort, outbox: &mut Outbox<S>) -> Result<(), Fail> {
     let confirmed = State::Confirmed(1);
-    let unavailable = reply(alloc, 503, b"{\"status\":\"unavailable\"}")?;
-    let registered = reply(alloc, 201, b"{\"number\":1,\"status\":\"registered\"}")?;
-    let reused = reply(alloc, 422, b"{\"status\":\"key-reused\"}")?;
-    assert_eq!(rt;
-        take(rt, outbox, 1, &unavailable, State::Open)?,
-        Ok(State::Open)
-    );
-    assert_eq!(rt;
-        take(rt, outbox, 1, &registered, State::Open)?,
-        Ok(confirmed)
-    );
-    assert_eq!(rt; take(rt, outbox, 1, &reused, confirmed)?, Ok(confirmed));
-    assert_eq!(rt;
-        take(rt, outbox, 2, &registered, confirmed)?,
-        Err(TakeFault::NoEntry)
-    );
     assert!(rt; next_open(outbox)?.is_none());
     assert_eq!(rt; states(outbox)?.as_slice(), [(1, confirmed)].as_slice());
     Ok(())
 }
 
+/// Asserts what becomes of an entry.
+fn lives<S: Fresh>(rt: &impl Abort, alloc: Global) -> Result<(), Fail> {
+    let mut outbox: Outbox<S> = created(alloc)?;
+    is_put(rt, alloc, &mut outbox)?;
+    is_found(rt, &mut outbox)?;
+    is_moved(rt, alloc, &mut outbox)?;
+    is_settled(rt, &mut outbox)
+}
+
 #[test]
 fn refused_memory_changes_nothing(rt: HostRuntime) -> Result<(), Fail> {
-    let alloc = rt.alloc();
-    let mut outbox = created(alloc)?;
-    is_put(&rt, alloc, &mut outbox)?;
-    is_moved(&rt, alloc, &mut outbox)?;
-    let key = nil_key(alloc)?;
+    lives::<MemStore>(&rt, rt.alloc())?;
+    let key = nil_key(rt.alloc())?;
     assert_eq!(rt; key.as_str(), "00000000-0000-0000-0000-000000000000");
     Ok(())
 }

@@ -1,52 +1,16 @@
 //! The calls that the tests make, each in a function of its own that has no clause: what calls it carries none of theirs.
 
-ghost use Rattle.std.specs.Prelude.{◌≡◌, false, None, IfOk};
-
+use crate::databases::ready;
 use filing_model::FilingRow;
 use key_string::{KeyText, is_filer};
 use register_store::{
     Completed, CreateFault, KeptRow, NewRow, OpenFault, Outcome, Registered, Store, StoreFault,
 };
-use sqlite::{Alter, Connection, FileStore, Files, MemStore};
+use sqlite::{Alter, Connection, FileStore, Files};
 use sqlite_disk::Disk;
-use std::alloc::{AllocError, Global};
+use std::alloc::Global;
 use std::test::Fail;
 use xbrl_report::{Fact, judge};
-
-/// A connection in no transaction and without a limit of steps.
-fn ready<S: Alter + Drop>(conn: Connection<S>) -> Result<Connection<S>, Fail>
-    ensures { IfOk result (λ conn. (conn.in_transaction ≡ false) × (conn.step_limit ≡ None)) }
-{
-    let mut conn = conn;
-    conn.set_step_limit(None);
-    if !conn.is_autocommit() {
-        return Err(Fail::from("a transaction is under way"));
-    }
-    Ok(conn)
-}
-
-/// A new database.
-pub fn new_database(alloc: Global) -> Result<Connection<MemStore>, AllocError> {
-    Connection::open_in_memory(alloc)
-}
-
-/// Runs a statement that has no parameter.
-pub fn run<S: Alter>(conn: &mut Connection<S>, sql: &str) -> Result<(), Fail> {
-    conn.execute(sql, &[])?;
-    Ok(())
-}
-
-/// Runs a statement that has one parameter.
-pub fn run_with<S: Alter>(conn: &mut Connection<S>, sql: &str, blob: &[u8]) -> Result<(), Fail> {
-    conn.execute(sql, sqlite::params![blob])?;
-    Ok(())
-}
-
-/// Runs the statements.
-pub fn run_all<S: Alter>(conn: &mut Connection<S>, sql: &str) -> Result<(), Fail> {
-    conn.execute_batch(sql)?;
-    Ok(())
-}
 
 /// What `create` answers.
 pub fn create<S: Alter + Drop>(
@@ -74,15 +38,15 @@ pub fn counts<S: Alter>(store: &Store<S>) -> Result<(u64, u64), StoreFault> {
     Ok((store.kept_count()?, store.filing_count()?))
 }
 
-/// What `add` answers for a short report of a filer under a key, as it is judged. Want of memory to judge it is told as that
-/// of the store.
+/// What `add` answers for a short report of ACME under a key, as it is judged. Want of memory to judge it is told as that of the
+/// store.
 pub fn add_short<S: Alter>(
     alloc: Global,
     store: &mut Store<S>,
-    filer: &str,
     key: &KeyText,
     body: &[u8],
 ) -> Result<Result<Outcome, StoreFault>, Fail> {
+    let filer = "ACME";
     if !is_filer(filer) || body.len() > 1000 || store.kept_count()? > 1000 {
         return Err(Fail::from("not for this test"));
     }

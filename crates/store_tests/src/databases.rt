@@ -1,0 +1,92 @@
+//! Databases in memory, and in files on disks in memory, which may stop.
+
+ghost use Rattle.std.specs.Prelude.{◌≡◌, false, None, IfOk};
+
+use sqlite::{Alter, Connection, FileStore, MemStore, Options};
+use sqlite_disk::{Crash, Disk, Files, Fuse, Memory};
+use std::alloc::{AllocError, Global};
+use std::test::Fail;
+
+/// More calls than the runs below make of a disk.
+pub const ENOUGH: u64 = 1000;
+
+/// A store that a new database may have. What is done with databases is generic over it, and a test names the store once: to
+/// call at a concrete store what is generic costs more to prove than the call itself.
+pub trait Fresh: Alter + Drop {
+    /// A new database.
+    fn fresh(alloc: Global) -> Result<Connection<Self>, AllocError>;
+}
+
+impl Fresh for MemStore {
+    fn fresh(alloc: Global) -> Result<Connection<MemStore>, AllocError> {
+        Connection::open_in_memory(alloc)
+    }
+}
+
+/// Files that are empty.
+pub fn new_files(alloc: Global) -> Files<Memory> {
+    Files {
+        log: Memory::new(alloc),
+        db: Memory::new(alloc),
+    }
+}
+
+/// The files on disks that stop after so many calls.
+pub fn fused<D: Disk>(files: Files<D>, log: u64, db: u64) -> Files<Fuse<D>> {
+    Files {
+        log: Fuse::new(files.log, log),
+        db: Fuse::new(files.db, db),
+    }
+}
+
+/// The files as the machine finds them when it comes back.
+pub fn crashed<D: Crash>(files: Files<D>) -> Files<D> {
+    let mut files = files;
+    files.log.crash();
+    files.db.crash();
+    files
+}
+
+/// A file of the same bytes.
+fn copy(alloc: Global, file: &Memory) -> Result<Memory, Fail> {
+    let mut copy = Memory::new(alloc);
+    copy.write_at(0, file.bytes())?;
+    Ok(copy)
+}
+
+/// What is in these files, on disks that do not stop.
+pub fn copies(alloc: Global, files: &Files<Fuse<Memory>>) -> Result<Files<Memory>, Fail> {
+    Ok(Files {
+        log: copy(alloc, files.log.inner())?,
+        db: copy(alloc, files.db.inner())?,
+    })
+}
+
+/// A connection to the database that is in these files, or `None` where it is not opened.
+pub fn connect<D: Disk + Drop>(alloc: Global, files: Files<D>) -> Option<Connection<FileStore<D>>> {
+    if !files.log.may_be_used() || !files.db.may_be_used() {
+        return None;
+    }
+    match Connection::open_files(alloc, files, Options::new(1)) {
+        Ok(conn) => Some(conn),
+        Err(_) => None,
+    }
+}
+
+/// A connection in no transaction and without a limit of steps.
+pub fn ready<S: Alter + Drop>(conn: Connection<S>) -> Result<Connection<S>, Fail>
+    ensures { IfOk result (λ conn. (conn.in_transaction ≡ false) × (conn.step_limit ≡ None)) }
+{
+    let mut conn = conn;
+    conn.set_step_limit(None);
+    if !conn.is_autocommit() {
+        return Err(Fail::from("a transaction is under way"));
+    }
+    Ok(conn)
+}
+
+/// Runs statements.
+pub fn run<S: Alter>(conn: &mut Connection<S>, sql: &str) -> Result<(), Fail> {
+    conn.execute_batch(sql)?;
+    Ok(())
+}
