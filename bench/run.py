@@ -1,24 +1,23 @@
 #!/usr/bin/env python3
-"""Measures the intake: runs crates/bench/out/bench, which `rt run` in crates/bench builds, on inputs
-that it makes, prints how much it does in a second of processor time, and holds the growth of the time
-to its bounds: status 1 where a bound is passed.
+"""Measures the program `intake`, and holds the growth of its time to bounds: status 1 where a bound is passed. Build it first:
+(cd crates/intake && rt run < stdin).
 
-The time of a run is that of the process and its children (user and system), less that of a run on an
-empty input, which is the start of the program. Each figure is the best of three runs. The calls on a register
-of many requests are timed by the program itself, by the clock, so they want a machine with nothing else to do.
+Times are processor time, of the program and of the system for it, less that of a run on nothing, which is the start of the program.
+Each figure is the best of three runs. A register in a file lies in /dev/shm where there is one, so that no disk is waited for.
 """
+
 import os
-import re
-import resource
+import socket
 import subprocess
 import sys
 import tempfile
+import threading
 
-TOP = os.path.dirname(os.path.dirname(os.path.abspath(__file__)))
-BENCH = os.path.join(TOP, "crates", "bench", "out", "bench")
+from programs import Server, built, connect, example, pipelined, read_reply, request, run, time_of_children
+
 RUNS = 3
 BODY_BYTES = 1_048_576
-REQUESTS = 1_000
+ADDED = 1_000
 
 SMALLEST = b'{"documentInfo":{"documentType":"https://xbrl.org/2021/xbrl-json","taxonomy":["t"]}}'
 
@@ -32,7 +31,6 @@ FACT = (
     b'"f%06d":{"value":"100","decimals":0,"dimensions":{"concept":"eg:Assets","entity":"lei:ACME",'
     b'"period":"2024-12-31T00:00:00","unit":"iso4217:EUR"}}'
 )
-
 
 # A fact without a value, which is one finding.
 WRONG = FACT.replace(b'"value":"100",', b"")
@@ -54,35 +52,58 @@ def wide():
     return INFO + b'"%s":{"value":"1","dimensions":{%s}}}}' % (b"a" * 500_000, dimensions)
 
 
-def request(key, body):
-    """A POST of the body under the key."""
-    head = (
-        b"POST /filings/ACME HTTP/1.1\r\nHost: localhost\r\nIdempotency-Key: \"%s\"\r\n"
-        b"Content-Length: %d\r\n\r\n" % (key, len(body))
-    )
-    return head + body
+def serve(given, replies):
+    """The processor time to serve these bytes as one connection. So many filings have to be answered."""
+    output, spent = run([built("intake")], given)
+    if output.count(b"HTTP/1.1 201 ") != replies:
+        sys.exit(f"intake: {output[:200]!r}")
+    return spent
 
 
-def pipelined(count, body):
-    """So many requests of one connection, each under a key of its own."""
-    return b"".join(request(b"k-%06d" % (number + 1), body) for number in range(count))
-
-
-def run(words, given, wanted):
-    """The processor time of one run, in seconds."""
-    before = resource.getrusage(resource.RUSAGE_CHILDREN)
-    ended = subprocess.run([BENCH, *words], input=given, stdout=subprocess.PIPE, check=False)
-    after = resource.getrusage(resource.RUSAGE_CHILDREN)
-    if ended.returncode != 0 or (wanted is not None and ended.stdout != wanted):
-        sys.exit(f"bench {' '.join(words)}: status {ended.returncode}, {ended.stdout!r}")
-    return after.ru_utime + after.ru_stime - before.ru_utime - before.ru_stime
-
-
-def seconds(words, given, wanted=None):
+def seconds(given, replies):
     """The least time of some runs, less that of the least run on nothing."""
-    full = min(run(words, given, wanted) for _ in range(RUNS))
-    empty = min(run(words, b"", None) for _ in range(RUNS))
+    full = min(serve(given, replies) for _ in range(RUNS))
+    empty = min(serve(b"", 0) for _ in range(RUNS))
     return max(full - empty, 1e-3)
+
+
+def seconds_to_judge(body, status=0):
+    """The time to judge a report that is judged ten times, less that of as many of the least ones, for each. The status says whether
+    something is found in it."""
+    with tempfile.TemporaryDirectory() as folder:
+        times = []
+        for text, wanted in ((body, status), (SMALLEST, 0)):
+            name = os.path.join(folder, "report.json")
+            with open(name, "wb") as it:
+                it.write(text)
+            words = [built("intake"), "lint", "--filer", "ACME"] + 10 * [name]
+            times.append(min(run(words, b"", wanted)[1] for _ in range(RUNS)))
+    return max(times[0] - times[1], 1e-3) / 10
+
+
+def seconds_in_pieces(given, most):
+    """The same where the program reads so many bytes at a time: its input is a socket that keeps the bounds of what is sent. Of the time
+    only what the program takes itself is counted, and not that of the system for its reads."""
+
+    def send(peer):
+        for start in range(0, len(given), most):
+            peer.send(given[start : start + most])
+        peer.close()
+
+    times = []
+    for _ in range(RUNS):
+        ours, theirs = socket.socketpair(socket.AF_UNIX, socket.SOCK_SEQPACKET)
+        before = time_of_children()[0]
+        with subprocess.Popen([built("intake")], stdin=theirs, stdout=subprocess.PIPE) as process:
+            theirs.close()
+            sender = threading.Thread(target=send, args=(ours,))
+            sender.start()
+            output = process.stdout.read()
+            sender.join()
+        if not output.startswith(b"HTTP/1.1 201 "):
+            sys.exit(f"intake: {output[:200]!r}")
+        times.append(time_of_children()[0] - before)
+    return min(times)
 
 
 def growth(what, smaller, larger, most):
@@ -92,72 +113,82 @@ def growth(what, smaller, larger, most):
     return times <= most
 
 
-def register_times(count, path=None):
-    """The least times of some runs on a register of so many requests, by what was done, in nanoseconds."""
-    found = []
-    for _ in range(RUNS):
-        with tempfile.TemporaryDirectory() as folder:
-            words = ["register", str(count)] + ([os.path.join(folder, "register.db")] if path else [])
-            lines = subprocess.run([BENCH, *words], stdout=subprocess.PIPE, text=True, check=True).stdout.split("\n")
-        times = [re.fullmatch(r"(\d+) (ns|us) to (\w+)", line) for line in lines if line]
-        found.append({it[3]: int(it[1]) * (1000 if it[2] == "us" else 1) for it in times})
-    return {what: min(it[what] for it in found) for what in found[0]}
-
-
-def register_growth():
-    """Whether the calls on a register in a file grow as they may with the requests that it keeps."""
+def bodies():
+    """What a body costs by its length and by the reads that it comes in, and its judgement by facts and findings."""
     held = []
-    for in_file in (False, True):
-        times = {count: register_times(count, in_file) for count in (1_000, 10_000, 100_000)}
-        for count, it in times.items():
-            said = ", ".join(f"{time / 1000:.1f} us to {what}" for what, time in it.items())
-            print(f"{count} kept requests in {'a file' if in_file else 'memory'}: {said}")
-    for what in ("add", "find"):
-        held.append(growth(f"in a file, 100 times the requests, to {what} one", times[1_000][what], times[100_000][what], 2))
+    padded = request(b"k-1", SMALLEST.ljust(BODY_BYTES))
+    for most in (1, 16, 4096):
+        print(f"one body of 1 MiB, {most} bytes a read: {seconds_in_pieces(padded, most):.3f} s")
+    for size in (100_000, 1_000_000):
+        body = report(size)
+        judged, filed = seconds_to_judge(body), seconds(pipelined(range(10), body), 10) / 10
+        rates = f"{len(body) / judged / 1e6:.1f} MB/s judged, {len(body) / filed / 1e6:.1f} MB/s filed under new keys"
+        print(f"a report of {len(body)} bytes: {rates}")
+    for what, form, status in (("facts", FACT, 0), ("wrong facts", WRONG, 1)):
+        fewer, more = (seconds_to_judge(facts(form, count), status) for count in (700, 7_000))
+        held.append(growth(f"10 times the {what}, to judge a report", fewer, more, 12))
+    print(f"one fact with 50,000 wrong dimensions: {seconds_to_judge(wide(), 1):.3f} s to judge")
+    return held
+
+
+def requests():
+    """What requests cost, under keys of their own and under one, on a register in memory."""
+    held = []
+    small = example()
+    for what, numbers in (("new keys", lambda count: range(count)), ("repeats of one key", lambda count: [1] * count)):
+        times = [seconds(pipelined(numbers(count), small), count) for count in (100, 1_000, 10_000)]
+        for count, time in zip((100, 1_000, 10_000), times):
+            print(f"{count} {what}: {time:.3f} s, {count / time:.0f} requests/s")
+        held.append(growth(f"10 times the {what} (100 to 1,000)", times[0], times[1], 11))
+        print(f"10 times as many again: {times[2] / times[1]:.1f} times the time")
+    return held
+
+
+def exchange(peer, given, count):
+    """Sends requests, and reads the reply to each, which has to be a filing."""
+    sender = threading.Thread(target=peer.sendall, args=(given,))
+    sender.start()
+    held = b""
+    for _ in range(count):
+        status, held = read_reply(peer, held)
+        if status != 201:
+            sys.exit(f"status {status}")
+    sender.join()
+
+
+def in_a_file(count):
+    """The processor time of one more filing, of one repeat and of an opening, where a file keeps so many requests, in seconds."""
+    small = example()
+    within = "/dev/shm" if os.path.isdir("/dev/shm") else None
+    with tempfile.TemporaryDirectory(dir=within) as folder:
+        with Server(folder, 1) as server:
+            peer = connect(server.port)
+            exchange(peer, pipelined(range(count), small), count)
+            times = [server.processor_time()]
+            # The repeats are all over the register, and so of keys that are not remembered where it is large.
+            for numbers in (range(count, count + ADDED), [at * 7919 % count for at in range(ADDED)]):
+                exchange(peer, pipelined(numbers, small), ADDED)
+                times.append(server.processor_time())
+            peer.close()
+        _, opening = run([built("intake"), "check", "--db", server.database], b"")
+    return {"add": (times[1] - times[0]) / ADDED, "find": (times[2] - times[1]) / ADDED, "open": opening}
+
+
+def registers():
+    """Whether the requests of a register in a file grow as they may with the requests that it keeps."""
+    times = {}
+    for count in (1_000, 10_000, 100_000):
+        runs = [in_a_file(count) for _ in range(RUNS)]
+        times[count] = {what: min(it[what] for it in runs) for what in runs[0]}
+        it = times[count]
+        print(f"{count} kept requests in a file: {it['add'] * 1e6:.0f} us to add, {it['find'] * 1e6:.0f} us to find one, {it['open']:.3f} s to open")
+    held = [growth(f"in a file, 100 times the requests, to {what} one", times[1_000][what], times[100_000][what], 2) for what in ("add", "find")]
     held.append(growth("10 times the requests (10,000 to 100,000), to open", times[10_000]["open"], times[100_000]["open"], 15))
     return held
 
 
 def main():
-    if not os.path.exists(BENCH):
-        sys.exit("build the program first: rt run in crates/bench")
-    held = []
-    padded = request(b"k-1", SMALLEST.ljust(BODY_BYTES))
-    for most in (1, 16, 4096):
-        spent = seconds(["serve", str(most)], padded, b"110 bytes, 1 marks\n")
-        print(f"one body of 1 MiB, {most} bytes a read: {len(padded) / spent / 1e6:.1f} MB/s")
-
-    small = report(400)
-    connection = pipelined(REQUESTS, small)
-    for most in (1, 4096, len(connection)):
-        spent = seconds(["serve", str(most)], connection)
-        print(f"{REQUESTS} requests, {most} bytes a read: {REQUESTS / spent:.0f} requests/s")
-    longer = pipelined(10 * REQUESTS, small)
-    spent = seconds(["heads", str(len(small))], longer, b"%d heads\n" % (10 * REQUESTS))
-    print(f"their heads alone, by httparse: {10 * REQUESTS / spent:.0f} requests/s")
-    one = request(b"k-1", small)
-    times = [seconds(["serve", "4096"], one * count) for count in (REQUESTS, 10 * REQUESTS)]
-    held.append(growth("10 times the requests under one key", *times, 11))
-    times = [seconds(["serve", "4096"], pipelined(count, small)) for count in (100, REQUESTS, 10 * REQUESTS)]
-    held.append(growth("10 times the requests (100 to 1,000), each under its own key", *times[:2], 11))
-    print(f"10 times as many again: {times[2] / times[1]:.1f} times the time")
-
-    for size in (100_000, 1_000_000):
-        body = report(size)
-        judged = seconds(["judge"], body, b"valid\n")
-        parsed = seconds(["parse"], body, b"valid\n")
-        print(
-            f"a report of {len(body)} bytes: judge {len(body) / judged / 1e6:.1f} MB/s, "
-            f"parse {len(body) / parsed / 1e6:.1f} MB/s"
-        )
-    for what, form in (("facts", FACT), ("wrong facts", WRONG)):
-        fewer = seconds(["judge"], facts(form, 700))
-        larger = seconds(["judge"], facts(form, 7_000))
-        held.append(growth(f"10 times the {what}", fewer, larger, 12))
-    spent = seconds(["judge"], wide(), b"1 findings\n")
-    print(f"one fact with 50,000 wrong dimensions: {spent:.3f} s")
-    held += register_growth()
-    if not all(held):
+    if not all(bodies() + requests() + registers()):
         sys.exit("a bound is passed")
 
 

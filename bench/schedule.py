@@ -3,24 +3,14 @@
 and what a restart of the intake and of the outbox adds. The last lines take minutes. Run it at the top of the repository once `drill` is built:
 (cd crates/drill && rt run < stdin) && python3 bench/schedule.py"""
 
-import os
-import resource
-import subprocess
 import sys
 
-TOP = os.path.dirname(os.path.dirname(os.path.abspath(__file__)))
-DRILL = os.path.join(TOP, "crates/drill/out/drill")
-
-
-def report():
-    """The report of the example request."""
-    with open(os.path.join(TOP, "crates/intake/stdin"), "rb") as file:
-        return file.read()[-393:]
+from programs import built, example, run
 
 
 def script(reports, restarts):
     """A script of so many reports, each of four events, and so many restarts of both ends behind them."""
-    body = report()
+    body = example()
     lines = [b"outbox ACME\n"]
     for i in range(1, reports + 1):
         lines.append(b'put 1 "k-%d" %s\nsend 1 %d\ndeliver %d all\nhand %d all\n' % (i, body, i, i, i))
@@ -32,12 +22,10 @@ def seconds(text, reports, runs=3):
     """The processor time of the program on this script, the least of so many runs. It has to confirm all reports."""
     times = []
     for _ in range(runs):
-        before = resource.getrusage(resource.RUSAGE_CHILDREN)
-        done = subprocess.run([DRILL], input=text, capture_output=True)
-        after = resource.getrusage(resource.RUSAGE_CHILDREN)
-        if done.returncode != 0 or not done.stdout.endswith(b"done %d\n" % reports):
-            sys.exit("drill: status %d: %s" % (done.returncode, done.stderr.decode()))
-        times.append(after.ru_utime + after.ru_stime - before.ru_utime - before.ru_stime)
+        output, spent = run([built("drill")], text)
+        if not output.endswith(b"done %d\n" % reports):
+            sys.exit(f"drill: {output[-200:]!r}")
+        times.append(spent)
     return min(times)
 
 

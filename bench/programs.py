@@ -1,0 +1,122 @@
+"""What the measurements share: the built programs, the requests that they are given, and the processor time that they take."""
+
+import os
+import re
+import resource
+import socket
+import subprocess
+import sys
+import time
+
+TOP = os.path.dirname(os.path.dirname(os.path.abspath(__file__)))
+BODY_BYTES = 393
+
+
+def built(name):
+    """The path of a program, which has to be built."""
+    path = os.path.join(TOP, "crates", name, "out", name)
+    if not os.path.exists(path):
+        sys.exit(f"build the program first: (cd crates/{name} && rt run < stdin)")
+    return path
+
+
+def example():
+    """The report of the example request, of 393 bytes."""
+    with open(os.path.join(TOP, "crates", "intake", "stdin"), "rb") as it:
+        return it.read()[-BODY_BYTES:]
+
+
+def request(key, body, close=False):
+    """A POST of the body under the key."""
+    closing = b"Connection: close\r\n" if close else b""
+    return b'POST /filings/ACME HTTP/1.1\r\nHost: localhost\r\nIdempotency-Key: "%s"\r\n%sContent-Length: %d\r\n\r\n%s' % (
+        key,
+        closing,
+        len(body),
+        body,
+    )
+
+
+def pipelined(numbers, body):
+    """A request for each number, under a key that has it."""
+    return b"".join(request(b"k-%06d" % number, body) for number in numbers)
+
+
+def time_of_children():
+    """The processor time of the programs that ended so far: (by themselves, by the system for them), in seconds."""
+    used = resource.getrusage(resource.RUSAGE_CHILDREN)
+    return used.ru_utime, used.ru_stime
+
+
+def run(words, given, status=0):
+    """What a program printed, and its processor time in seconds. It has to end with the status."""
+    before = sum(time_of_children())
+    ended = subprocess.run(words, input=given, capture_output=True, check=False)
+    spent = sum(time_of_children()) - before
+    if ended.returncode != status:
+        sys.exit(f"{' '.join(words)}: status {ended.returncode}, {ended.stderr.decode(errors='replace')}")
+    return ended.stdout, spent
+
+
+def connect(port):
+    """A connection to a port of 127.0.0.1, which sends at once."""
+    peer = socket.create_connection(("127.0.0.1", port))
+    peer.setsockopt(socket.IPPROTO_TCP, socket.TCP_NODELAY, 1)
+    return peer
+
+
+def read_reply(peer, held):
+    """Reads one reply, and gives its status and what was read beyond it."""
+    while b"\r\n\r\n" not in held:
+        more = peer.recv(65536)
+        if not more:
+            sys.exit(f"the connection ended in a reply: {held!r}")
+        held += more
+    head, _, rest = held.partition(b"\r\n\r\n")
+    length = int(re.search(rb"(?i)content-length: *(\d+)", head)[1])
+    while len(rest) < length:
+        rest += peer.recv(65536)
+    return int(head.split(b" ")[1]), rest[length:]
+
+
+def free_port():
+    """A port of 127.0.0.1 that nobody listens on."""
+    with socket.socket() as it:
+        it.bind(("127.0.0.1", 0))
+        return it.getsockname()[1]
+
+
+class Server:
+    """An intake that serves a new register in a folder, for so many connections and one that is spent on waiting for it."""
+
+    def __init__(self, folder, connections):
+        self.port = free_port()
+        self.database = os.path.join(folder, "register.db")
+        self.process = subprocess.Popen(
+            [built("intake"), "serve", "--db", self.database, "--port", str(self.port)]
+            + ["--connections", str(connections + 1), "--new"],
+            stderr=subprocess.DEVNULL,
+        )
+        self._wait()
+
+    def _wait(self):
+        for _ in range(200):
+            try:
+                connect(self.port).close()
+                return
+            except ConnectionRefusedError:
+                if self.process.poll() is not None:
+                    sys.exit("the server ended")
+                time.sleep(0.05)
+        sys.exit("the server does not listen")
+
+    def processor_time(self):
+        """The seconds of processor time that the server took so far."""
+        with open(f"/proc/{self.process.pid}/schedstat", encoding="ascii") as it:
+            return int(it.read().split()[0]) / 1e9
+
+    def __enter__(self):
+        return self
+
+    def __exit__(self, *_):
+        self.process.wait(timeout=60)
