@@ -1,15 +1,15 @@
 -- The texts that make the tables of a register, and what they make.
-use Rattle.std.proofs.Common.{◌≡◌, List, [], ◌∷◌, refl}
+use Rattle.std.proofs.Common.{List, [], ◌∷◌, refl}
 use Rattle.sqlite_schema.specs.declared.schema.Index.{Index}
 use Rattle.sqlite.specs.Schema.{Schema}
 use Rattle.sqlite.specs.Change.{created}
 use Rattle.sqlite_tied.specs.Compute.{everything}
 use Rattle.sqlite.specs.Listing.{understood}
 use Rattle.sqlite_catalog.specs.Listing.{automatic}
-use Rattle.table_rows.specs.Tables.{no_schema, schema_with}
+use Rattle.table_rows.specs.Tables.{no_schema}
 use Rattle.table_rows.proofs.CreateLemmas.{IsCreation}
 use Rattle.register_store.specs.Making.{create_meta, create_kept, create_finding, create_filing, create_fact}
-use Rattle.register_store.specs.Schema.{register_tables, meta_table, kept_table, finding_table, filing_table, fact_table}
+use Rattle.register_store.specs.Schema.{meta_table, kept_table, finding_table, filing_table, fact_table}
 
 abbrev pub first_schema : Schema
 first_schema = created no_schema meta_table

@@ -1,5 +1,5 @@
 -- The kept row that is told.
-use Rattle.std.proofs.Common.{◌≡◌, ◌<◌, ◌≤◌, ℕ, ◌+◌, zero, suc, Bool, true, false, List, [], ◌∷◌, ◌++◌, append-nil, append_assoc, length, length-append, map, filter, cond, take, drop, get_or, refl, sym, ap, ap₂, subst, ◌∙◌, arith, inl}
+use Rattle.std.proofs.Common.{◌≡◌, ◌<◌, ◌≤◌, ℕ, ◌+◌, zero, suc, Bool, true, false, List, [], ◌∷◌, ◌++◌, append-nil, append_assoc, length, length-append, map, filter, cond, take, drop, get_or, refl, sym, ap, ap₂, subst, ◌∙◌, arith}
 use Rattle.std.proofs.Math.Seq.{take-length}
 use Rattle.std.proofs.lemmas.List.{take_more, take-append-drop, map-append}
 use Rattle.std.proofs.lemmas.List.Elements.{filter-append, filter_more}
@@ -8,7 +8,7 @@ use Rattle.filing_model.specs.Request.{firsts, has_key}
 use Rattle.filing_model.specs.Register.{Kept, filings, kept_after, judged, kept, register}
 use Rattle.table_rows.specs.Rows.{counted_from}
 use Rattle.table_rows.proofs.StepLemmas.{counted_more}
-use Rattle.register_store.specs.Audit.{Others, IsKeptAs, IsSoundAt, IsTold, is_repeated_at, kept_in, number_after}
+use Rattle.register_store.specs.Audit.{Others, IsKeptAs, IsSoundAt, is_repeated_at, kept_in, number_after}
 use Rattle.register_store.specs.Columns.{request_in}
 use Rattle.register_store.specs.Outcomes.{filings_by}
 use Rattle.register_store.specs.Register.{IsCompleted}

@@ -38,7 +38,7 @@ module _ (filer key body : List ℕ) where
   abbrev r : Request
   r = the_request filer key body
 
-  has_its : (at : ℕ) (k : Kept) → has_texts filer key (kept_row at k) ≡ same_key k.request r
+  pub has_its : (at : ℕ) (k : Kept) → has_texts filer key (kept_row at k) ≡ same_key k.request r
   has_its at k = rw (same_text k.request.filer filer, same_text k.request.key key, and_true (bytes_eq k.request.key key)) refl
 
   -- at most one of these is so

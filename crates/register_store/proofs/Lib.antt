@@ -25,6 +25,11 @@ pub mod ReadTexts
 pub mod RisingLemmas
 pub mod SeenLemmas
 pub mod SegmentLemmas
+pub mod SpanLemmas
 pub mod StepsOfLists
 pub mod StoreLemmas
 pub mod Texts
+pub mod WalkLemmas
+pub mod WalkOpens
+pub mod PickTexts
+pub mod PickLemmas

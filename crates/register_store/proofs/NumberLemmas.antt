@@ -1,5 +1,5 @@
 -- What the numbers of a filer's kept rows say of its filings.
-use Rattle.std.proofs.Common.{◌≡◌, ℕ, ◌+◌, ◌<◌, suc, Bool, true, false, cond, List, [], ◌∷◌, map, filter, length, Option, Some, refl, ap, ap₂, ◌∙◌, nat_eq, arith, ⊎_elim}
+use Rattle.std.proofs.Common.{◌≡◌, ℕ, ◌+◌, ◌<◌, Bool, true, false, cond, List, [], ◌∷◌, map, filter, length, Option, Some, refl, ap, ap₂, ◌∙◌, nat_eq, arith, ⊎_elim}
 use Rattle.std.specs.Prelude.{filter_map, unwrap_or, option_map, bytes_eq, option_and_then}
 use Rattle.std.specs.List.{range_with_len, AllByRecursion}
 use Rattle.std.proofs.lemmas.Bool.{cases_Bool}

@@ -8,7 +8,7 @@ use Rattle.sqlite.specs.Term.{col}
 use Rattle.sqlite.specs.Effect.{Database, IsDatabase}
 use Rattle.sqlite.specs.Store.{Ghosts}
 use Rattle.sqlite.specs.Held.{Held, state}
-use Rattle.sqlite.specs.State.{State, IsLive, Shown, FailsToQuery, IsUnchanged}
+use Rattle.sqlite.specs.State.{State, IsLive, Shown, IsUnchanged}
 use Rattle.sqlite.proofs.Callers.{unchanged_then}
 use Rattle.filing_model.specs.Request.{Request}
 use Rattle.filing_model.specs.Register.{kept, register}
@@ -21,7 +21,7 @@ use Rattle.table_rows.specs.Causes.{cause_of}
 use Rattle.table_rows.specs.declared.cause.Cause.{Cause}
 use Rattle.table_rows.specs.declared.cause.Cause.TheVariants as cause
 use Rattle.sqlite.specs.declared.error.Error.{Error}
-use Rattle.register_store.specs.Faults.{meta_fault, meta_fault_by, table_fault, table_fault_by}
+use Rattle.register_store.specs.Faults.{table_fault, table_fault_by}
 use Rattle.table_rows.proofs.TextLemmas.{IsQueryText, query_same, query_failed, keeps_on}
 use Rattle.table_rows.proofs.OrderLemmas.{counted_rise}
 use Rattle.table_rows.proofs.ReadingLemmas.{reads_rows}

@@ -12,4 +12,6 @@ pub mod Outcomes
 pub mod Reads
 pub mod Register
 pub mod Schema
+pub mod Spans
 pub mod Store
+pub mod Walk

@@ -26,7 +26,7 @@ use std::collections::BTreeSet;
 use xbrl_report::{Fact, Finding, Judged, judge};
 
 /// The most requests that a register keeps.
-const MAX_KEPT: u64 = 1 << 62;
+pub(crate) const MAX_KEPT: u64 = 1 << 62;
 
 /// The rows of the tables beside `kept` that no kept row has accounted for, and the number of the next filing.
 #[derive(Clone, Copy)]

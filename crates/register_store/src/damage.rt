@@ -1,7 +1,7 @@
-//! Which kept row is told of a register whose rows stand for no requests. Each kept row is held against the other tables
-//! whole, in any order of their rows.
+//! Which kept row is told of a register whose rows stand for no requests. Each kept row is held against all rows of the other
+//! tables that have its place or its number, in any order of these tables; where they lie is looked up once for all.
 
-ghost use Rattle.std.specs.Prelude.{◌≡◌, ◌↔◌, ◌<◌, ◌≤◌, ◌^◌, ◌+◌, ℕ, suc, pos, List, [], ◌∷◌, length, map, IsTrue, IfOk, MatchOption};
+ghost use Rattle.std.specs.Prelude.{◌≡◌, ◌↔◌, ◌<◌, ◌≤◌, ◌^◌, ◌+◌, ℕ, suc, pos, List, [], ◌∷◌, length, map, IsTrue, IfOk, MatchOption, vec_len};
 ghost use Rattle.sqlite.specs.Order.{column};
 ghost use Rattle.sqlite.specs.declared.types.Value.TheVariants.{Int};
 ghost use Rattle.xbrl_report.specs.ReportParts.{facts as facts_of};
@@ -12,10 +12,12 @@ ghost use Rattle.register_store.specs.Audit.{Others, IsKeptAs, IsTold, is_number
 ghost use Rattle.register_store.specs.Columns.{request_in};
 ghost use Rattle.register_store.specs.Outcomes.{outcome_of, filings_by};
 ghost use Rattle.register_store.specs.Register.{IsCompleted, finding_row, fact_row};
+ghost use Rattle.register_store.specs.Spans.{AreSpansOf, AgreeAt};
 
 use crate::audit::{bytes_at, filer_of, first_repeated, is_kept_row};
 use crate::cells::{Cell, is_row};
 use crate::segments::{is_fact_row, is_finding_row};
+use crate::spans::{Span, spans_of};
 use sqlite::Row;
 use sqlite::types::ValueRef;
 use std::alloc::{AllocError, Global};
@@ -27,6 +29,44 @@ pub(crate) struct Beside<'a> {
     pub(crate) findings: &'a [Row],
     pub(crate) filings: &'a [Row],
     pub(crate) facts: &'a [Row],
+}
+
+/// Where the rows with each place and with each number lie in the tables beside `kept`.
+#[derive(Drop)]
+struct Spans {
+    findings: Vec<Span>,
+    filings: Vec<Span>,
+    facts: Vec<Span>,
+}
+
+impl Spans {
+    /// Those of the places and numbers below `count`. The error is want of memory.
+    fn of(alloc: Global, beside: Beside<'_>, count: usize) -> Result<Spans, AllocError>
+        requires { count < 2 ^ 63 }
+        ensures long { IfOk result (λ spans. (vec_len spans.findings ≡ count) × (vec_len spans.filings ≡ count)
+            × (vec_len spans.facts ≡ count)) }
+        ensures covers { IfOk result (AreSpansOf (view_beside beside.entry)) }
+    {
+        Ok(Spans {
+            findings: spans_of(alloc, beside.findings, 0, count)?,
+            filings: spans_of(alloc, beside.filings, 1, count)?,
+            facts: spans_of(alloc, beside.facts, 0, count)?,
+        })
+    }
+
+    /// Rows among which are all that have the place or the number; in the order of the keys, these alone.
+    fn part_of<'a>(&self, beside: Beside<'a>, seq: u64, number: u64) -> Beside<'a>
+        requires seq { (seq < vec_len self.now.findings) × (seq < vec_len self.now.filings) }
+        requires number { number < vec_len self.now.facts }
+        requires covers { AreSpansOf (view_beside beside) self.now }
+        ensures { AgreeAt seq number (view_beside result) (view_beside beside.entry) }
+    {
+        Beside {
+            findings: self.findings[seq as usize].part_of(beside.findings),
+            filings: self.filings[seq as usize].part_of(beside.filings),
+            facts: self.facts[number as usize].part_of(beside.facts),
+        }
+    }
 }
 
 /// Whether the row has this number in the column.
@@ -197,13 +237,15 @@ pub(crate) fn first_unsound(
     ensures { IfOk result (λ row. IsTold kept.now (view_beside beside.entry) row) }
 {
     let first = first_repeated(alloc, kept)?;
+    let spans = Spans::of(alloc, beside, kept.len() + 1)?;
     let mut number = 1;
     for at in 0..kept.len() {
         let seq = at as u64 + 1;
         if at == first {
             return Ok(seq);
         }
-        match filings_if_sound(alloc, &kept[at], seq, number, beside)? {
+        let part = spans.part_of(beside, seq, number);
+        match filings_if_sound(alloc, &kept[at], seq, number, part)? {
             Some(filings) => number += filings,
             None => return Ok(seq),
         }

@@ -18,10 +18,13 @@ mod lists;
 mod names;
 mod opening;
 mod outcome;
+mod picks;
 mod reads;
 mod rows;
 mod segments;
+mod spans;
 mod store;
+mod walk;
 mod write;
 
 pub use completed::{Completed, Registered};

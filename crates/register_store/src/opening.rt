@@ -1,6 +1,6 @@
 //! What an opening finds in a database.
 
-ghost use Rattle.std.specs.Prelude.{◌≡◌, ◌≢◌, ◌≤◌, ◌^◌, ◌⊎◌, ◌↔◌, ◌∷◌, [], ℕ, List, length, false, not, Err, IsTrue, IfOk, IfErr, OnOk, OnErr, None};
+ghost use Rattle.std.specs.Prelude.{◌≡◌, ◌≢◌, ◌≤◌, ◌^◌, ◌⊎◌, ◌↔◌, ◌∷◌, [], ℕ, List, length, false, not, Err, IsTrue, IfOk, IfErr, IfSome, OnOk, OnErr, None};
 ghost use Rattle.filing_model.specs.Register.{register};
 ghost use Rattle.filing_model.specs.Request.{Request};
 ghost use Rattle.sqlite.specs.Held.{state};
@@ -13,11 +13,13 @@ ghost use Rattle.register_store.specs.Opening.{all_meta, table_texts, IsRead, Ar
 ghost use Rattle.register_store.specs.Register.{meta_row};
 ghost use Rattle.register_store.specs.Schema.{IsDeclared};
 ghost use Rattle.register_store.specs.Store.{IsRegisterOf};
+ghost use Rattle.register_store.specs.Walk.{Amounts};
 
 use crate::audit::{Verdict, audit};
 use crate::cells::{Cell, is_row};
 use crate::fault::OpenFault;
 use crate::reads;
+use crate::walk::count_by_walk;
 use sqlite::{Alter, Connection, Error, Row};
 use std::alloc::Global;
 use table_rows::Cause;
@@ -142,6 +144,31 @@ fn count(
     }
 }
 
+/// Counts what the rows stand for with one kept request in memory at a time. `None` says nothing of the rows: the tables are
+/// then read whole, and say what is refused.
+fn count_one_by_one<S: Alter>(
+    alloc: Global,
+    conn: &mut Connection<S>,
+) -> Result<Option<Counts>, OpenFault>
+    ensures found { HasCleanDisk (state S.Store conn.new) → IsDeclared (state S.Store conn.old).now.schema
+        → IfOk result (λ found. IfSome found (λ counts. Amounts counts (state S.Store conn.old).now)) }
+    ensures few { IfOk result (λ found. IfSome found (λ counts. (counts.kept ≤ 2 ^ 62) × (counts.filings ≤ counts.kept))) }
+    ensures failed { HasCleanDisk (state S.Store conn.new)
+        → IfErr result (λ fault. (error : Error) × (fault ≡ table_fault error) × StopsFor S.Store (cause_of error) table_texts conn.old conn.new) }
+    ensures same { HasCleanDisk (state S.Store conn.new) → OnOk result (IsUnchanged (state S.Store conn.old) (state S.Store conn.new)) }
+    ensures mode { conn.old.in_transaction ≡ false → conn.new.in_transaction ≡ false }
+    ensures survives { Survives (state S.Store conn.old) (state S.Store conn.new) (λ _. ⊥) }
+{
+    match count_by_walk(alloc, conn) {
+        Ok(found) => Ok(found),
+        Err(error) => match Cause::from(error) {
+            Cause::Memory => Err(OpenFault::Memory),
+            Cause::Disk => Err(OpenFault::Disk),
+            Cause::Other => Ok(None),
+        },
+    }
+}
+
 /// Whether no transaction is under way.
 pub(crate) fn is_settled<S: Alter>(conn: &Connection<S>) -> bool
     ensures value { result ≡ not conn.now.in_transaction }
@@ -179,15 +206,19 @@ pub fn read_register<S: Alter>(alloc: Global, conn: &mut Connection<S>) -> Resul
 {
     prove!(is_settled(conn));
     match read_meta(conn) {
-        Ok(()) => match read_tables(conn) {
-            Ok(tables) => count(
-                alloc,
-                &tables.kept,
-                &tables.findings,
-                &tables.filings,
-                &tables.facts,
-            ),
-            Err(error) => Err(table_fault(error)),
+        Ok(()) => match count_one_by_one(alloc, conn) {
+            Ok(Some(counts)) => Ok(counts),
+            Ok(None) => match read_tables(conn) {
+                Ok(tables) => count(
+                    alloc,
+                    &tables.kept,
+                    &tables.findings,
+                    &tables.filings,
+                    &tables.facts,
+                ),
+                Err(error) => Err(table_fault(error)),
+            },
+            Err(fault) => Err(fault),
         },
         Err(fault) => Err(fault),
     }

@@ -68,7 +68,7 @@ understood_bare schema sql q =
     [ true ↦ selected_bare (compiled listing_schema sql) (compiled_bare listing_schema sql q) | false ↦ compiled_bare schema sql q ]
 
 module _ (sql : List ℕ) (query : IsQueryText sql) (params : Row) (old new : State) where
-  no_returning : (c : Compiled) → IsStatement old sql params c → c.returning ≡ None
+  pub no_returning : (c : Compiled) → IsStatement old sql params c → c.returning ≡ None
   no_returning c it = subst (λ r. returning_of r ≡ None) it.is (understood_bare old.now.schema sql query)
 
   shows_same : (c : Compiled) (full : Row) (rows : List Row) (o : Option Returning) → o ≡ None → ShowsRows old new sql c full rows o → IsUnchanged old new

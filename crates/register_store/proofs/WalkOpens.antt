@@ -1,0 +1,214 @@
+-- What an opening says of a database that was walked over.
+use Rattle.std.proofs.Common.{◌≡◌, ◌≢◌, inl, inr, ◌<◌, ◌≤◌, ℕ, ◌+◌, Bool, true, false, not, List, [], ◌∷◌, filter, length, nat_eq, refl, sym, ap, ap₂, subst, ◌∙◌, arith, Option, Some, None, Ok, Err, IsTrue, IsPermutation}
+use Rattle.std.specs.List.{AllByRecursion}
+use Rattle.std.proofs.lemmas.Bool.Decides.{nat_tests}
+use Rattle.std.proofs.lemmas.List.Sorted.{IsPermutation-sym, IsPermutation-trans, length_permutation}
+use Rattle.sqlite.specs.Order.{Row}
+use Rattle.sqlite.specs.Effect.{Database, IsDatabase}
+use Rattle.sqlite.specs.Store.{Ghosts}
+use Rattle.sqlite.specs.Held.{Held, state}
+use Rattle.sqlite.specs.Clock.{timed}
+use Rattle.sqlite.specs.Listing.{understood, reads_listing, IsSourceOf}
+use Rattle.sqlite.specs.State.{State, IsLive, IsStatement, IsNoStatement, IsNotRun, IsUnchanged, Shown, ShowsRows, Fails, FailsToQuery, FailsToShow, store_error}
+use Rattle.sqlite.specs.declared.error.Error.{Error}
+use Rattle.sqlite.proofs.Callers.{unchanged_then, one_permutation}
+use Rattle.sqlite_keyed.proofs.ListLemmas.{all_weaker, filter_all, filter_none, IsPermutation-filter}
+use Rattle.sqlite_resolve.specs.declared.compiled.Compiled.{Compiled}
+use Rattle.sqlite_schema.specs.declared.command.Returning.{Returning}
+use Rattle.sqlite_trees.specs.declared.error.StoreError.{StoreError}
+use Rattle.sqlite_trees.specs.declared.error.StoreError.TheVariants.{OutOfMemory, Io, Corrupt, Full, Broken, Unstorable}
+use Rattle.filing_model.specs.Request.{Request}
+use Rattle.filing_model.specs.Register.{Kept, kept, register}
+use Rattle.table_rows.specs.Causes.{cause_of}
+use Rattle.table_rows.specs.Rows.{counted_from}
+use Rattle.table_rows.specs.Standing.{Stands}
+use Rattle.table_rows.specs.declared.cause.Cause.{Cause}
+use Rattle.table_rows.specs.declared.cause.Cause.TheVariants as cause
+use Rattle.table_rows.proofs.OrderLemmas.{same_number, and_true}
+use Rattle.table_rows.proofs.StandLemmas.{stands_on}
+use Rattle.table_rows.proofs.TextLemmas.{IsQueryText, no_returning, query_same}
+use Rattle.register_store.specs.declared.opening.Counts.{Counts}
+use Rattle.register_store.specs.Opening.{all_meta, all_kept, table_texts, IsRead, AreRead, StopsFor}
+use Rattle.register_store.specs.Reads.{by_first, has_number}
+use Rattle.register_store.specs.Register.{meta_row, kept_row}
+use Rattle.register_store.specs.Schema.{IsDeclared, meta_table}
+use Rattle.register_store.specs.Store.{IsRegisterOf}
+use Rattle.register_store.specs.Walk.{Amounts, AreAllOf, IsStopped}
+use Rattle.register_store.proofs.AuditSteps.{requests_first}
+use Rattle.register_store.proofs.OpenLemmas.{Gets, got_meta, is_read}
+use Rattle.register_store.proofs.PickLemmas.{failed_after}
+use Rattle.register_store.proofs.ReadTexts.{query_meta, query_kept}
+
+-- ---- why the walk stopped
+
+other_fault : (kind : StoreError) → cause_of (store_error kind) ≡ cause.Other → kind ≡ Unstorable
+other_fault OutOfMemory is = absurd cc
+other_fault Io is = absurd cc
+other_fault Corrupt is = absurd cc
+other_fault Full is = absurd cc
+other_fault Broken is = absurd cc
+other_fault Unstorable is = refl
+
+module _ (old new : State) (e : Error) where
+  -- for another cause than memory or disk, then nothing was written
+  pub other_unchanged : IsStopped old new e → cause_of e ≡ cause.Other → IsUnchanged old new
+  other_unchanged (inl not_run) is = not_run.0
+  other_unchanged (inr failed) is = absurd (none failed.0 failed.2 (sym (ap cause_of failed.1) ∙ is))
+    where
+      none : (kind : StoreError) → Rattle.sqlite.specs.State.HasCause old new ⊥ kind → cause_of (store_error kind) ≡ cause.Other → ⊥
+      none kind has other = subst (Rattle.sqlite.specs.State.HasCause old new ⊥) (other_fault kind other) has
+
+  failed_by : (why : Cause) → why ≢ cause.Other → cause_of e ≡ why → IsStopped old new e → Fails old new ⊥ e
+  failed_by why other is (inl not_run) = absurd (other (sym is ∙ not_run.1))
+  failed_by why other is (inr failed) = failed
+
+-- for memory or the disk, so would the query of all kept rows
+pub stops_for : {S : Type 0} (g : Ghosts S) (a e : Held S) (error : Error) (why : Cause) → why ≢ cause.Other → cause_of error ≡ why → IsStopped (state g a) (state g e) error
+    → StopsFor g (cause_of error) table_texts a e
+unfolding FailsToQuery IsNotRun
+stops_for g a e error why other is stopped = inl (error, inl (inr (failed_by (state g a) (state g e) error why other is stopped)), refl)
+
+-- ---- the tables read whole after the walk, as if there had been none
+
+module _ (text : List ℕ) (query : IsQueryText text) (a b e : State) (same : IsUnchanged a b) where
+  statement_before : (c : Compiled) → IsStatement b text [] c → IsStatement a text [] c
+  statement_before c it = record {
+    is = subst (λ (db : Database). understood db.schema text ≡ Ok c) same.0.now_is it.is;
+    whole = it.whole;
+    given = it.given;
+    now = it.now;
+  }
+
+  shows_before : (c : Compiled) (full : Row) (rows : List Row) (o : Option Returning) → o ≡ None → ShowsRows b e text c full rows o → ShowsRows a e text c full rows o
+  shows_before c full rows None none h = (h.0, subst (λ (db : Database). IsSourceOf (reads_listing db.schema text) db h.0) same.0.now_is h.1, h.2, unchanged_then a b e same h.3)
+  shows_before c full rows (Some what) none h = absurd cc
+
+  pub shown_before : (rows : List Row) → Shown text [] b e rows → Shown text [] a e rows
+  unfolding Shown statement_before
+  shown_before rows h = (h.0, statement_before h.0 h.1, shows_before h.0 (timed [] h.0.formats h.1.now) rows h.0.returning (no_returning text query [] b e h.0 h.1) h.2)
+
+  no_statement_before : (error : Error) → IsNoStatement b text [] error → IsNoStatement a text [] error
+  no_statement_before error (inl bad) = inl (bad.0, subst (λ (db : Database). understood db.schema text ≡ Err bad.0) same.0.now_is bad.1, bad.2)
+  no_statement_before error (inr h) = inr (h.0, subst (λ (db : Database). understood db.schema text ≡ Ok h.0) same.0.now_is h.1, h.2)
+
+  module _ (limit : b.step_limit ≡ a.step_limit) (low : a.faults ≤ b.faults) where
+    fails_to_show_before : (c : Compiled) (full : Row) (error : Error) (o : Option Returning) → o ≡ None → FailsToShow b e text c full error o → FailsToShow a e text c full error o
+    fails_to_show_before c full error None none h = (
+      h.0,
+      subst (λ (db : Database). IsSourceOf (reads_listing db.schema text) db h.0) same.0.now_is h.1,
+      subst (λ l. Rattle.sqlite.specs.Effect.RefusesToRead l c.command h.0 full error) limit h.2,
+      unchanged_then a b e same h.3,
+    )
+    fails_to_show_before c full error (Some what) none h = absurd cc
+
+    pub fails_before : (error : Error) → FailsToQuery text [] b e error → FailsToQuery text [] a e error
+    unfolding FailsToQuery IsNotRun statement_before
+    fails_before error (inl (inl none)) = inl (inl (no_statement_before error none.0, unchanged_then a b e same none.1))
+    fails_before error (inl (inr failed)) = inl (inr (failed_after a b e error same low failed))
+    fails_before error (inr h) =
+        inr (h.0, statement_before h.0 h.1, fails_to_show_before h.0 (timed [] h.0.formats h.1.now) error h.0.returning (no_returning text query [] b e h.0 h.1) h.2)
+
+module _ {S : Type 0} (g : Ghosts S) (a b e : Held S) (same : IsUnchanged (state g a) (state g b)) (limit : b.step_limit ≡ a.step_limit) where
+  read_before : (mid : Held S) (rows : List Row) → IsRead g all_kept b mid rows → IsRead g all_kept a mid rows
+  read_before mid rows h = is_read g all_kept a mid rows (shown_before all_kept query_kept (state g a) (state g b) (state g mid) same rows h.shown) (h.limit ∙ limit)
+
+  pub are_read_before : (rows : List (List Row)) → AreRead g table_texts b e rows → AreRead g table_texts a e rows
+  are_read_before [] h = absurd h
+  are_read_before (r ∷ rs) h = (h.0, read_before h.0 r h.1, h.2)
+
+  pub stops_before : (state g a).faults ≤ (state g b).faults → (why : Cause) → StopsFor g why table_texts b e → StopsFor g why table_texts a e
+  stops_before low why (inl h) = inl (h.0, fails_before all_kept query_kept (state g a) (state g b) (state g e) same limit low h.0 h.1, h.2)
+  stops_before low why (inr h) = inr (h.0, h.1, read_before h.0 h.1 h.2, h.3)
+
+-- ---- kept rows have one order
+
+module _ (at : ℕ) where
+  over : (m : ℕ) → at < m → nat_eq m at ≡ false
+  over m low = grind (arith, nat_tests, low)
+
+  itself : nat_eq at at ≡ true
+  itself = grind (arith, nat_tests)
+
+  number_is : (m : ℕ) (k : Kept) → has_number at (kept_row m k) ≡ nat_eq m at
+  number_is m k = and_true _ ∙ same_number m at
+
+  later : (m : ℕ) (ks : List Kept) → at < m → AllByRecursion (λ r. has_number at r ≡ false) (counted_from kept_row m ks)
+  later m [] low = tt
+  later m (k ∷ ks) low = (number_is m k ∙ over m low, later (m + 1) ks (omega (arith, low)))
+
+  abbrev others : Row → Bool
+  others r = not (has_number at r)
+
+  first_of : (k : Kept) (ks : List Kept) → filter (has_number at) (counted_from kept_row at (k ∷ ks)) ≡ kept_row at k ∷ []
+  first_of k ks = rw (number_is at k ∙ itself) (ap (λ l. kept_row at k ∷ l) (filter_none (has_number at) (counted_from kept_row (at + 1) ks) (later (at + 1) ks (omega arith))))
+
+  rest_of : (k : Kept) (ks : List Kept) → filter others (counted_from kept_row at (k ∷ ks)) ≡ counted_from kept_row (at + 1) ks
+  rest_of k ks =
+      rw (number_is at k ∙ itself)
+      (filter_all others (counted_from kept_row (at + 1) ks) (all_weaker (λ r. has_number at r ≡ false) (λ r. others r ≡ true) (λ r h. ap not h) (counted_from kept_row (at + 1) ks) (later (at + 1) ks (omega arith))))
+
+one_order : (at : ℕ) (ks js : List Kept) → IsPermutation (counted_from kept_row at ks) (counted_from kept_row at js) → counted_from kept_row at js ≡ counted_from kept_row at ks
+one_order at [] [] same = refl
+one_order at [] (j ∷ js) same = absurd (omega (arith, length_permutation _ _ same))
+one_order at (k ∷ ks) [] same = absurd (omega (arith, length_permutation _ _ same))
+one_order at (k ∷ ks) (j ∷ js) same =
+    let K = counted_from kept_row at (k ∷ ks) in
+    let J = counted_from kept_row at (j ∷ js) in
+    let front : IsPermutation (kept_row at k ∷ []) (filter (has_number at) J) = subst (λ l. IsPermutation l (filter (has_number at) J)) (first_of at k ks) (IsPermutation-filter (has_number at) K J same) in
+    let behind : IsPermutation (counted_from kept_row (at + 1) ks) (filter (others at) J) = subst (λ l. IsPermutation l (filter (others at) J)) (rest_of at k ks) (IsPermutation-filter (others at) K J same) in
+    let one : kept_row at j ∷ [] ≡ kept_row at k ∷ [] = sym (first_of at j js) ∙ one_permutation (kept_row at k) (filter (has_number at) J) front in
+    let more = one_order (at + 1) ks js (subst (IsPermutation (counted_from kept_row (at + 1) ks)) (rest_of at j js) behind) in
+    let same_row : kept_row at j ≡ kept_row at k = cc in
+    ap₂ (λ r l. r ∷ l) same_row more
+
+-- ---- a database that was walked over
+
+module _ (F : List Request) (db : Database) (are : AreAllOf F db) where
+  registered : IsDatabase db → IsDeclared db.schema → Gets meta_table by_first (meta_row ∷ []) db → IsRegisterOf F db
+  registered sound declared meta = record {
+    sound = sound;
+    rows = record {
+      distinct = are.distinct;
+      completed = are.completed;
+      rows = record {
+        declared = declared;
+        meta_is = meta.held;
+        kept_is = are.kept_is;
+        finding_is = are.finding_is;
+        filing_is = are.filing_is;
+        fact_is = are.fact_is;
+      };
+    };
+  }
+
+  -- it stands for no others
+  only_these : (G : List Request) → IsRegisterOf G db → F ≡ G
+  only_these G is =
+      let K = counted_from kept_row 1 (kept G) in
+      let same = one_order 1 (kept G) (kept F) (IsPermutation-trans _ _ _ is.rows.rows.kept_is (IsPermutation-sym _ _ are.kept_is)) in
+      sym (requests_first K F are.distinct (sym same)) ∙ requests_first K G is.rows.distinct refl
+
+module _ {S : Type 0} (g : Ghosts S) (a b e : Held S) (one : IsRead g all_meta a b (meta_row ∷ [])) (after : IsUnchanged (state g b) (state g e)) where
+  pub same_walked : IsUnchanged (state g a) (state g e)
+  same_walked = unchanged_then (state g a) (state g b) (state g e) (query_same all_meta query_meta [] (state g a) (state g b) (meta_row ∷ []) one.shown) after
+
+  module _ (d : IsDeclared (state g a).now.schema) (live : IsLive (state g a)) (idle : a.in_transaction ≡ false) (settled : IsTrue (state g a).is_open → (state g a).now ≡ (state g a).committed)
+      (counts : Counts) (walked : IsDeclared (state g b).now.schema → Amounts counts (state g b).now) where
+    got : IsUnchanged (state g a) (state g b) × Gets meta_table by_first (meta_row ∷ []) (state g a).now
+    got = got_meta (state g a) (state g b) (meta_row ∷ []) d one.shown
+
+    it : Amounts counts (state g a).now
+    it = subst (Amounts counts) got.0.0.now_is (walked (subst (λ (db : Database). IsDeclared db.schema) (sym got.0.0.now_is) d))
+
+    stood : (F : List Request) → IsRegisterOf F (state g a).now → Stands (IsRegisterOf F) (state g e)
+    stood F here = stands_on (IsRegisterOf F) (state g a) (state g e) (inl same_walked) (record { autocommit = idle; now = λ _. here; committed = λ alive. sym (settled alive) })
+
+    pub finds_walked : (F : List Request) × IsRegisterOf F (state g a).now × Stands (IsRegisterOf F) (state g e) × (counts.kept ≡ length F) × (counts.filings ≡ length (register F))
+    finds_walked =
+        let here = registered it.requests (state g a).now it.are (live got.0.0.was_open).0 d got.1 in
+        (it.requests, here, stood it.requests here, it.kept_is, it.filings_is)
+
+    pub counts_walked : (F : List Request) → IsRegisterOf F (state g a).now → Stands (IsRegisterOf F) (state g e) × (counts.kept ≡ length F) × (counts.filings ≡ length (register F))
+    counts_walked F here =
+        let same : it.requests ≡ F = only_these it.requests (state g a).now it.are F here in
+        (stood F here, it.kept_is ∙ ap length same, it.filings_is ∙ ap (λ H. length (register H)) same)

@@ -1,0 +1,42 @@
+use Rattle.std.proofs.Common.{◌+◌, sym, subst, arith}
+use Rattle.sqlite.specs.Held.{state}
+use Rattle.sqlite.specs.State.{HasCleanDisk, IsUnchanged}
+use Rattle.sqlite.specs.Effect.{Database}
+use Rattle.sqlite.proofs.Callers.{unchanged_then}
+use Rattle.table_rows.proofs.StepLemmas.{nothing_left}
+use Rattle.register_store.specs.Schema.{IsDeclared}
+use Rattle.register_store.specs.Walk.{Passes}
+use Rattle.register_store.proofs.PickLemmas.{stopped_after}
+use Rattle.register_store.proofs.WalkLemmas.{walked_on}
+use Rattle.register_store.proofs.walk.walk.Goals as goal
+
+pub loop-at-preserved : goal.loop-at-preserved
+loop-at-preserved g c =
+    let old = state g.S.Store c.args.conn.now in
+    let mid = state g.S.Store c.loop-at.conn in
+    let now = state g.S.Store c.pass.new.conn in
+    let was = c.loop-at.invariant in
+    record {
+      walked = λ clean d alive start.
+          let early : HasCleanDisk mid = omega (arith, c.pass.ensures.survives.clean) in
+          let unchanged : IsUnchanged old mid = was.same early alive in
+          let there : IsDeclared mid.now.schema = subst (λ (db : Database). IsDeclared db.schema) (sym unchanged.0.now_is) d in
+          let passed = rw c.in-Ok-Some.field-0-is at c.in-Ok-Some.ensures.passes clean there in
+          walked_on c.args.total c.loop-at.at c.loop-at.left c.in-Ok-Some.tail old.now (was.walked early d alive start)
+          (subst (Passes (c.loop-at.at + 1) c.loop-at.left c.in-Ok-Some.tail) unchanged.0.now_is passed);
+      same = λ clean alive.
+          let early : HasCleanDisk mid = omega (arith, c.pass.ensures.survives.clean) in
+          unchanged_then old mid now (was.same early alive) (c.in-Ok-Some.ensures.same clean);
+      number = let passed = rw c.in-Ok-Some.field-0-is at c.in-Ok-Some.ensures.number in let low = was.number in omega (arith, passed, low);
+      mode = λ idle. c.pass.ensures.mode (was.mode idle);
+      survives = nothing_left old mid now was.survives c.pass.ensures.survives;
+    }
+
+pub returns-in-Err-clause-stopped : goal.returns-in-Err-clause-stopped
+returns-in-Err-clause-stopped g c clean alive =
+    let old = state g.S.Store c.args.conn.now in
+    let mid = state g.S.Store c.loop-at.conn in
+    let now = state g.S.Store c.pass.new.conn in
+    let was = c.loop-at.invariant in
+    let early : HasCleanDisk mid = omega (arith, c.pass.ensures.survives.clean) in
+    stopped_after old mid now c.in-Err.error (was.same early alive) was.survives.counts (c.in-Err.ensures.stopped clean)

@@ -1,0 +1,106 @@
+-- What a walk over a register's tables finds, one kept request after another.
+use Rattle.std.specs.Prelude.{◌≡◌, ◌⊎◌, ◌≤◌, ℕ, ◌+◌, suc, Bool, List, [], ◌∷◌, ◌++◌, length, map, filter, IsPermutation}
+use Rattle.std.specs.List.{AllByRecursion}
+use Rattle.sqlite.specs.Order.{Row}
+use Rattle.sqlite.specs.Table.{Table}
+use Rattle.sqlite.specs.Effect.{Database}
+use Rattle.sqlite.specs.State.{State, IsUnchanged, Fails}
+use Rattle.sqlite.specs.declared.error.Error.{Error}
+use Rattle.table_rows.specs.Rows.{Holds, shown, counted_from}
+use Rattle.table_rows.specs.Causes.{cause_of}
+use Rattle.table_rows.specs.declared.cause.Cause.TheVariants as cause
+use Rattle.xbrl_report.specs.Findings.{findings as found_in}
+use Rattle.filing_model.specs.Request.{Request, firsts}
+use Rattle.filing_model.specs.Register.{Kept, outcome_by, kept, register}
+use Rattle.register_store.specs.declared.opening.Counts.{Counts}
+use Rattle.register_store.specs.declared.walk.Left.{Left}
+use Rattle.register_store.specs.Found.{has_texts}
+use Rattle.register_store.specs.Outcomes.{filings_by}
+use Rattle.register_store.specs.Reads.{has_number}
+use Rattle.register_store.specs.Register.{IsCompleted, kept_row, finding_rows, filing_rows, fact_rows, joined_from}
+use Rattle.register_store.specs.Schema.{kept_table, finding_table, filing_table, fact_table}
+
+-- the rows of the table, as SELECT * shows them
+abbrev pub rows_in : Database → Table → List Row
+rows_in db table = map (shown table) (db.trees table.tree)
+
+-- ---- what a statement tells of a database whose tables are declared as ours
+
+-- the rows are those of the table that pass, in some order
+abbrev pub Picks : Table → (Row → Bool) → List Row → Database → Type 0
+Picks table keep rows db = IsPermutation (filter keep (rows_in db table)) rows
+
+-- the table has so many rows
+abbrev pub CountsTo : Table → ℕ → Database → Type 0
+CountsTo table count db = count ≡ length (rows_in db table)
+
+-- a statement was not run, for another cause than memory or disk, and nothing was written; or the store failed
+abbrev pub IsStopped : State → State → Error → Type 0
+IsStopped old new error = (IsUnchanged old new × (cause_of error ≡ cause.Other)) ⊎ Fails old new ⊥ error
+
+-- ---- one kept request
+
+-- there are no rows to ask for, or the table has these and no others that pass
+abbrev pub Finds : Table → (Row → Bool) → List Row → Database → Type 0
+Finds table keep rows db = (rows ≡ []) ⊎ Picks table keep rows db
+
+-- the rows beside `kept` are those of the kept request, and so many are left of each table
+pub record Beyond (seq : ℕ) (k : Kept) (left tail : Left) (db : Database) : Type 0 where
+  pub finding_is : Finds finding_table (has_number seq) (finding_rows seq k) db
+  pub filing_is : Finds filing_table (has_number left.number) (filing_rows seq k) db
+  pub fact_is : Finds fact_table (has_number left.number) (fact_rows seq k) db
+  pub findings_left : left.findings ≡ tail.findings + length (finding_rows seq k)
+  pub filings_left : left.filings ≡ tail.filings + length (filing_rows seq k)
+  pub facts_left : left.facts ≡ tail.facts + length (fact_rows seq k)
+  pub number_is : tail.number ≡ left.number + filings_by k.outcome
+
+-- the request, judged, where the next filing has this number
+abbrev pub judged_as : Request → ℕ → Kept
+judged_as r number = record { request = r; outcome = outcome_by (found_in r.filer r.body) number }
+
+-- so are its own row, and no other has its filer and key
+pub record Passes (seq : ℕ) (left tail : Left) (db : Database) : Type 0 where
+  pub request : Request
+  pub completed : IsCompleted request
+  pub kept_is : Picks kept_table (has_number seq) (kept_row seq (judged_as request left.number) ∷ []) db
+  pub alone : length (filter (has_texts request.filer request.key) (rows_in db kept_table)) ≡ 1
+  pub beyond : Beyond seq (judged_as request left.number) left tail db
+
+-- ---- all of them
+
+-- the table has these rows, and so many others
+pub record HasLeft (table : Table) (rows : List Row) (count : ℕ) (db : Database) : Type 0 where
+  pub rest : List Row
+  pub all : IsPermutation (rows ++ rest) (rows_in db table)
+  pub many : length rest ≡ count
+
+-- so many of all kept requests were walked past, and their rows are those of these requests
+pub record Walked (total count : ℕ) (left : Left) (db : Database) : Type 0 where
+  pub requests : List Request
+  pub many : length requests ≡ count
+  pub number_is : left.number ≡ suc (length (register requests))
+  pub fewer : length (register requests) ≤ count
+  pub distinct : firsts requests ≡ requests
+  pub completed : AllByRecursion IsCompleted requests
+  pub kept_left : ℕ
+  pub in_all : kept_left + count ≡ total
+  pub kept_is : HasLeft kept_table (counted_from kept_row 1 (kept requests)) kept_left db
+  pub finding_is : HasLeft finding_table (joined_from finding_rows 1 (kept requests)) left.findings db
+  pub filing_is : HasLeft filing_table (joined_from filing_rows 1 (kept requests)) left.filings db
+  pub fact_is : HasLeft fact_table (joined_from fact_rows 1 (kept requests)) left.facts db
+
+-- the four tables have the rows of these requests, each once and in any order, and no others
+pub record AreAllOf (requests : List Request) (db : Database) : Type 0 where
+  pub distinct : firsts requests ≡ requests
+  pub completed : AllByRecursion IsCompleted requests
+  pub kept_is : Holds db kept_table (counted_from kept_row 1 (kept requests))
+  pub finding_is : Holds db finding_table (joined_from finding_rows 1 (kept requests))
+  pub filing_is : Holds db filing_table (joined_from filing_rows 1 (kept requests))
+  pub fact_is : Holds db fact_table (joined_from fact_rows 1 (kept requests))
+
+-- so they have, and so many requests are kept and registered
+pub record Amounts (counts : Counts) (db : Database) : Type 0 where
+  pub requests : List Request
+  pub are : AreAllOf requests db
+  pub kept_is : counts.kept ≡ length requests
+  pub filings_is : counts.filings ≡ length (register requests)
