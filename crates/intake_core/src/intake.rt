@@ -124,6 +124,14 @@ impl<S: Alter> Intake<S> {
         store
     }
 
+    /// Whether the database refused a call for another cause than memory. Such an intake answers nothing else, until its
+    /// register is opened again.
+    pub fn is_down(&self) -> bool
+        ensures { result ≡ has_stopped self.now }
+    {
+        self.is_down
+    }
+
     /// Decides a request (own rule): the first of a filer and key is judged and kept, whether it is
     /// valid or not, and a later one gets what the first got, or that the key was used for another
     /// body. The filer is a filer code, and the body has at most 1,048,576 bytes.
