@@ -24,7 +24,7 @@ import time
 
 ROOT = pathlib.Path(__file__).resolve().parent.parent
 DEPLOY = ROOT / "deploy"
-SCRIPTS = ["register-new", "register-snapshot", "intake-probe", "outbox-round"]
+SCRIPTS = ["register-new", "register-snapshot", "outbox-round"]
 failures = []
 
 
@@ -71,31 +71,22 @@ def try_scripts():
 
 
 def try_round(folder):
-    """A round over five entries, of which one was settled before, and over an intake that goes away."""
-    write_program(
-        folder / "outbox",
-        """#!/bin/sh
-case "$1" in
-    status) printf 'entry 1 open\\nentry 2 confirmed 7\\nentry 3 open\\nentry 4 open\\n' ;;
-    send)
-        for id; do :; done
-        echo "$id" >> sent
-        case "$id" in
-            1) echo 'entry 1 confirmed 8' ;;
-            3) echo "entry 3 $ANSWER"; [ "$ANSWER" != open ] || exit "$STATUS" ;;
-            4) echo 'entry 4 refused' ;;
-        esac ;;
-esac
-""",
-    )
-    words = [DEPLOY / "outbox-round", "outbox.db", "1"]
-    rounds = [("confirmed 9", 0, (0, "134")), ("open", 0, (75, "134")), ("open", 3, (75, "13")), ("open", 1, (1, "13"))]
-    for answer, status, wanted in rounds:
-        (folder / "sent").unlink(missing_ok=True)
-        paths = {**os.environ, "PATH": f"{folder}:{os.environ['PATH']}", "ANSWER": answer, "STATUS": str(status)}
-        done = run(*words, cwd=folder, env=paths)
-        sent = (folder / "sent").read_text().replace("\n", "")
-        hold(f"outbox-round, entry 3 {answer} with status {status}", (done.returncode, sent), wanted)
+    """Rounds that settle what is open, that leave an entry open, that find no intake, and whose database is none."""
+    write_program(folder / "outbox", '#!/bin/sh\necho "$*" > asked\n[ -z "$SAID" ] || printf "$SAID"\nexit "$STATUS"\n')
+    settled = "entry 1 confirmed 8\\nentry 4 refused\\n"
+    for said, status, wanted in [
+        (settled, 0, 0),
+        ("nothing open\\n", 0, 0),
+        (settled + "entry 5 open\\n", 0, 75),
+        ("entry 1 open\\n", 3, 75),
+        ("", 1, 1),
+    ]:
+        paths = {**os.environ, "PATH": f"{folder}:{os.environ['PATH']}", "SAID": said, "STATUS": str(status)}
+        done = run(DEPLOY / "outbox-round", "outbox.db", "1", cwd=folder, env=paths)
+        hold(f"outbox-round where outbox says {said!r} and ends with {status}", (done.returncode, done.stdout), (wanted, said.replace("\\n", "\n")))
+        hold("and what it asks", (folder / "asked").read_text(), "send --db outbox.db --port 1 --all\n")
+        look = "outbox-round: look at this one: entry 4 refused\n" if "refused" in said else ""
+        hold("and what it points to", done.stderr, look)
 
 
 def try_snapshot(folder):
@@ -143,13 +134,6 @@ with socket.create_server(("127.0.0.1", int(words[words.index("--port") + 1]))) 
     done = run(*words, cwd=folder, env=paths)
     hold("register-new", (done.returncode, done.stdout), (0, "sound: 0 kept, 0 filings\n"))
     hold("register-new leaves a register that is there", run(*words, cwd=folder, env=paths).returncode, 1)
-
-
-def try_probe():
-    for status, wanted in [(200, 0), (503, 1)]:
-        with Intake(status) as intake:
-            hold(f"intake-probe of an intake that answers {status}", run(DEPLOY / "intake-probe", str(intake.port)).returncode, wanted)
-    hold("intake-probe where nothing listens", run(DEPLOY / "intake-probe", str(free_port())).returncode, 3)
 
 
 # ---- units and views
@@ -373,7 +357,6 @@ def main():
         try_snapshot(folders[1])
         if find("curl"):
             try_new(folders[2])
-            try_probe()
         try_units(folders[2])
         try_views()
         try_log(folders[2])

@@ -11,6 +11,10 @@ database_status database.Missing = 1
 database_status database.NotADatabase = 1
 database_status database.Busy = 3
 database_status database.Memory = 3
+database_status database.Denied = 3
+database_status database.NotAFile = 3
+database_status database.Linked = 3
+database_status database.Journal = 3
 database_status database.Disk = 3
 
 -- 2 where the command line is at fault

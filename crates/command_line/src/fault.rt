@@ -18,8 +18,20 @@ pub enum DatabaseFault {
     /// No memory was left.
     #[error("out of memory")]
     Memory,
-    /// The system refused to open or to read the file.
-    #[error("it cannot be opened")]
+    /// The system does not let this program read and write the file, or make one beside it.
+    #[error("permission denied: the file and its folder have to be readable and writable")]
+    Denied,
+    /// The name is that of a folder, a device or the like.
+    #[error("not a regular file")]
+    NotAFile,
+    /// Another name leads to the same file, so that a lock by one name would not keep the other out.
+    #[error("the file has a second name (a hard link)")]
+    Linked,
+    /// SQLite stopped within a transaction, and only it can undo that.
+    #[error("a rollback journal lies beside it: open it with sqlite3 first")]
+    Journal,
+    /// The system refused to open, to read or to write the file for another cause, as a full disk.
+    #[error("the disk failed, or is full")]
     Disk,
 }
 

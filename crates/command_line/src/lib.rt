@@ -12,5 +12,5 @@ mod output;
 pub use arguments::words;
 pub use bytes::{ReadFault, read_up_to};
 pub use fault::{CommandFault, DatabaseFault};
-pub use options::{database_option, filer_option, option, port_option};
+pub use options::{VERSION, database_option, filer_option, option, port_option};
 pub use output::{DONE, show, show_refusal};

@@ -7,19 +7,30 @@ use command_line::DatabaseFault;
 use sqlite::{Connection, Error, ErrorCode, File, FileStore, Files, Options, Unknown};
 use sqlite_disk::Disk;
 use sqlite_std_file::OpenError;
+use std::alloc::AllocError;
 use std::fs;
 use std::hash::{BuildHasher, RandomState};
-use std::io::ErrorKind;
+use std::io::{self, ErrorKind};
 
 /// How many pages of a file are kept in memory once they were read: 32 MiB of pages of 4,096 bytes, which those of a new
 /// file have. A register of 100,000 small reports takes 4,400 pages.
 const PAGES_KEPT: usize = 8_192;
+
+/// A shorter log has nothing in it: its head takes 32 bytes, and a frame 24 and a page, which has 512 at least (SQLite's file
+/// format, section 4.1).
+const LEAST_LOG: u64 = 568;
 
 /// Where the files of databases lie. The commands are written over any such place, so that what they do is proved once,
 /// and not for the files of the system.
 pub trait Place<D: Disk + Drop> {
     /// Whether there is no file of this name.
     fn is_missing(&self, rt: &HostRuntime, name: &str) -> bool;
+
+    /// Whether a log lies beside the file of this name.
+    fn has_log(&self, rt: &HostRuntime, name: &str) -> bool;
+
+    /// Removes the log beside the file of this name, where nothing is in it. To be called while the files are held.
+    fn remove_empty_log(&self, rt: &HostRuntime, name: &str);
 
     /// The log and the database file of this name. Those that are missing are made.
     fn files(&self, rt: &HostRuntime, name: &str) -> Result<Files<D>, DatabaseFault>
@@ -37,11 +48,54 @@ impl Place<File> for SystemFiles {
         matches!(fs::exists(rt, name), Ok(false))
     }
 
+    fn has_log(&self, rt: &HostRuntime, name: &str) -> bool {
+        match log_name(rt, name) {
+            Ok(log) => !matches!(fs::exists(rt, log.as_str()), Ok(false)),
+            Err(_) => true,
+        }
+    }
+
+    fn remove_empty_log(&self, rt: &HostRuntime, name: &str) {
+        // An empty file more does no harm where it can't be removed.
+        let _ = remove_if_empty(rt, name);
+    }
+
     fn files(&self, rt: &HostRuntime, name: &str) -> Result<Files<File>, DatabaseFault> {
         match sqlite_std_file::open(rt, name, Unknown) {
             Ok(files) => Ok(files),
+            Err(OpenError::Io(error)) if error.kind() == ErrorKind::Unsupported => {
+                Err(fault_of_name(rt, name))
+            }
             Err(error) => Err(fault_of_files(&error)),
         }
+    }
+}
+
+/// The name of the log beside the file of this name, as SQLite has it.
+fn log_name(rt: &HostRuntime, name: &str) -> Result<String, AllocError> {
+    let mut log = String::from_str(rt.alloc(), name)?;
+    log.push_str("-wal")?;
+    Ok(log)
+}
+
+fn remove_if_empty(rt: &HostRuntime, name: &str) -> io::Result<()> {
+    let Ok(log) = log_name(rt, name) else {
+        return Ok(());
+    };
+    if fs::metadata(rt, log.as_str())?.len() < LEAST_LOG {
+        fs::remove_file(rt, log.as_str())?;
+    }
+    Ok(())
+}
+
+/// What is wrong with a name whose file is none that a database may lie in.
+fn fault_of_name(rt: &HostRuntime, name: &str) -> DatabaseFault
+    ensures { result ≢ DatabaseFault.Missing }
+{
+    match fs::metadata(rt, name) {
+        Ok(found) if found.is_file() => DatabaseFault::Linked,
+        Ok(_) => DatabaseFault::NotAFile,
+        Err(_) => DatabaseFault::Disk,
     }
 }
 
@@ -71,7 +125,32 @@ pub fn make_database<D: Disk + Drop, P: Place<D>>(
     ensures any_name { result ≢ Err DatabaseFault.Missing }
 {
     let options = options(rt)?;
-    connect(rt, place.files(rt, name)?, options)
+    let had_log = place.has_log(rt, name);
+    let files = place.files(rt, name)?;
+    match connect(rt, files, options) {
+        Ok(conn) => Ok(conn),
+        Err(fault) => {
+            remove_new_log(rt, place, name, had_log);
+            Err(fault)
+        }
+    }
+}
+
+/// Removes the log that an opening made, in which nothing is, so that nothing lies beside a file that is not ours. The files are
+/// taken for that, so that no other program has them.
+pub fn remove_new_log<D: Disk + Drop, P: Place<D>>(
+    rt: &HostRuntime,
+    place: &P,
+    name: &str,
+    had_log: bool,
+) {
+    if had_log {
+        return;
+    }
+    if let Ok(files) = place.files(rt, name) {
+        place.remove_empty_log(rt, name);
+        drop(files);
+    }
 }
 
 /// How the files are read and written. The seed is drawn at random.
@@ -87,7 +166,8 @@ fn options(rt: &HostRuntime) -> Result<Options, DatabaseFault>
     }
 }
 
-/// The connection over these files.
+/// The connection over these files. A file that is new gets the sums of SQLite's cksumvfs, by which the next opening finds a
+/// changed byte.
 fn connect<D: Disk + Drop>(
     rt: &HostRuntime,
     files: Files<D>,
@@ -99,7 +179,7 @@ fn connect<D: Disk + Drop>(
     ensures unlimited { IfOk result (λ conn. conn.step_limit ≡ None) }
     ensures any_name { result ≢ Err DatabaseFault.Missing }
 {
-    match Connection::open_files(rt.alloc(), files, options) {
+    match Connection::open_files_with(rt.alloc(), files, options, true) {
         Ok(mut conn) => {
             conn.set_clock(rt);
             Ok(conn)
@@ -113,9 +193,19 @@ fn fault_of_files(error: &OpenError) -> DatabaseFault
 {
     match error {
         OpenError::OutOfMemory => DatabaseFault::Memory,
-        OpenError::Io(error) if error.kind() == ErrorKind::OutOfMemory => DatabaseFault::Memory,
         OpenError::Busy => DatabaseFault::Busy,
-        OpenError::Io(_) | OpenError::HotJournal => DatabaseFault::Disk,
+        OpenError::HotJournal => DatabaseFault::Journal,
+        OpenError::Io(error) => fault_of_io(error),
+    }
+}
+
+fn fault_of_io(error: &io::Error) -> DatabaseFault
+    ensures { result ≢ DatabaseFault.Missing }
+{
+    match error.kind() {
+        ErrorKind::OutOfMemory => DatabaseFault::Memory,
+        ErrorKind::PermissionDenied => DatabaseFault::Denied,
+        _ => DatabaseFault::Disk,
     }
 }
 

@@ -3,8 +3,12 @@
 
 mod calls;
 mod fault;
+mod finding;
+mod log;
+mod note;
 mod options;
 mod register;
+mod serving;
 mod tasks;
 
 pub use tasks::{main, perform};

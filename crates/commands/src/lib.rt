@@ -5,5 +5,6 @@
 mod database;
 pub mod intake;
 pub mod outbox;
+mod report;
 
 pub use database::{Place, SystemFiles, make_database, open_database};

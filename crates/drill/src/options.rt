@@ -1,11 +1,12 @@
 //! The command line, as `clap` reads it.
 
 use clap::{Command, Error};
+use command_line::VERSION;
 use std::alloc::Global;
 
 fn command<'a>(alloc: Global) -> Command<'a> {
     Command::new(alloc, "drill")
-        .version("0.1.0")
+        .version(VERSION)
         .about(
             "Plays the script of standard input on an intake and outboxes in memory, and prints the filings and entries",
         )

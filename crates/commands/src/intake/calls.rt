@@ -3,14 +3,14 @@
 
 ghost use Rattle.std.specs.Prelude.{◌≡◌, ◌≤◌, ◌^◌, None, false};
 
-use gateway_server::{Ended, serve as serve_connection};
-use http_wire::{Sink, Source};
-use intake_core::{FilingRow, Intake, Unavailable};
-use register_store::{CreateFault, OpenFault, Store, StoreFault};
+use gateway_server::{Ended, Mark, Served, completed as completed_of, serve as serve_connection};
+use http_wire::{ConnFault, Inbox, Next, Reply, Sink, Source, write_reply};
+use intake_core::{FilingRow, Intake, Unavailable, word_reply};
+use register_store::{Completed, CreateFault, OpenFault, Store, StoreFault};
 use sqlite::{Alter, Connection, FileStore, MemStore};
 use sqlite_disk::Disk;
-use std::alloc::Global;
-use xbrl_report::Fact;
+use std::alloc::{AllocError, Global};
+use xbrl_report::{Fact, Findings, Judged, judge};
 
 /// Makes the tables of a register.
 pub fn create<S: Alter + Drop>(alloc: Global, conn: Connection<S>) -> Result<Store<S>, CreateFault>
@@ -61,12 +61,83 @@ pub fn list<S: Alter>(intake: &mut Intake<S>, filer: &str) -> Result<Vec<FilingR
     intake.list(filer)
 }
 
-/// Serves one connection, and says how it ended.
+/// Serves one connection.
 pub fn serve<R: Source, W: Sink, S: Alter>(
     alloc: Global,
     reader: &mut R,
     writer: &mut W,
     intake: &mut Intake<S>,
-) -> Ended {
-    serve_connection(alloc, reader, writer, intake).ended
+) -> Served {
+    serve_connection(alloc, reader, writer, intake)
+}
+
+/// The requests that a connection of these bytes completed.
+pub fn completed(
+    alloc: Global,
+    bytes: &[u8],
+    marks: &[Mark],
+) -> Result<Vec<Completed>, AllocError> {
+    completed_of(alloc, bytes, marks)
+}
+
+/// The content of a reply that says that there is no register. A reply to HEAD has none (RFC 9110, section 9.3.2).
+fn unavailable(alloc: Global, is_head: bool) -> Result<Vec<u8>, AllocError> {
+    if is_head {
+        Ok(Vec::new(alloc))
+    } else {
+        Ok(word_reply(alloc, 503, "unavailable")?.content)
+    }
+}
+
+/// Writes that there is no register, and closes the connection.
+#[tactic(auto, unfolding(http_wire::specs::Reply::phrase))]
+fn write_unavailable<W: Sink>(alloc: Global, writer: &mut W, is_head: bool) -> Ended {
+    let content = match unavailable(alloc, is_head) {
+        Ok(content) => content,
+        Err(_) => return Ended::Fault(ConnFault::Memory),
+    };
+    let reply = Reply {
+        status: 503,
+        content,
+    };
+    match write_reply(alloc, writer, &reply, true) {
+        Ok(()) => Ended::Closed,
+        Err(fault) => Ended::Fault(fault),
+    }
+}
+
+/// Answers the first request of a connection that there is no register, and closes the connection.
+pub fn turn_away<R: Source, W: Sink>(
+    alloc: Global,
+    reader: &mut R,
+    writer: &mut W,
+) -> Result<Served, AllocError> {
+    let mut inbox = Inbox::new(alloc)?;
+    let mut marks = Vec::new(alloc);
+    marks.reserve(1)?;
+    let ended = match inbox.next(reader, writer) {
+        Ok(Next::Message) => {
+            marks.push_reserved(Mark::Unavailable);
+            write_unavailable(
+                alloc,
+                writer,
+                inbox.message().head.method() == b"HEAD".as_slice(),
+            )
+        }
+        Ok(Next::Refuse(_)) => {
+            marks.push_reserved(Mark::NotFiled);
+            write_unavailable(alloc, writer, false)
+        }
+        Ok(Next::End) => Ended::InputEnded,
+        Err(fault) => Ended::Fault(fault),
+    };
+    Ok(Served { marks, ended })
+}
+
+/// The findings of a report of this filer; none where it is valid.
+pub fn findings(alloc: Global, filer: &str, body: &[u8]) -> Result<Option<Findings>, AllocError> {
+    match judge(alloc, filer, body)? {
+        Judged::Valid(_) => Ok(None),
+        Judged::Refused(findings) => Ok(Some(findings)),
+    }
 }

@@ -1,5 +1,6 @@
 //! Why a task is not done, in words and as a status.
 
+use crate::report::ReportFault;
 use command_line::{CommandFault, DatabaseFault};
 use http_wire::ConnFault;
 use intake_core::Unavailable;
@@ -24,6 +25,10 @@ pub enum Fault<'a> {
     Open { name: &'a str, fault: OpenFault },
     #[error("{name}: {fault}")]
     Store { name: &'a str, fault: StoreFault },
+    #[error("{name}: {fault} when it was closed; what was answered is kept, in the log beside it")]
+    NotClosed { name: &'a str, fault: StoreFault },
+    #[error("{0}")]
+    Report(ReportFault<'a>),
     #[error("{name}: {fault}")]
     List { name: &'a str, fault: Unavailable },
     #[error("{name}: there is no filing {number}")]
@@ -42,6 +47,12 @@ impl<'a> From<CommandFault<'a>> for Fault<'a> {
     }
 }
 
+impl<'a> From<ReportFault<'a>> for Fault<'a> {
+    fn from(fault: ReportFault<'a>) -> Self {
+        Fault::Report(fault)
+    }
+}
+
 impl From<AllocError> for Fault<'_> {
     fn from(_error: AllocError) -> Self {
         Fault::Command(CommandFault::Memory)
@@ -55,6 +66,7 @@ impl Fault<'_> {
     pub fn status(&self) -> u8 {
         match self {
             Fault::Command(fault) => fault.status(),
+            Fault::Report(fault) => fault.status(),
             Fault::Create {
                 fault: CreateFault::Taken,
                 ..

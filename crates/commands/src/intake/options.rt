@@ -1,7 +1,8 @@
 //! The tasks of `intake` and their values, as `clap` reads them.
 
+use crate::intake::serving::Serving;
 use clap::{Arg, ArgAction, ArgMatches, Command, Error, value_parser};
-use command_line::{database_option, filer_option, option, port_option};
+use command_line::{VERSION, database_option, filer_option, option, port_option};
 use std::alloc::{AllocError, Global};
 
 /// How many keys are kept at most, where the command line does not say.
@@ -10,34 +11,20 @@ pub const DEFAULT_LIMIT: u64 = 1_000_000;
 const MOST_CONNECTIONS: i64 = (1 << 32) - 1;
 
 /// What the command line asks for.
-#[derive(Clone, Copy)]
+#[derive(Drop)]
 pub enum Task<'a> {
     /// Serve standard input on a register in memory.
-    Run {
-        limit: u64,
-    },
+    Run { limit: u64 },
     /// Serve so many connections of a port on the register of a file, which is made where it is new.
-    Serve {
-        database: &'a str,
-        port: u16,
-        connections: u32,
-        limit: u64,
-        new: bool,
-    },
+    Serve(Serving<'a>),
     /// Show the filings of a filer.
-    List {
-        database: &'a str,
-        filer: &'a str,
-    },
+    List { database: &'a str, filer: &'a str },
     /// Show the facts of a filing.
-    Show {
-        database: &'a str,
-        number: u64,
-    },
+    Show { database: &'a str, number: u64 },
     /// Say whether the register is sound.
-    Check {
-        database: &'a str,
-    },
+    Check { database: &'a str },
+    /// Show the findings of a filer's reports.
+    Lint { filer: &'a str, files: Vec<&'a str> },
 }
 
 fn database<'a>(alloc: Global) -> Arg<'a> {
@@ -58,6 +45,7 @@ fn limit<'a>(alloc: Global) -> Arg<'a> {
 fn run<'a>(alloc: Global) -> Result<Command<'a>, AllocError> {
     Command::new(alloc, "run")
         .about("Serves standard input as one connection, on a register in memory [the default]")
+        .after_help("Example: intake run < requests")
         .arg(limit(alloc))
 }
 
@@ -82,6 +70,15 @@ fn new<'a>(alloc: Global) -> Arg<'a> {
         .action(ArgAction::SetTrue)
 }
 
+fn log<'a>(alloc: Global) -> Arg<'a> {
+    Arg::new(alloc, "log")
+        .long("log")
+        .help(
+            "Prints a line of JSON for each connection: its number, how it ended, filers, places, statuses",
+        )
+        .action(ArgAction::SetTrue)
+}
+
 fn serve<'a>(alloc: Global) -> Result<Command<'a>, AllocError> {
     let options = vec![in alloc;
         database(alloc),
@@ -89,9 +86,13 @@ fn serve<'a>(alloc: Global) -> Result<Command<'a>, AllocError> {
         connections(alloc),
         limit(alloc),
         new(alloc),
+        log(alloc),
     ]?;
     Command::new(alloc, "serve")
         .about("Serves connections of a port on the register of a file, and ends")
+        .after_help(
+            "Example: intake serve --db register.db --port 8080 --connections 4294967295 --new",
+        )
         .args(options)
 }
 
@@ -99,6 +100,7 @@ fn list<'a>(alloc: Global) -> Result<Command<'a>, AllocError> {
     let options = vec![in alloc; database(alloc), filer_option(alloc)]?;
     Command::new(alloc, "list")
         .about("Prints the filings of a filer, as GET /filings/CODE answers")
+        .after_help("Example: intake list --db register.db --filer ACME")
         .args(options)
 }
 
@@ -112,13 +114,32 @@ fn show<'a>(alloc: Global) -> Result<Command<'a>, AllocError> {
     let options = vec![in alloc; database(alloc), number(alloc)]?;
     Command::new(alloc, "show")
         .about("Prints the facts of a filing, each as a line of JSON")
+        .after_help("Example: intake show --db register.db --number 1")
         .args(options)
 }
 
 fn check<'a>(alloc: Global) -> Result<Command<'a>, AllocError> {
     Command::new(alloc, "check")
         .about("Holds each row of the register to the bodies that are kept, and says what it found")
+        .after_help("Example: intake check --db register.db")
         .arg(database(alloc))
+}
+
+fn files<'a>(alloc: Global) -> Arg<'a> {
+    Arg::new(alloc, "FILE")
+        .help("The reports' files, each of at most 1048576 bytes")
+        .required(true)
+        .num_args(1..)
+}
+
+fn lint<'a>(alloc: Global) -> Result<Command<'a>, AllocError> {
+    let arguments = vec![in alloc; filer_option(alloc), files(alloc)]?;
+    Command::new(alloc, "lint")
+        .about(
+            "Prints the findings of reports, a line each, as the register would judge them: 0 where there is none, and else 1",
+        )
+        .after_help("Example: intake lint --filer ACME report.json")
+        .args(arguments)
 }
 
 fn tasks<'a>(alloc: Global) -> Result<Vec<Command<'a>>, AllocError> {
@@ -128,22 +149,32 @@ fn tasks<'a>(alloc: Global) -> Result<Vec<Command<'a>>, AllocError> {
         list(alloc)?,
         show(alloc)?,
         check(alloc)?,
+        lint(alloc)?,
     ]?;
     Ok(tasks)
 }
 
 fn command<'a>(alloc: Global) -> Result<Command<'a>, AllocError> {
     Command::new(alloc, "intake")
-        .version("0.1.0")
+        .version(VERSION)
         .about("Answers filers' requests, and registers each valid report once")
         .after_help(
-            "Exit status: 0 done; 1 not a register, a damaged one, or one that is there already;\n2 the command line; 3 memory, a file, the disk or the network failed; 4 no such filing",
+            "Exit status: 0 done; 1 not a register, a damaged one, one that is there already, or a report with findings;\n2 the command line; 3 memory, a file, the disk or the network failed; 4 no such filing",
         )
         .subcommands(tasks(alloc)?)
 }
 
 fn limit_of(values: &ArgMatches<'_>) -> u64 {
     values.get_one("limit").unwrap_or(DEFAULT_LIMIT)
+}
+
+fn lint_of<'a>(alloc: Global, values: &ArgMatches<'a>) -> Result<Option<Task<'a>>, AllocError> {
+    let (Some(filer), Some(names)) = (values.get_str("filer"), values.get_strs("FILE")) else {
+        return Ok(None);
+    };
+    let mut files = Vec::new(alloc);
+    files.extend_from_slice(names)?;
+    Ok(Some(Task::Lint { filer, files }))
 }
 
 fn task_of<'a>(name: &str, values: &ArgMatches<'a>) -> Option<Task<'a>> {
@@ -153,13 +184,14 @@ fn task_of<'a>(name: &str, values: &ArgMatches<'a>) -> Option<Task<'a>> {
     }
     let database = values.get_str("db")?;
     match name {
-        "serve" => Some(Task::Serve {
+        "serve" => Some(Task::Serve(Serving {
             database,
             port: values.get_one("port")?,
             connections: values.get_one("connections")?,
             limit,
             new: values.get_flag("new"),
-        }),
+            log: values.get_flag("log"),
+        })),
         "list" => Some(Task::List {
             database,
             filer: values.get_str("filer")?,
@@ -178,6 +210,7 @@ fn task_of<'a>(name: &str, values: &ArgMatches<'a>) -> Option<Task<'a>> {
 pub fn read<'a>(alloc: Global, words: &'a [String]) -> Result<Option<Task<'a>>, Error> {
     let matches = command(alloc)?.try_get_matches_from(words)?;
     Ok(match matches.subcommand() {
+        Some(("lint", values)) => lint_of(alloc, values)?,
         Some((name, values)) => task_of(name, values),
         None => Some(Task::Run {
             limit: DEFAULT_LIMIT,

@@ -1,12 +1,13 @@
 //! The register of a file: made, opened, closed.
 
-use crate::database::{Place, make_database, open_database};
+use crate::database::{Place, make_database, open_database, remove_new_log};
 use crate::intake::calls;
 use crate::intake::fault::Fault;
 use command_line::CommandFault;
-use register_store::Store;
+use register_store::{OpenFault, Store};
 use sqlite::FileStore;
 use sqlite_disk::Disk;
+use std::io::Write;
 
 /// Makes the tables of a register in the file.
 pub fn create<'a, D: Disk + Drop, P: Place<D>>(
@@ -24,26 +25,32 @@ pub fn create<'a, D: Disk + Drop, P: Place<D>>(
     }
 }
 
-/// Opens the register of the file.
+/// Opens the register of the file. Beside a file that is none of ours nothing is left.
 pub fn open<'a, D: Disk + Drop, P: Place<D>>(
     rt: &HostRuntime,
     place: &P,
     name: &'a str,
 ) -> Result<Store<FileStore<D>>, Fault<'a>> {
+    let had_log = place.has_log(rt, name);
     let conn = match open_database(rt, place, name) {
         Ok(conn) => conn,
         Err(fault) => return Err(CommandFault::Database { name, fault }.into()),
     };
     match calls::open(rt.alloc(), conn) {
         Ok(register) => Ok(register),
-        Err(fault) => Err(Fault::Open { name, fault }),
+        Err(fault) => {
+            if fault == OpenFault::NotOurs {
+                remove_new_log(rt, place, name, had_log);
+            }
+            Err(Fault::Open { name, fault })
+        }
     }
 }
 
-/// Closes the files, so that the database file alone is the register.
-pub fn close<D: Disk + Drop>(register: Store<FileStore<D>>, name: &str) -> Result<(), Fault<'_>> {
-    match calls::close(register) {
-        Ok(()) => Ok(()),
-        Err(fault) => Err(Fault::Store { name, fault }),
+/// Closes the files, so that the database file alone is the register. What was answered is kept whether or not that is done: where it
+/// is not, the log stays beside the file, and this is told.
+pub fn close<D: Disk + Drop, E: Write>(register: Store<FileStore<D>>, name: &str, errors: &mut E) {
+    if let Err(fault) = calls::close(register) {
+        Fault::NotClosed { name, fault }.tell(errors);
     }
 }

@@ -1,38 +1,26 @@
 //! Performs a task, and says how the program ends.
 
-ghost use Rattle.std.specs.Prelude.{◌≤◌, ◌^◌, IfOk};
-
 use crate::database::{Place, SystemFiles};
 use crate::intake::fault::Fault;
 use crate::intake::options::{DEFAULT_LIMIT, Task};
-use crate::intake::register::{close, create, open};
-use crate::intake::{calls, options};
+use crate::intake::register::{close, open};
+use crate::intake::serving::{limit_within, serve_file};
+use crate::intake::{calls, finding, options};
+use crate::report::report;
 use command_line::{CommandFault, DONE, show, show_refusal, words};
 use gateway_server::{Ended, fact_line};
 use http_wire::Device;
 use intake_core::{FilingRow, Intake, list_reply};
 use key_string::is_filer;
 use register_store::{OpenFault, Store};
-use sqlite::{Alter, FileStore};
+use sqlite::FileStore;
 use sqlite_disk::Disk;
 use std::alloc::{AllocError, Global};
-use std::io::{self, Read, Write};
-use std::net::{TcpListener, TcpStream};
-use xbrl_report::Fact;
+use std::io::{IsTerminal, Read, Write};
+use xbrl_report::{Fact, Finding};
 
-/// The greatest limit.
-const MOST_KEPT: u64 = 1 << 62;
-
-/// The limit, where it is no greater than the greatest.
-fn limit_within<'a>(limit: u64) -> Result<u64, Fault<'a>>
-    ensures { IfOk result (λ limit. limit ≤ 2 ^ 62) }
-{
-    if limit <= MOST_KEPT {
-        Ok(limit)
-    } else {
-        Err(Fault::Limit)
-    }
-}
+/// The status where something was found in a report.
+const FOUND: u8 = 1;
 
 /// Serves one connection on a register in memory, which begins empty.
 fn run<'a, R: Read, O: Write>(
@@ -48,80 +36,10 @@ fn run<'a, R: Read, O: Write>(
     };
     let mut reader = Device::new(input);
     let mut writer = Device::new(output);
-    match calls::serve(alloc, &mut reader, &mut writer, &mut intake) {
+    match calls::serve(alloc, &mut reader, &mut writer, &mut intake).ended {
         Ended::Closed | Ended::InputEnded => Ok(()),
         Ended::Fault(fault) => Err(Fault::Connection(fault)),
     }
-}
-
-/// Serves one connection of the port, and says how it ended.
-fn serve_stream<S: Alter>(alloc: Global, stream: &TcpStream, intake: &mut Intake<S>) -> Ended {
-    // Replies are written whole, and without this each may wait for the peer to tell of the one before.
-    let _ = stream.set_nodelay(true);
-    let mut reader = Device::new(stream);
-    let mut writer = Device::new(stream);
-    calls::serve(alloc, &mut reader, &mut writer, intake)
-}
-
-/// Serves so many connections, one after the other. One that ends in a fault, or that its peer gave up
-/// before, counts as served.
-fn serve_connections<S: Alter, E: Write>(
-    alloc: Global,
-    listener: &TcpListener,
-    connections: u32,
-    intake: &mut Intake<S>,
-    errors: &mut E,
-) -> io::Result<()> {
-    for served in 0..connections {
-        match listener.accept() {
-            Ok((stream, _)) => {
-                if let Ended::Fault(fault) = serve_stream(alloc, &stream, intake) {
-                    let connection = served + 1;
-                    Fault::Served { connection, fault }.tell(errors);
-                }
-            }
-            Err(error) if error.kind() == io::ErrorKind::ConnectionAborted => {}
-            Err(error) => return Err(error),
-        }
-    }
-    Ok(())
-}
-
-/// Listens on the port, and serves so many connections.
-fn serve_port<'a, S: Alter, E: Write>(
-    rt: &HostRuntime,
-    port: u16,
-    connections: u32,
-    intake: &mut Intake<S>,
-    errors: &mut E,
-) -> Result<(), Fault<'a>> {
-    let served = match TcpListener::bind(rt, ("127.0.0.1", port)) {
-        Ok(listener) => serve_connections(rt.alloc(), &listener, connections, intake, errors),
-        Err(error) => Err(error),
-    };
-    match served {
-        Ok(()) => Ok(()),
-        Err(error) => Err(Fault::Network { port, error }),
-    }
-}
-
-/// Serves so many connections of the port on this register, and closes it.
-fn serve_register<'a, D: Disk + Drop, E: Write>(
-    rt: &HostRuntime,
-    name: &'a str,
-    register: Store<FileStore<D>>,
-    limit: u64,
-    port: u16,
-    connections: u32,
-    errors: &mut E,
-) -> Result<(), Fault<'a>>
-    requires { limit ≤ 2 ^ 62 }
-{
-    let mut intake = Intake::new(rt.alloc(), register, limit);
-    let served = serve_port(rt, port, connections, &mut intake, errors);
-    let closed = close(intake.into_store(), name);
-    served?;
-    closed
 }
 
 /// The content of the reply that lists these filings, as a line.
@@ -140,24 +58,32 @@ fn show_rows<'a, O: Write>(
     Ok(show(output, text.as_slice())?)
 }
 
+/// The filer's code, where it is one.
+fn filer<'a>(code: &str) -> Result<(), Fault<'a>> {
+    if is_filer(code) {
+        Ok(())
+    } else {
+        Err(CommandFault::Filer.into())
+    }
+}
+
 /// Prints the filings of a filer, as the reply to a GET lists them.
-fn list<'a, D: Disk + Drop, P: Place<D>, O: Write>(
+fn list<'a, D: Disk + Drop, P: Place<D>, O: Write, E: Write>(
     rt: &HostRuntime,
     place: &P,
     name: &'a str,
-    filer: &str,
+    code: &str,
     output: &mut O,
+    errors: &mut E,
 ) -> Result<(), Fault<'a>> {
-    if !is_filer(filer) {
-        return Err(CommandFault::Filer.into());
-    }
+    filer(code)?;
     let mut intake = Intake::new(rt.alloc(), open(rt, place, name)?, DEFAULT_LIMIT);
-    let rows = calls::list(&mut intake, filer);
-    close(intake.into_store(), name)?;
-    match rows {
+    let shown = match calls::list(&mut intake, code) {
         Ok(rows) => show_rows(rt.alloc(), rows.as_slice(), output),
         Err(fault) => Err(Fault::List { name, fault }),
-    }
+    };
+    close(intake.into_store(), name, errors);
+    shown
 }
 
 /// A line for each fact.
@@ -180,34 +106,22 @@ fn show_facts<'a, O: Write>(
 }
 
 /// Prints the facts of a filing.
-fn show_filing<'a, D: Disk + Drop, P: Place<D>, O: Write>(
+fn show_filing<'a, D: Disk + Drop, P: Place<D>, O: Write, E: Write>(
     rt: &HostRuntime,
     place: &P,
     name: &'a str,
     number: u64,
     output: &mut O,
+    errors: &mut E,
 ) -> Result<(), Fault<'a>> {
     let mut register = open(rt, place, name)?;
-    let facts = calls::facts(&mut register, number);
-    close(register, name)?;
-    match facts {
+    let shown = match calls::facts(&mut register, number) {
         Ok(Some(facts)) => show_facts(rt.alloc(), facts.as_slice(), output),
         Ok(None) => Err(Fault::NoFiling { name, number }),
         Err(fault) => Err(Fault::Store { name, fault }),
-    }
-}
-
-/// How many keys and filings the register has, once it is open and so sound.
-fn counts<'a, D: Disk + Drop>(
-    register: Store<FileStore<D>>,
-    name: &'a str,
-) -> Result<(u64, u64), Fault<'a>> {
-    let counts = calls::counts(&register);
-    close(register, name)?;
-    match counts {
-        Ok(counts) => Ok(counts),
-        Err(fault) => Err(Fault::Store { name, fault }),
-    }
+    };
+    close(register, name, errors);
+    shown
 }
 
 fn show_sound<'a, O: Write>(
@@ -229,71 +143,106 @@ fn show_verdict<'a, O: Write>(
     Ok(show(output, text.as_bytes())?)
 }
 
-/// Prints whether the register is sound. Where it is not, the text goes to the output too, and the
+/// Prints how many keys and filings a register has that is open, and so sound.
+fn check_open<'a, D: Disk + Drop, O: Write>(
+    alloc: Global,
+    register: &Store<FileStore<D>>,
+    name: &'a str,
+    output: &mut O,
+) -> Result<u8, Fault<'a>> {
+    match calls::counts(register) {
+        Ok((kept, filings)) => show_sound(alloc, kept, filings, output)?,
+        Err(fault) => return Err(Fault::Store { name, fault }),
+    }
+    Ok(DONE)
+}
+
+/// Prints whether the register is sound. Where it is not, what is wrong goes to the output, and file and cause to the errors; the
 /// status is that of the fault.
-fn check<'a, D: Disk + Drop, P: Place<D>, O: Write>(
+fn check<'a, D: Disk + Drop, P: Place<D>, O: Write, E: Write>(
     rt: &HostRuntime,
     place: &P,
     name: &'a str,
     output: &mut O,
+    errors: &mut E,
 ) -> Result<u8, Fault<'a>> {
     match open(rt, place, name) {
         Ok(register) => {
-            let (kept, filings) = counts(register, name)?;
-            show_sound(rt.alloc(), kept, filings, output)?;
-            Ok(DONE)
+            let checked = check_open(rt.alloc(), &register, name, output);
+            close(register, name, errors);
+            checked
         }
-        Err(fault) => match fault.verdict() {
-            Some(verdict) => {
+        Err(fault) => {
+            if let Some(verdict) = fault.verdict() {
                 show_verdict(rt.alloc(), verdict, output)?;
-                Ok(fault.status())
             }
-            None => Err(fault),
-        },
+            Err(fault)
+        }
     }
 }
 
-/// Serves connections of a port on the register of a file.
-fn serve_file<'a, D: Disk + Drop, P: Place<D>, E: Write>(
+/// A line for each finding of the report in the file of this name.
+fn finding_lines(alloc: Global, name: &str, findings: &[Finding]) -> Result<String, AllocError> {
+    let mut text = String::new(alloc);
+    for finding in findings {
+        text.push_str(finding::line(alloc, name, finding)?.as_str())?;
+    }
+    Ok(text)
+}
+
+/// Prints a line for each finding of a report. Whether there is one.
+fn lint_file<'a, O: Write>(
     rt: &HostRuntime,
-    place: &P,
+    code: &str,
     name: &'a str,
-    port: u16,
-    connections: u32,
-    limit: u64,
-    new: bool,
-    errors: &mut E,
-) -> Result<(), Fault<'a>> {
-    let limit = limit_within(limit)?;
-    let register = if new {
-        create(rt, place, name)?
-    } else {
-        open(rt, place, name)?
-    };
-    serve_register(rt, name, register, limit, port, connections, errors)
+    output: &mut O,
+) -> Result<bool, Fault<'a>> {
+    let body = report(rt, name)?;
+    match calls::findings(rt.alloc(), code, body.as_slice())? {
+        Some(findings) => {
+            let text = finding_lines(rt.alloc(), name, findings.list())?;
+            show(output, text.as_bytes())?;
+            Ok(true)
+        }
+        None => Ok(false),
+    }
+}
+
+/// Prints a line for each finding of these reports. The status says whether there is one.
+fn lint<'a, O: Write>(
+    rt: &HostRuntime,
+    code: &str,
+    names: &[&'a str],
+    output: &mut O,
+) -> Result<u8, Fault<'a>> {
+    filer(code)?;
+    let mut status = DONE;
+    for &name in names {
+        if lint_file(rt, code, name, output)? {
+            status = FOUND;
+        }
+    }
+    Ok(status)
 }
 
 /// Performs a task, and answers the status.
 fn perform_task<'a, D: Disk + Drop, P: Place<D>, R: Read, O: Write, E: Write>(
     rt: &HostRuntime,
     place: &P,
-    task: Task<'a>,
+    task: &Task<'a>,
     input: &mut R,
     output: &mut O,
     errors: &mut E,
 ) -> Result<u8, Fault<'a>> {
     match task {
-        Task::Run { limit } => run(rt.alloc(), limit, input, output)?,
-        Task::Serve {
-            database,
-            port,
-            connections,
-            limit,
-            new,
-        } => serve_file(rt, place, database, port, connections, limit, new, errors)?,
-        Task::List { database, filer } => list(rt, place, database, filer, output)?,
-        Task::Show { database, number } => show_filing(rt, place, database, number, output)?,
-        Task::Check { database } => return check(rt, place, database, output),
+        Task::Run { limit } => run(rt.alloc(), *limit, input, output)?,
+        Task::Serve(serving) => serve_file(rt, place, *serving, output, errors)?,
+        Task::List { database, filer } => list(rt, place, database, filer, output, errors)?,
+        Task::Show { database, number } => {
+            show_filing(rt, place, database, *number, output, errors)?
+        }
+        Task::Check { database } => return check(rt, place, database, output, errors),
+        Task::Lint { filer, files } => return lint(rt, filer, files, output),
     }
     Ok(DONE)
 }
@@ -317,7 +266,7 @@ pub fn perform<D: Disk + Drop, P: Place<D>, R: Read, O: Write, E: Write>(
     errors: &mut E,
 ) -> u8 {
     let done = match options::read(rt.alloc(), words) {
-        Ok(Some(task)) => perform_task(rt, place, task, input, output, errors),
+        Ok(Some(task)) => perform_task(rt, place, &task, input, output, errors),
         Ok(None) => Err(CommandFault::NoTask.into()),
         Err(error) => refuse(&error, output, errors),
     };
@@ -327,17 +276,31 @@ pub fn perform<D: Disk + Drop, P: Place<D>, R: Read, O: Write, E: Write>(
     }
 }
 
+/// Says what is waited for, where no word was given and the input is a terminal.
+fn tell_terminal(rt: &HostRuntime, words: &[String]) {
+    if words.len() <= 1 && rt.stdin().is_terminal() {
+        // Nothing is left to be done where this text can't be written.
+        let _ = writeln!(
+            rt.stderr(),
+            "intake: reading HTTP requests from this terminal, for a register in memory; Ctrl-D ends it, and intake --help says what else there is"
+        );
+    }
+}
+
 /// The program: performs the words that it was started with, over the standard streams, and answers the status.
 pub fn main(rt: &HostRuntime) -> u8 {
     match words(rt) {
-        Ok(words) => perform(
-            rt,
-            &SystemFiles,
-            words.as_slice(),
-            &mut rt.reader(),
-            &mut rt.stdout(),
-            &mut rt.stderr(),
-        ),
+        Ok(words) => {
+            tell_terminal(rt, words.as_slice());
+            perform(
+                rt,
+                &SystemFiles,
+                words.as_slice(),
+                &mut rt.reader(),
+                &mut rt.stdout(),
+                &mut rt.stderr(),
+            )
+        }
         Err(fault) => Fault::Command(fault).tell(&mut rt.stderr()),
     }
 }

@@ -1,9 +1,10 @@
 //! Why a task is not done, in words and as a status.
 
-use command_line::{CommandFault, ReadFault};
+use crate::report::ReportFault;
+use command_line::CommandFault;
 use filer_client::ExchangeFault;
 use key_string::KeyFault;
-use outbox_core::{OutboxFault, PutFault, StoreFault};
+use outbox_core::{OutboxFault, PutFault, StoreFault, TakeFault};
 use std::alloc::AllocError;
 use std::io;
 use std::io::Write;
@@ -16,20 +17,22 @@ pub enum Fault<'a> {
     Command(CommandFault<'a>),
     #[error("--key: {0}")]
     Key(KeyFault),
-    #[error("{name}: {error}")]
-    Open { name: &'a str, error: io::Error },
-    #[error("{name}: {fault}")]
-    Read { name: &'a str, fault: ReadFault },
-    #[error("{name}: the report has more than 1048576 bytes")]
-    TooLarge { name: &'a str },
+    #[error("{0}")]
+    Report(ReportFault<'a>),
     #[error("{name}: {fault}")]
     Outbox { name: &'a str, fault: OutboxFault },
     #[error("{name}: {fault}")]
     Put { name: &'a str, fault: PutFault },
     #[error("{name}: {fault}")]
     Store { name: &'a str, fault: StoreFault },
+    #[error("{name}: {fault} when it was closed; what was told stays, in the log beside it")]
+    NotClosed { name: &'a str, fault: StoreFault },
+    #[error("{name}: entry {id} was put in, but the output cannot be written")]
+    NotTold { name: &'a str, id: u64 },
     #[error("{name}: there is no entry {id}")]
     NoEntry { name: &'a str, id: u64 },
+    #[error("{name}: {fault}")]
+    Take { name: &'a str, fault: TakeFault },
     #[error("127.0.0.1:{port}: {error}")]
     Connect { port: u16, error: io::Error },
     #[error("127.0.0.1:{port}: {fault}")]
@@ -41,6 +44,12 @@ pub enum Fault<'a> {
 impl<'a> From<CommandFault<'a>> for Fault<'a> {
     fn from(fault: CommandFault<'a>) -> Self {
         Fault::Command(fault)
+    }
+}
+
+impl<'a> From<ReportFault<'a>> for Fault<'a> {
+    fn from(fault: ReportFault<'a>) -> Self {
+        Fault::Report(fault)
     }
 }
 
@@ -57,12 +66,13 @@ impl Fault<'_> {
     pub fn status(&self) -> u8 {
         match self {
             Fault::Command(fault) => fault.status(),
+            Fault::Report(fault) => fault.status(),
             Fault::Outbox {
                 fault: OutboxFault::Taken | OutboxFault::NotOurs | OutboxFault::Damaged { .. },
                 ..
             } => 1,
             Fault::Key(KeyFault::Memory) => 3,
-            Fault::Key(_) | Fault::TooLarge { .. } => 2,
+            Fault::Key(_) => 2,
             Fault::Outbox {
                 fault: OutboxFault::BadFiler,
                 ..

@@ -1,12 +1,13 @@
 //! The outbox of a file: made, opened, closed.
 
-use crate::database::{Place, make_database, open_database};
+use crate::database::{Place, make_database, open_database, remove_new_log};
 use crate::outbox::calls;
 use crate::outbox::fault::Fault;
 use command_line::CommandFault;
-use outbox_core::Outbox;
+use outbox_core::{Outbox, OutboxFault};
 use sqlite::FileStore;
 use sqlite_disk::Disk;
+use std::io::Write;
 
 /// Makes the tables of an outbox of this filer in the file.
 pub fn create<'a, D: Disk + Drop, P: Place<D>>(
@@ -25,26 +26,32 @@ pub fn create<'a, D: Disk + Drop, P: Place<D>>(
     }
 }
 
-/// Opens the outbox of the file.
+/// Opens the outbox of the file. Beside a file that is none of ours nothing is left.
 pub fn open<'a, D: Disk + Drop, P: Place<D>>(
     rt: &HostRuntime,
     place: &P,
     name: &'a str,
 ) -> Result<Outbox<FileStore<D>>, Fault<'a>> {
+    let had_log = place.has_log(rt, name);
     let conn = match open_database(rt, place, name) {
         Ok(conn) => conn,
         Err(fault) => return Err(CommandFault::Database { name, fault }.into()),
     };
     match calls::open(rt.alloc(), conn) {
         Ok(outbox) => Ok(outbox),
-        Err(fault) => Err(Fault::Outbox { name, fault }),
+        Err(fault) => {
+            if fault == OutboxFault::NotOurs {
+                remove_new_log(rt, place, name, had_log);
+            }
+            Err(Fault::Outbox { name, fault })
+        }
     }
 }
 
-/// Closes the files, so that the database file alone is the outbox.
-pub fn close<D: Disk + Drop>(outbox: Outbox<FileStore<D>>, name: &str) -> Result<(), Fault<'_>> {
-    match calls::close(outbox) {
-        Ok(()) => Ok(()),
-        Err(fault) => Err(Fault::Store { name, fault }),
+/// Closes the files, so that the database file alone is the outbox. What was told stays whether or not that is done: where it is not, the
+/// log stays beside the file, and this is told.
+pub fn close<D: Disk + Drop, E: Write>(outbox: Outbox<FileStore<D>>, name: &str, errors: &mut E) {
+    if let Err(fault) = calls::close(outbox) {
+        Fault::NotClosed { name, fault }.tell(errors);
     }
 }

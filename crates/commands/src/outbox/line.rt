@@ -10,14 +10,40 @@ pub struct EntryLine {
     pub state: State,
 }
 
+fn write_state<W: fmt::Write>(id: u64, state: State, f: &mut fmt::Formatter<W>) -> fmt::Result {
+    match state {
+        State::Open => write!(f, "entry {id} open"),
+        State::Confirmed(number) => write!(f, "entry {id} confirmed {number}"),
+        State::Refused => write!(f, "entry {id} refused"),
+        State::Clashed => write!(f, "entry {id} clashed"),
+    }
+}
+
 impl fmt::Display for EntryLine {
     fn fmt<W: fmt::Write>(&self, f: &mut fmt::Formatter<W>) -> fmt::Result {
-        let id = self.id;
-        match self.state {
-            State::Open => writeln!(f, "entry {id} open"),
-            State::Confirmed(number) => writeln!(f, "entry {id} confirmed {number}"),
-            State::Refused => writeln!(f, "entry {id} refused"),
-            State::Clashed => writeln!(f, "entry {id} clashed"),
-        }
+        write_state(self.id, self.state, f)?;
+        f.write_str("\n")
+    }
+}
+
+/// The line of an entry with its body's length and its key, which stands last since it may have spaces.
+#[derive(Clone, Copy)]
+pub struct LongLine<'a> {
+    pub id: u64,
+    pub state: State,
+    pub bytes: usize,
+    pub key: &'a str,
+}
+
+impl fmt::Display for LongLine<'_> {
+    fn fmt<W: fmt::Write>(&self, f: &mut fmt::Formatter<W>) -> fmt::Result {
+        let LongLine {
+            id,
+            state,
+            bytes,
+            key,
+        } = self;
+        write_state(*id, *state, f)?;
+        writeln!(f, ", {bytes} bytes, key {key}")
     }
 }

@@ -1,7 +1,7 @@
 //! The tasks of `outbox` and their values, as `clap` reads them.
 
-use clap::{Arg, ArgMatches, Command, Error, value_parser};
-use command_line::{database_option, filer_option, option, port_option};
+use clap::{Arg, ArgAction, ArgMatches, Command, Error, value_parser};
+use command_line::{VERSION, database_option, filer_option, option, port_option};
 use std::alloc::{AllocError, Global};
 
 /// What the command line asks for.
@@ -18,16 +18,32 @@ pub enum Task<'a> {
         body: &'a str,
         key: Option<&'a str>,
     },
-    /// Send this entry, or the next open one.
+    /// Send an entry, or all that are open.
     Send {
         database: &'a str,
         port: u16,
-        entry: Option<u64>,
+        which: Which,
     },
     /// Show the state of each entry.
     Status {
         database: &'a str,
     },
+    /// Show the state, the length and the key of this entry, or of each.
+    Show {
+        database: &'a str,
+        entry: Option<u64>,
+    },
+}
+
+/// Which entries are sent.
+#[derive(Clone, Copy)]
+pub enum Which {
+    /// The open entry with the least id.
+    Next,
+    /// This entry.
+    Entry(u64),
+    /// Each open entry.
+    All,
 }
 
 fn database<'a>(alloc: Global) -> Arg<'a> {
@@ -38,6 +54,7 @@ fn init<'a>(alloc: Global) -> Result<Command<'a>, AllocError> {
     let options = vec![in alloc; database(alloc), filer_option(alloc)]?;
     Command::new(alloc, "init")
         .about("Makes an outbox without entries; the file is made where it is missing")
+        .after_help("Example: outbox init --db outbox.db --filer ACME")
         .args(options)
 }
 
@@ -64,6 +81,7 @@ fn put<'a>(alloc: Global) -> Result<Command<'a>, AllocError> {
     let options = vec![in alloc; database(alloc), body(alloc), key(alloc)]?;
     Command::new(alloc, "put")
         .about("Puts a report in as an open entry, and prints the entry's id")
+        .after_help("Example: outbox put --db outbox.db --body report.json")
         .args(options)
 }
 
@@ -74,44 +92,84 @@ fn port<'a>(alloc: Global) -> Arg<'a> {
     )
 }
 
-fn entry<'a>(alloc: Global) -> Arg<'a> {
-    option(
-        alloc,
-        "entry",
-        "ID",
-        "The entry's id [default: the open entry with the least id]",
-    )
-    .required(false)
-    .value_parser(value_parser!(u64).range(0..=i64::MAX))
+fn entry<'a>(alloc: Global, help: &'a str) -> Arg<'a> {
+    option(alloc, "entry", "ID", help)
+        .required(false)
+        .value_parser(value_parser!(u64).range(0..=i64::MAX))
+}
+
+fn all<'a>(alloc: Global) -> Result<Arg<'a>, AllocError> {
+    Arg::new(alloc, "all")
+        .long("all")
+        .help("Sends each open entry once, by id, up to the first fault of the network")
+        .action(ArgAction::SetTrue)
+        .conflicts_with("entry")
 }
 
 fn send<'a>(alloc: Global) -> Result<Command<'a>, AllocError> {
-    let options = vec![in alloc; database(alloc), port(alloc), entry(alloc)]?;
+    let options = vec![in alloc;
+        database(alloc),
+        port(alloc),
+        entry(
+            alloc,
+            "The entry's id [default: the open entry with the least id]"
+        ),
+        all(alloc)?,
+    ]?;
     Command::new(alloc, "send")
         .about("Sends an open entry once, and prints its state after the reply")
+        .after_help("Example: outbox send --db outbox.db --port 8080 --all")
         .args(options)
 }
 
 fn status<'a>(alloc: Global) -> Result<Command<'a>, AllocError> {
     Command::new(alloc, "status")
         .about("Prints a line for each entry: open, confirmed with its number, refused or clashed")
+        .after_help("Example: outbox status --db outbox.db")
         .arg(database(alloc))
 }
 
+fn show<'a>(alloc: Global) -> Result<Command<'a>, AllocError> {
+    let options = vec![in alloc;
+        database(alloc),
+        entry(alloc, "The entry's id [default: each entry]"),
+    ]?;
+    Command::new(alloc, "show")
+        .about(
+            "Prints a line for each entry, or for one: its state, the length of its report, and its key",
+        )
+        .after_help("Example: outbox show --db outbox.db --entry 1")
+        .args(options)
+}
+
 fn tasks<'a>(alloc: Global) -> Result<Vec<Command<'a>>, AllocError> {
-    let tasks = vec![in alloc; init(alloc)?, put(alloc)?, send(alloc)?, status(alloc)?]?;
+    let tasks = vec![in alloc;
+        init(alloc)?,
+        put(alloc)?,
+        send(alloc)?,
+        status(alloc)?,
+        show(alloc)?,
+    ]?;
     Ok(tasks)
 }
 
 fn command<'a>(alloc: Global) -> Result<Command<'a>, AllocError> {
     Command::new(alloc, "outbox")
-        .version("0.1.0")
+        .version(VERSION)
         .about("Keeps the reports that a filer is to send, and sends them")
         .after_help(
             "Exit status: 0 done; 1 not an outbox, a damaged one, or one that is there already;\n2 the command line, a key that is used or a report that is too large;\n3 memory, a file, the disk or the network failed; 4 no such entry",
         )
         .subcommand_required(true)
         .subcommands(tasks(alloc)?)
+}
+
+fn which_of(values: &ArgMatches<'_>) -> Which {
+    match values.get_one("entry") {
+        Some(id) => Which::Entry(id),
+        None if values.get_flag("all") => Which::All,
+        None => Which::Next,
+    }
 }
 
 fn task_of<'a>(name: &str, values: &ArgMatches<'a>) -> Option<Task<'a>> {
@@ -129,9 +187,13 @@ fn task_of<'a>(name: &str, values: &ArgMatches<'a>) -> Option<Task<'a>> {
         "send" => Some(Task::Send {
             database,
             port: values.get_one("port")?,
-            entry: values.get_one("entry"),
+            which: which_of(values),
         }),
         "status" => Some(Task::Status { database }),
+        "show" => Some(Task::Show {
+            database,
+            entry: values.get_one("entry"),
+        }),
         _ => None,
     }
 }

@@ -3,20 +3,22 @@
 use crate::database::{Place, SystemFiles};
 use crate::outbox::fault::Fault;
 use crate::outbox::files::{close, create, open};
-use crate::outbox::line::EntryLine;
-use crate::outbox::options::Task;
+use crate::outbox::line::{EntryLine, LongLine};
+use crate::outbox::options::{Task, Which};
 use crate::outbox::{calls, options};
-use command_line::{CommandFault, DONE, read_up_to, show, show_refusal, words};
-use http_wire::{Device, MAX_BODY_LEN};
+use crate::report::report;
+use command_line::{CommandFault, DONE, show, show_refusal, words};
+use filer_client::ExchangeFault;
+use http_wire::Device;
 use key_string::{KeyText, is_filer};
 use outbox_core::{Entry, Outbox, State, key_of};
 use rand::make_rng;
 use rand::rngs::StdRng;
 use sqlite::Alter;
 use sqlite_disk::Disk;
+use std::alloc::{AllocError, Global};
 use std::io::{self, Write};
 use std::net::TcpStream;
-use std::{fmt, fs};
 use uuid::Uuid;
 
 fn show_entry<'a, O: Write>(
@@ -29,16 +31,18 @@ fn show_entry<'a, O: Write>(
     Ok(show(output, text.as_bytes())?)
 }
 
-fn init<'a, D: Disk + Drop, P: Place<D>>(
+fn init<'a, D: Disk + Drop, P: Place<D>, E: Write>(
     rt: &HostRuntime,
     place: &P,
     name: &'a str,
     filer: &str,
+    errors: &mut E,
 ) -> Result<(), Fault<'a>> {
     if !is_filer(filer) {
         return Err(CommandFault::Filer.into());
     }
-    close(create(rt, place, name, filer)?, name)
+    close(create(rt, place, name, filer)?, name, errors);
+    Ok(())
 }
 
 /// A version 4 UUID from the system's random bytes.
@@ -60,67 +64,91 @@ fn key<'a>(rt: &HostRuntime, text: Option<&str>) -> Result<KeyText, Fault<'a>> {
     }
 }
 
-fn open_body<'a>(rt: &HostRuntime, name: &'a str) -> Result<fs::File, Fault<'a>> {
-    match fs::File::open(rt, name) {
-        Ok(file) => Ok(file),
-        Err(error) => Err(Fault::Open { name, error }),
-    }
-}
-
-/// The bytes of a report's file.
-fn body<'a>(rt: &HostRuntime, name: &'a str) -> Result<Vec<u8>, Fault<'a>> {
-    let mut file = Device::new(open_body(rt, name)?);
-    match read_up_to(rt.alloc(), &mut file, MAX_BODY_LEN + 1) {
-        Ok(body) if body.len() > MAX_BODY_LEN => Err(Fault::TooLarge { name }),
-        Ok(body) => Ok(body),
-        Err(fault) => Err(Fault::Read { name, fault }),
-    }
-}
-
-fn show_id<'a, O: Write>(rt: &HostRuntime, id: u64, output: &mut O) -> Result<(), Fault<'a>> {
+/// Prints the id of an entry that was put in. Where the output takes nothing the fault names it, so that the report is not put in again.
+fn show_id<'a, O: Write>(
+    rt: &HostRuntime,
+    name: &'a str,
+    id: u64,
+    output: &mut O,
+) -> Result<(), Fault<'a>> {
     let text = format!(in rt.alloc(); "entry {id}\n")?;
-    Ok(show(output, text.as_bytes())?)
+    match show(output, text.as_bytes()) {
+        Ok(()) => Ok(()),
+        Err(_) => Err(Fault::NotTold { name, id }),
+    }
 }
 
-fn put<'a, D: Disk + Drop, P: Place<D>, O: Write>(
+/// Puts a report in, and tells its id before the files are closed: it stands from then on.
+fn put_report<'a, S: Alter + Drop, O: Write>(
+    rt: &HostRuntime,
+    outbox: &mut Outbox<S>,
+    name: &'a str,
+    key: KeyText,
+    body: Vec<u8>,
+    output: &mut O,
+) -> Result<(), Fault<'a>> {
+    match calls::put(outbox, key, body) {
+        Ok(id) => show_id(rt, name, id, output),
+        Err(fault) => Err(Fault::Put { name, fault }),
+    }
+}
+
+fn put<'a, D: Disk + Drop, P: Place<D>, O: Write, E: Write>(
     rt: &HostRuntime,
     place: &P,
     name: &'a str,
     body_name: &'a str,
     key_text: Option<&str>,
     output: &mut O,
+    errors: &mut E,
 ) -> Result<(), Fault<'a>> {
     let key = key(rt, key_text)?;
-    let body = body(rt, body_name)?;
+    let body = report(rt, body_name)?;
     let mut outbox = open(rt, place, name)?;
-    let id = calls::put(&mut outbox, key, body);
-    close(outbox, name)?;
-    match id {
-        Ok(id) => show_id(rt, id, output),
-        Err(fault) => Err(Fault::Put { name, fault }),
-    }
+    let done = put_report(rt, &mut outbox, name, key, body, output);
+    close(outbox, name, errors);
+    done
 }
 
-/// The entry of this id, or the next open one.
-fn find<'a, S: Alter + Drop>(
+/// The entry of this id.
+fn entry_of<'a, S: Alter + Drop>(
     outbox: &mut Outbox<S>,
     name: &'a str,
-    id: Option<u64>,
-) -> Result<Option<Entry>, Fault<'a>> {
-    let found = match id {
-        Some(id) => calls::entry(outbox, id),
-        None => calls::next_open(outbox),
-    };
-    match (found, id) {
-        (Ok(None), Some(id)) => Err(Fault::NoEntry { name, id }),
-        (Ok(entry), _) => Ok(entry),
-        (Err(fault), _) => Err(Fault::Store { name, fault }),
+    id: u64,
+) -> Result<Entry, Fault<'a>> {
+    match calls::entry(outbox, id) {
+        Ok(Some(entry)) => Ok(entry),
+        Ok(None) => Err(Fault::NoEntry { name, id }),
+        Err(fault) => Err(Fault::Store { name, fault }),
     }
 }
 
-/// One exchange over a connection of its own.
+/// The open entry with the least id.
+fn next_open<'a, S: Alter + Drop>(
+    outbox: &mut Outbox<S>,
+    name: &'a str,
+) -> Result<Option<Entry>, Fault<'a>> {
+    match calls::next_open(outbox) {
+        Ok(entry) => Ok(entry),
+        Err(fault) => Err(Fault::Store { name, fault }),
+    }
+}
+
+/// The id and the state of each entry.
+fn states_of<'a, S: Alter + Drop>(
+    outbox: &mut Outbox<S>,
+    name: &'a str,
+) -> Result<Vec<(u64, State)>, Fault<'a>> {
+    match calls::states(outbox) {
+        Ok(states) => Ok(states),
+        Err(fault) => Err(Fault::Store { name, fault }),
+    }
+}
+
+/// One exchange over a connection of its own. A fault names the address, or the outbox where that failed.
 fn exchange_on<'a, S: Alter + Drop>(
     rt: &HostRuntime,
+    name: &'a str,
     port: u16,
     outbox: &mut Outbox<S>,
     id: u64,
@@ -130,6 +158,7 @@ fn exchange_on<'a, S: Alter + Drop>(
     let mut writer = Device::new(&stream);
     match calls::exchange(rt.alloc(), &mut reader, &mut writer, outbox, id) {
         Ok(state) => Ok(state),
+        Err(ExchangeFault::Take(fault)) => Err(Fault::Take { name, fault }),
         Err(fault) => Err(Fault::Exchange { port, fault }),
     }
 }
@@ -148,22 +177,35 @@ fn try_connect(rt: &HostRuntime, port: u16) -> io::Result<TcpStream> {
 }
 
 /// Sends an entry that is open, and shows its state. After a fault it is open still.
-fn send_entry<'a, S: Alter + Drop, O: Write>(
+fn send_open<'a, S: Alter + Drop, O: Write>(
     rt: &HostRuntime,
+    name: &'a str,
     port: u16,
     outbox: &mut Outbox<S>,
-    entry: &Entry,
+    id: u64,
     output: &mut O,
 ) -> Result<(), Fault<'a>> {
-    if entry.state != State::Open {
-        return show_entry(rt, output, entry.id, entry.state);
-    }
-    match exchange_on(rt, port, outbox, entry.id) {
-        Ok(state) => show_entry(rt, output, entry.id, state),
+    match exchange_on(rt, name, port, outbox, id) {
+        Ok(state) => show_entry(rt, output, id, state),
         Err(fault) => {
-            show_entry(rt, output, entry.id, State::Open)?;
+            show_entry(rt, output, id, State::Open)?;
             Err(fault)
         }
+    }
+}
+
+/// Sends this entry, where it is open, and shows its state.
+fn send_entry<'a, S: Alter + Drop, O: Write>(
+    rt: &HostRuntime,
+    name: &'a str,
+    port: u16,
+    outbox: &mut Outbox<S>,
+    id: u64,
+    output: &mut O,
+) -> Result<(), Fault<'a>> {
+    match entry_of(outbox, name, id)?.state {
+        State::Open => send_open(rt, name, port, outbox, id, output),
+        state => show_entry(rt, output, id, state),
     }
 }
 
@@ -171,79 +213,165 @@ fn show_none<'a, O: Write>(output: &mut O) -> Result<(), Fault<'a>> {
     Ok(show(output, b"nothing open\n")?)
 }
 
-fn send<'a, D: Disk + Drop, P: Place<D>, O: Write>(
+/// Sends the open entry with the least id, and shows its state.
+fn send_next<'a, S: Alter + Drop, O: Write>(
+    rt: &HostRuntime,
+    name: &'a str,
+    port: u16,
+    outbox: &mut Outbox<S>,
+    output: &mut O,
+) -> Result<(), Fault<'a>> {
+    match next_open(outbox, name)? {
+        Some(entry) => send_open(rt, name, port, outbox, entry.id, output),
+        None => show_none(output),
+    }
+}
+
+/// Sends each open entry once, by id, and shows its state, up to the first fault.
+fn send_all<'a, S: Alter + Drop, O: Write>(
+    rt: &HostRuntime,
+    name: &'a str,
+    port: u16,
+    outbox: &mut Outbox<S>,
+    output: &mut O,
+) -> Result<(), Fault<'a>> {
+    let states = states_of(outbox, name)?;
+    let mut none = true;
+    for &(id, state) in &states {
+        if state == State::Open {
+            none = false;
+            send_open(rt, name, port, outbox, id, output)?;
+        }
+    }
+    if none { show_none(output) } else { Ok(()) }
+}
+
+fn send<'a, D: Disk + Drop, P: Place<D>, O: Write, E: Write>(
     rt: &HostRuntime,
     place: &P,
     name: &'a str,
     port: u16,
-    id: Option<u64>,
+    which: Which,
     output: &mut O,
+    errors: &mut E,
 ) -> Result<(), Fault<'a>> {
     let mut outbox = open(rt, place, name)?;
-    let sent = match find(&mut outbox, name, id) {
-        Ok(Some(entry)) => send_entry(rt, port, &mut outbox, &entry, output),
-        Ok(None) => show_none(output),
-        Err(fault) => Err(fault),
+    let sent = match which {
+        Which::Next => send_next(rt, name, port, &mut outbox, output),
+        Which::Entry(id) => send_entry(rt, name, port, &mut outbox, id, output),
+        Which::All => send_all(rt, name, port, &mut outbox, output),
     };
-    let closed = close(outbox, name);
-    sent?;
-    closed
+    close(outbox, name, errors);
+    sent
 }
 
-fn lines(rt: &HostRuntime, states: &[(u64, State)]) -> Result<String, fmt::Error> {
-    let mut text = String::new(rt.alloc());
+/// The lines of entries.
+fn lines(alloc: Global, states: &[(u64, State)]) -> Result<String, AllocError> {
+    let mut text = String::new(alloc);
     for &(id, state) in states {
-        fmt::Write::write_fmt(&mut text, format_args!("{}", EntryLine { id, state }))?;
+        text.push_str(format!(in alloc; "{}", EntryLine { id, state })?.as_str())?;
     }
     Ok(text)
 }
 
 fn show_states<'a, O: Write>(
-    rt: &HostRuntime,
+    alloc: Global,
     states: &[(u64, State)],
     output: &mut O,
 ) -> Result<(), Fault<'a>> {
-    match lines(rt, states) {
-        Ok(text) => Ok(show(output, text.as_bytes())?),
-        Err(_) => Err(CommandFault::Memory.into()),
-    }
+    let text = lines(alloc, states)?;
+    Ok(show(output, text.as_bytes())?)
 }
 
-fn status<'a, D: Disk + Drop, P: Place<D>, O: Write>(
+fn status<'a, D: Disk + Drop, P: Place<D>, O: Write, E: Write>(
     rt: &HostRuntime,
     place: &P,
     name: &'a str,
     output: &mut O,
+    errors: &mut E,
 ) -> Result<(), Fault<'a>> {
     let mut outbox = open(rt, place, name)?;
-    let states = calls::states(&mut outbox);
-    close(outbox, name)?;
-    match states {
-        Ok(states) => show_states(rt, states.as_slice(), output),
-        Err(fault) => Err(Fault::Store { name, fault }),
+    let shown = match states_of(&mut outbox, name) {
+        Ok(states) => show_states(rt.alloc(), states.as_slice(), output),
+        Err(fault) => Err(fault),
+    };
+    close(outbox, name, errors);
+    shown
+}
+
+/// Prints the line of an entry with its length and its key.
+fn show_long<'a, S: Alter + Drop, O: Write>(
+    alloc: Global,
+    name: &'a str,
+    outbox: &mut Outbox<S>,
+    id: u64,
+    output: &mut O,
+) -> Result<(), Fault<'a>> {
+    let entry = entry_of(outbox, name, id)?;
+    let line = LongLine {
+        id,
+        state: entry.state,
+        bytes: entry.body.len(),
+        key: entry.key.as_str(),
+    };
+    let text = format!(in alloc; "{line}")?;
+    Ok(show(output, text.as_bytes())?)
+}
+
+/// Prints such a line for each entry.
+fn show_each<'a, S: Alter + Drop, O: Write>(
+    alloc: Global,
+    name: &'a str,
+    outbox: &mut Outbox<S>,
+    output: &mut O,
+) -> Result<(), Fault<'a>> {
+    for &(id, _) in &states_of(outbox, name)? {
+        show_long(alloc, name, outbox, id, output)?;
     }
+    Ok(())
+}
+
+fn show_entries<'a, D: Disk + Drop, P: Place<D>, O: Write, E: Write>(
+    rt: &HostRuntime,
+    place: &P,
+    name: &'a str,
+    id: Option<u64>,
+    output: &mut O,
+    errors: &mut E,
+) -> Result<(), Fault<'a>> {
+    let mut outbox = open(rt, place, name)?;
+    let shown = match id {
+        Some(id) => show_long(rt.alloc(), name, &mut outbox, id, output),
+        None => show_each(rt.alloc(), name, &mut outbox, output),
+    };
+    close(outbox, name, errors);
+    shown
 }
 
 /// Performs a task, and answers the status.
-fn perform_task<'a, D: Disk + Drop, P: Place<D>, O: Write>(
+fn perform_task<'a, D: Disk + Drop, P: Place<D>, O: Write, E: Write>(
     rt: &HostRuntime,
     place: &P,
     task: Task<'a>,
     output: &mut O,
+    errors: &mut E,
 ) -> Result<u8, Fault<'a>> {
     match task {
-        Task::Init { database, filer } => init(rt, place, database, filer)?,
+        Task::Init { database, filer } => init(rt, place, database, filer, errors)?,
         Task::Put {
             database,
             body,
             key,
-        } => put(rt, place, database, body, key, output)?,
+        } => put(rt, place, database, body, key, output, errors)?,
         Task::Send {
             database,
             port,
-            entry,
-        } => send(rt, place, database, port, entry, output)?,
-        Task::Status { database } => status(rt, place, database, output)?,
+            which,
+        } => send(rt, place, database, port, which, output, errors)?,
+        Task::Status { database } => status(rt, place, database, output, errors)?,
+        Task::Show { database, entry } => {
+            show_entries(rt, place, database, entry, output, errors)?
+        }
     }
     Ok(DONE)
 }
@@ -266,7 +394,7 @@ pub fn perform<D: Disk + Drop, P: Place<D>, O: Write, E: Write>(
     errors: &mut E,
 ) -> u8 {
     let done = match options::read(rt.alloc(), words) {
-        Ok(Some(task)) => perform_task(rt, place, task, output),
+        Ok(Some(task)) => perform_task(rt, place, task, output, errors),
         Ok(None) => Err(CommandFault::NoTask.into()),
         Err(error) => refuse(&error, output, errors),
     };

@@ -1,0 +1,54 @@
+//! What is told while a register is served.
+
+use std::fmt;
+use std::io::Write;
+
+/// What is told of a register that is served, each as a line.
+#[derive(Clone, Copy)]
+pub enum Note {
+    /// Connections are taken.
+    Ready {
+        port: u16,
+        kept: u64,
+        filings: u64,
+        /// How long the opening took.
+        milliseconds: u128,
+    },
+    /// The database refused a call.
+    Down,
+    /// It was opened again.
+    OpenAgain,
+    /// So many connections were served, which are all.
+    Served {
+        connections: u32,
+    },
+}
+
+impl fmt::Display for Note {
+    fn fmt<W: fmt::Write>(&self, f: &mut fmt::Formatter<W>) -> fmt::Result {
+        match self {
+            Note::Ready {
+                port,
+                kept,
+                filings,
+                milliseconds,
+            } => write!(
+                f,
+                "serving 127.0.0.1:{port}: {kept} kept, {filings} filings, opened in {milliseconds} ms"
+            ),
+            Note::Down => f.write_str(
+                "the database failed: what was answered is kept, it is opened again before the next connection, and until that is done a request gets 503",
+            ),
+            Note::OpenAgain => f.write_str("the database is open again"),
+            Note::Served { connections } => write!(f, "ended after {connections} connections"),
+        }
+    }
+}
+
+impl Note {
+    /// Writes the text as a line.
+    pub fn tell<E: Write>(&self, errors: &mut E) {
+        // Nothing is left to be done where this text can't be written.
+        let _ = writeln!(errors, "intake: {self}");
+    }
+}

@@ -1,0 +1,243 @@
+#!/usr/bin/env python3
+"""Refuses each allocation of the built programs in turn: each command is run once to count them, and then once for each, with that one
+refused. It has to do what it does otherwise, or to say that memory failed; what it did not say must not have happened, and the same
+command afterwards, with nothing refused, has to give what it gives otherwise. Status 1 where that is not so.
+
+    tools/refuse_programs.py [WORD]      all trials, or those whose names have the word
+
+It takes the programs that `rt run` builds, as crates/intake/out/intake.
+"""
+import pathlib
+import re
+import shutil
+import socket
+import subprocess
+import sys
+import tempfile
+
+from allocations import count, library, run
+
+ROOT = pathlib.Path(__file__).resolve().parent.parent
+INTAKE, OUTBOX, DRILL = (ROOT / "crates" / name / "out" / name for name in ("intake", "outbox", "drill"))
+EXAMPLE = (ROOT / "crates/intake/stdin").read_bytes()
+REPORT = EXAMPLE[-393:]
+UNAVAILABLE = b'{"status":"unavailable"}'
+failures = []
+
+
+def tell(what, fault=None):
+    """Says that something was tried, and what was wrong with it."""
+    print(f"{'failed' if fault else 'ok'}: {what}" + (f": {fault}" if fault else ""))
+    if fault:
+        failures.append(what)
+
+
+def each(what, counts, words, judge, given=b"", before=None):
+    """Runs the command with each allocation refused. `before` makes what it is run on; `judge` is given the run and says what is wrong."""
+    if before:
+        before()
+    whole = run(words, counts, 0, given)
+    allocations = count(whole)
+    if allocations is None:
+        return tell(what, f"status {whole.returncode}, {whole.stderr!r}")
+    wrong = [judge(whole)] if judge(whole) else []
+    for at in range(1, allocations + 1):
+        if before:
+            before()
+        fault = judge(run(words, counts, at, given))
+        if fault:
+            wrong.append(f"allocation {at}: {fault}")
+    return tell(f"{what}: {allocations} allocations, each refused in turn", f"{len(wrong)} runs, the first: {wrong[0]}" if wrong else None)
+
+
+def contents(replies):
+    """Status and content of each whole reply."""
+    found = []
+    while match := re.match(rb"HTTP/1.1 (\d+) [^\r]*\r\n(?:[^\r]+\r\n)*?Content-Length: (\d+)\r\n(?:[^\r]+\r\n)*\r\n", replies):
+        end = match.end() + int(match[2])
+        if end > len(replies):
+            break
+        found.append((int(match[1]), replies[match.end() : end]))
+        replies = replies[end:]
+    return found, replies
+
+
+# ---- a connection
+
+
+def judge_connection(ran):
+    """The example, a refused report, the example again, another body under its key, and the list: each may get 503, and is not kept then."""
+    if ran.returncode not in (0, 3):
+        return f"status {ran.returncode}"
+    found, rest = contents(ran.stdout)
+    if rest:
+        return f"a part of a reply: {rest!r}"
+    if ran.returncode == 0 and len(found) != 5:
+        return f"{len(found)} replies"
+    kept = {}
+    for at, (status, content) in enumerate(found):
+        if (status, content) == (503, UNAVAILABLE):
+            continue
+        wanted = expected(at, kept)
+        if (status, content) != wanted:
+            return f"reply {at + 1} is {status} {content!r} in place of {wanted}"
+    return None
+
+
+def expected(at, kept):
+    """The reply that the protocol gives to the request of this place, after those that were answered."""
+    registered, refused = b'{"number":1,"status":"registered"}', b'{"findings":[{"code":"not-json","place":""}],"status":"refused"}'
+    if at in (0, 2):
+        if kept.get("k-1", REPORT) != REPORT:
+            return 422, b'{"status":"key-reused"}'
+        kept["k-1"] = REPORT
+        return 201, registered
+    if at == 1:
+        kept["k-2"] = b""
+        return 400, refused
+    if at == 3:
+        if "k-1" in kept:
+            return 422, b'{"status":"key-reused"}'
+        kept["k-1"] = b""
+        return 400, refused
+    filings = b'{"facts":1,"number":1}' if kept.get("k-1") == REPORT else b""
+    return 200, b'{"filings":[' + filings + b"]}"
+
+
+def request(key, body):
+    return b'POST /filings/ACME HTTP/1.1\r\nHost: h\r\nIdempotency-Key: "%s"\r\nContent-Length: %d\r\n\r\n%s' % (key, len(body), body)
+
+
+def try_connection(counts, _):
+    posts = request(b"k-1", REPORT) + request(b"k-2", b"") + request(b"k-1", REPORT) + request(b"k-1", b"")
+    each("intake: five requests", counts, [INTAKE], judge_connection, posts + b"GET /filings/ACME HTTP/1.1\r\nHost: h\r\n\r\n")
+
+
+# ---- scripts
+
+
+def try_script(counts, _):
+    script, wanted = (ROOT / "crates/drill/stdin").read_bytes(), (ROOT / "crates/drill/stdout").read_bytes()
+
+    def judge(ran):
+        if (ran.returncode, ran.stdout) == (0, wanted):
+            return None
+        return None if ran.returncode == 3 and not ran.stdout and ran.stderr else f"status {ran.returncode}, {ran.stdout!r}, {ran.stderr!r}"
+
+    each("drill: the worked script", counts, [DRILL], judge, script)
+
+
+# ---- commands over files
+
+
+def words_of(program, *words):
+    return [program, *map(str, words)]
+
+
+def restore(saved, folder):
+    """Makes the folder what it was when it was saved."""
+
+    def before():
+        shutil.rmtree(folder)
+        shutil.copytree(saved, folder)
+
+    return before
+
+
+def try_command(counts, folder, what, words, then, judge_then):
+    """A command on a copy of what is in the folder, and then another one, with nothing refused, which says what stands."""
+    saved = folder.parent / "saved"
+    shutil.copytree(folder, saved)
+    good = subprocess.run(words, capture_output=True, check=False)
+
+    def judge(ran):
+        stands = subprocess.run(then, capture_output=True, check=False)
+        if ran.returncode == good.returncode and ran.stdout == good.stdout:
+            return judge_then(True, stands)
+        if ran.returncode != 3 or not ran.stderr:
+            return f"status {ran.returncode}, {ran.stdout!r}, {ran.stderr!r}"
+        return judge_then(False, stands)
+
+    each(what, counts, words, judge, before=restore(saved, folder))
+    restore(saved, folder)()
+    shutil.rmtree(saved)
+
+
+def stands_as(*wanted):
+    """What stands: after success the last of these outputs, and otherwise any of them."""
+
+    def judge(is_done, stands):
+        allowed = wanted[-1:] if is_done else wanted
+        return None if stands.stdout in allowed else f"then {stands.returncode}, {stands.stdout!r}, {stands.stderr!r}"
+
+    return judge
+
+
+def try_outbox(counts, folder):
+    database, report = folder / "outbox.db", folder / "report.json"
+    report.write_bytes(REPORT)
+    status, put = words_of(OUTBOX, "status", "--db", database), words_of(OUTBOX, "put", "--db", database, "--body", report, "--key", "k-1")
+    init = words_of(OUTBOX, "init", "--db", database, "--filer", "ACME")
+
+    def judge_init(is_done, stands):
+        if stands.returncode == 0 and not stands.stdout:
+            return None
+        again = subprocess.run(init, capture_output=True, check=False)
+        return f"then {stands.returncode} and {again.returncode}" if is_done or again.returncode else None
+
+    try_command(counts, folder, "outbox init", init, status, judge_init)
+    subprocess.run(init, check=True)
+    try_command(counts, folder, "outbox put", put, status, stands_as(b"", b"entry 1 open\n"))
+    subprocess.run(put, check=True, stdout=subprocess.DEVNULL)
+    try_command(counts, folder, "outbox status", status, status, stands_as(b"entry 1 open\n"))
+    try_command(counts, folder, "outbox show", words_of(OUTBOX, "show", "--db", database), status, stands_as(b"entry 1 open\n"))
+
+
+def make_register(folder):
+    """A register with the example."""
+    database = folder / "register.db"
+    with socket.socket() as it:
+        it.bind(("127.0.0.1", 0))
+        port = it.getsockname()[1]
+    words = words_of(INTAKE, "serve", "--db", database, "--port", port, "--connections", 1, "--new")
+    with subprocess.Popen(words, stderr=subprocess.PIPE) as process:
+        process.stderr.readline()
+        with socket.create_connection(("127.0.0.1", port)) as peer:
+            peer.sendall(EXAMPLE)
+            peer.shutdown(socket.SHUT_WR)
+            while peer.recv(4096):
+                pass
+        process.communicate()
+    return database
+
+
+def try_register(counts, folder):
+    database = make_register(folder)
+    check = words_of(INTAKE, "check", "--db", database)
+    sound = stands_as(b"sound: 1 kept, 1 filings\n")
+    try_command(counts, folder, "intake check", check, check, sound)
+    try_command(counts, folder, "intake list", words_of(INTAKE, "list", "--db", database, "--filer", "ACME"), check, sound)
+    try_command(counts, folder, "intake show", words_of(INTAKE, "show", "--db", database, "--number", 1), check, sound)
+
+
+def try_lint(counts, folder):
+    report = folder / "report.json"
+    report.write_bytes(REPORT)
+    lint = words_of(INTAKE, "lint", "--filer", "ACME", report)
+    try_command(counts, folder, "intake lint", lint, lint, stands_as(b""))
+
+
+def main():
+    word = sys.argv[1] if len(sys.argv) > 1 else ""
+    for trial in (try_connection, try_script, try_outbox, try_register, try_lint):
+        if word in trial.__name__:
+            with tempfile.TemporaryDirectory() as outer:
+                folder = pathlib.Path(outer) / "files"
+                folder.mkdir()
+                trial(library(outer), folder)
+    print(f"{len(failures)} failed")
+    sys.exit(1 if failures else 0)
+
+
+if __name__ == "__main__":
+    main()
