@@ -1,5 +1,5 @@
 -- Entries by their numbers, as an outbox's tables have them and as the world names them.
-use Rattle.std.proofs.Common.{◌≡◌, ◌≢◌, ℕ, ◌<◌, ◌≤◌, ◌-◌, zero, suc, Bool, true, false, IsTrue, ◌∷◌, List, [], length, Option, Some, None, refl, sym, ap, ap₂, ◌∙◌, find, bytes_eq, map, option_map, ⊎_elim, arith, slice_get, slice_set, slice_index_or, subst, Result, Ok, Err, IfOk, OnOk, Vec, Global}
+use Rattle.std.proofs.Common.{◌≡◌, ◌≢◌, ℕ, ◌<◌, ◌≤◌, ◌-◌, zero, suc, Bool, true, false, IsTrue, ◌∷◌, List, [], length, Option, Some, None, refl, sym, ap, ap₂, ◌∙◌, find, bytes_eq, map, option_map, ⊎_elim, arith, slice_set, slice_index_or, subst, Result, Ok, Err, IfOk, OnOk, Vec, Global}
 use Rattle.std.specs.List.{list_any}
 use Rattle.std.specs.Prelude.{nat_le}
 use Rattle.std.proofs.lemmas.Bool.{cases_Bool}

@@ -1,16 +1,12 @@
 -- What each event did to the parts of a world, said as its step.
-use Rattle.std.proofs.Common.{◌≡◌, ℕ, zero, suc, true, false, List, [], ◌∷◌, ◌++◌, Option, Some, None, Result, Ok, Err, refl, sym, ap, ap₂, take, ◌∙◌, subst, ⊎_elim, slice_get, slice_set, slice_index_or, ◌<◌, ◌⊎◌, OnOk, length, arith}
+use Rattle.std.proofs.Common.{◌≡◌, ℕ, zero, suc, true, false, List, [], ◌∷◌, ◌++◌, Option, Some, None, Result, Ok, Err, refl, sym, ap, take, ◌∙◌, subst, ⊎_elim, slice_get, slice_set, slice_index_or, ◌<◌, ◌⊎◌, OnOk, length, arith}
 use Rattle.std.proofs.lemmas.Option.{slice_get-get_or, slice_get_past, get_or_from_slice_get}
 use Rattle.key_string.specs.Key.{IsKey}
-use Rattle.http_wire.specs.Message.{Place}
 use Rattle.http_wire.specs.Reply.{ReplyParts}
-use Rattle.filing_model.specs.declared.served.Mark.{Mark}
-use Rattle.filing_model.specs.declared.served.Ended.{Ended}
 use Rattle.filing_model.specs.Outbox.{Entry, request_of, bytes_of}
-use Rattle.filing_model.specs.Stopping.{Crash, ServesUntil}
-use Rattle.filing_model.specs.Text.{completed}
+use Rattle.filing_model.specs.Stopping.{Crash}
 use Rattle.filing_world.specs.World.{Outbox, Sent, Output, numbered, renewed}
-use Rattle.filing_world.specs.Step.{Puts, Sends, Delivers, Hands, Restarts, Hears, with_entry, box_after, is_no, IsAway}
+use Rattle.filing_world.specs.Step.{Puts, Sends, Hands, Restarts, Hears, with_entry, box_after, IsAway}
 use Rattle.filing_world.specs.Invariant.{AllOwn}
 use Rattle.filing_world.proofs.Lists.{renewed_same, written}
 use Rattle.schedule.specs.declared.fault.Cause.{Cause}

@@ -18,6 +18,7 @@ ghost use Rattle.schedule.specs.Played.{IsRequest};
 
 use crate::fault::Cause;
 use crate::honest::Honest;
+use crate::opening::{new_files, open};
 use crate::outboxes::{
     files_of_outbox, hear_in, make_outbox, outbox_in, put_into, request_from, states_in,
 };
@@ -124,7 +125,7 @@ impl<D: Honest> Filer<D> {
             alloc,
             code: String::from_str(alloc, code)?,
             entries: Vec::new(alloc),
-            place: OutboxPlace::Up(make_outbox(alloc, code)?),
+            place: OutboxPlace::Up(make_outbox(alloc, open(alloc, new_files(alloc))?, code)?),
         })
     }
 

@@ -7,6 +7,7 @@ mod bytes;
 mod deliver;
 mod durable;
 mod element;
+mod faithful;
 mod fault;
 mod filer;
 mod hand;

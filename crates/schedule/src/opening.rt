@@ -3,9 +3,11 @@
 ghost use Rattle.std.specs.Prelude.{◌≡◌, ◌≢◌, ◌↔◌, false, None, IsTrue, IfOk, Err};
 ghost use Rattle.sqlite.specs.Effect.{Database};
 ghost use Rattle.sqlite.specs.Files.{file_state};
+ghost use Rattle.sqlite.specs.Held.{state};
 ghost use Rattle.table_rows.specs.Files.{HoldsDatabase};
 ghost use Rattle.table_rows.specs.Tables.{no_schema};
 
+use crate::faithful::Faithful;
 use crate::fault::Cause;
 use crate::honest::Honest;
 use sqlite::{Connection, FileStore, Files, Options};
@@ -19,26 +21,27 @@ fn is_empty(schema: &Schema) -> bool
     schema.tables.is_empty() && schema.indexes.is_empty() && schema.views.is_empty()
 }
 
-/// A connection to a database without tables, in files that are made for it. `Reopen` comes where they were not
-/// opened for another cause than memory, or hold tables.
-pub(crate) fn make<D: Honest>(alloc: Global) -> Result<Connection<FileStore<D>>, Cause>
-    ensures idle { IfOk result (λ conn. (conn.in_transaction ≡ false) × (conn.step_limit ≡ None)) }
-    ensures empty { IfOk result (λ conn. (file_state conn).now.schema ≡ no_schema) }
+/// The connection, where its database has no tables, and else `Reopen`.
+pub(crate) fn without_tables<S: Faithful>(conn: Connection<S>) -> Result<Connection<S>, Cause>
+    ensures same { IfOk result (λ it. it ≡ conn) }
+    ensures empty { IfOk result (λ it. (state S.Store it).now.schema ≡ no_schema) }
     ensures other { result ≢ Err Cause.NoSuch }
 {
-    let files = Files {
+    if is_empty(conn.schema()) {
+        Ok(conn)
+    } else {
+        Err(Cause::Reopen)
+    }
+}
+
+/// Files that are made for a database.
+pub(crate) fn new_files<D: Honest>(alloc: Global) -> Files<D>
+    ensures log { IsTrue (D.Disk.is_usable result.log) }
+    ensures db { IsTrue (D.Disk.is_usable result.db) }
+{
+    Files {
         log: D::empty(alloc),
         db: D::empty(alloc),
-    };
-    match Connection::open_files(alloc, files, Options::new(1)) {
-        Ok(conn) => {
-            if is_empty(conn.schema()) {
-                Ok(conn)
-            } else {
-                Err(Cause::Reopen)
-            }
-        }
-        Err((error, _)) => Err(Cause::of_opening(error)),
     }
 }
 

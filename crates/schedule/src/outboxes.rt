@@ -1,6 +1,6 @@
-//! The calls on an outbox in files, one to a function.
+//! The calls on an outbox, one to a function.
 
-ghost use Rattle.std.specs.Prelude.{◌≡◌, ◌≢◌, ◌++◌, ◌∷◌, [], ℕ, List, map, true, Option, Some, None, IfOk, OnErr, Err, if◌then◌else◌};
+ghost use Rattle.std.specs.Prelude.{◌≡◌, ◌≢◌, ◌++◌, ◌∷◌, [], ℕ, List, map, true, false, Option, Some, None, IfOk, OnErr, Err, if◌then◌else◌};
 ghost use Rattle.key_string.specs.Filer.{is_filer};
 ghost use Rattle.http_wire.specs.Reply.{ReplyParts};
 ghost use Rattle.filing_model.specs.Outbox.{Entry as Item};
@@ -9,38 +9,60 @@ ghost use Rattle.filing_world.specs.World.{numbered};
 ghost use Rattle.filing_world.specs.Step.{takes, Hears, heard_by};
 ghost use Rattle.filing_world.specs.Headline.{states_of};
 ghost use Rattle.sqlite.specs.Files.{over_files};
+ghost use Rattle.sqlite.specs.Held.{state};
 ghost use Rattle.outbox_core.specs.Box.{contents, HasEntries};
 ghost use Rattle.outbox_core.specs.Entries.{Contents, opened};
 ghost use Rattle.outbox_core.specs.Files.{HoldOutbox};
+ghost use Rattle.outbox_core.specs.Rows.{IsOutboxOf};
 ghost use Rattle.schedule.specs.Listed.{listed};
 ghost use Rattle.schedule.specs.Outboxes.{up_with, cause_of_unheard, state_or, entries_after};
 ghost use Rattle.schedule.specs.Played.{IsRequest};
 
 use crate::bytes::Given;
+use crate::faithful::Faithful;
 use crate::fault::Cause;
 use crate::honest::Honest;
-use crate::opening::{make, open};
+use crate::opening::{open, without_tables};
 use crate::report::copy_key;
 use filer_client::{ExchangeFault, hand_over, request_bytes};
 use http_wire::ReplyFault;
 use key_string::KeyText;
 use outbox_core::{Outbox, OutboxFault, PutFault, State, StoreFault, TakeFault};
-use sqlite::{FileStore, Files};
+use sqlite::{Connection, FileStore, Files};
 use std::alloc::Global;
 
-/// An outbox of this filer without entries, in files that are made for it.
-pub(crate) fn make_outbox<D: Honest>(
+/// An outbox of this filer without entries. `Reopen` comes where the database has tables.
+pub(crate) fn make_outbox<S: Faithful>(
     alloc: Global,
+    conn: Connection<S>,
     filer: &str,
-) -> Result<Outbox<FileStore<D>>, Cause>
-    requires { is_filer filer.now ≡ true }
-    ensures made { IfOk result (λ outbox. HasEntries over_files outbox [] × (outbox.filer ≡ filer.now)) }
+) -> Result<Outbox<S>, Cause>
+    requires filer { is_filer filer.now ≡ true }
+    requires idle { (conn.in_transaction ≡ false) × (conn.step_limit ≡ None) }
+    ensures made { IfOk result (λ outbox. HasEntries S.Store outbox [] × (outbox.filer ≡ filer.now)) }
     ensures other { result ≢ Err Cause.NoSuch }
 {
-    match Outbox::create(alloc, make(alloc)?, filer) {
+    match Outbox::create(alloc, without_tables(conn)?, filer) {
         Ok(outbox) => Ok(outbox),
         Err(OutboxFault::Memory) => Err(Cause::Memory),
         Err(_fault) => Err(Cause::Store),
+    }
+}
+
+/// The outbox that lies in this database.
+pub(crate) fn open_outbox<S: Faithful>(
+    alloc: Global,
+    conn: Connection<S>,
+) -> Result<Outbox<S>, Cause>
+    requires { (conn.in_transaction ≡ false) × (conn.step_limit ≡ None) }
+    ensures opened { (it : Contents) → IsOutboxOf it (state S.Store conn).now
+        → IfOk result (λ outbox. HasEntries S.Store outbox it.entries × (outbox.filer ≡ it.filer)) }
+    ensures other { result ≢ Err Cause.NoSuch }
+{
+    match Outbox::open(alloc, conn) {
+        Ok(outbox) => Ok(outbox),
+        Err(OutboxFault::Memory) => Err(Cause::Memory),
+        Err(_fault) => Err(Cause::Reopen),
     }
 }
 
@@ -69,28 +91,24 @@ pub(crate) fn outbox_in<D: Honest>(
     if !files.may_be_used() {
         return Err(Cause::Reopen);
     }
-    match Outbox::open(alloc, open(alloc, files)?) {
-        Ok(outbox) => Ok(outbox),
-        Err(OutboxFault::Memory) => Err(Cause::Memory),
-        Err(_fault) => Err(Cause::Reopen),
-    }
+    open_outbox(alloc, open(alloc, files)?)
 }
 
 /// Puts copies of a key and a body into an outbox, and answers whether they were taken: not where the
 /// body is too long or the key is used.
-pub(crate) fn put_into<D: Honest>(
+pub(crate) fn put_into<S: Faithful>(
     alloc: Global,
-    outbox: &mut Outbox<FileStore<D>>,
+    outbox: &mut Outbox<S>,
     key: &KeyText,
     body: &[u8],
 ) -> Result<bool, Cause>
-    ensures taken { (entries : List Item) → HasEntries over_files outbox.old entries
+    ensures taken { (entries : List Item) → HasEntries S.Store outbox.old entries
         → IfOk result (λ is_taken. is_taken ≡ takes (up_with outbox.old.filer entries) (opened key.now body.now)) }
-    ensures rows { (entries : List Item) → HasEntries over_files outbox.old entries
+    ensures rows { (entries : List Item) → HasEntries S.Store outbox.old entries
         → IfOk result (λ is_taken.
-        HasEntries over_files outbox.new (if is_taken then entries ++ opened key.now body.now ∷ [] else entries)) }
-    ensures kept { (entries : List Item) → HasEntries over_files outbox.old entries
-        → OnErr result (HasEntries over_files outbox.new entries) }
+        HasEntries S.Store outbox.new (if is_taken then entries ++ opened key.now body.now ∷ [] else entries)) }
+    ensures kept { (entries : List Item) → HasEntries S.Store outbox.old entries
+        → OnErr result (HasEntries S.Store outbox.new entries) }
     ensures filer { outbox.new.filer ≡ outbox.old.filer }
     ensures other { result ≢ Err Cause.NoSuch }
 {
@@ -106,16 +124,16 @@ pub(crate) fn put_into<D: Honest>(
 }
 
 /// The bytes of the request of the entry of this number, whatever its state.
-pub(crate) fn request_from<D: Honest>(
+pub(crate) fn request_from<S: Faithful>(
     alloc: Global,
-    outbox: &mut Outbox<FileStore<D>>,
+    outbox: &mut Outbox<S>,
     number: u64,
 ) -> Result<Vec<u8>, Cause>
-    ensures bytes { (entries : List Item) → HasEntries over_files outbox.old entries
+    ensures bytes { (entries : List Item) → HasEntries S.Store outbox.old entries
         → IfOk result (λ text. IsRequest (up_with outbox.old.filer entries) number text.items) }
-    ensures no_such { (entries : List Item) → HasEntries over_files outbox.old entries
+    ensures no_such { (entries : List Item) → HasEntries S.Store outbox.old entries
         → result ≡ Err Cause.NoSuch → numbered entries number ≡ None }
-    ensures kept { (entries : List Item) → HasEntries over_files outbox.old entries → HasEntries over_files outbox.new entries }
+    ensures kept { (entries : List Item) → HasEntries S.Store outbox.old entries → HasEntries S.Store outbox.new entries }
     ensures filer { outbox.new.filer ≡ outbox.old.filer }
 {
     match request_bytes(alloc, outbox, number) {
@@ -140,19 +158,19 @@ fn cause_of_unheard(fault: ExchangeFault) -> Option<Cause>
 
 /// Has an outbox hear these bytes as the reply to the entry of this number, and answers the state that
 /// the entry came to, or `None` where the bytes give no reply.
-pub(crate) fn hear_in<D: Honest>(
+pub(crate) fn hear_in<S: Faithful>(
     alloc: Global,
-    outbox: &mut Outbox<FileStore<D>>,
+    outbox: &mut Outbox<S>,
     number: u64,
     bytes: &[u8],
 ) -> Result<Option<State>, Cause>
-    ensures heard { (entries : List Item) → HasEntries over_files outbox.old entries
+    ensures heard { (entries : List Item) → HasEntries S.Store outbox.old entries
         → IfOk result (λ to. (what : Item) → numbered entries number ≡ Some what
         → (heard : Option ReplyParts) × Hears bytes.now No heard × (state_or what.state to ≡ heard_by what.state heard)) }
-    ensures rows { (entries : List Item) → HasEntries over_files outbox.old entries
-        → IfOk result (λ to. HasEntries over_files outbox.new (entries_after entries number to)) }
-    ensures kept { (entries : List Item) → HasEntries over_files outbox.old entries
-        → OnErr result (HasEntries over_files outbox.new entries) }
+    ensures rows { (entries : List Item) → HasEntries S.Store outbox.old entries
+        → IfOk result (λ to. HasEntries S.Store outbox.new (entries_after entries number to)) }
+    ensures kept { (entries : List Item) → HasEntries S.Store outbox.old entries
+        → OnErr result (HasEntries S.Store outbox.new entries) }
     ensures filer { outbox.new.filer ≡ outbox.old.filer }
     ensures other { result ≢ Err Cause.NoSuch }
 {
@@ -167,12 +185,12 @@ pub(crate) fn hear_in<D: Honest>(
 }
 
 /// The number and the state of each entry, in the order of the numbers.
-pub(crate) fn states_in<D: Honest>(
-    outbox: &mut Outbox<FileStore<D>>,
+pub(crate) fn states_in<S: Faithful>(
+    outbox: &mut Outbox<S>,
 ) -> Result<Vec<(u64, State)>, StoreFault>
-    ensures list { (entries : List Item) → HasEntries over_files outbox.old entries
+    ensures list { (entries : List Item) → HasEntries S.Store outbox.old entries
         → IfOk result (λ states. (number : ℕ) → map (listed number) states.items ≡ states_of number 1 entries) }
-    ensures kept { (entries : List Item) → HasEntries over_files outbox.old entries → HasEntries over_files outbox.new entries }
+    ensures kept { (entries : List Item) → HasEntries S.Store outbox.old entries → HasEntries S.Store outbox.new entries }
     ensures filer { outbox.new.filer ≡ outbox.old.filer }
 {
     outbox.states()

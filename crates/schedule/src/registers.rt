@@ -1,6 +1,6 @@
-//! The calls on a register and an intake in files, one to a function.
+//! The calls on a register and an intake, one to a function.
 
-ghost use Rattle.std.specs.Prelude.{◌≡◌, ◌≢◌, ◌≤◌, ◌^◌, ◌++◌, [], ℕ, List, Some, IfOk, Err, true};
+ghost use Rattle.std.specs.Prelude.{◌≡◌, ◌≢◌, ◌≤◌, ◌^◌, ◌++◌, [], ℕ, List, Some, None, IfOk, Err, true, false};
 ghost use Rattle.http_wire.specs.Message.{Place as Spot};
 ghost use Rattle.http_wire.specs.declared.refusal.ConnFault.TheVariants.{Write};
 ghost use Rattle.filing_model.specs.declared.served.Ended.TheVariants.{Fault};
@@ -9,65 +9,93 @@ ghost use Rattle.filing_model.specs.Register.{register};
 ghost use Rattle.filing_model.specs.Stopping.{ServesUntil};
 ghost use Rattle.filing_model.specs.Text.{completed};
 ghost use Rattle.sqlite.specs.Files.{over_files};
-ghost use Rattle.register_store.specs.Store.{HasRequests};
+ghost use Rattle.sqlite.specs.Held.{state};
+ghost use Rattle.register_store.specs.Store.{IsRegisterOf};
 ghost use Rattle.register_store.specs.Files.{HoldRegister};
 ghost use Rattle.intake_core.specs.Held.{Holds, limit_of};
 ghost use Rattle.gateway_server.specs.Stopping.{view_stop};
 
 use crate::bytes::{Given, Kept};
+use crate::faithful::Faithful;
 use crate::fault::Cause;
 use crate::honest::Honest;
-use crate::opening::{make, open};
+use crate::opening::{open, without_tables};
 use filing_model::{Ended, Mark};
 use gateway_server::{Partly, Stop, serve_until};
 use http_wire::ConnFault;
 use intake_core::{Intake, Unavailable};
 use register_store::{CreateFault, OpenFault, Registered, Store, StoreFault};
-use sqlite::{FileStore, Files};
+use sqlite::{Connection, FileStore, Files};
 use std::alloc::Global;
 
-/// A register without requests, in files that are made for it.
-pub(crate) fn make_register<D: Honest>(alloc: Global) -> Result<Store<FileStore<D>>, Cause>
-    ensures made { IfOk result (λ store. HasRequests over_files store []) }
+/// An intake over a register without requests, which keeps at most `limit` keys. `Reopen` comes where the database has
+/// tables.
+pub(crate) fn make_intake<S: Faithful>(
+    alloc: Global,
+    conn: Connection<S>,
+    limit: u64,
+) -> Result<Intake<S>, Cause>
+    requires limit { limit ≤ 2 ^ 62 }
+    requires idle { (conn.in_transaction ≡ false) × (conn.step_limit ≡ None) }
+    ensures made { IfOk result (λ intake. Holds S.Store intake (firsts []) × (limit_of intake ≡ limit)) }
     ensures other { result ≢ Err Cause.NoSuch }
 {
-    match Store::create(alloc, make(alloc)?) {
-        Ok(store) => Ok(store),
+    match Store::create(alloc, without_tables(conn)?) {
+        Ok(store) => Ok(Intake::new(alloc, store, limit)),
         Err(CreateFault::Memory) => Err(Cause::Memory),
         Err(_fault) => Err(Cause::Store),
     }
 }
 
-/// The files of a register.
-pub(crate) fn files_of_register<D: Honest>(store: Store<FileStore<D>>) -> Result<Files<D>, Cause>
-    ensures held { (F : List Request) → HasRequests over_files store F
+/// An intake over the register that lies in this database, which keeps at most `limit` keys.
+pub(crate) fn open_intake<S: Faithful>(
+    alloc: Global,
+    conn: Connection<S>,
+    limit: u64,
+) -> Result<Intake<S>, Cause>
+    requires limit { limit ≤ 2 ^ 62 }
+    requires idle { (conn.in_transaction ≡ false) × (conn.step_limit ≡ None) }
+    ensures opened { (F : List Request) → firsts F ≡ F → IsRegisterOf F (state S.Store conn).now
+        → IfOk result (λ intake. Holds S.Store intake F) }
+    ensures limit { IfOk result (λ intake. limit_of intake ≡ limit) }
+    ensures other { result ≢ Err Cause.NoSuch }
+{
+    match Store::open(alloc, conn) {
+        Ok(store) => Ok(Intake::new(alloc, store, limit)),
+        Err(OpenFault::Memory) => Err(Cause::Memory),
+        Err(_fault) => Err(Cause::Reopen),
+    }
+}
+
+/// The files of an intake's register.
+pub(crate) fn files_of_intake<D: Honest>(intake: Intake<FileStore<D>>) -> Result<Files<D>, Cause>
+    ensures held { (F : List Request) → Holds over_files intake F
         → IfOk result (λ files. HoldRegister D.Disk files F) }
     ensures other { result ≢ Err Cause.NoSuch }
 {
-    match store.into_files() {
+    match intake.into_store().into_files() {
         Ok(files) => Ok(files),
         Err(StoreFault::Memory) => Err(Cause::Memory),
         Err(StoreFault::Store) => Err(Cause::Reopen),
     }
 }
 
-/// The register that lies in these files.
-pub(crate) fn register_in<D: Honest>(
+/// An intake over the register that lies in these files, which keeps at most `limit` keys.
+pub(crate) fn intake_in<D: Honest>(
     alloc: Global,
     files: Files<D>,
-) -> Result<Store<FileStore<D>>, Cause>
-    ensures opened { (F : List Request) → HoldRegister D.Disk files F
-        → IfOk result (λ store. HasRequests over_files store F) }
+    limit: u64,
+) -> Result<Intake<FileStore<D>>, Cause>
+    requires { limit ≤ 2 ^ 62 }
+    ensures opened { (F : List Request) → firsts F ≡ F → HoldRegister D.Disk files F
+        → IfOk result (λ intake. Holds over_files intake F) }
+    ensures limit { IfOk result (λ intake. limit_of intake ≡ limit) }
     ensures other { result ≢ Err Cause.NoSuch }
 {
     if !files.may_be_used() {
         return Err(Cause::Reopen);
     }
-    match Store::open(alloc, open(alloc, files)?) {
-        Ok(store) => Ok(store),
-        Err(OpenFault::Memory) => Err(Cause::Memory),
-        Err(_fault) => Err(Cause::Reopen),
-    }
+    open_intake(alloc, open(alloc, files)?, limit)
 }
 
 /// Whether the writer failed.
@@ -86,16 +114,16 @@ pub(crate) struct Answered {
 }
 
 /// Serves these bytes on an intake. A writer that failed wanted memory.
-pub(crate) fn serve_on<D: Honest>(
+pub(crate) fn serve_on<S: Faithful>(
     alloc: Global,
-    intake: &mut Intake<FileStore<D>>,
+    intake: &mut Intake<S>,
     bytes: &[u8],
     stop: Stop,
 ) -> Result<Answered, Cause>
-    ensures serves { (done : List Request) → Holds over_files intake.old (firsts done)
+    ensures serves { (done : List Request) → Holds S.Store intake.old (firsts done)
         → IfOk result (λ a. (places : List Spot)
         × ServesUntil (limit_of intake.old) done bytes.now (view_stop stop) places a.marks.items a.ended a.text.items
-        × Holds over_files intake.new (firsts (done ++ completed places a.marks.items))) }
+        × Holds S.Store intake.new (firsts (done ++ completed places a.marks.items))) }
     ensures limit { limit_of intake.new ≡ limit_of intake.old }
     ensures other { result ≢ Err Cause.NoSuch }
 {
@@ -113,12 +141,12 @@ pub(crate) fn serve_on<D: Honest>(
 }
 
 /// The registered requests of an intake under their numbers.
-pub(crate) fn register_of<D: Honest>(
-    intake: &mut Intake<FileStore<D>>,
+pub(crate) fn register_of<S: Faithful>(
+    intake: &mut Intake<S>,
 ) -> Result<Vec<Registered>, Unavailable>
-    ensures list { (F : List Request) → Holds over_files intake.old F
+    ensures list { (F : List Request) → Holds S.Store intake.old F
         → IfOk result (λ rows. rows.items ≡ register F) }
-    ensures kept { (F : List Request) → Holds over_files intake.old F → Holds over_files intake.new F }
+    ensures kept { (F : List Request) → Holds S.Store intake.old F → Holds S.Store intake.new F }
     ensures limit { limit_of intake.new ≡ limit_of intake.old }
 {
     intake.register()

@@ -15,9 +15,8 @@ ghost use Rattle.schedule.specs.Server.{Keeps, is_up};
 
 use crate::fault::Cause;
 use crate::honest::Honest;
-use crate::registers::{
-    Answered, files_of_register, make_register, register_in, register_of, serve_on,
-};
+use crate::opening::{new_files, open};
+use crate::registers::{Answered, files_of_intake, intake_in, make_intake, register_of, serve_on};
 use event_script::Crash;
 use filing_model::{Ended, Mark};
 use gateway_server::{Stop, completed};
@@ -106,8 +105,7 @@ impl<D: Honest> Place<D> {
         ensures up { IfOk result (λ place. is_up place ≡ true) }
         ensures other { result ≢ Err Cause.NoSuch }
     {
-        let store = make_register(alloc)?;
-        Ok(Place::Up(Intake::new(alloc, store, limit)))
+        Ok(Place::Up(make_intake(alloc, open(alloc, new_files(alloc))?, limit)?))
     }
 
     /// What serving these bytes came to, and the place after it.
@@ -137,7 +135,7 @@ impl<D: Honest> Place<D> {
         ensures other { result ≢ Err Cause.NoSuch }
     {
         match self {
-            Place::Up(intake) => Ok(Place::Down(files_of_register(intake.into_store())?)),
+            Place::Up(intake) => Ok(Place::Down(files_of_intake(intake)?)),
             Place::Down(files) => Ok(Place::Down(files)),
             Place::Gone => Err(Cause::Store),
         }
@@ -166,10 +164,7 @@ impl<D: Honest> Place<D> {
     {
         match self {
             Place::Up(intake) => Ok(Place::Up(intake)),
-            Place::Down(files) => {
-                let store = register_in(alloc, files)?;
-                Ok(Place::Up(Intake::new(alloc, store, limit)))
-            }
+            Place::Down(files) => Ok(Place::Up(intake_in(alloc, files, limit)?)),
             Place::Gone => Err(Cause::Store),
         }
     }

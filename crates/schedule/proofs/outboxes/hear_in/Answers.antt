@@ -1,5 +1,4 @@
 use Rattle.std.proofs.Common.{◌≡◌, Some, None, refl, subst}
-use Rattle.table_rows.proofs.CleanLemmas.{always_clean}
 use Rattle.outbox_core.specs.Reading.{view_state}
 use Rattle.schedule.specs.declared.fault.Cause.TheVariants.{NoSuch}
 use Rattle.schedule.specs.Bytes.{bytes_left}
@@ -9,16 +8,16 @@ use Rattle.schedule.proofs.outboxes.hear_in.Goals as goal
 
 pub returns-in-Ok-clause-heard : goal.returns-in-Ok-clause-heard
 returns-in-Ok-clause-heard g c = λ entries has what here.
-    let moved = c.in-Ok.ensures.moved (always_clean g.met.D.Honest.honest c.hand_over.new.outbox.conn) entries has in
+    let moved = c.in-Ok.ensures.moved (g.met.S.Faithful.faithful c.hand_over.new.outbox.conn) entries has in
     moves_as_heard c.args.bytes.now (bytes_left c.new-reader.result) (bytes_left c.hand_over.new.reader) entries c.args.number (view_state c.in-Ok.state) c.new-reader.ensures moved.0 what here
 
 pub returns-in-Ok-clause-rows : goal.returns-in-Ok-clause-rows
 returns-in-Ok-clause-rows g c = λ entries has.
-    (c.in-Ok.ensures.moved (always_clean g.met.D.Honest.honest c.hand_over.new.outbox.conn) entries has).1
+    (c.in-Ok.ensures.moved (g.met.S.Faithful.faithful c.hand_over.new.outbox.conn) entries has).1
 
 pub returns-in-Some-clause-kept : goal.returns-in-Some-clause-kept
 returns-in-Some-clause-kept g c = λ entries has.
-    c.in-Err.ensures.kept (always_clean g.met.D.Honest.honest c.hand_over.new.outbox.conn) entries has
+    c.in-Err.ensures.kept (g.met.S.Faithful.faithful c.hand_over.new.outbox.conn) entries has
 
 pub returns-in-Some-clause-other : goal.returns-in-Some-clause-other
 returns-in-Some-clause-other g c = λ is.
@@ -34,4 +33,4 @@ returns-in-None-clause-heard g c = λ entries has what here. (
 
 pub returns-in-None-clause-rows : goal.returns-in-None-clause-rows
 returns-in-None-clause-rows g c = λ entries has.
-    c.in-Err.ensures.kept (always_clean g.met.D.Honest.honest c.hand_over.new.outbox.conn) entries has
+    c.in-Err.ensures.kept (g.met.S.Faithful.faithful c.hand_over.new.outbox.conn) entries has

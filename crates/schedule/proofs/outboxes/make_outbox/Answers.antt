@@ -1,6 +1,5 @@
-use Rattle.table_rows.proofs.CleanLemmas.{always_clean}
 use Rattle.schedule.proofs.outboxes.make_outbox.Goals as goal
 
 pub returns-in-Ok-clause-made : goal.returns-in-Ok-clause-made
 returns-in-Ok-clause-made g c =
-    (c.in-Ok.ensures.made (always_clean g.met.D.Honest.honest c.in-Ok.outbox.conn) c.in_ok-make.ensures.empty, c.in-Ok.ensures.filer.0)
+    (c.in-Ok.ensures.made (g.met.S.Faithful.faithful c.in-Ok.outbox.conn) c.in_ok-without_tables.ensures.empty, c.in-Ok.ensures.filer.0)

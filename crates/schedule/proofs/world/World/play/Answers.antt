@@ -3,7 +3,7 @@ use Rattle.event_script.specs.Events.{view_event}
 use Rattle.filing_world.proofs.Keeping.{keeps_step, holds}
 use Rattle.schedule.specs.declared.fault.Fault.TheVariants.{NoSuch}
 use Rattle.schedule.specs.Played.{Played, world_of}
-use Rattle.schedule.proofs.Ending.{no_such_cause, tells_own}
+use Rattle.schedule.proofs.Ending.{no_such_cause}
 use Rattle.schedule.proofs.world.World.play.Goals as goal
 
 pub invariant_of-self : goal.invariant_of-self
