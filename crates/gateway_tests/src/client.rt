@@ -1,238 +1,269 @@
-use filer_client::{ExchangeFault, ToSend};
+//! Exchanges of an outbox over streams in memory.
+
+use crate::examples::{REGISTERED, REGISTERED_CLOSED, REPORT, Text, bytes_of, front};
+use crate::stores::Fresh;
+use crate::streams::{Giving, Taking};
+use filer_client::{ExchangeFault, exchange, hand_over, request_bytes};
 use http_wire::{Device, ReplyFault};
 use key_string::KeyText;
 use outbox_core::{Outbox, State, TakeFault};
-use sqlite::MemStore;
+use sqlite::{Alter, MemStore};
 use std::alloc::Global;
+use std::process::Abort;
 use std::test::Fail;
-use streams::{Giving, Taking, front};
 
-mod calls;
-mod streams;
+/// The request of the entry, 537 bytes.
+const REQUEST: Text = &[
+    (
+        "POST /filings/ACME HTTP/1.1\r\nHost: localhost\r\nIdempotency-Key: \"k-1\"\r\nContent-Type: application/json\r\nContent-Length: 393\r\nConnection: close\r\n\r\n",
+        1,
+    ),
+    (REPORT, 1),
+];
 
-const REPORT: &str =
-    "{\"documentInfo\":{\"documentType\":\"https://xbrl.org/2021/xbrl-json\",\"namespaces\":{\"eg\":\"http://example.com/eg\",\"iso4217\":\"http://www.xbrl.org/2003/iso4217\",\"lei\":\"http://standards.iso.org/iso/17442\"},\"taxonomy\":[\"http://example.com/eg.xsd\"]},\"facts\":{\"f1\":{\"value\":\"100\",\"decimals\":0,\"dimensions\":{\"concept\":\"eg:Assets\",\"entity\":\"lei:ACME\",\"period\":\"2024-12-31T00:00:00\",\"unit\":\"iso4217:EUR\"}}}}";
-
-const HEAD: &str =
-    "POST /filings/ACME HTTP/1.1\r\nHost: localhost\r\nIdempotency-Key: \"k-1\"\r\nContent-Type: application/json\r\nContent-Length: 393\r\nConnection: close\r\n\r\n";
-
-const REGISTERED: &str =
-    "HTTP/1.1 201 Created\r\nContent-Type: application/json\r\nContent-Length: 34\r\nConnection: close\r\n\r\n{\"number\":1,\"status\":\"registered\"}";
-
-/// The same reply where the connection stays open.
-const KEPT_OPEN: &str =
-    "HTTP/1.1 201 Created\r\nContent-Type: application/json\r\nContent-Length: 34\r\n\r\n{\"number\":1,\"status\":\"registered\"}";
-
-/// The least report.
-const LEAST: &str =
-    "{\"documentInfo\":{\"documentType\":\"https://xbrl.org/2021/xbrl-json\",\"taxonomy\":[\"t\"]}}";
-
-/// The outbox of a filer with one entry, which is open.
-fn made(alloc: Global) -> Option<Outbox<MemStore>> {
-    let mut outbox = calls::create(alloc)?;
-    let body = REPORT.as_bytes().to_vec(alloc).ok()?;
-    calls::put(&mut outbox, KeyText::new(alloc, "k-1").ok()?, body).ok()?;
+/// The outbox of a filer with one entry, which is open; `None` where memory is refused.
+fn with_entry<S: Fresh>(alloc: Global) -> Option<Outbox<S>> {
+    let mut outbox = S::outbox(alloc)?;
+    put(alloc, &mut outbox)?;
     Some(outbox)
 }
 
-fn outbox(alloc: Global) -> Result<Outbox<MemStore>, Fail> {
-    Ok(made(alloc).ok_or("the outbox is not made")?)
+/// Puts the report under the key `k-1`.
+fn put<S: Alter>(alloc: Global, outbox: &mut Outbox<S>) -> Option<u64> {
+    let key = KeyText::new(alloc, "k-1").ok()?;
+    put_body(outbox, key, REPORT.as_bytes().to_vec(alloc).ok()?)
 }
 
-/// The bytes of its request.
-fn request(alloc: Global) -> Result<String, Fail> {
-    Ok(format!(in alloc; "{HEAD}{REPORT}")?)
+// These two make one call each and have no clause, so that what calls them carries none of the call's.
+
+fn put_body<S: Alter>(outbox: &mut Outbox<S>, key: KeyText, body: Vec<u8>) -> Option<u64> {
+    outbox.put(key, body).ok()
 }
 
-/// What an exchange with these bytes to read gives, and what it writes.
-fn exchanged(
+fn request_of<S: Alter>(alloc: Global, outbox: &mut Outbox<S>) -> Result<Vec<u8>, TakeFault> {
+    request_bytes(alloc, outbox, 1)
+}
+
+/// The state of entry 1; `None` where it isn't there, or is not read.
+fn state_of<S: Alter>(outbox: &mut Outbox<S>) -> Option<State> {
+    match outbox.entry(1) {
+        Ok(Some(entry)) => Some(entry.state),
+        _ => None,
+    }
+}
+
+/// Exchanges what an entry has to send, 100 bytes a write, for a reply of these bytes, 50 a read. One read or write may fail, before
+/// which so many don't.
+fn exchanged<S: Alter>(
     alloc: Global,
-    outbox: &mut Outbox<MemStore>,
-    input: &[u8],
+    outbox: &mut Outbox<S>,
     id: u64,
-) -> Result<(Result<State, ExchangeFault>, String), Fail> {
-    let mut output: Vec<u8> = Vec::new(alloc);
-    let answer = calls::exchanged(
+    reply: &[u8],
+    output: &mut Vec<u8>,
+    failing_read: Option<usize>,
+    failing_write: Option<usize>,
+) -> Result<State, ExchangeFault> {
+    let reader = Giving {
+        rest: reply,
+        most: 50,
+        fails: failing_read,
+    };
+    let writer = Taking {
+        output,
+        most: 100,
+        fails: failing_write,
+    };
+    exchange(
         alloc,
-        &mut Device::new(input),
-        &mut Device::new(&mut output),
+        &mut Device::new(reader),
+        &mut Device::new(writer),
         outbox,
         id,
+    )
+}
+
+/// An exchange: the entry, the read and the write that fail, what it comes to, how many bytes of the request are written, and the state
+/// of entry 1 then.
+type Exchange = (
+    u64,
+    Option<usize>,
+    Option<usize>,
+    Result<State, ExchangeFault>,
+    usize,
+    State,
+);
+
+/// Exchanges one after another: a reply of 129 bytes takes three reads, and the request of 537 bytes six writes.
+static EXCHANGES: [Exchange; 12] = [
+    (
+        2,
+        None,
+        None,
+        Err(ExchangeFault::Take(TakeFault::NoEntry)),
+        0,
+        State::Open,
+    ),
+    (
+        1,
+        None,
+        Some(0),
+        Err(ExchangeFault::Write { sent: 0 }),
+        0,
+        State::Open,
+    ),
+    (
+        1,
+        None,
+        Some(1),
+        Err(ExchangeFault::Write { sent: 100 }),
+        100,
+        State::Open,
+    ),
+    (
+        1,
+        None,
+        Some(2),
+        Err(ExchangeFault::Write { sent: 200 }),
+        200,
+        State::Open,
+    ),
+    (
+        1,
+        None,
+        Some(3),
+        Err(ExchangeFault::Write { sent: 300 }),
+        300,
+        State::Open,
+    ),
+    (
+        1,
+        None,
+        Some(4),
+        Err(ExchangeFault::Write { sent: 400 }),
+        400,
+        State::Open,
+    ),
+    (
+        1,
+        None,
+        Some(5),
+        Err(ExchangeFault::Write { sent: 500 }),
+        500,
+        State::Open,
+    ),
+    (
+        1,
+        Some(0),
+        None,
+        Err(ExchangeFault::Reply(ReplyFault::Read)),
+        537,
+        State::Open,
+    ),
+    (
+        1,
+        Some(1),
+        None,
+        Err(ExchangeFault::Reply(ReplyFault::Read)),
+        537,
+        State::Open,
+    ),
+    (
+        1,
+        Some(2),
+        None,
+        Err(ExchangeFault::Reply(ReplyFault::Read)),
+        537,
+        State::Open,
+    ),
+    (
+        1,
+        Some(3),
+        Some(6),
+        Ok(State::Confirmed(1)),
+        537,
+        State::Confirmed(1),
+    ),
+    (
+        1,
+        Some(0),
+        Some(0),
+        Ok(State::Confirmed(1)),
+        0,
+        State::Confirmed(1),
+    ),
+];
+
+/// Whether an exchange goes as it is to go.
+fn goes<S: Alter>(
+    alloc: Global,
+    outbox: &mut Outbox<S>,
+    request: &[u8],
+    (id, failing_read, failing_write, answer, sent, state): Exchange,
+) -> bool {
+    let reply = REGISTERED_CLOSED.as_bytes();
+    let mut output = Vec::new(alloc);
+    let given = exchanged(
+        alloc,
+        outbox,
+        id,
+        reply,
+        &mut output,
+        failing_read,
+        failing_write,
     );
-    Ok((answer, String::from_utf8(output)?))
+    given == answer && output.as_slice() == front(request, sent) && state_of(outbox) == Some(state)
 }
 
-fn state_of(outbox: &mut Outbox<MemStore>, id: u64) -> Result<Option<State>, Fail> {
-    Ok(calls::state_of(outbox, id)?)
-}
-
-#[test]
-fn a_whole_reply_confirms(rt: HostRuntime) -> Result<(), Fail> {
-    let mut outbox = outbox(rt.alloc())?;
-    assert_eq!(rt; (REPORT.len(), REGISTERED.len()), (393, 129));
-    let (answer, output) = exchanged(rt.alloc(), &mut outbox, REGISTERED.as_bytes(), 1)?;
-    assert_eq!(rt; answer, Ok(State::Confirmed(1)));
-    assert_eq!(rt; output.len(), 537);
-    assert_eq!(rt; output, request(rt.alloc())?);
-    assert_eq!(rt; state_of(&mut outbox, 1)?, Some(State::Confirmed(1)));
+/// Asserts it of each.
+fn hold<S: Fresh>(rt: &impl Abort, alloc: Global) -> Result<(), Fail> {
+    let request = bytes_of(alloc, REQUEST)?;
+    let mut outbox: Outbox<S> = with_entry(alloc).ok_or("the outbox is not made")?;
+    for (number, &exchange) in EXCHANGES.iter().enumerate() {
+        assert!(rt;
+            goes(alloc, &mut outbox, &request, exchange),
+            "exchange {number}"
+        );
+    }
     Ok(())
 }
 
 #[test]
-fn a_cut_reply_changes_nothing(rt: HostRuntime) -> Result<(), Fail> {
-    let mut outbox = outbox(rt.alloc())?;
-    let (answer, output) = exchanged(rt.alloc(), &mut outbox, front(REGISTERED.as_bytes(), 20), 1)?;
-    assert_eq!(rt; answer, Err(ExchangeFault::Reply(ReplyFault::Cut)));
-    assert_eq!(rt; output.len(), 537);
-    assert_eq!(rt; state_of(&mut outbox, 1)?, Some(State::Open));
+fn each_read_and_write_fails_once(rt: HostRuntime) -> Result<(), Fail> {
+    hold::<MemStore>(&rt, rt.alloc())
+}
+
+/// Whether a reply of these bytes to entry 1 comes to this, and leaves it in this state.
+fn is_heard<S: Alter>(
+    alloc: Global,
+    outbox: &mut Outbox<S>,
+    reply: &[u8],
+    answer: Result<State, ExchangeFault>,
+    state: State,
+) -> bool {
+    let given = hand_over(alloc, &mut Device::new(reply), outbox, 1);
+    given == answer && state_of(outbox) == Some(state)
+}
+
+/// Asserts that each front of a reply is cut, and the whole moves the entry.
+fn fronts_are_cut<S: Fresh>(rt: &impl Abort, alloc: Global) -> Result<(), Fail> {
+    let mut outbox: Outbox<S> = with_entry(alloc).ok_or("the outbox is not made")?;
+    let cut = Err(ExchangeFault::Reply(ReplyFault::Cut));
+    for most in 0..110 {
+        let reply = front(REGISTERED.as_bytes(), most);
+        assert!(rt;
+            is_heard(alloc, &mut outbox, reply, cut, State::Open),
+            "at {most}"
+        );
+    }
+    let confirmed = State::Confirmed(1);
+    let reply = REGISTERED.as_bytes();
+    assert!(rt; is_heard(alloc, &mut outbox, reply, Ok(confirmed), confirmed));
     Ok(())
 }
 
 #[test]
 fn each_front_of_a_reply_is_cut(rt: HostRuntime) -> Result<(), Fail> {
-    let mut outbox = outbox(rt.alloc())?;
-    let reply = KEPT_OPEN.as_bytes();
-    assert_eq!(rt; reply.len(), 110);
-    for most in 0..110 {
-        let mut reader = Device::new(front(reply, most));
-        let answer = calls::heard(rt.alloc(), &mut reader, &mut outbox, 1);
-        assert_eq!(rt;
-            answer,
-            Err(ExchangeFault::Reply(ReplyFault::Cut)),
-            "at {most}"
-        );
-        assert_eq!(rt; state_of(&mut outbox, 1)?, Some(State::Open));
-    }
-    let mut reader = Device::new(reply);
-    let answer = calls::heard(rt.alloc(), &mut reader, &mut outbox, 1);
-    assert_eq!(rt; answer, Ok(State::Confirmed(1)));
-    Ok(())
-}
-
-#[test]
-fn the_request_of_the_least_report(rt: HostRuntime) -> Result<(), Fail> {
-    let mut outbox = outbox(rt.alloc())?;
-    let mut body = Vec::new(rt.alloc());
-    body.extend_from_slice(LEAST.as_bytes())?;
-    assert_eq!(rt; body.len(), 84);
-    let put = calls::put(&mut outbox, KeyText::new(rt.alloc(), "k-2")?, body);
-    assert_eq!(rt; put, Ok(2));
-    assert_eq!(rt; calls::bytes(rt.alloc(), &mut outbox, 2)?.len(), 227);
-    Ok(())
-}
-
-#[test]
-fn an_entry_that_is_settled_is_not_sent(rt: HostRuntime) -> Result<(), Fail> {
-    let mut outbox = outbox(rt.alloc())?;
-    let (first, _) = exchanged(rt.alloc(), &mut outbox, REGISTERED.as_bytes(), 1)?;
-    let (answer, output) = exchanged(rt.alloc(), &mut outbox, b"", 1)?;
-    assert_eq!(rt; first, answer);
-    assert_eq!(rt; answer, Ok(State::Confirmed(1)));
-    assert_eq!(rt; output.len(), 0);
-    Ok(())
-}
-
-#[test]
-fn no_entry(rt: HostRuntime) -> Result<(), Fail> {
-    let mut outbox = outbox(rt.alloc())?;
-    let fault = ExchangeFault::Take(TakeFault::NoEntry);
-    let (answer, output) = exchanged(rt.alloc(), &mut outbox, REGISTERED.as_bytes(), 2)?;
-    assert_eq!(rt; answer, Err(fault));
-    assert_eq!(rt; output.len(), 0);
-    let mut reader = Device::new(REGISTERED.as_bytes());
-    assert_eq!(rt;
-        calls::heard(rt.alloc(), &mut reader, &mut outbox, 2),
-        Err(fault)
-    );
-    assert_eq!(rt; state_of(&mut outbox, 1)?, Some(State::Open));
-    Ok(())
-}
-
-#[test]
-fn the_halves_of_an_exchange(rt: HostRuntime) -> Result<(), Fail> {
-    let mut outbox = outbox(rt.alloc())?;
-    let expected = request(rt.alloc())?;
-    match calls::to_send(rt.alloc(), &mut outbox, 1)? {
-        ToSend::Request(bytes) => assert_eq!(rt; bytes.as_slice(), expected.as_bytes()),
-        ToSend::Settled(_) => assert!(rt; false),
-    }
-    let mut reader = Device::new(REGISTERED.as_bytes());
-    assert_eq!(rt;
-        calls::heard(rt.alloc(), &mut reader, &mut outbox, 1)?,
-        State::Confirmed(1)
-    );
-    match calls::to_send(rt.alloc(), &mut outbox, 1)? {
-        ToSend::Request(_) => assert!(rt; false),
-        ToSend::Settled(state) => assert_eq!(rt; state, State::Confirmed(1)),
-    }
-
-    // A confirmed entry still has its request.
-    let bytes = calls::bytes(rt.alloc(), &mut outbox, 1)?;
-    assert_eq!(rt; bytes.as_slice(), expected.as_bytes());
-    Ok(())
-}
-
-#[test]
-fn each_write_fails_once(rt: HostRuntime) -> Result<(), Fail> {
-    let mut outbox = outbox(rt.alloc())?;
-    let expected = request(rt.alloc())?;
-
-    // 537 bytes, 100 a write.
-    for calls in 0..6 {
-        let mut output: Vec<u8> = Vec::new(rt.alloc());
-        let answer = calls::exchanged(
-            rt.alloc(),
-            &mut Device::new(REGISTERED.as_bytes()),
-            &mut Device::new(Taking {
-                output: &mut output,
-                most: 100,
-                calls: Some(calls),
-            }),
-            &mut outbox,
-            1,
-        );
-        let sent = 100 * calls;
-        assert_eq!(rt; answer, Err(ExchangeFault::Write { sent }));
-        assert_eq!(rt; output.as_slice(), front(expected.as_bytes(), sent));
-        assert_eq!(rt; state_of(&mut outbox, 1)?, Some(State::Open));
-    }
-    let (answer, _) = exchanged(rt.alloc(), &mut outbox, REGISTERED.as_bytes(), 1)?;
-    assert_eq!(rt; answer, Ok(State::Confirmed(1)));
-    Ok(())
-}
-
-#[test]
-fn each_read_fails_once(rt: HostRuntime) -> Result<(), Fail> {
-    let mut outbox = outbox(rt.alloc())?;
-
-    // 129 bytes, 50 a read.
-    for calls in 0..3 {
-        let mut output: Vec<u8> = Vec::new(rt.alloc());
-        let answer = calls::exchanged(
-            rt.alloc(),
-            &mut Device::new(Giving {
-                rest: REGISTERED.as_bytes(),
-                most: 50,
-                calls: Some(calls),
-            }),
-            &mut Device::new(&mut output),
-            &mut outbox,
-            1,
-        );
-        assert_eq!(rt; answer, Err(ExchangeFault::Reply(ReplyFault::Read)));
-        assert_eq!(rt; output.len(), 537);
-        assert_eq!(rt; state_of(&mut outbox, 1)?, Some(State::Open));
-    }
-    let mut reader = Device::new(Giving {
-        rest: REGISTERED.as_bytes(),
-        most: 50,
-        calls: Some(3),
-    });
-    assert_eq!(rt;
-        calls::heard(rt.alloc(), &mut reader, &mut outbox, 1)?,
-        State::Confirmed(1)
-    );
-    Ok(())
+    fronts_are_cut::<MemStore>(&rt, rt.alloc())
 }
 
 /// Whether the fault is want of memory, of the call or of the bytes that it writes to.
@@ -245,46 +276,71 @@ fn wants_memory(fault: ExchangeFault) -> bool {
     )
 }
 
-/// Each call is made again that was refused for want of memory. Run it with each allocation refused too, one in a run.
-#[test]
-fn refused_memory_changes_nothing(rt: HostRuntime) -> Result<(), Fail> {
-    let alloc = rt.alloc();
-    let mut outbox = match made(alloc) {
-        None => outbox(alloc)?,
-        Some(outbox) => outbox,
-    };
-    let bytes = match calls::bytes(alloc, &mut outbox, 1) {
+/// What an exchange comes to, which is made again where memory is refused; `None` where it was refused otherwise or has changed the
+/// entry.
+fn exchanged_at_last<S: Alter>(alloc: Global, outbox: &mut Outbox<S>) -> Option<State> {
+    let reply = REGISTERED_CLOSED.as_bytes();
+    let mut output = Vec::new(alloc);
+    match exchanged(alloc, outbox, 1, reply, &mut output, None, None) {
+        Ok(state) => Some(state),
         Err(fault) => {
-            assert_eq!(rt; fault, TakeFault::Memory);
-            calls::bytes(alloc, &mut outbox, 1)?
+            if !wants_memory(fault) || state_of(outbox) != Some(State::Open) {
+                return None;
+            }
+            exchanged(alloc, outbox, 1, reply, &mut output, None, None).ok()
         }
-        Ok(bytes) => bytes,
-    };
-    assert_eq!(rt; bytes.len(), 537);
-    let (mut answer, _) = exchanged(alloc, &mut outbox, REGISTERED.as_bytes(), 1)?;
-    if let Err(fault) = answer {
-        assert!(rt; wants_memory(fault));
-        assert_eq!(rt; state_of(&mut outbox, 1)?, Some(State::Open));
-        answer = exchanged(alloc, &mut outbox, REGISTERED.as_bytes(), 1)?.0;
     }
-    assert_eq!(rt; answer, Ok(State::Confirmed(1)));
+}
+
+/// How long the request of the entry is, which is asked for again where memory is refused.
+fn request_length<S: Alter>(alloc: Global, outbox: &mut Outbox<S>) -> Result<usize, TakeFault> {
+    let request = match request_of(alloc, outbox) {
+        Err(TakeFault::Memory) => request_of(alloc, outbox)?,
+        answer => answer?,
+    };
+    Ok(request.len())
+}
+
+/// The outbox, which is made again where memory is refused.
+fn made_at_last<S: Fresh>(alloc: Global) -> Option<Outbox<S>> {
+    match with_entry(alloc) {
+        None => with_entry(alloc),
+        made => made,
+    }
+}
+
+/// Asserts that an entry is sent and confirmed.
+fn is_confirmed<S: Fresh>(rt: &impl Abort, alloc: Global) -> Result<(), Fail> {
+    let mut outbox: Outbox<S> = made_at_last(alloc).ok_or("the outbox is not made")?;
+    assert_eq!(rt; request_length(alloc, &mut outbox)?, 537);
+    assert_eq!(rt;
+        exchanged_at_last(alloc, &mut outbox),
+        Some(State::Confirmed(1))
+    );
     Ok(())
 }
 
+/// Each call is made again that was refused for want of memory. Run it with each allocation refused too, one in a run.
+#[test]
+fn refused_memory_changes_nothing(rt: HostRuntime) -> Result<(), Fail> {
+    is_confirmed::<MemStore>(&rt, rt.alloc())
+}
+
+const FAULTS: [(ExchangeFault, &str); 3] = [
+    (
+        ExchangeFault::Write { sent: 3 },
+        "the writer failed after 3 bytes",
+    ),
+    (ExchangeFault::Reply(ReplyFault::Cut), "the reply is cut"),
+    (
+        ExchangeFault::Take(TakeFault::NoEntry),
+        "no entry has this id",
+    ),
+];
+
 #[test]
 fn texts_of_faults(rt: HostRuntime) -> Result<(), Fail> {
-    let cases = [
-        (
-            ExchangeFault::Write { sent: 3 },
-            "the writer failed after 3 bytes",
-        ),
-        (ExchangeFault::Reply(ReplyFault::Cut), "the reply is cut"),
-        (
-            ExchangeFault::Take(TakeFault::NoEntry),
-            "no entry has this id",
-        ),
-    ];
-    for (fault, text) in cases {
+    for (fault, text) in FAULTS {
         assert_eq!(rt; format!(in rt.alloc(); "{fault}")?.as_str(), text);
     }
     Ok(())

@@ -78,9 +78,12 @@ pub fn hold<D: Disk + Drop, P: Place<D>>(
 ) -> Result<(), Fail> {
     for &(line, status, output, errors) in cases {
         let given = run(rt, place, folder, line)?;
-        let errors = in_folder(rt, folder, errors)?;
+        let (output, errors) = (
+            in_folder(rt, folder, output)?,
+            in_folder(rt, folder, errors)?,
+        );
         let as_wanted = given.status == status
-            && given.output.as_str() == output
+            && given.output.as_str() == output.as_str()
             && given.errors.as_str() == errors.as_str();
         if !as_wanted {
             return Err(line.into());

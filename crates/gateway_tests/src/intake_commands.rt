@@ -62,7 +62,12 @@ const BEFORE: [Case; 5] = [
         "",
         "intake: --filer: not a filer code, which is 1 to 64 ASCII letters, digits, '.', '_' and '-'\n",
     ),
-    ("intake check --db @/r.db", 1, "not a register\n", ""),
+    (
+        "intake check --db @/r.db",
+        1,
+        "not a register\n",
+        "intake: @/r.db: there is no such file\n",
+    ),
     (
         "intake show --db @/r.db --number 1",
         1,
@@ -77,7 +82,7 @@ const BEFORE: [Case; 5] = [
     ),
 ];
 
-const AFTER: [Case; 6] = [
+const AFTER: [Case; 7] = [
     (
         "intake check --db @/r.db",
         0,
@@ -114,10 +119,21 @@ const AFTER: [Case; 6] = [
         "",
         "intake: @/r.db: a table of the register's name is there\n",
     ),
+    (
+        "intake lint --filer ACME @/r.db",
+        1,
+        "@/r.db: not-json \"\"\n",
+        "",
+    ),
 ];
 
 const DAMAGED: [Case; 2] = [
-    ("intake check --db @/r.db", 1, "damaged at row 1\n", ""),
+    (
+        "intake check --db @/r.db",
+        1,
+        "damaged at row 1\n",
+        "intake: @/r.db: damaged at row 1\n",
+    ),
     (
         "intake list --db @/r.db --filer ACME",
         1,

@@ -8,6 +8,8 @@ mod client;
 #[cfg(test)]
 mod command_lines;
 #[cfg(test)]
+mod examples;
+#[cfg(test)]
 mod intake;
 #[cfg(test)]
 mod intake_commands;
@@ -17,3 +19,7 @@ mod loopback;
 mod outbox_commands;
 #[cfg(test)]
 mod server;
+#[cfg(test)]
+mod stores;
+#[cfg(test)]
+mod streams;

@@ -9,7 +9,7 @@ use std::net::TcpListener;
 use std::test::Fail;
 use std::{env, fs};
 
-const CASES: [Case; 12] = [
+const CASES: [Case; 14] = [
     (
         "outbox init --db @/box.db --filer a/b",
         2,
@@ -70,6 +70,18 @@ const CASES: [Case; 12] = [
         0,
         "entry 1 open\nentry 2 open\n",
         "",
+    ),
+    (
+        "outbox show --db @/box.db --entry 1",
+        0,
+        "entry 1 open, 2 bytes, key k-1\n",
+        "",
+    ),
+    (
+        "outbox show --db @/box.db --entry 3",
+        4,
+        "",
+        "outbox: @/box.db: there is no entry 3\n",
     ),
     (
         "outbox status --db @/small",

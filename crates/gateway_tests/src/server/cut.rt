@@ -1,145 +1,275 @@
 //! Requests, whole and cut off.
 
-use super::streams::front;
-use super::*;
+use super::{Conversation, LIMIT, PIECES, hold, served};
+use crate::examples::{
+    HEAD, LIST, MALFORMED, NO_FILINGS, REGISTERED, REGISTERED_CLOSED, REPORT, SMALLEST, bytes_of,
+    front,
+};
+use crate::stores::Fresh;
+use gateway_server::Ended;
+use intake_core::Intake;
+use sqlite::{Alter, MemStore};
+use std::alloc::Global;
+use std::process::Abort;
+use std::test::Fail;
 
-/// A request and what is written for it.
-#[derive(Drop)]
-struct Example {
-    input: String,
-    reply: &'static str,
-}
-
-/// Filings with a fault, or with a form of their own.
-fn filings(rt: &HostRuntime) -> Result<Vec<Example>, Fail> {
-    let mut examples = Vec::new(rt.alloc());
-    for (lengths, reply) in [
-        ("84, 084", REGISTERED),
-        ("84\r\nContent-Length: 84", REGISTERED),
-        ("84, 85", MALFORMED),
-        ("84,", MALFORMED),
-        ("+84", MALFORMED),
-        ("84\r\nContent-Length: 85", MALFORMED),
-    ] {
-        let input = format!(in rt.alloc();
-            "POST /filings/ACME HTTP/1.1\r\nHost: h\r\nIdempotency-Key: \"k-1\"\r\nContent-Length: {lengths}\r\n\r\n{SMALLEST}"
-        )?;
-        examples.push(Example { input, reply })?;
-    }
-    for (head, reply) in [
-        ("/filings/ACME HTTP/1.1\r\nHost: localhost", REGISTERED),
-        (
-            "http://localhost/filings/ACME HTTP/1.1\r\nHost: h",
-            REGISTERED,
-        ),
-        (
-            "/filings/ACME HTTP/1.0\r\nX: y",
-            "HTTP/1.1 201 Created\r\nContent-Type: application/json\r\nContent-Length: 34\r\nConnection: close\r\n\r\n{\"number\":1,\"status\":\"registered\"}",
-        ),
-        ("/filings/ACME HTTP/1.1\r\nX: y", MALFORMED),
-        ("/filings/ACME HTTP/1.1\r\nHost: h\r\nHost: h", MALFORMED),
-        (
-            "/filings/ACME HTTP/1.1\r\nHost: h\r\nContent-Encoding: gzip",
+/// One request each, with its body where its head is not refused, and the reply to it.
+static EXAMPLES: [Conversation; 21] = [
+    (
+        &[(HEAD, 1), (REPORT, 1)],
+        &[(REGISTERED, 1)],
+        Ended::InputEnded,
+    ),
+    (
+        &[
+            (
+                "POST /filings/ACME HTTP/1.1\r\nHost: h\r\nIdempotency-Key: \"k-1\"\r\nContent-Length: 84, 084\r\n\r\n",
+                1,
+            ),
+            (SMALLEST, 1),
+        ],
+        &[(REGISTERED, 1)],
+        Ended::InputEnded,
+    ),
+    (
+        &[
+            (
+                "POST /filings/ACME HTTP/1.1\r\nHost: h\r\nIdempotency-Key: \"k-1\"\r\nContent-Length: 84\r\nContent-Length: 84\r\n\r\n",
+                1,
+            ),
+            (SMALLEST, 1),
+        ],
+        &[(REGISTERED, 1)],
+        Ended::InputEnded,
+    ),
+    (
+        &[(
+            "POST /filings/ACME HTTP/1.1\r\nHost: h\r\nIdempotency-Key: \"k-1\"\r\nContent-Length: 84, 85\r\n\r\n",
+            1,
+        )],
+        &[(MALFORMED, 1)],
+        Ended::Closed,
+    ),
+    (
+        &[(
+            "POST /filings/ACME HTTP/1.1\r\nHost: h\r\nIdempotency-Key: \"k-1\"\r\nContent-Length: 84,\r\n\r\n",
+            1,
+        )],
+        &[(MALFORMED, 1)],
+        Ended::Closed,
+    ),
+    (
+        &[(
+            "POST /filings/ACME HTTP/1.1\r\nHost: h\r\nIdempotency-Key: \"k-1\"\r\nContent-Length: +84\r\n\r\n",
+            1,
+        )],
+        &[(MALFORMED, 1)],
+        Ended::Closed,
+    ),
+    (
+        &[(
+            "POST /filings/ACME HTTP/1.1\r\nHost: h\r\nIdempotency-Key: \"k-1\"\r\nContent-Length: 84\r\nContent-Length: 85\r\n\r\n",
+            1,
+        )],
+        &[(MALFORMED, 1)],
+        Ended::Closed,
+    ),
+    (
+        &[
+            (
+                "POST http://localhost/filings/ACME HTTP/1.1\r\nHost: h\r\nIdempotency-Key: \"k-1\"\r\nContent-Length: 393\r\n\r\n",
+                1,
+            ),
+            (REPORT, 1),
+        ],
+        &[(REGISTERED, 1)],
+        Ended::InputEnded,
+    ),
+    (
+        &[
+            (
+                "POST /filings/ACME HTTP/1.0\r\nX: y\r\nIdempotency-Key: \"k-1\"\r\nContent-Length: 393\r\n\r\n",
+                1,
+            ),
+            (REPORT, 1),
+        ],
+        &[(REGISTERED_CLOSED, 1)],
+        Ended::Closed,
+    ),
+    (
+        &[(
+            "POST /filings/ACME HTTP/1.1\r\nX: y\r\nIdempotency-Key: \"k-1\"\r\nContent-Length: 393\r\n\r\n",
+            1,
+        )],
+        &[(MALFORMED, 1)],
+        Ended::Closed,
+    ),
+    (
+        &[(
+            "POST /filings/ACME HTTP/1.1\r\nHost: h\r\nHost: h\r\nIdempotency-Key: \"k-1\"\r\nContent-Length: 393\r\n\r\n",
+            1,
+        )],
+        &[(MALFORMED, 1)],
+        Ended::Closed,
+    ),
+    (
+        &[
+            (
+                "POST /filings/ACME HTTP/1.1\r\nHost: h\r\nContent-Encoding: gzip\r\nIdempotency-Key: \"k-1\"\r\nContent-Length: 393\r\n\r\n",
+                1,
+            ),
+            (REPORT, 1),
+        ],
+        &[(
             "HTTP/1.1 415 Unsupported Media Type\r\nContent-Type: application/json\r\nContent-Length: 27\r\n\r\n{\"status\":\"content-coding\"}",
-        ),
-    ] {
-        let input = format!(in rt.alloc();
-            "POST {head}\r\nIdempotency-Key: \"k-1\"\r\nContent-Length: 393\r\n\r\n{REPORT}"
-        )?;
-        examples.push(Example { input, reply })?;
-    }
-    Ok(examples)
-}
-
-/// Requests that are refused, and a list.
-fn others(rt: &HostRuntime) -> Result<Vec<Example>, Fail> {
-    let mut examples = Vec::new(rt.alloc());
-    for (input, reply) in [
-        (
-            "GET /filings/ACME HTTP/1.1\r\nHost: h\r\n\r\n",
-            "HTTP/1.1 200 OK\r\nContent-Type: application/json\r\nContent-Length: 14\r\n\r\n{\"filings\":[]}",
-        ),
-        (
-            "GET /other HTTP/1.1\r\nHost: h\r\n\r\n",
+            1,
+        )],
+        Ended::InputEnded,
+    ),
+    (&[(LIST, 1)], &[(NO_FILINGS, 1)], Ended::InputEnded),
+    (
+        &[("GET /filings/ACME HTTP/1.0\r\n\r\n", 1)],
+        &[(
+            "HTTP/1.1 200 OK\r\nContent-Type: application/json\r\nContent-Length: 14\r\nConnection: close\r\n\r\n{\"filings\":[]}",
+            1,
+        )],
+        Ended::Closed,
+    ),
+    (
+        &[("GET /other HTTP/1.1\r\nHost: h\r\n\r\n", 1)],
+        &[(
             "HTTP/1.1 404 Not Found\r\nContent-Type: application/json\r\nContent-Length: 20\r\n\r\n{\"status\":\"no-path\"}",
-        ),
-        (
-            "PUT /filings/ACME HTTP/1.1\r\nHost: h\r\n\r\n",
+            1,
+        )],
+        Ended::InputEnded,
+    ),
+    (
+        &[("PUT /filings/ACME HTTP/1.1\r\nHost: h\r\n\r\n", 1)],
+        &[(
             "HTTP/1.1 405 Method Not Allowed\r\nContent-Type: application/json\r\nContent-Length: 22\r\nAllow: GET, POST\r\n\r\n{\"status\":\"no-method\"}",
-        ),
-        (
-            "HEAD /filings/ACME HTTP/1.1\r\nHost: h\r\n\r\n",
+            1,
+        )],
+        Ended::InputEnded,
+    ),
+    (
+        &[("HEAD /filings/ACME HTTP/1.1\r\nHost: h\r\n\r\n", 1)],
+        &[(
             "HTTP/1.1 405 Method Not Allowed\r\nContent-Type: application/json\r\nAllow: GET, POST\r\n\r\n",
-        ),
-        (
+            1,
+        )],
+        Ended::InputEnded,
+    ),
+    (
+        &[(
             "POST / HTTP/1.1\r\nHost: h\r\nTransfer-Encoding: chunked\r\nContent-Length: x\r\n\r\n",
+            1,
+        )],
+        &[(
             "HTTP/1.1 501 Not Implemented\r\nContent-Type: application/json\r\nContent-Length: 19\r\nConnection: close\r\n\r\n{\"status\":\"coding\"}",
-        ),
-        (
+            1,
+        )],
+        Ended::Closed,
+    ),
+    (
+        &[(
+            "POST / HTTP/1.1\r\nHost: h\r\nExpect: 100-continue\r\nContent-Length: 1048577\r\n\r\n",
+            1,
+        )],
+        &[(
+            "HTTP/1.1 413 Content Too Large\r\nContent-Type: application/json\r\nContent-Length: 22\r\nConnection: close\r\n\r\n{\"status\":\"too-large\"}",
+            1,
+        )],
+        Ended::Closed,
+    ),
+    (
+        &[(
             "POST /filings/ACME HTTP/1.1\r\nHost: h\r\nContent-Length: 5\r\n\r\nhello",
+            1,
+        )],
+        &[(
             "HTTP/1.1 400 Bad Request\r\nContent-Type: application/json\r\nContent-Length: 24\r\n\r\n{\"status\":\"key-missing\"}",
-        ),
-        (
+            1,
+        )],
+        Ended::InputEnded,
+    ),
+    (
+        &[(
             "POST /filings/ACME HTTP/1.1\r\nHost: h\r\nIdempotency-Key: k-1\r\nContent-Length: 5\r\n\r\nhello",
+            1,
+        )],
+        &[(
             "HTTP/1.1 400 Bad Request\r\nContent-Type: application/json\r\nContent-Length: 20\r\n\r\n{\"status\":\"key-bad\"}",
-        ),
-    ] {
-        let input = String::from_str(rt.alloc(), input)?;
-        examples.push(Example { input, reply })?;
-    }
-    Ok(examples)
+            1,
+        )],
+        Ended::InputEnded,
+    ),
+];
+
+/// Whether nothing is written for these bytes, and nothing marked.
+fn is_unanswered<S: Alter>(alloc: Global, intake: &mut Intake<S>, given: &[u8]) -> bool {
+    let mut output = Vec::new(alloc);
+    let served = served(alloc, intake, given, 4096, &mut output);
+    output.is_empty() && served.marks.is_empty() && served.ended == Ended::InputEnded
 }
 
-#[test]
-fn requests_whole_and_cut_off(rt: HostRuntime) -> Result<(), Fail> {
-    for examples in [filings(&rt)?, others(&rt)?] {
-        for example in examples {
-            for most in PIECES {
-                let mut intake = Intake::in_memory(rt.alloc(), LIMIT)?;
-                let (output, _) = written_in_pieces(&rt, &mut intake, &example.input, most)?;
-                assert_eq!(rt; output.as_str(), example.reply);
-            }
-            for cut in 0..example.input.len() {
-                let mut intake = Intake::in_memory(rt.alloc(), LIMIT)?;
-                let (output, served) = written_for(
-                    &rt,
-                    &mut intake,
-                    front(example.input.as_bytes(), cut),
-                )?;
-                // A head that is refused is answered at its end, without its body.
-                assert!(rt; output.is_empty() || output.as_str() == example.reply);
-                assert_eq!(rt; served.marks.len(), if output.is_empty() { 0 } else { 1 });
-                assert!(rt; served.marks.iter().all(|mark| *mark == Mark::NotFiled));
-            }
-        }
+/// Whether this is written for a request.
+fn is_answered<S: Alter>(
+    alloc: Global,
+    intake: &mut Intake<S>,
+    given: &[u8],
+    written: &[u8],
+) -> bool {
+    let mut output = Vec::new(alloc);
+    let _ = served(alloc, intake, given, 4096, &mut output);
+    output.as_slice() == written
+}
+
+/// Whether a request that is cut off after so many bytes is nothing to a new intake, which answers the whole request then.
+fn is_nothing<S: Fresh>(
+    alloc: Global,
+    given: &[u8],
+    written: &[u8],
+    cut: usize,
+) -> Result<bool, Fail> {
+    let mut intake = S::intake(alloc, LIMIT)?;
+    Ok(
+        is_unanswered(alloc, &mut intake, front(given, cut))
+            && is_answered(alloc, &mut intake, given, written),
+    )
+}
+
+/// Asserts it of each front of a request.
+fn fronts_are_nothing<S: Fresh>(
+    rt: &impl Abort,
+    alloc: Global,
+    (given, written, _): Conversation,
+) -> Result<(), Fail> {
+    let given = bytes_of(alloc, given)?;
+    let written = bytes_of(alloc, written)?;
+    for cut in 0..given.len() {
+        assert!(rt; is_nothing::<S>(alloc, &given, &written, cut)?, "at {cut}");
+    }
+    Ok(())
+}
+
+/// Asserts it of each example.
+fn are_nothing<S: Fresh>(
+    rt: &impl Abort,
+    alloc: Global,
+    examples: &[Conversation],
+) -> Result<(), Fail> {
+    for &example in examples {
+        fronts_are_nothing::<S>(rt, alloc, example)?;
     }
     Ok(())
 }
 
 #[test]
-fn a_request_that_is_cut_off_is_not_kept(rt: HostRuntime) -> Result<(), Fail> {
-    let request = filing(&rt, "ACME", "k-1", REPORT)?;
-    for cut in 0..request.len() {
-        let mut intake = Intake::in_memory(rt.alloc(), LIMIT)?;
-        let (output, served) = written_for(&rt, &mut intake, front(request.as_bytes(), cut))?;
-        assert_eq!(rt; output.as_str(), "");
-        assert_eq!(rt; served.ended, Ended::InputEnded);
-        assert!(rt; served.marks.is_empty());
-        assert_eq!(rt; written(&rt, &mut intake, &request)?.0.as_str(), REGISTERED);
-    }
-    Ok(())
+fn requests_whole(rt: HostRuntime) -> Result<(), Fail> {
+    hold::<MemStore>(&rt, rt.alloc(), &EXAMPLES, &PIECES)
 }
 
 #[test]
-fn a_request_within_a_body(rt: HostRuntime) -> Result<(), Fail> {
-    let request = filing(&rt, "ACME", "k-1", REPORT)?;
-    let around = filing(&rt, "ACME", "k-2", &request)?;
-    for most in PIECES {
-        let mut intake = Intake::in_memory(rt.alloc(), LIMIT)?;
-        let (output, served) = written_in_pieces(&rt, &mut intake, &around, most)?;
-        assert_eq!(rt; output.as_str(), NOT_JSON);
-        assert_eq!(rt; served.marks.as_slice(), [Mark::Done].as_slice());
-        assert_eq!(rt; written(&rt, &mut intake, &request)?.0.as_str(), REGISTERED);
-    }
-    Ok(())
+fn requests_cut_off(rt: HostRuntime) -> Result<(), Fail> {
+    are_nothing::<MemStore>(&rt, rt.alloc(), &EXAMPLES)
 }

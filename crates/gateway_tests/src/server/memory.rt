@@ -1,63 +1,87 @@
-//! Serving where memory runs out: `rt try --test --fail-alloc N` makes the Nth allocation fail.
+//! Requests that are sent again where memory is refused: what is kept is that of before, and the second reply is that of ample
+//! memory. Run it with each allocation refused too, one in a run.
 
-use super::streams::{Counting, Piece, Waiting, front};
-use super::*;
-use std::cell::Cell;
+use super::{LIMIT, served};
+use crate::examples::{LIST, REGISTERED, SMALL, UNAVAILABLE};
+use crate::stores::Fresh;
+use gateway_server::{Ended, Served};
+use http_wire::ConnFault;
+use intake_core::Intake;
+use register_store::CreateFault;
+use sqlite::{Alter, MemStore};
+use std::alloc::{AllocError, Global};
+use std::process::Abort;
+use std::test::Fail;
 
-const HEAD: &str =
-    "POST /filings/ACME HTTP/1.1\r\nHost: localhost\r\nIdempotency-Key: \"k-1\"\r\nContent-Length: 393\r\n\r\n";
+/// A request and its reply.
+type Exchange = (&'static str, &'static str);
 
-/// Serves one filing with no allocation of its own.
-fn serve_filing(
-    rt: &HostRuntime,
-    intake: &mut Intake<MemStore>,
-    room: &mut [u8],
-) -> (usize, Ended) {
-    let written = Cell::new(0);
-    let head = Piece {
-        bytes: HEAD.as_bytes(),
-        due: 0,
-    };
-    let body = Piece {
-        bytes: REPORT.as_bytes(),
-        due: 0,
-    };
-    let served = serve(
-        rt.alloc(),
-        &mut Device::new(Waiting {
-            pieces: &[head, body],
-            given: 0,
-            written: &written,
-        }),
-        &mut Device::new(Counting {
-            room,
-            most: 1024,
-            written: &written,
-            calls: None,
-        }),
-        intake,
-    );
-    (written.get(), served.ended)
+/// A report, the same again, another under its key, and the list.
+static EXCHANGES: [Exchange; 4] = [
+    (SMALL, REGISTERED),
+    (SMALL, REGISTERED),
+    (
+        "POST /filings/ACME HTTP/1.1\r\nHost: h\r\nIdempotency-Key: \"k-1\"\r\nContent-Length: 2\r\n\r\n{}",
+        "HTTP/1.1 422 Unprocessable Content\r\nContent-Type: application/json\r\nContent-Length: 23\r\n\r\n{\"status\":\"key-reused\"}",
+    ),
+    (
+        LIST,
+        "HTTP/1.1 200 OK\r\nContent-Type: application/json\r\nContent-Length: 36\r\n\r\n{\"filings\":[{\"facts\":0,\"number\":1}]}",
+    ),
+];
+
+/// An intake that keeps nothing yet.
+fn made<S: Fresh>(alloc: Global) -> Result<Intake<S>, CreateFault> {
+    match S::intake(alloc, LIMIT) {
+        Err(CreateFault::Memory) => S::intake(alloc, LIMIT),
+        answer => answer,
+    }
+}
+
+/// Room for a reply, to which it is written without memory of its own.
+fn room(alloc: Global) -> Result<Vec<u8>, AllocError> {
+    match Vec::with_capacity(alloc, 1024) {
+        Err(AllocError) => Vec::with_capacity(alloc, 1024),
+        answer => answer,
+    }
+}
+
+/// Whether a request that was refused for want of memory was told so, or nothing.
+fn is_told(served: &Served, output: &[u8]) -> bool {
+    match served.ended {
+        Ended::InputEnded => output == UNAVAILABLE.as_bytes(),
+        Ended::Fault(ConnFault::Memory) => output.is_empty(),
+        _ => false,
+    }
+}
+
+/// Whether a request gets this reply, at once or when it is sent again.
+fn goes<S: Alter>(
+    alloc: Global,
+    intake: &mut Intake<S>,
+    (request, reply): Exchange,
+) -> Result<bool, AllocError> {
+    let mut output = room(alloc)?;
+    let first = served(alloc, intake, request.as_bytes(), 4096, &mut output);
+    if output.as_slice() == reply.as_bytes() {
+        return Ok(true);
+    }
+    let told = is_told(&first, &output);
+    output.clear();
+    let _ = served(alloc, intake, request.as_bytes(), 4096, &mut output);
+    Ok(told && output.as_slice() == reply.as_bytes())
+}
+
+/// Asserts it of each.
+fn hold<S: Fresh>(rt: &impl Abort, alloc: Global) -> Result<(), Fail> {
+    let mut intake: Intake<S> = made(alloc)?;
+    for (number, &exchange) in EXCHANGES.iter().enumerate() {
+        assert!(rt; goes(alloc, &mut intake, exchange)?, "exchange {number}");
+    }
+    Ok(())
 }
 
 #[test]
-fn a_filing_is_registered_once_memory_is_back(rt: HostRuntime) -> Result<(), Fail> {
-    let mut intake = Intake::in_memory(rt.alloc(), LIMIT)?;
-    let mut room = [0u8; 1024];
-    let (count, ended) = serve_filing(&rt, &mut intake, &mut room);
-    match ended {
-        Ended::InputEnded => {
-            let reply = front(&room, count);
-            assert!(rt; reply == REGISTERED.as_bytes() || reply == UNAVAILABLE.as_bytes());
-        }
-        _ => {
-            assert_eq!(rt; ended, Ended::Fault(ConnFault::Memory));
-            assert_eq!(rt; count, 0);
-        }
-    }
-    let mut room = [0u8; 1024];
-    let (count, ended) = serve_filing(&rt, &mut intake, &mut room);
-    assert_eq!(rt; front(&room, count), REGISTERED.as_bytes());
-    assert_eq!(rt; ended, Ended::InputEnded);
-    Ok(())
+fn refused_memory_changes_nothing(rt: HostRuntime) -> Result<(), Fail> {
+    hold::<MemStore>(&rt, rt.alloc())
 }

@@ -1,58 +1,112 @@
 //! Connections that are stopped before or after a request.
 
-use super::*;
-use gateway_server::{Partly, Stop, completed, serve_until};
+use super::{LIMIT, served};
+use crate::examples::{
+    HEAD, REGISTERED, REGISTERED_SECOND, REPORT, SECOND_HEAD, SECOND_SMALL, Text, bytes_of,
+};
+use crate::stores::Fresh;
+use gateway_server::{Mark, Partly, Stop, completed, serve_until};
+use http_wire::Device;
+use intake_core::Intake;
+use sqlite::{Alter, MemStore};
+use std::alloc::{AllocError, Global};
+use std::process::Abort;
+use std::test::Fail;
 
-/// What is written for the bytes of a connection that is stopped.
-fn written_until(
-    rt: &HostRuntime,
-    intake: &mut Intake<MemStore>,
-    input: &str,
+/// What is given on a connection that is stopped, where, and what is written until then; and what is given on the next connection,
+/// and written.
+type Stopped = (Text, Stop, Text, Text, Text);
+
+/// The key of a request before which a connection was stopped is free. What was registered before the reply was written stays.
+static STOPS: [Stopped; 2] = [
+    (
+        &[(HEAD, 1), (REPORT, 1), (SECOND_HEAD, 1), (REPORT, 1)],
+        Stop::Before(2),
+        &[(REGISTERED, 1)],
+        &[(SECOND_SMALL, 1)],
+        &[(REGISTERED_SECOND, 1)],
+    ),
+    (
+        &[(HEAD, 1), (REPORT, 1)],
+        Stop::After(1),
+        &[],
+        &[(HEAD, 1), (REPORT, 1)],
+        &[(REGISTERED, 1)],
+    ),
+];
+
+/// Serves a connection up to a stop.
+fn stopped<S: Alter>(
+    alloc: Global,
+    intake: &mut Intake<S>,
+    given: &[u8],
     stop: Stop,
-) -> Result<(String, Partly), Fail> {
-    let mut output: Vec<u8> = Vec::new(rt.alloc());
-    let partly = serve_until(
-        rt.alloc(),
-        &mut Device::new(input.as_bytes()),
-        &mut Device::new(&mut output),
+    output: &mut Vec<u8>,
+) -> Partly {
+    serve_until(
+        alloc,
+        &mut Device::new(given),
+        &mut Device::new(output),
         intake,
         stop,
-    );
-    Ok((String::from_utf8(output)?, partly))
+    )
 }
 
-#[test]
-fn stopped_before_the_second_request(rt: HostRuntime) -> Result<(), Fail> {
-    let mut intake = Intake::in_memory(rt.alloc(), LIMIT)?;
-    let first = filing(&rt, "ACME", "k-1", REPORT)?;
-    let second = filing(&rt, "ACME", "k-2", REPORT)?;
-    let input = format!(in rt.alloc(); "{first}{second}")?;
-    let (output, partly) = written_until(&rt, &mut intake, &input, Stop::Before(2))?;
-    assert_eq!(rt; output.as_str(), REGISTERED);
-    assert_eq!(rt; partly.marks.as_slice(), [Mark::Done].as_slice());
-    assert_eq!(rt; partly.ended, None);
-    // Its key is free.
-    let other = filing(&rt, "ACME", "k-2", SMALLEST)?;
-    assert_eq!(rt;
-        written(&rt, &mut intake, &other)?.0.as_str(),
-        REGISTERED_SECOND
-    );
+/// Whether a connection was stopped when it had completed the report of `ACME` under the key `k-1`, and nothing else.
+fn has_completed_one(alloc: Global, given: &[u8], partly: &Partly) -> Result<bool, AllocError> {
+    let list = completed(alloc, given, &partly.marks)?;
+    Ok(
+        partly.ended.is_none()
+            && partly.marks.as_slice() == [Mark::Done].as_slice()
+            && matches!(list.as_slice(), [request] if request.filer.as_str() == "ACME" && request.key.as_str() == "k-1" && request.body.as_slice() == REPORT.as_bytes()),
+    )
+}
+
+/// Whether a connection is stopped so.
+fn stops<S: Alter>(
+    alloc: Global,
+    intake: &mut Intake<S>,
+    given: Text,
+    stop: Stop,
+    written: Text,
+) -> Result<bool, Fail> {
+    let given = bytes_of(alloc, given)?;
+    let mut output = Vec::new(alloc);
+    let partly = stopped(alloc, intake, &given, stop, &mut output);
+    Ok(output == bytes_of(alloc, written)? && has_completed_one(alloc, &given, &partly)?)
+}
+
+/// Whether this is written for a connection.
+fn writes<S: Alter>(
+    alloc: Global,
+    intake: &mut Intake<S>,
+    given: Text,
+    written: Text,
+) -> Result<bool, Fail> {
+    let given = bytes_of(alloc, given)?;
+    let mut output = Vec::new(alloc);
+    let _ = served(alloc, intake, &given, 4096, &mut output);
+    Ok(output == bytes_of(alloc, written)?)
+}
+
+/// Whether two connections go so, one after the other, on a new intake.
+fn goes<S: Fresh>(
+    alloc: Global,
+    (given, stop, written, next, reply): Stopped,
+) -> Result<bool, Fail> {
+    let mut intake = S::intake(alloc, LIMIT)?;
+    Ok(stops(alloc, &mut intake, given, stop, written)? && writes(alloc, &mut intake, next, reply)?)
+}
+
+/// Asserts it of each.
+fn hold<S: Fresh>(rt: &impl Abort, alloc: Global) -> Result<(), Fail> {
+    for &stopped in &STOPS {
+        assert!(rt; goes::<S>(alloc, stopped)?, "{:?}", stopped.1);
+    }
     Ok(())
 }
 
 #[test]
-fn stopped_after_the_first_request(rt: HostRuntime) -> Result<(), Fail> {
-    let mut intake = Intake::in_memory(rt.alloc(), LIMIT)?;
-    let input = filing(&rt, "ACME", "k-1", REPORT)?;
-    let (output, partly) = written_until(&rt, &mut intake, &input, Stop::After(1))?;
-    assert_eq!(rt; output.as_str(), "");
-    assert_eq!(rt; partly.marks.as_slice(), [Mark::Done].as_slice());
-    assert_eq!(rt; partly.ended, None);
-    let list = completed(rt.alloc(), input.as_bytes(), &partly.marks)?;
-    assert_eq!(rt; list.len(), 1);
-    assert_eq!(rt; list[0].filer.as_str(), "ACME");
-    assert_eq!(rt; list[0].key.as_str(), "k-1");
-    assert_eq!(rt; list[0].body.as_slice(), REPORT.as_bytes());
-    assert_eq!(rt; written(&rt, &mut intake, &input)?.0.as_str(), REGISTERED);
-    Ok(())
+fn a_stop_keeps_what_was_completed(rt: HostRuntime) -> Result<(), Fail> {
+    hold::<MemStore>(&rt, rt.alloc())
 }

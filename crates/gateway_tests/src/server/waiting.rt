@@ -1,80 +1,92 @@
 //! Clients that wait for what they are due before they go on.
 
-use super::streams::{Counting, Piece, Waiting, front};
-use super::*;
+use super::LIMIT;
+use crate::examples::{
+    HEAD, NOT_JSON, REGISTERED, REGISTERED_SECOND, REPORT, SECOND_HEAD, SECOND_SMALL, SMALL, Text,
+    bytes_of,
+};
+use crate::stores::Fresh;
+use crate::streams::{Telling, Turn, Waiting};
+use gateway_server::{Ended, serve};
+use http_wire::Device;
+use intake_core::Intake;
+use sqlite::{Alter, MemStore};
+use std::alloc::Global;
 use std::cell::Cell;
+use std::process::Abort;
+use std::test::Fail;
 
-/// What is written for the pieces, each of which is given once so many bytes were written.
-fn written_in_turn(rt: &HostRuntime, pieces: &[Piece<'_>]) -> Result<(String, Ended), Fail> {
-    let mut intake = Intake::in_memory(rt.alloc(), LIMIT)?;
+/// A head that asks for an interim response, and whose body has five bytes.
+const AWAITING: &str =
+    "POST /filings/ACME HTTP/1.1\r\nHost: h\r\nIdempotency-Key: \"k-1\"\r\nExpect: 100-continue\r\nContent-Length: 5\r\n\r\n";
+
+/// What a client sends in turn, and what is written for all of it.
+type Exchange = (&'static [Turn], Text);
+
+/// The replies to the reports have 110 bytes; the interim response has 25, and the reply after it 144.
+static EXCHANGES: [Exchange; 3] = [
+    (
+        &[(SMALL, 0), (SECOND_SMALL, 110), ("", 220)],
+        &[(REGISTERED, 1), (REGISTERED_SECOND, 1)],
+    ),
+    (
+        &[
+            (HEAD, 0),
+            (REPORT, 0),
+            (SECOND_HEAD, 110),
+            (REPORT, 110),
+            ("", 220),
+        ],
+        &[(REGISTERED, 1), (REGISTERED_SECOND, 1)],
+    ),
+    (
+        &[(AWAITING, 0), ("hello", 25), ("", 169)],
+        &[("HTTP/1.1 100 Continue\r\n\r\n", 1), (NOT_JSON, 1)],
+    ),
+];
+
+/// Serves a client that sends these in turn.
+fn served<S: Alter>(
+    alloc: Global,
+    intake: &mut Intake<S>,
+    turns: &[Turn],
+    output: &mut Vec<u8>,
+) -> Ended {
     let written = Cell::new(0);
-    let mut room = [0u8; 1024];
-    let served = serve(
-        rt.alloc(),
-        &mut Device::new(Waiting {
-            pieces,
-            given: 0,
-            written: &written,
-        }),
-        &mut Device::new(Counting {
-            room: &mut room,
-            most: 1024,
-            written: &written,
-            calls: None,
-        }),
-        &mut intake,
-    );
-    let text = room
-        .iter()
-        .take(written.get())
-        .copied()
-        .collect(rt.alloc())?;
-    Ok((String::from_utf8(text)?, served.ended))
-}
-
-/// A piece that is sent when so many bytes were written.
-fn piece(bytes: &[u8], due: usize) -> Piece<'_> {
-    Piece { bytes, due }
-}
-
-#[test]
-fn a_reply_is_written_before_the_next_read(rt: HostRuntime) -> Result<(), Fail> {
-    let first = filing(&rt, "ACME", "k-1", REPORT)?;
-    let second = filing(&rt, "ACME", "k-2", REPORT)?;
-    let both = format!(in rt.alloc(); "{REGISTERED}{REGISTERED_SECOND}")?;
-    let requests = [
-        piece(first.as_bytes(), 0),
-        piece(second.as_bytes(), 110),
-        piece(b"", 220),
-    ];
-    let (output, ended) = written_in_turn(&rt, &requests)?;
-    assert_eq!(rt; output, both);
-    assert_eq!(rt; ended, Ended::InputEnded);
-    // Both requests have 486 bytes, of which the body is 393.
-    let heads_and_bodies = [
-        piece(front(first.as_bytes(), 93), 0),
-        piece(REPORT.as_bytes(), 0),
-        piece(front(second.as_bytes(), 93), 110),
-        piece(REPORT.as_bytes(), 110),
-        piece(b"", 220),
-    ];
-    let (output, ended) = written_in_turn(&rt, &heads_and_bodies)?;
-    assert_eq!(rt; output, both);
-    assert_eq!(rt; ended, Ended::InputEnded);
-    Ok(())
-}
-
-#[test]
-fn an_interim_response_is_written_before_the_body_is_read(rt: HostRuntime) -> Result<(), Fail> {
-    let head =
-        b"POST /filings/ACME HTTP/1.1\r\nHost: h\r\nIdempotency-Key: \"k-1\"\r\nExpect: 100-continue\r\nContent-Length: 5\r\n\r\n";
-    // The interim response has 25 bytes, and the reply 144.
-    let pieces = [piece(head, 0), piece(b"hello", 25), piece(b"", 169)];
-    let (output, ended) = written_in_turn(&rt, &pieces)?;
-    assert_eq!(rt;
+    let reader = Waiting {
+        turns,
+        written: &written,
+    };
+    let writer = Telling {
         output,
-        format!(in rt.alloc(); "HTTP/1.1 100 Continue\r\n\r\n{NOT_JSON}")?
-    );
-    assert_eq!(rt; ended, Ended::InputEnded);
+        written: &written,
+    };
+    serve(
+        alloc,
+        &mut Device::new(reader),
+        &mut Device::new(writer),
+        intake,
+    )
+    .ended
+}
+
+/// Whether all is written for a client of a new intake that sends these in turn.
+fn goes<S: Fresh>(alloc: Global, (turns, written): Exchange) -> Result<bool, Fail> {
+    let mut intake = S::intake(alloc, LIMIT)?;
+    let mut output = Vec::new(alloc);
+    let ended = served(alloc, &mut intake, turns, &mut output);
+    Ok(output.as_slice() == bytes_of(alloc, written)?.as_slice() && ended == Ended::InputEnded)
+}
+
+/// Asserts it of each.
+fn hold<S: Fresh>(rt: &impl Abort, alloc: Global) -> Result<(), Fail> {
+    for (number, &exchange) in EXCHANGES.iter().enumerate() {
+        assert!(rt; goes::<S>(alloc, exchange)?, "exchange {number}");
+    }
     Ok(())
+}
+
+#[test]
+fn what_is_due_is_written_before_more_is_read(rt: HostRuntime) -> Result<(), Fail> {
+    hold::<MemStore>(&rt, rt.alloc())
 }

@@ -59,11 +59,6 @@ pub(super) fn states<S: Alter>(outbox: &mut Outbox<S>) -> Result<Vec<(u64, State
     outbox.states()
 }
 
-/// The store below an outbox.
-pub(super) fn store_of<S: Alter + Drop>(outbox: Outbox<S>) -> S {
-    outbox.into_conn().into_store()
-}
-
 pub(super) fn into_files<D: Disk + Drop>(
     outbox: Outbox<FileStore<D>>,
 ) -> Result<Files<D>, StoreFault> {

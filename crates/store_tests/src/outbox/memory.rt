@@ -8,7 +8,6 @@ use key_string::{KeyFault, KeyText};
 use outbox_core::{Entry, Outbox, OutboxFault, PutFault, State, StoreFault, TakeFault, key_of};
 use sqlite::{Alter, Connection, MemStore};
 use std::alloc::{AllocError, Global};
-use std::process::Abort;
 use std::test::Fail;
 use uuid::Uuid;
 
@@ -62,37 +61,52 @@ fn next_open<S: Alter>(outbox: &mut Outbox<S>) -> Result<Option<Entry>, StoreFau
     }
 }
 
+/// Whether the entries of the outbox are in these states.
+fn has_states<S: Alter>(outbox: &mut Outbox<S>, expected: &[(u64, State)]) -> Result<bool, Fail> {
+    Ok(states(outbox)?.as_slice() == expected)
+}
+
+fn put_once<S: Alter>(
+    alloc: Global,
+    outbox: &mut Outbox<S>,
+    body: &[u8],
+) -> Result<Result<u64, PutFault>, Fail> {
+    Ok(calls::put(outbox, key(alloc)?, bytes(alloc, body)?))
+}
+
 /// What a put answers on an outbox whose entries are in these states.
 fn put<S: Alter>(
-    rt: &impl Abort,
     alloc: Global,
     outbox: &mut Outbox<S>,
     body: &[u8],
     before: &[(u64, State)],
 ) -> Result<Result<u64, PutFault>, Fail> {
-    match calls::put(outbox, key(alloc)?, bytes(alloc, body)?) {
-        Err(PutFault::Memory) => {
-            assert_eq!(rt; states(outbox)?.as_slice(), before);
-            Ok(calls::put(outbox, key(alloc)?, bytes(alloc, body)?))
-        }
-        answer => Ok(answer),
+    let answer = put_once(alloc, outbox, body)?;
+    if answer != Err(PutFault::Memory) {
+        return Ok(answer);
+    }
+    if has_states(outbox, before)? {
+        put_once(alloc, outbox, body)
+    } else {
+        Err(Fail::from("a refused put changed the entries"))
     }
 }
 
 /// What a reply does to an entry of an outbox whose one entry is in this state.
 fn take<S: Alter>(
-    rt: &impl Abort,
     outbox: &mut Outbox<S>,
     id: u64,
     reply: &Reply,
     before: State,
 ) -> Result<Result<State, TakeFault>, Fail> {
-    match calls::take(outbox, id, reply) {
-        Err(TakeFault::Memory) => {
-            assert_eq!(rt; states(outbox)?.as_slice(), [(1, before)].as_slice());
-            Ok(calls::take(outbox, id, reply))
-        }
-        answer => Ok(answer),
+    let answer = calls::take(outbox, id, reply);
+    if answer != Err(TakeFault::Memory) {
+        return Ok(answer);
+    }
+    if has_states(outbox, &[(1, before)])? {
+        Ok(calls::take(outbox, id, reply))
+    } else {
+        Err(Fail::from("a refused reply changed the entries"))
     }
 }
 
@@ -103,32 +117,34 @@ fn nil_key(alloc: Global) -> Result<KeyText, AllocError> {
     }
 }
 
-/// Puts the entry.
-fn is_put<S: Alter>(rt: &impl Abort, alloc: Global, outbox: &mut Outbox<S>) -> Result<(), Fail> {
-    assert_eq!(rt; put(rt, alloc, outbox, BODY, &[])?, Ok(1));
-    let again = put(rt, alloc, outbox, b"{}", &[(1, State::Open)])?;
-    assert_eq!(rt; again, Err(PutFault::KeyUsed { id: 1 }));
-    Ok(())
+/// Whether the entry is put, once.
+fn is_put<S: Alter>(alloc: Global, outbox: &mut Outbox<S>) -> Result<bool, Fail> {
+    let first = put(alloc, outbox, BODY, &[])?;
+    let again = put(alloc, outbox, b"{}", &[(1, State::Open)])?;
+    Ok(first == Ok(1) && again == Err(PutFault::KeyUsed { id: 1 }))
 }
 
-/// Looks it up.
-fn is_found<S: Alter>(rt: &impl Abort, outbox: &mut Outbox<S>) -> Result<(), Fail> {
-    let open = next_open(outbox)?.ok_or("no entry is open")?;
-    assert_eq!(rt; open.id, 1);
-    is_first(rt, &entry(outbox, 1)?.ok_or("there is no entry 1")?);
-    Ok(())
+/// Whether it is looked up.
+fn is_found<S: Alter>(outbox: &mut Outbox<S>) -> Result<bool, StoreFault> {
+    Ok(is_first(&next_open(outbox)?) && is_first(&entry(outbox, 1)?))
 }
 
-fn is_first(rt: &impl Abort, entry: &Entry) {
-    assert_eq!(rt; entry.key.as_str(), "k-1");
-    assert_eq!(rt; entry.body.as_slice(), BODY);
-    assert_eq!(rt; entry.state, State::Open);
+fn is_first(entry: &Option<Entry>) -> bool {
+    match entry {
+        None => false,
+        Some(entry) => {
+            entry.id == 1
+                && entry.key.as_str() == "k-1"
+                && entry.body.as_slice() == BODY
+                && entry.state == State::Open
+        }
+    }
 }
 
 /// An entry, the status and the content of a reply, the state of the entry 1 before, and what the reply does.
 type Move = (u64, u16, &'static [u8], State, Result<State, TakeFault>);
 
-const MOVES: [Move; 4] = [
+static MOVES: [Move; 4] = [
     (
         1,
         503,
@@ -159,37 +175,43 @@ const MOVES: [Move; 4] = [
     ),
 ];
 
-/// Moves the entry, which is open.
-fn is_moved<S: Alter>(rt: &impl Abort, alloc: Global, outbox: &mut Outbox<S>) -> Result<(), Fail> {
-    for (id, status, content, before, answer) in MOVES {
-        let content = bytes(alloc, content)?;
-        let given = take(rt, outbox, id, &Reply { status, content }, before)?;
-        assert_eq!(rt; given, answer);
+/// Whether a reply does what it is to do.
+fn moves<S: Alter>(alloc: Global, outbox: &mut Outbox<S>, row: &Move) -> Result<bool, Fail> {
+    let (id, status, content, before, answer) = *row;
+    let content = bytes(alloc, content)?;
+    Ok(take(outbox, id, &Reply { status, content }, before)? == answer)
+}
+
+/// Whether the entry, which is open, is moved.
+fn is_moved<S: Alter>(alloc: Global, outbox: &mut Outbox<S>) -> Result<bool, Fail> {
+    for row in &MOVES {
+        if !moves(alloc, outbox, row)? {
+            return Ok(false);
+        }
     }
-    Ok(())
+    Ok(true)
 }
 
-/// Asserts that no entry is open any more.
-fn is_settled<S: Alter>(rt: &impl Abort, outbox: &mut Outbox<S>) -> Result<(), Fail> {
-    let confirmed = State::Confirmed(1);
-    assert!(rt; next_open(outbox)?.is_none());
-    assert_eq!(rt; states(outbox)?.as_slice(), [(1, confirmed)].as_slice());
-    Ok(())
+/// Whether no entry is open any more.
+fn is_settled<S: Alter>(outbox: &mut Outbox<S>) -> Result<bool, Fail> {
+    Ok(next_open(outbox)?.is_none() && has_states(outbox, &[(1, State::Confirmed(1))])?)
 }
 
-/// Asserts what becomes of an entry.
-fn lives<S: Fresh>(rt: &impl Abort, alloc: Global) -> Result<(), Fail> {
+/// Whether an entry is put, looked up, moved and settled.
+fn lives<S: Fresh>(alloc: Global) -> Result<bool, Fail> {
     let mut outbox: Outbox<S> = created(alloc)?;
-    is_put(rt, alloc, &mut outbox)?;
-    is_found(rt, &mut outbox)?;
-    is_moved(rt, alloc, &mut outbox)?;
-    is_settled(rt, &mut outbox)
+    Ok(
+        is_put(alloc, &mut outbox)?
+            && is_found(&mut outbox)?
+            && is_moved(alloc, &mut outbox)?
+            && is_settled(&mut outbox)?,
+    )
 }
 
 #[test]
 fn refused_memory_changes_nothing(rt: HostRuntime) -> Result<(), Fail> {
-    lives::<MemStore>(&rt, rt.alloc())?;
+    assert!(rt; lives::<MemStore>(rt.alloc())?);
     let key = nil_key(rt.alloc())?;
-    assert_eq!(rt; key.as_str(), "00000000-0000-0000-0000-000000000000");
+    assert!(rt; key.as_str() == "00000000-0000-0000-0000-000000000000");
     Ok(())
 }

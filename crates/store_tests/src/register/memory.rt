@@ -10,7 +10,6 @@ use key_string::{KeyFault, KeyText};
 use register_store::{CreateFault, KeptRow, OpenFault, Outcome, Store, StoreFault};
 use sqlite::{Alter, Connection, MemStore};
 use std::alloc::{AllocError, Global};
-use std::process::Abort;
 use std::test::Fail;
 
 /// A new database.
@@ -35,23 +34,26 @@ fn key(alloc: Global) -> Result<KeyText, KeyFault> {
     }
 }
 
-/// Keeps the report, which is not kept where memory is refused.
-fn keep<S: Alter>(rt: &impl Abort, alloc: Global, store: &mut Store<S>) -> Result<Outcome, Fail> {
-    let key = key(alloc)?;
-    match add_short(alloc, store, &key, REPORT)? {
-        Err(StoreFault::Memory) => {
-            has_none(rt, store, &key)?;
-            Ok(add_short(alloc, store, &key, REPORT)??)
-        }
-        answer => Ok(answer?),
+/// What keeping the report answers, which is not kept where memory is refused.
+fn added<S: Alter>(
+    alloc: Global,
+    store: &mut Store<S>,
+    key: &KeyText,
+) -> Result<Result<Outcome, StoreFault>, Fail> {
+    let answer = add_short(alloc, store, key, REPORT)?;
+    if !matches!(answer, Err(StoreFault::Memory)) {
+        return Ok(answer);
+    }
+    if has_none(store, key)? {
+        add_short(alloc, store, key, REPORT)
+    } else {
+        Err(Fail::from("a refused report is kept"))
     }
 }
 
-/// Asserts that nothing is kept.
-fn has_none<S: Alter>(rt: &impl Abort, store: &mut Store<S>, key: &KeyText) -> Result<(), Fail> {
-    assert_eq!(rt; counts(store)?, (0, 0));
-    assert!(rt; found(store, key)?.is_none());
-    Ok(())
+/// Whether nothing is kept.
+fn has_none<S: Alter>(store: &mut Store<S>, key: &KeyText) -> Result<bool, StoreFault> {
+    Ok(counts(store)? == (0, 0) && found(store, key)?.is_none())
 }
 
 fn found<S: Alter>(store: &mut Store<S>, key: &KeyText) -> Result<Option<KeptRow>, StoreFault> {
@@ -62,22 +64,24 @@ fn found<S: Alter>(store: &mut Store<S>, key: &KeyText) -> Result<Option<KeptRow
 }
 
 /// A register with the report.
-fn with_one<S: Fresh>(rt: &impl Abort, alloc: Global) -> Result<Store<S>, Fail> {
+fn with_one<S: Fresh>(alloc: Global) -> Result<Store<S>, Fail> {
     let mut store = created(alloc)?;
-    let outcome = keep(rt, alloc, &mut store)?;
-    assert!(rt; matches!(outcome, Outcome::Registered(1)));
-    Ok(store)
+    let key = key(alloc)?;
+    match added(alloc, &mut store, &key)? {
+        Ok(Outcome::Registered(1)) => Ok(store),
+        _ => Err(Fail::from("the report is not registered")),
+    }
 }
 
 /// The database of such a register.
-fn conn_with_one<S: Fresh>(rt: &impl Abort, alloc: Global) -> Result<Connection<S>, Fail> {
-    Ok(conn_of(with_one(rt, alloc)?))
+fn conn_with_one<S: Fresh>(alloc: Global) -> Result<Connection<S>, Fail> {
+    Ok(conn_of(with_one(alloc)?))
 }
 
 /// The register, opened again. A refusal gives the database up, so another one is made then.
-fn opened<S: Fresh>(rt: &impl Abort, alloc: Global) -> Result<Store<S>, Fail> {
-    match open(alloc, conn_with_one(rt, alloc)?)? {
-        Err(OpenFault::Memory) => Ok(open(alloc, conn_with_one(rt, alloc)?)??),
+fn opened<S: Fresh>(alloc: Global) -> Result<Store<S>, Fail> {
+    match open(alloc, conn_with_one(alloc)?)? {
+        Err(OpenFault::Memory) => Ok(open(alloc, conn_with_one(alloc)?)??),
         answer => Ok(answer?),
     }
 }
@@ -138,15 +142,14 @@ fn has_one<S: Alter>(alloc: Global, store: &mut Store<S>) -> Result<bool, Fail> 
     )
 }
 
-/// Asserts what is found in the register that is opened.
-fn holds<S: Fresh>(rt: &impl Abort, alloc: Global) -> Result<(), Fail> {
-    let mut store: Store<S> = opened(rt, alloc)?;
-    assert_eq!(rt; counts(&store)?, (1, 1));
-    assert!(rt; has_one(alloc, &mut store)?);
-    Ok(())
+/// Whether the register that is opened has the report.
+fn holds<S: Fresh>(alloc: Global) -> Result<bool, Fail> {
+    let mut store: Store<S> = opened(alloc)?;
+    Ok(counts(&store)? == (1, 1) && has_one(alloc, &mut store)?)
 }
 
 #[test]
 fn refused_memory_changes_nothing(rt: HostRuntime) -> Result<(), Fail> {
-    holds::<MemStore>(&rt, rt.alloc())
+    assert!(rt; holds::<MemStore>(rt.alloc())?);
+    Ok(())
 }
