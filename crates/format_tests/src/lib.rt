@@ -1,5 +1,5 @@
-//! Tests of what is read and written as bytes or as a text: keys, heads, messages, replies and reports, through the
-//! public calls of the crates below. What may live here: tests alone, over no table and no file. They stand together,
+//! Tests of what is read and written as bytes or as a text: keys, heads, messages, replies, reports and scripts, through
+//! the public calls of the crates below. What may live here: tests alone, over no table and no file. They stand together,
 //! since tests prove the crate that they stand in once more, and this one has nothing else.
 #![tactic(auto)]
 
@@ -19,5 +19,7 @@ mod replies;
 mod replies_read;
 #[cfg(test)]
 mod reports;
+#[cfg(test)]
+mod scripts;
 #[cfg(test)]
 mod streams;

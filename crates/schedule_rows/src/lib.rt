@@ -10,7 +10,4 @@ mod played;
 mod report;
 mod rows;
 
-pub use fault::Fault;
-pub use outcome::{Outcome, play};
-pub use played::{new_world, read};
 pub use rows::run;

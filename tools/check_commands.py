@@ -1,0 +1,132 @@
+#!/usr/bin/env python3
+"""Holds the command lines of the built programs to what they have to print: the status, the output and the errors, word for word.
+
+    tools/check_commands.py
+
+It takes the programs that `rt run` builds in their folders, as crates/intake/out/intake. Status 1 where a line prints another thing.
+"""
+import sqlite3
+import subprocess
+
+from trials import INTAKE, OUTBOX, Serving, exchange, hold, run, said, try_all
+
+REPORT = (
+    b'{"documentInfo":{"documentType":"https://xbrl.org/2021/xbrl-json","namespaces":{"eg":"http://example.com/eg",'
+    b'"iso4217":"http://www.xbrl.org/2003/iso4217","lei":"http://standards.iso.org/iso/17442"},'
+    b'"taxonomy":["http://example.com/eg.xsd"]},"facts":{"f1":{"value":"100","decimals":0,"dimensions":'
+    b'{"concept":"eg:Assets","entity":"lei:ACME","period":"2024-12-31T00:00:00","unit":"iso4217:EUR"}}}}'
+)
+FACT = (
+    '{"concept":"eg:Assets","decimals":0,"dimensions":{"concept":"eg:Assets","entity":"lei:ACME",'
+    '"period":"2024-12-31T00:00:00","unit":"iso4217:EUR"},"id":"f1","value":"100"}\n'
+)
+FILER_CODE = "not a filer code, which is 1 to 64 ASCII letters, digits, '.', '_' and '-'"
+
+# Each has the words of a line, in which `@` stands for the folder, the status, the output and the errors.
+BEFORE = [
+    ("run --limit 4611686018427387905", 2, "", "--limit: it is 4611686018427387904 at most"),
+    ("list --db @r.db --filer a/b", 2, "", f"--filer: {FILER_CODE}"),
+    ("check --db @r.db", 1, "not a register\n", "r.db: there is no such file"),
+    ("show --db @r.db --number 1", 1, "", "r.db: there is no such file"),
+    ("serve --db @r.db --port 1 --connections 1", 1, "", "r.db: there is no such file"),
+]
+AFTER = [
+    ("check --db @r.db", 0, "sound: 1 kept, 1 filings\n", ""),
+    ("list --db @r.db --filer ACME", 0, '{"filings":[{"facts":1,"number":1}]}\n', ""),
+    ("list --db @r.db --filer BETA", 0, '{"filings":[]}\n', ""),
+    ("show --db @r.db --number 1", 0, FACT, ""),
+    ("show --db @r.db --number 2", 4, "", "r.db: there is no filing 2"),
+    ("serve --db @r.db --port 1 --connections 1 --new", 1, "", "r.db: a table of the register's name is there"),
+    ("lint --filer ACME @r.db", 1, 'r.db: not-json ""\n', ""),
+]
+DAMAGED = [
+    ("check --db @r.db", 1, "damaged at row 1\n", "r.db: damaged at row 1"),
+    ("list --db @r.db --filer ACME", 1, "", "r.db: damaged at row 1"),
+]
+ENTRIES = [
+    ("init --db @box.db --filer a/b", 2, "", f"--filer: {FILER_CODE}"),
+    ("status --db @box.db", 1, "", "box.db: there is no such file"),
+    ("init --db @box.db --filer -x", 0, "", ""),
+    ("init --db @box.db --filer -x", 1, "", "box.db: a table of the outbox's name is there"),
+    ("put --db @none.db --body @none --key ", 2, "", "--key: the key is empty"),
+    ("put --db @box.db --body @large --key k-1", 2, "", "large: the report has more than 1048576 bytes"),
+    ("put --db @box.db --body @small --key k-1", 0, "entry 1\n", ""),
+    ("put --db @box.db --body @small --key k-1", 2, "", "box.db: the key is that of entry 1"),
+    ("put --db @box.db --body @small", 0, "entry 2\n", ""),
+    ("send --db @box.db --port 1 --entry 3", 4, "", "box.db: there is no entry 3"),
+    ("status --db @box.db", 0, "entry 1 open\nentry 2 open\n", ""),
+    ("show --db @box.db --entry 1", 0, "entry 1 open, 2 bytes, key k-1\n", ""),
+    ("show --db @box.db --entry 3", 4, "", "box.db: there is no entry 3"),
+    ("status --db @small", 1, "", "small: not a database"),
+]
+
+# Ports are 1 to 65535; limits, numbers and ids begin with 0.
+OUT_OF_RANGE = [
+    (INTAKE, "serve --db @r.db --port 0 --connections 1"),
+    (INTAKE, "serve --db @r.db --port 65536 --connections 1"),
+    (INTAKE, "serve --db @r.db --port 1 --connections 0"),
+    (INTAKE, "show --db @r.db --number -1"),
+    (OUTBOX, "send --db @box.db --port 0"),
+    (OUTBOX, "send --db @box.db --port 65536"),
+    (OUTBOX, "send --db @box.db --port 1 --entry -1"),
+]
+
+
+def perform(program, line, folder):
+    words = [word.replace("@", f"{folder}/") for word in line.split(" ")]
+    return said(run(program, *words), folder)
+
+
+def hold_each(program, cases, folder):
+    for line, status, output, fault in cases:
+        errors = f"{program.name}: {fault}\n" if fault else ""
+        hold(f"{program.name} {line}", perform(program, line, folder), (status, output, errors))
+
+
+def make_example(database):
+    """A register that has the example."""
+    head = b"POST /filings/ACME HTTP/1.1\r\nHost: localhost\r\nIdempotency-Key: \"k-1\"\r\nConnection: close\r\nContent-Length: %d\r\n\r\n"
+    serving = Serving(database, 1, "--new")
+    exchange(serving.port, head % len(REPORT) + REPORT)
+    serving.end()
+
+
+def check_intake(folder):
+    database = folder / "r.db"
+    hold_each(INTAKE, BEFORE, folder)
+    make_example(database)
+    hold_each(INTAKE, AFTER, folder)
+    with sqlite3.connect(database) as conn:
+        conn.execute("UPDATE kept SET body = x'7b7d'")
+    conn.close()
+    hold_each(INTAKE, DAMAGED, folder)
+
+
+def check_outbox(folder):
+    (folder / "small").write_bytes(b"{}")
+    (folder / "large").write_bytes(b" " * 1_048_577)
+    hold_each(OUTBOX, ENTRIES, folder)
+
+
+def check_ranges(folder):
+    for program, line in OUT_OF_RANGE:
+        status, output, errors = perform(program, line, folder)
+        hold(f"{program.name} {line}", (status, output, bool(errors)), (2, "", True))
+    status, output, errors = said(run(OUTBOX), folder)
+    hold("outbox without words", (status, output, bool(errors)), (2, "", True))
+
+
+def check_name_of_a_uri(folder):
+    done = run(OUTBOX, "init", "--db", "file:box.db", "--filer", "ACME", cwd=folder)
+    hold("a name that begins as a URI does is a path", (done.returncode, (folder / "file:box.db").exists()), (0, True))
+
+
+def check_closed_output(folder):
+    with open("/dev/full", "wb") as full:
+        words = {"input": b"GET / HTTP/1.1\r\nHost: h\r\n\r\n", "stdout": full, "stderr": subprocess.PIPE, "check": False}
+        done = subprocess.run([INTAKE, "run"], **words)
+    hold("a reply that cannot be written", (done.returncode, done.stderr), (3, b"intake: the writer failed after 0 bytes\n"))
+
+
+if __name__ == "__main__":
+    try_all((INTAKE, OUTBOX), (check_intake, check_outbox, check_ranges, check_name_of_a_uri, check_closed_output))

@@ -1,0 +1,160 @@
+#!/usr/bin/env python3
+"""Plays schedules with the built `drill`: stops and restarts of both ends, what is cut, lost or repeated, and events that name nothing.
+
+    tools/check_schedules.py
+
+What is to come of each is written out by hand. It takes the program that `rt run` builds, crates/drill/out/drill. Status 1 where another
+thing comes of a schedule.
+"""
+from trials import DRILL, SMALLEST, hold, run, try_all
+
+REPORT = SMALLEST.decode()
+# An outbox whose one entry, the smallest report, is put by the first event and sent by the second.
+SENT = f'outbox ACME\nput 1 "k-1" {REPORT}\nsend 1 1\n'
+# An outbox without entries, and a stranger's connection with two reports.
+STRANGER = (
+    "outbox ACME\n"
+    f'stranger POST /filings/ACME HTTP/1.1\\r\\nHost: a\\r\\nIdempotency-Key: "k-1"\\r\\nContent-Length: 84\\r\\n\\r\\n{REPORT}'
+    'POST /filings/ACME HTTP/1.1\\r\\nHost: a\\r\\nIdempotency-Key: "k-2"\\r\\nExpect: 100-continue\\r\\nContent-Length: 84\\r\\n\\r\\n'
+    f"{REPORT}\n"
+)
+
+# Nothing is registered; the report is, and its outbox does not know; it knows; and the request was completed twice besides.
+NOTHING_DONE = "entry 1 1 open\ndone 0\n"
+UNHEARD = 'filing 1 ACME "k-1"\nentry 1 1 open\ndone 1\n'
+HEARD = 'filing 1 ACME "k-1"\nentry 1 1 confirmed 1\ndone 1\n'
+HEARD_AND_REPEATED = 'filing 1 ACME "k-1"\nentry 1 1 confirmed 1\ndone 2\n'
+# A stranger's first report is registered, or both are.
+FIRST = 'filing 1 ACME "k-1"\ndone 1\n'
+BOTH = 'filing 1 ACME "k-1"\nfiling 2 ACME "k-2"\ndone 2\n'
+
+INTAKE_STOPS = [
+    ("deliver 1 all before 1", NOTHING_DONE),
+    ("deliver 1 all before 0", NOTHING_DONE),
+    ("deliver 1 100 after 1", NOTHING_DONE),
+    ("deliver 1 all after 1", UNHEARD),
+    ("deliver 1 all after 0", UNHEARD),
+    ("deliver 1 all before 2", UNHEARD),
+    ("deliver 1 all after 2", UNHEARD),
+    ("deliver 1 all before 1, restart server, deliver 1 all, hand 1 all, hand 2 all", HEARD),
+    ("deliver 1 all after 1, restart server, deliver 1 all, hand 1 all, hand 2 all", HEARD_AND_REPEATED),
+]
+STOPS_WITHIN_A_CONNECTION = [
+    ("deliver 1 all before 1", "done 0\n"),
+    ("deliver 1 all after 1", FIRST),
+    ("deliver 1 all before 2", FIRST),
+    ("deliver 1 all after 2", BOTH),
+]
+OUTBOX_STOPS = [
+    ("deliver 1 all, hand 1 all before", UNHEARD),
+    ("deliver 1 all, hand 1 20 after", UNHEARD),
+    ("deliver 1 all, hand 1 all after", HEARD),
+    ("deliver 1 all, hand 1 all before, restart outbox 1, hand 1 all", HEARD),
+    ("deliver 1 all, hand 1 all after, restart outbox 1, hand 1 all", HEARD),
+]
+CUT_LOST_OR_REPEATED = [
+    ("", NOTHING_DONE),
+    ('put 1 "k-1" x', NOTHING_DONE),
+    ("deliver 1 0", NOTHING_DONE),
+    ("deliver 1 226", NOTHING_DONE),
+    ("deliver 1 227, hand 1 0, hand 1 128", UNHEARD),
+    ("deliver 1 all, hand 1 129, hand 1 all", HEARD),
+    ("deliver 1 all, send 1 1, deliver 2 all, hand 2 all, hand 1 all", HEARD_AND_REPEATED),
+    ("restart server, restart outbox 1, deliver 1 all, restart server, hand 1 all, restart outbox 1, deliver 1 all", HEARD_AND_REPEATED),
+]
+# The event that names nothing, counted from 1.
+NO_SUCH = [
+    # There is no such outbox.
+    ('put 0 "k-2" x', 3),
+    ('put 2 "k-2" x', 3),
+    ('put 9223372036854775807 "k-2" x', 3),
+    ("send 0 1", 3),
+    ("send 2 1", 3),
+    ("restart outbox 0", 3),
+    ("restart outbox 2", 3),
+    # There is no such entry.
+    ("send 1 0", 3),
+    ("send 1 2", 3),
+    ('put 1 "k-1" x, send 1 2', 4),
+    # There is no such item.
+    ("deliver 0 all", 3),
+    ("deliver 2 all", 3),
+    ("deliver 2 all before 1", 3),
+    ("deliver 9223372036854775807 0", 3),
+    # There is no such output.
+    ("hand 0 all", 3),
+    ("hand 1 all", 3),
+    ("deliver 1 all, hand 2 all after", 4),
+    # The output answers a stranger.
+    ("stranger x, deliver 2 all, hand 1 all", 5),
+    # The intake is down.
+    ("deliver 1 all before 1, deliver 1 all", 4),
+    ("deliver 1 all after 1, deliver 1 all", 4),
+    ("deliver 1 all after 2, send 1 1, deliver 2 0", 5),
+    # The outbox is down.
+    ('deliver 1 all, hand 1 all before, put 1 "k-2" x', 5),
+    ("deliver 1 all, hand 1 all before, send 1 1", 5),
+    ("deliver 1 all, hand 1 all before, hand 1 all", 5),
+    ('deliver 1 all, hand 1 all after, put 1 "k-2" x', 5),
+    ("deliver 1 all, hand 1 all after, send 1 1", 5),
+    ("deliver 1 all, hand 1 0 after, hand 1 0", 5),
+]
+
+
+def play(start, events):
+    script = start + "".join(f"{event}\n" for event in events.split(", ") if event)
+    done = run(DRILL, given=script.encode())
+    return done.returncode, done.stdout.decode(), done.stderr.decode()
+
+
+def hold_each(start, cases):
+    for events, shown in cases:
+        hold(events or "no event more", play(start, events), (0, shown, ""))
+
+
+def check_stops_of_the_intake(_):
+    hold_each(SENT, INTAKE_STOPS)
+
+
+def check_stops_within_a_connection(_):
+    hold_each(STRANGER, STOPS_WITHIN_A_CONNECTION)
+
+
+def check_stops_of_an_outbox(_):
+    hold_each(SENT, OUTBOX_STOPS)
+
+
+def check_cut_lost_or_repeated(_):
+    hold_each(SENT, CUT_LOST_OR_REPEATED)
+
+
+def check_refused_and_unavailable(_):
+    hold_each('outbox ACME\nput 1 "k-1" \nsend 1 1\n', [("deliver 1 all, hand 1 all", "entry 1 1 refused\ndone 1\n")])
+    hold_each(f"limit 0\n{SENT}", [("deliver 1 all, hand 1 all", NOTHING_DONE)])
+
+
+def check_events_that_name_nothing(_):
+    for events, number in NO_SUCH:
+        hold(events, play(SENT, events), (1, "", f"drill: event {number}: no such\n"))
+
+
+def check_long_script(_):
+    """200 reports, each delivered twice and its repeat's reply handed back; after each 20th both ends are started again."""
+    events = []
+    for i in range(1, 201):
+        events += [f'put 1 "k-{i}" {REPORT}', f"send 1 {i}", f"deliver {i} all", f"deliver {i} all", f"hand {2 * i} all"]
+        if i % 20 == 0:
+            events += ["restart server", "restart outbox 1"]
+    filings = "".join(f'filing {i} ACME "k-{i}"\n' for i in range(1, 201))
+    entries = "".join(f"entry 1 {i} confirmed {i}\n" for i in range(1, 201))
+    script = "\n".join(["outbox ACME", *events, ""])
+    done = run(DRILL, given=script.encode())
+    hold(f"a script of {len(events)} events", (done.returncode, done.stdout.decode()), (0, f"{filings}{entries}done 400\n"))
+
+
+if __name__ == "__main__":
+    try_all(
+        (DRILL,),
+        (check_stops_of_the_intake, check_stops_within_a_connection, check_stops_of_an_outbox, check_cut_lost_or_repeated,
+         check_refused_and_unavailable, check_events_that_name_nothing, check_long_script),
+    )

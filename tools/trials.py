@@ -1,0 +1,103 @@
+"""What the scripts share that try the built programs from outside."""
+import pathlib
+import socket
+import subprocess
+import sys
+import tempfile
+
+ROOT = pathlib.Path(__file__).resolve().parent.parent
+INTAKE = ROOT / "crates/intake/out/intake"
+OUTBOX = ROOT / "crates/outbox/out/outbox"
+DRILL = ROOT / "crates/drill/out/drill"
+SMALLEST = b'{"documentInfo":{"documentType":"https://xbrl.org/2021/xbrl-json","taxonomy":["t"]}}'
+failures = []
+
+
+def tell(what, fault=None):
+    """Says that something was tried, and what was wrong with it."""
+    print(f"{'failed' if fault else 'ok'}: {what}" + (f": {fault}" if fault else ""))
+    if fault:
+        failures.append(what)
+
+
+def hold(what, found, wanted):
+    tell(what, None if found == wanted else f"{found!r} in place of {wanted!r}")
+
+
+def run(program, *words, given=b"", **options):
+    return subprocess.run([program, *map(str, words)], input=given, capture_output=True, check=False, timeout=120, **options)
+
+
+def said(done, folder):
+    """The status, the output and the errors of a run, with the folder's name taken out."""
+    texts = [text.decode().replace(f"{folder}/", "") for text in (done.stdout, done.stderr)]
+    return done.returncode, *texts
+
+
+def request(key, body, filer="ACME", close=True):
+    """A POST of the body under the key."""
+    closing = "Connection: close\r\n" if close else ""
+    head = f'POST /filings/{filer} HTTP/1.1\r\nHost: h\r\nIdempotency-Key: "{key}"\r\n{closing}Content-Length: {len(body)}\r\n\r\n'
+    return head.encode() + body
+
+
+def free_port():
+    with socket.socket() as it:
+        it.bind(("127.0.0.1", 0))
+        return it.getsockname()[1]
+
+
+def exchange(port, given):
+    """What comes back for these bytes, on a connection of their own."""
+    with socket.create_connection(("127.0.0.1", port), timeout=60) as peer:
+        peer.sendall(given)
+        peer.shutdown(socket.SHUT_WR)
+        found = b""
+        while more := peer.recv(65536):
+            found += more
+    return found
+
+
+def statuses(replies):
+    """The statuses of replies, of which none has the words of a status line in its content."""
+    return [int(part[:3]) for part in replies.split(b"HTTP/1.1 ")[1:]]
+
+
+class Serving:
+    """An intake that serves a register, for so many connections."""
+
+    def __init__(self, database, connections, *words):
+        self.port = free_port()
+        self.process = subprocess.Popen(
+            [INTAKE, "serve", "--db", database, "--port", str(self.port), "--connections", str(connections), *words],
+            stdout=subprocess.PIPE,
+            stderr=subprocess.PIPE,
+        )
+        self.ready = self.process.stderr.readline().decode()
+
+    def end(self):
+        """The status, what was printed, and what was told behind the first line, once all connections were served."""
+        output, errors = self.process.communicate(timeout=60)
+        return self.process.returncode, output.decode(), errors.decode()
+
+
+def make_register(database):
+    """A register without filings."""
+    serving = Serving(database, 1, "--new")
+    exchange(serving.port, b"GET / HTTP/1.1\r\nHost: h\r\n\r\n")
+    serving.end()
+
+
+def try_all(programs, trials):
+    """Makes each trial in a folder of its own, says how many failed, and ends."""
+    for program in programs:
+        if not program.exists():
+            sys.exit(f"build the program first: (cd crates/{program.name} && rt run < stdin)")
+    for trial in trials:
+        with tempfile.TemporaryDirectory() as folder:
+            try:
+                trial(pathlib.Path(folder).resolve())
+            except (OSError, subprocess.TimeoutExpired, ValueError) as fault:
+                tell(trial.__name__, repr(fault))
+    print(f"{len(failures)} failed")
+    sys.exit(1 if failures else 0)
