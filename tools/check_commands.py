@@ -91,14 +91,26 @@ def make_example(database):
     serving.end()
 
 
+def damage(database):
+    """Puts a file with another body in the place of the register's: a file without sums, since the sums would tell the change first."""
+    copy = database.with_name("copy.db")
+    with sqlite3.connect(database) as old, sqlite3.connect(copy) as new:
+        new.executescript("\n".join(old.iterdump()))
+        new.execute("UPDATE kept SET body = x'7b7d'")
+        new.execute("PRAGMA journal_mode = WAL")
+    old.close()
+    new.close()
+    for file in (database, database.with_name("r.db-wal"), copy.with_name("copy.db-wal")):
+        file.unlink(missing_ok=True)
+    copy.rename(database)
+
+
 def check_intake(folder):
     database = folder / "r.db"
     hold_each(INTAKE, BEFORE, folder)
     make_example(database)
     hold_each(INTAKE, AFTER, folder)
-    with sqlite3.connect(database) as conn:
-        conn.execute("UPDATE kept SET body = x'7b7d'")
-    conn.close()
+    damage(database)
     hold_each(INTAKE, DAMAGED, folder)
 
 
