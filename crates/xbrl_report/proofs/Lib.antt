@@ -23,3 +23,4 @@ pub mod Indices
 pub mod Parentheses
 pub mod Plain
 pub mod FactOrder
+pub mod NamedDimensions
