@@ -1,5 +1,6 @@
 -- The pairs of a dimension that is there, by its name.
 use Rattle.std.proofs.Common.{◌≡◌, ◌≢◌, ℕ, List, [], ◌∷◌, ◌++◌, append-nil, codes, Bool, true, false, ◌&&◌, ◌||◌, not, Option, Some, None, refl, sym, true≢false, if◌then◌else◌}
+use Rattle.std.proofs.Math.Bool.{or-false, and-false, and-true}
 use Rattle.std.specs.List.{list_any}
 use Rattle.std.specs.Cmp.Lexicographic.{same_text}
 use Rattle.serde_json.specs.Data.{Data}
@@ -14,18 +15,6 @@ use Rattle.xbrl_report.specs.QName.{is_qname, is_entity, local_of}
 use Rattle.xbrl_report.specs.Tree.{is_text, is_null, same}
 use Rattle.xbrl_report.specs.Unit.{is_unit}
 use Rattle.xbrl_report.specs.Walk.{pair_if, dimension_pairs}
-
-or-false : (b : Bool) → (b || false) ≡ b
-or-false true = refl
-or-false false = refl
-
-and-false : (b : Bool) → (b && false) ≡ false
-and-false true = refl
-and-false false = refl
-
-and-true : (b : Bool) → (b && true) ≡ b
-and-true true = refl
-and-true false = refl
 
 module _ (filer : List ℕ) (namespaces : Option Data) (id : List ℕ) (v : Data) where
   abbrev pub concept_of : Option (List ℕ) → List Pair
