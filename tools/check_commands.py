@@ -8,7 +8,7 @@ It takes the programs that `rt run` builds in their folders, as crates/intake/ou
 import sqlite3
 import subprocess
 
-from trials import INTAKE, OUTBOX, Serving, exchange, hold, run, said, try_all
+from trials import INTAKE, OF_THIS_VERSION, OUTBOX, Serving, exchange, hold, make_earlier, run, said, try_all
 
 REPORT = (
     b'{"documentInfo":{"documentType":"https://xbrl.org/2021/xbrl-json","namespaces":{"eg":"http://example.com/eg",'
@@ -27,10 +27,12 @@ BEFORE = [
     ("run --limit 4611686018427387905", 2, "", "--limit: it is 4611686018427387904 at most"),
     ("list --db @r.db --filer a/b", 2, "", f"--filer: {FILER_CODE}"),
     ("check --db @r.db", 1, "not a register\n", "r.db: there is no such file"),
+    ("migrate --db @r.db", 1, "not a register\n", "r.db: there is no such file"),
     ("show --db @r.db --number 1", 1, "", "r.db: there is no such file"),
     ("serve --db @r.db --port 1 --connections 1", 1, "", "r.db: there is no such file"),
 ]
 AFTER = [
+    ("migrate --db @r.db", 1, "not a register\n", "r.db: not a register"),
     ("check --db @r.db", 0, "sound: 1 kept, 1 filings\n", ""),
     ("list --db @r.db --filer ACME", 0, '{"filings":[{"facts":1,"number":1}]}\n', ""),
     ("list --db @r.db --filer BETA", 0, '{"filings":[]}\n', ""),
@@ -42,6 +44,14 @@ AFTER = [
 DAMAGED = [
     ("check --db @r.db", 1, "damaged at row 1\n", "r.db: damaged at row 1"),
     ("list --db @r.db --filer ACME", 1, "", "r.db: damaged at row 1"),
+]
+MIGRATED = [
+    ("migrate --db @text", 1, "not a register\n", "text: not a database"),
+    ("check --db @old.db", 1, "not a register\n", f"old.db: not a register{OF_THIS_VERSION}"),
+    ("list --db @old.db --filer ACME", 1, "", f"old.db: not a register{OF_THIS_VERSION}"),
+    ("migrate --db @old.db", 0, "migrated\n", ""),
+    ("check --db @old.db", 0, "sound: 1 kept, 0 filings\n", ""),
+    ("migrate --db @old.db", 1, "not a register\n", "old.db: not a register"),
 ]
 ENTRIES = [
     ("init --db @box.db --filer a/b", 2, "", f"--filer: {FILER_CODE}"),
@@ -114,6 +124,12 @@ def check_intake(folder):
     hold_each(INTAKE, DAMAGED, folder)
 
 
+def check_migration(folder):
+    (folder / "text").write_text("no database, and long enough to be read as one " * 20)
+    make_earlier(folder / "old.db")
+    hold_each(INTAKE, MIGRATED, folder)
+
+
 def check_outbox(folder):
     (folder / "small").write_bytes(b"{}")
     (folder / "large").write_bytes(b" " * 1_048_577)
@@ -141,4 +157,4 @@ def check_closed_output(folder):
 
 
 if __name__ == "__main__":
-    try_all((INTAKE, OUTBOX), (check_intake, check_outbox, check_ranges, check_name_of_a_uri, check_closed_output))
+    try_all((INTAKE, OUTBOX), (check_intake, check_migration, check_outbox, check_ranges, check_name_of_a_uri, check_closed_output))

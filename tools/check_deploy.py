@@ -162,7 +162,7 @@ def try_views():
     if not (sqlite := find("sqlite3")):
         return
     tables = tables_of_protocol()
-    hold("the tables of docs/PROTOCOL.md", len(tables), 7)
+    hold("the tables of docs/PROTOCOL.md", len(tables), 9)
     dimensions = '{"concept":"eg:A","entity":"lei:ACME","period":"2024-12-31T00:00:00","unit":"iso4217:EUR"}'
     script = "\n".join(tables) + f"""
 INSERT INTO kept VALUES (1, 'ACME', 'k-1', CAST('body' AS BLOB), 1), (2, 'ACME', 'k-2', CAST('x' AS BLOB), NULL);
@@ -280,8 +280,23 @@ def nginx_file(folder, intake_port, port, outbox_port):
     return folder / "nginx.conf"
 
 
-def ask(folder, port, user, filer, method="POST", body=b"{}", **fields):
+def problem(status, reason, title):
+    """Problem details, as a status, a media type and a content."""
+    content = f'{{"reason":"{reason}","status":{status},"title":"{title}","type":"about:blank"}}'
+    return status, "application/problem+json", content.encode()
+
+
+NOT_YOURS = problem(403, "not-yours", "Forbidden")
+
+
+def ask(folder, port, user, filer, **more):
     """The status and content that nginx gives a user's request."""
+    status, _, content = ask_kind(folder, port, user, filer, **more)
+    return status, content
+
+
+def ask_kind(folder, port, user, filer, method="POST", body=b"{}", **fields):
+    """The status, media type and content that nginx gives a user's request."""
     context = ssl.create_default_context(cafile=folder / "ca.pem")
     if user:
         context.load_cert_chain(folder / f"{user}.pem", folder / f"{user}.key")
@@ -291,7 +306,7 @@ def ask(folder, port, user, filer, method="POST", body=b"{}", **fields):
     fields = {"Idempotency-Key": '"k-1"', **fields}
     connection.request(method, f"/filings/{filer}", body, fields, encode_chunked="Transfer-Encoding" in fields)
     reply = connection.getresponse()
-    return reply.status, reply.read()
+    return reply.status, reply.getheader("Content-Type"), reply.read()
 
 
 def try_requests(folder, intake, port, outbox_port):
@@ -304,15 +319,16 @@ def try_requests(folder, intake, port, outbox_port):
     hold("a chunked report gets its length", (status, b"Content-Length: 2" in intake.requests[-1]), (201, True))
     before = len(intake.requests)
     refusals = [
-        ("another's filer code", ("acme", "BETA"), 403, "not-yours"),
-        ("the same code in lower case", ("acme", "acme"), 403, "not-yours"),
-        ("a subject that has another's inside", ("other", "ACME"), 403, "not-yours"),
-        ("no certificate", (None, "ACME"), 403, "no-certificate"),
-        ("a path that is no filer's", ("acme", "a/b"), 404, "no-path"),
+        ("another's filer code", ("acme", "BETA"), NOT_YOURS),
+        ("the same code in lower case", ("acme", "acme"), NOT_YOURS),
+        ("a subject that has another's inside", ("other", "ACME"), NOT_YOURS),
+        ("no certificate", (None, "ACME"), problem(403, "no-certificate", "Forbidden")),
+        ("a path that is no filer's", ("acme", "a/b"), problem(404, "no-path", "Not Found")),
     ]
-    for what, who, status, word in refusals:
-        hold(what, ask(folder, port, *who), (status, b'{"status":"%s"}' % word.encode()))
-    hold("a body that is too large", ask(folder, port, "acme", "ACME", body=b" " * 1048577), (413, b'{"status":"too-large"}'))
+    for what, who, wanted in refusals:
+        hold(what, ask_kind(folder, port, *who), wanted)
+    large = ask_kind(folder, port, "acme", "ACME", body=b" " * 1048577)
+    hold("a body that is too large", large, problem(413, "too-large", "Content Too Large"))
     hold("none of these reached the intake", len(intake.requests), before)
     slow = socket.create_connection(("127.0.0.1", outbox_port))
     slow.sendall(b"POST /filings/ACME HTTP/1.1\r\nHost: localhost\r\nContent-Length: 2\r\n\r\n{")
@@ -341,7 +357,8 @@ def try_nginx(folder):
                 time.sleep(1)
                 try_requests(folder, intake, port, outbox_port)
                 intake.leave()
-                hold("an intake that is away", ask(folder, port, "acme", "ACME"), (503, b'{"status":"unavailable"}'))
+                away = problem(503, "unavailable", "Service Unavailable")
+                hold("an intake that is away", ask_kind(folder, port, "acme", "ACME"), away)
             finally:
                 server.terminate()
 

@@ -120,20 +120,25 @@ def fault_of(document, schema, value):
 # ---- the file by itself
 
 
+def media_type(status):
+    """What a reply's content is: JSON, or problem details (RFC 9457) where something is refused."""
+    return "application/json" if status < 300 else "application/problem+json"
+
+
 def responses(document):
     """Each method with each status and its response."""
     for method in ("get", "post"):
         for status, response in document["paths"][PATH][method]["responses"].items():
-            yield method, int(status), resolved(document, response)["content"]["application/json"]
+            yield method, int(status), resolved(document, response)["content"][media_type(int(status))]
 
 
 def words_of(document, schema):
-    """The words that a content of the schema may have as its `status`."""
+    """The words that a content of the schema may have as its `reason`, or as its `status` where nothing is refused."""
     schema = resolved(document, schema)
     if "oneOf" in schema:
         return {word for one in schema["oneOf"] for word in words_of(document, one)}
-    status = schema["properties"].get("status", {})
-    return {status["const"]} if "const" in status else set(status.get("enum", []))
+    word = schema["properties"].get("reason") or schema["properties"].get("status", {})
+    return {word["const"]} if "const" in word else set(word.get("enum", []))
 
 
 def check_references(document, it, at="#"):
@@ -168,6 +173,12 @@ def check_examples(document):
             tell(f"the schema {name}", error.message)
 
 
+def word_of(shown):
+    """The word of a row: the reason, or what the content of a reply says that refuses nothing."""
+    status = re.search(r'"status":"([\w-]+)"', shown)
+    return status[1] if status else "filings" if shown.startswith("{") else shown
+
+
 def check_protocol(document):
     """The codes, and the statuses with their words, are those of the tables."""
     text = PROTOCOL.read_text()
@@ -176,8 +187,8 @@ def check_protocol(document):
     own = set(schemas["Finding"]["properties"]["code"]["enum"])
     own.add(schemas["RefusedAsNoJson"]["properties"]["findings"]["items"]["properties"]["code"]["const"])
     tell("the codes of findings", None if own == codes else f"{sorted(own ^ codes)}")
-    rows = re.findall(r"(?m)^\| [^|]+ \| (\d{3})(?:, closes)? \| `(\{.*\})`", text)
-    told = {(int(status), word) for status, content in rows for word in re.findall(r'"status":"([\w-]+)"', content) or ["filings"]}
+    rows = re.findall(r"(?m)^\| [^|]+ \| (\d{3})(?:, closes)? \| `([^`]+)`", text)
+    told = {(int(status), word_of(shown)) for status, shown in rows}
     mine = {(status, word) for _, status, content in responses(document) for word in words_of(document, content["schema"]) or {"filings"}}
     told = {(status, word) for status, word in told if word not in OTHER_METHODS}
     mine = {(status, word) for status, word in mine if word not in IN_FRONT}
@@ -188,23 +199,26 @@ def check_protocol(document):
 
 
 def split_reply(data):
-    """The status, the content and the rest of the bytes, behind interim responses."""
+    """The status, the media type, the content and the rest of the bytes, behind interim responses."""
     while True:
         head, _, rest = data.partition(b"\r\n\r\n")
         status = int(head.split(b" ", 2)[1])
         if status >= 200:
             length = re.search(rb"(?i)\r\ncontent-length: *(\d+)", head)
             size = int(length[1]) if length else 0
-            return status, rest[:size], rest[size:]
+            kind = re.search(rb"(?i)\r\ncontent-type: *([^\r]+)", head)
+            return status, kind and kind[1].decode(), rest[:size], rest[size:]
         data = rest
 
 
-def fault_of_reply(document, method, status, content):
+def fault_of_reply(document, method, status, kind, content):
     """Why the file does not foresee this reply to this method, or None."""
     response = resolved(document, document["paths"][PATH][method.lower()]["responses"].get(str(status)))
     if response is None:
         return f"the file has no status {status} there"
-    return fault_of(document, response["content"]["application/json"]["schema"], json.loads(content))
+    if kind not in response["content"]:
+        return f"the file has no {kind} there"
+    return fault_of(document, response["content"][kind]["schema"], json.loads(content))
 
 
 REPORT = json.dumps(
@@ -287,8 +301,8 @@ def check_program(document, program, requests, *options):
         with subprocess.Popen(words + list(options)) as server:
             try:
                 for what, method, data, wanted in requests:
-                    status, content, rest = split_reply(ask(port, data))
-                    fault = fault_of_reply(document, method, status, content)
+                    status, kind, content, rest = split_reply(ask(port, data))
+                    fault = fault_of_reply(document, method, status, kind, content)
                     if status != wanted:
                         fault = f"status {status} in place of {wanted}"
                     tell(f"{what}: {status}", fault or (f"{rest!r} behind the reply" if rest else None))

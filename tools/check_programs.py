@@ -16,7 +16,7 @@ import signal
 import sqlite3
 import subprocess
 
-from trials import INTAKE, OUTBOX, SMALLEST, Serving, exchange, free_port, hold, make_register, request, run, said, statuses, tell, try_all
+from trials import INTAKE, OUTBOX, OF_THIS_VERSION, SMALLEST, Serving, exchange, free_port, hold, make_register, request, run, said, statuses, tell, try_all
 
 
 # ---- what serve says
@@ -166,7 +166,7 @@ def check_files(folder):
     for name, status, output, cause in (
         ("missing.db", 1, "not a register\n", "there is no such file"),
         ("text", 1, "not a register\n", "not a database"),
-        ("foreign.db", 1, "not a register\n", "not a register"),
+        ("foreign.db", 1, "not a register\n", f"not a register{OF_THIS_VERSION}"),
         (".", 3, "", "not a regular file"),
         ("linked.db", 3, "", "the file has a second name (a hard link)"),
     ):

@@ -16,12 +16,15 @@ import sys
 import tempfile
 
 from allocations import count, library, run
+from trials import make_earlier
 
 ROOT = pathlib.Path(__file__).resolve().parent.parent
 INTAKE, OUTBOX, DRILL = (ROOT / "crates" / name / "out" / name for name in ("intake", "outbox", "drill"))
 EXAMPLE = (ROOT / "crates/intake/stdin").read_bytes()
 REPORT = EXAMPLE[-393:]
-UNAVAILABLE = b'{"status":"unavailable"}'
+UNAVAILABLE = b'{"reason":"unavailable","status":503,"title":"Service Unavailable","type":"about:blank"}'
+KEY_REUSED = b'{"reason":"key-reused","status":422,"title":"Unprocessable Content","type":"about:blank"}'
+REFUSED = b'{"findings":[{"code":"not-json","place":""}],"reason":"refused","status":400,"title":"Bad Request","type":"about:blank"}'
 failures = []
 
 
@@ -86,20 +89,20 @@ def judge_connection(ran):
 
 def expected(at, kept):
     """The reply that the protocol gives to the request of this place, after those that were answered."""
-    registered, refused = b'{"number":1,"status":"registered"}', b'{"findings":[{"code":"not-json","place":""}],"status":"refused"}'
+    registered = b'{"number":1,"status":"registered"}'
     if at in (0, 2):
         if kept.get("k-1", REPORT) != REPORT:
-            return 422, b'{"status":"key-reused"}'
+            return 422, KEY_REUSED
         kept["k-1"] = REPORT
         return 201, registered
     if at == 1:
         kept["k-2"] = b""
-        return 400, refused
+        return 400, REFUSED
     if at == 3:
         if "k-1" in kept:
-            return 422, b'{"status":"key-reused"}'
+            return 422, KEY_REUSED
         kept["k-1"] = b""
-        return 400, refused
+        return 400, REFUSED
     filings = b'{"facts":1,"number":1}' if kept.get("k-1") == REPORT else b""
     return 200, b'{"filings":[' + filings + b"]}"
 
@@ -119,8 +122,13 @@ def try_connection(counts, _):
 def try_script(counts, _):
     script, wanted = (ROOT / "crates/drill/stdin").read_bytes(), (ROOT / "crates/drill/stdout").read_bytes()
 
+    # A delivery that memory refuses is answered 503 and completes nothing: the first, and the second files the report; or the second, and
+    # the entry stays open.
+    filing = b'filing 1 ACME "k-1"\n'
+    allowed = (wanted, filing + b"entry 1 1 confirmed 1\ndone 1\n", filing + b"entry 1 1 open\ndone 1\n")
+
     def judge(ran):
-        if (ran.returncode, ran.stdout) == (0, wanted):
+        if ran.returncode == 0 and ran.stdout in allowed:
             return None
         return None if ran.returncode == 3 and not ran.stdout and ran.stderr else f"status {ran.returncode}, {ran.stdout!r}, {ran.stderr!r}"
 
@@ -220,6 +228,14 @@ def try_register(counts, folder):
     try_command(counts, folder, "intake show", words_of(INTAKE, "show", "--db", database, "--number", 1), check, sound)
 
 
+def try_migration(counts, folder):
+    database = folder / "register.db"
+    make_earlier(database)
+    check = words_of(INTAKE, "check", "--db", database)
+    migrate = words_of(INTAKE, "migrate", "--db", database)
+    try_command(counts, folder, "intake migrate", migrate, check, stands_as(b"not a register\n", b"sound: 1 kept, 0 filings\n"))
+
+
 def try_lint(counts, folder):
     report = folder / "report.json"
     report.write_bytes(REPORT)
@@ -229,7 +245,7 @@ def try_lint(counts, folder):
 
 def main():
     word = sys.argv[1] if len(sys.argv) > 1 else ""
-    for trial in (try_connection, try_script, try_outbox, try_register, try_lint):
+    for trial in (try_connection, try_script, try_outbox, try_register, try_migration, try_lint):
         if word in trial.__name__:
             with tempfile.TemporaryDirectory() as outer:
                 folder = pathlib.Path(outer) / "files"

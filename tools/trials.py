@@ -1,6 +1,7 @@
 """What the scripts share that try the built programs from outside."""
 import pathlib
 import socket
+import sqlite3
 import subprocess
 import sys
 import tempfile
@@ -10,6 +11,21 @@ INTAKE = ROOT / "crates/intake/out/intake"
 OUTBOX = ROOT / "crates/outbox/out/outbox"
 DRILL = ROOT / "crates/drill/out/drill"
 SMALLEST = b'{"documentInfo":{"documentType":"https://xbrl.org/2021/xbrl-json","taxonomy":["t"]}}'
+OF_THIS_VERSION = " of this version (intake migrate takes one of an earlier version)"
+# A register of form 2, with an empty body, which is no JSON text.
+EARLIER = """
+CREATE TABLE intake_meta (id INTEGER PRIMARY KEY, kind TEXT NOT NULL, form INTEGER NOT NULL) STRICT;
+CREATE TABLE kept (seq INTEGER PRIMARY KEY, filer TEXT NOT NULL, idem TEXT NOT NULL, body BLOB NOT NULL, number INTEGER,
+    UNIQUE (filer, idem)) STRICT;
+CREATE TABLE finding (seq INTEGER NOT NULL, pos INTEGER NOT NULL, code INTEGER NOT NULL, place BLOB NOT NULL,
+    PRIMARY KEY (seq, pos)) STRICT;
+CREATE TABLE filing (number INTEGER PRIMARY KEY, seq INTEGER NOT NULL UNIQUE) STRICT;
+CREATE TABLE fact (number INTEGER NOT NULL, pos INTEGER NOT NULL, id BLOB NOT NULL, concept BLOB NOT NULL,
+    dimensions BLOB NOT NULL, value BLOB, decimals INTEGER, PRIMARY KEY (number, pos)) STRICT;
+INSERT INTO intake_meta VALUES (1, 'register', 2);
+INSERT INTO kept VALUES (1, 'ACME', 'k-1', x'', NULL);
+INSERT INTO finding VALUES (1, 1, 1, x'');
+"""
 failures = []
 
 
@@ -86,6 +102,14 @@ def make_register(database):
     serving = Serving(database, 1, "--new")
     exchange(serving.port, b"GET / HTTP/1.1\r\nHost: h\r\n\r\n")
     serving.end()
+
+
+def make_earlier(database):
+    """A register of form 2, in which an empty body is kept under `ACME`'s `k-1`: a file without sums."""
+    conn = sqlite3.connect(database)
+    conn.execute("PRAGMA journal_mode = WAL")
+    conn.executescript(EARLIER)
+    conn.close()
 
 
 def try_all(programs, trials):

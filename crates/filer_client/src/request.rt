@@ -108,7 +108,7 @@ fn request_of(alloc: Global, filer: &str, entry: &Entry) -> Result<Vec<u8>, Take
     ensures memory { IfErr result (λ fault. fault ≡ TakeFault.Memory) }
 {
     let mut text = Vec::new(alloc);
-    match append_request(filer, &entry.key, entry.body.as_slice(), &mut text) {
+    match append_request(filer, None, &entry.key, entry.body.as_slice(), &mut text) {
         Ok(()) => Ok(text),
         Err(_) => Err(TakeFault::Memory),
     }

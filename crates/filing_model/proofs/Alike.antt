@@ -10,10 +10,11 @@ use Rattle.filing_model.specs.Request.{Request, has_key, firsts}
 use Rattle.filing_model.specs.Register.{register}
 use Rattle.filing_model.specs.Answer.{answer}
 use Rattle.filing_model.specs.Listing.{listings}
-use Rattle.filing_model.specs.Reply.{reply_of, list_reply}
+use Rattle.filing_model.specs.Style.{style_of}
+use Rattle.filing_model.specs.Reply.{reply_as, list_reply}
 use Rattle.filing_model.specs.declared.served.Mark.{Mark}
 use Rattle.filing_model.specs.declared.served.Mark.TheVariants.{Done, Unavailable, NotFiled}
-use Rattle.filing_model.specs.Text.{Route, Told, Listed, Filed, route, RouteFits, MarkFits, MarksFit, completed_at, reply, reply_on, reply_text, text, interim_of}
+use Rattle.filing_model.specs.Text.{Route, Told, Listed, Filed, route, RouteFits, MarkFits, MarksFit, completed_at, reply_with, reply_on, reply_text_with, text_with, interim_of}
 use Rattle.filing_model.proofs.Firsts.{has_key-firsts, firsts-append}
 use Rattle.filing_model.proofs.Answers.{answer-firsts, register-firsts}
 
@@ -34,19 +35,19 @@ module _ (old new : List Request) (same : firsts old ≡ firsts new) where
   pub register_alike : register old ≡ register new
   register_alike = sym (register-firsts old) ∙ ap register same ∙ register-firsts new
 
-  reply_on_alike : (to : Route) → reply_on old to ≡ reply_on new to
-  reply_on_alike (Told reply) = refl
-  reply_on_alike (Listed filer) = ap (λ fs. list_reply (listings filer fs)) register_alike
-  reply_on_alike (Filed r) = ap reply_of (answer_alike r)
+  reply_on_alike : (early : List Request) (to : Route) → reply_on early old to ≡ reply_on early new to
+  reply_on_alike early (Told reply) = refl
+  reply_on_alike early (Listed filer) = ap (λ fs. list_reply (listings filer fs)) register_alike
+  reply_on_alike early (Filed r) = ap (reply_as (style_of early r)) (answer_alike r)
 
-  pub reply_alike : (m : Message) → reply old m ≡ reply new m
-  reply_alike m = reply_on_alike (route m)
+  pub reply_alike : (early : List Request) (m : Message) → reply_with early old m ≡ reply_with early new m
+  reply_alike early m = reply_on_alike early (route m)
 
-  reply_text_alike : (place : Place) (mark : Mark) → reply_text old place mark ≡ reply_text new place mark
-  reply_text_alike (Place.Read m) Unavailable = refl
-  reply_text_alike (Place.Read m) Done = ap (λ x. render x (closes m.head)) (reply_alike m)
-  reply_text_alike (Place.Read m) NotFiled = ap (λ x. render x (closes m.head)) (reply_alike m)
-  reply_text_alike (Place.Refused refusal) mark = refl
+  reply_text_alike : (early : List Request) (place : Place) (mark : Mark) → reply_text_with early old place mark ≡ reply_text_with early new place mark
+  reply_text_alike early (Place.Read m) Unavailable = refl
+  reply_text_alike early (Place.Read m) Done = ap (λ x. render x (closes m.head)) (reply_alike early m)
+  reply_text_alike early (Place.Read m) NotFiled = ap (λ x. render x (closes m.head)) (reply_alike early m)
+  reply_text_alike early (Place.Refused refusal) mark = refl
 
   route_fits_alike : (limit : ℕ) (to : Route) (mark : Mark) → RouteFits limit old to mark → RouteFits limit new to mark
   route_fits_alike limit (Filed r) Done fit = ⊎_elim
@@ -68,13 +69,13 @@ module _ (old new : List Request) (same : firsts old ≡ firsts new) where
   mark_fits_alike limit (Place.Refused refusal) Unavailable fit = fit
   mark_fits_alike limit (Place.Refused refusal) NotFiled fit = fit
 
-pub text_alike : (old new : List Request) → firsts old ≡ firsts new → (places : List Place) (ending : Ending) (marks : List Mark) → text old places ending marks ≡ text new places ending marks
-unfolding text
-text_alike old new same places ending [] = refl
-text_alike old new same [] ending (mark ∷ marks) = refl
-text_alike old new same (place ∷ places) ending (mark ∷ marks) =
-    ap (λ reply. interim_of place ++ (reply ++ text (old ++ completed_at place mark) places ending marks)) (reply_text_alike old new same place mark)
-    ∙ ap (λ rest. interim_of place ++ (reply_text new place mark ++ rest)) (text_alike (old ++ completed_at place mark) (new ++ completed_at place mark) (firsts_alike old new same (completed_at place mark)) places ending marks)
+pub text_alike : (early old new : List Request) → firsts old ≡ firsts new → (places : List Place) (ending : Ending) (marks : List Mark) → text_with early old places ending marks ≡ text_with early new places ending marks
+unfolding text_with
+text_alike early old new same places ending [] = refl
+text_alike early old new same [] ending (mark ∷ marks) = refl
+text_alike early old new same (place ∷ places) ending (mark ∷ marks) =
+    ap (λ reply. interim_of place ++ (reply ++ text_with early (old ++ completed_at place mark) places ending marks)) (reply_text_alike old new same early place mark)
+    ∙ ap (λ rest. interim_of place ++ (reply_text_with early new place mark ++ rest)) (text_alike early (old ++ completed_at place mark) (new ++ completed_at place mark) (firsts_alike old new same (completed_at place mark)) places ending marks)
 
 pub marks_fit_alike : (limit : ℕ) (old new : List Request) → firsts old ≡ firsts new → (places : List Place) (marks : List Mark) → MarksFit limit old places marks → MarksFit limit new places marks
 unfolding MarksFit

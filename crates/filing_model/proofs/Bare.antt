@@ -4,15 +4,16 @@ use Rattle.std.specs.Prelude.{codes, bytes_eq}
 use Rattle.http_wire.specs.Head.{closes}
 use Rattle.http_wire.specs.Message.{Place}
 use Rattle.http_wire.specs.Request.{Request as Message}
+use Rattle.http_wire.specs.declared.reply.Kind.TheVariants.{Problem}
 use Rattle.http_wire.specs.Reply.{render}
 use Rattle.filing_model.specs.declared.served.Mark.{Mark}
 use Rattle.filing_model.specs.declared.served.Mark.TheVariants.{Done, Unavailable, NotFiled}
 use Rattle.filing_model.specs.Request.{Request}
-use Rattle.filing_model.specs.Text.{Route, Told, filer_of_path, route_by_method, route_by_filer, bare, is_head, route, reply_on, reply, MarkFits, RouteFits, reply_text}
+use Rattle.filing_model.specs.Text.{Route, Told, filer_of_path, route_by_method, route_by_filer, bare, is_head, route, reply_on, reply_with, MarkFits, RouteFits, reply_text_with}
 
--- a route that tells a status, and no content
+-- a route that tells a status by problem details, and no content
 abbrev IsBare : Route → Type 0
-IsBare to = (status : ℕ) × (to ≡ Told (record { status = status; content = [] }))
+IsBare to = (status : ℕ) × (to ≡ Told (record { status = status; content = []; kind = Problem }))
 
 module _ (m : Message) (head : m.head.method ≡ codes "HEAD") where
   by_method : (filer : List ℕ) → IsBare (bare true (route_by_method filer m))
@@ -29,18 +30,22 @@ module _ (m : Message) (head : m.head.method ≡ codes "HEAD") where
       let is : is_head m ≡ true = ap (λ method. bytes_eq method (codes "HEAD")) head in
       (told.0, ap (λ b. bare b (route_by_filer (filer_of_path m.head.path) m)) is ∙ told.1)
 
-  pub reply-head : (requests : List Request) → (reply requests m).content ≡ []
-  reply-head requests = ap (λ to. (reply_on requests to).content) route-head.1
+  module _ (early requests : List Request) where
+    pub reply-head : (reply_with early requests m).content ≡ []
+    reply-head = ap (λ to. (reply_on early requests to).content) route-head.1
 
-  reply-told : (requests : List Request) → reply requests m ≡ record { status = (reply requests m).status; content = [] }
-  reply-told requests = ap (λ content. record { status = (reply requests m).status; content = content }) (reply-head requests)
+    pub kind-head : (reply_with early requests m).kind ≡ Problem
+    kind-head = ap (λ to. (reply_on early requests to).kind) route-head.1
 
-  pub reply_text-head : (limit : ℕ) (requests : List Request) (mark : Mark) → MarkFits limit requests (Place.Read m) mark
-      → reply_text requests (Place.Read m) mark ≡ render (record { status = (reply requests m).status; content = [] }) (closes m.head)
-  reply_text-head limit requests mark fit = by_mark mark (subst (λ to. RouteFits limit requests to mark) route-head.1 fit)
-    where
-      by_mark : (mark : Mark) → RouteFits limit requests (Told (record { status = route-head.0; content = [] })) mark
-          → reply_text requests (Place.Read m) mark ≡ render (record { status = (reply requests m).status; content = [] }) (closes m.head)
-      by_mark Done fits = absurd fits
-      by_mark Unavailable fits = absurd fits
-      by_mark NotFiled fits = ap (λ told. render told (closes m.head)) (reply-told requests)
+    reply-told : reply_with early requests m ≡ record { status = (reply_with early requests m).status; content = []; kind = Problem }
+    reply-told = λ i. record { status = (reply_with early requests m).status; content = reply-head i; kind = kind-head i }
+
+    pub reply_text-head : (limit : ℕ) (mark : Mark) → MarkFits limit requests (Place.Read m) mark
+        → reply_text_with early requests (Place.Read m) mark ≡ render (record { status = (reply_with early requests m).status; content = []; kind = Problem }) (closes m.head)
+    reply_text-head limit mark fit = by_mark mark (subst (λ to. RouteFits limit requests to mark) route-head.1 fit)
+      where
+        by_mark : (mark : Mark) → RouteFits limit requests (Told (record { status = route-head.0; content = []; kind = Problem })) mark
+            → reply_text_with early requests (Place.Read m) mark ≡ render (record { status = (reply_with early requests m).status; content = []; kind = Problem }) (closes m.head)
+        by_mark Done fits = absurd fits
+        by_mark Unavailable fits = absurd fits
+        by_mark NotFiled fits = ap (λ told. render told (closes m.head)) reply-told

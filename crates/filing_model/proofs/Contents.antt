@@ -1,6 +1,7 @@
 -- The contents of replies: what they are read as, and how long they are.
 use Rattle.std.proofs.Common.{◌≡◌, ℕ, zero, suc, ◌^◌, ◌<◌, ◌≤◌, Bool, true, false, List, [], ◌∷◌, ◌++◌, Some, Option, refl, sym, ap, ◌∙◌, subst, arith, append-nil}
 use Rattle.std.specs.Prelude.{codes, nat_lt, decimal, option_and_then}
+use Rattle.std.specs.Fmt.{digits}
 use Rattle.std.specs.List.{list_all}
 use Rattle.std.specs.Str.{IsAscii, is_utf8}
 use Rattle.std.proofs.lemmas.Bool.{and_parts, ltb-true}
@@ -18,10 +19,14 @@ use Rattle.serde_json.specs.Data.{Data}
 use Rattle.serde_json.specs.Read.{read, max_depth, of_json}
 use Rattle.serde_json.specs.Written.{compact_text, outline}
 use Rattle.serde_json.proofs.Numbers.{number_of-decimal}
+use Rattle.serde_json.proofs.OnLiterals.{serde_json_on_literals}
 use Rattle.serde_json.proofs.Texts.{print-outline}
+use Rattle.http_wire.specs.Reply.{phrase}
+use Rattle.filing_model.specs.declared.served.Style.{Style}
+use Rattle.filing_model.specs.declared.served.Style.TheVariants.{Old, Problem}
 use Rattle.filing_model.specs.Answer.{Answer}
 use Rattle.filing_model.specs.Outbox.{Open, Clashed, moved, confirmed_by}
-use Rattle.filing_model.specs.Reply.{answer_data, reply_of}
+use Rattle.filing_model.specs.Reply.{answer_data, reply_as}
 
 -- ---- reading back
 
@@ -36,9 +41,9 @@ read-compact_text d numbers shallow of =
     ∙ ap whole (ap (json.value max_depth) (tokens-print (tree.json_tokens (outline d)) (ArePrintable-json_tokens (outline d) numbers) ∙ sym (append-nil _)) ∙ value-json_tokens (outline d) max_depth [] shallow)
     ∙ of
 
--- the content that tells a number
+-- the content that tells a number, the same in either style
 abbrev registered : ℕ → Data
-registered n = answer_data (Answer.Registered n false)
+registered n = answer_data Problem (Answer.Registered n false)
 
 registered_text : (n : ℕ) → compact_text (registered n) ≡ codes "{\"number\":" ++ (decimal n ++ codes ",\"status\":\"registered\"}")
 unfolding escape_byte
@@ -59,21 +64,24 @@ utf8-registered n h =
     is_utf8-from_IsUtf8 (compact_text (registered n)) (IsUtf8-from_ascii (compact_text (registered n)) (subst IsAscii (sym (registered_text n)) text))
 
 -- the number that is told is the one that is heard
-pub moved-registered : (n : ℕ) (repeat : Bool) → n < 2 ^ 64 → moved Open (reply_of (Answer.Registered n repeat)) ≡ confirmed_by (Some n)
-unfolding moved reply_of
-moved-registered n repeat h = rw (utf8-registered n h, read-registered n h) refl
+pub moved-registered : (style : Style) (n : ℕ) (repeat : Bool) → n < 2 ^ 64 → moved Open (reply_as style (Answer.Registered n repeat)) ≡ confirmed_by (Some n)
+unfolding moved reply_as
+moved-registered style n repeat h = rw (utf8-registered n h, read-registered n h) refl
 
 -- a key that was used for another body clashes
-abbrev reused : Data
-reused = answer_data Answer.KeyReused
+abbrev reused : Style → Data
+reused style = answer_data style Answer.KeyReused
 
-utf8-reused : is_utf8 (compact_text reused) ≡ true
-unfolding escape_byte
-utf8-reused = is_utf8-from_IsUtf8 (compact_text reused) (IsUtf8-from_ascii (compact_text reused) (ascii (compact_text reused) refl))
+utf8-reused : (style : Style) → is_utf8 (compact_text (reused style)) ≡ true
+unfolding phrase serde_json_on_literals digits
+utf8-reused Old = is_utf8-from_IsUtf8 (compact_text (reused Old)) (IsUtf8-from_ascii (compact_text (reused Old)) (ascii (compact_text (reused Old)) refl))
+utf8-reused Problem = is_utf8-from_IsUtf8 (compact_text (reused Problem)) (IsUtf8-from_ascii (compact_text (reused Problem)) (ascii (compact_text (reused Problem)) refl))
 
-read-reused : read (compact_text reused) ≡ Some reused
-read-reused = read-compact_text reused (tt, tt) (omega arith) refl
+read-reused : (style : Style) → read (compact_text (reused style)) ≡ Some (reused style)
+read-reused Old = read-compact_text (reused Old) (tt, tt) (omega arith) refl
+read-reused Problem = read-compact_text (reused Problem) (tt, (IsNumber-decimal 422 (omega arith), (tt, (tt, tt)))) (omega arith) (rw (number_of-decimal 422 (omega arith)) refl)
 
-pub moved-reused : moved Open (reply_of Answer.KeyReused) ≡ Clashed
-unfolding moved reply_of
-moved-reused = rw (utf8-reused, read-reused) refl
+pub moved-reused : (style : Style) → moved Open (reply_as style Answer.KeyReused) ≡ Clashed
+unfolding moved reply_as
+moved-reused Old = rw (utf8-reused Old, read-reused Old) refl
+moved-reused Problem = rw (utf8-reused Problem, read-reused Problem) refl

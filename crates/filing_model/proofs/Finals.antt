@@ -1,20 +1,23 @@
 -- Each reply to a filed request is one that a client reads, and a number is told in one way.
 use Rattle.std.proofs.Common.{◌≡◌, ◌≢◌, ℕ, suc, ◌^◌, ◌<◌, ◌≤◌, Bool, true, false, cond, List, [], ◌∷◌, ◌++◌, length, Some, refl, sym, ap, ◌∙◌, subst, ⊎_elim, arith}
 use Rattle.std.specs.Prelude.{nat_eq, nat_le, nat_lt, ◌&&◌, IsSome}
+use Rattle.std.specs.Fmt.{digits}
 use Rattle.std.specs.List.{AllByRecursion}
 use Rattle.std.proofs.lemmas.Bool.{cases_Bool, le-leb, lt-ltb}
 use Rattle.http_wire.specs.Reply.{phrase}
 use Rattle.http_wire.specs.Response.{max_content_len, IsReadable}
-use Rattle.json.specs.Print.{escape_byte}
 use Rattle.serde_json.specs.Written.{compact_text}
+use Rattle.serde_json.proofs.OnLiterals.{serde_json_on_literals}
 use Rattle.xbrl_report.specs.CodeNumber.{number_of}
 use Rattle.xbrl_report.specs.Findings.{findings}
 use Rattle.xbrl_report.specs.Pair.{Pair, fits}
 use Rattle.xbrl_report.proofs.FindingLaws.{findings-fits}
+use Rattle.filing_model.specs.declared.served.Style.{Style}
+use Rattle.filing_model.specs.declared.served.Style.TheVariants.{Old, Problem}
 use Rattle.filing_model.specs.Request.{Request, same_content, has_key, firsts}
 use Rattle.filing_model.specs.Register.{Outcome, Kept, filings, verdict, outcome_by, judged, kept_after, kept}
 use Rattle.filing_model.specs.Answer.{Answer, answer_by, answer_from, answer}
-use Rattle.filing_model.specs.Reply.{answer_data, refused_status, reply_of, unavailable}
+use Rattle.filing_model.specs.Reply.{answer_data, refused_status, reply_as, unavailable}
 use Rattle.filing_model.specs.Outbox.{Open, Confirmed, moved}
 use Rattle.filing_model.proofs.Keeping.{kept_found, all_found, all_push}
 use Rattle.filing_model.proofs.Firsts.{firsts_one_more}
@@ -67,10 +70,11 @@ answer_number requests r n repeat told = omega (arith, registered_bound (request
 
 -- ---- replies
 
-answer-some : (a : Answer) → 0 < length (compact_text (answer_data a))
-answer-some (Answer.Registered n b) = omega arith
-answer-some (Answer.Refused found b) = omega arith
-answer-some Answer.KeyReused = omega arith
+answer-some : (style : Style) (a : Answer) → 0 < length (compact_text (answer_data style a))
+answer-some style (Answer.Registered n b) = omega arith
+answer-some style (Answer.Refused found b) = omega arith
+answer-some Old Answer.KeyReused = omega arith
+answer-some Problem Answer.KeyReused = omega arith
 
 -- a status with a phrase that is no interim one
 abbrev IsPhrased : ℕ → Type 0
@@ -85,40 +89,41 @@ refused-phrased (f ∷ found) = by_code (nat_eq (number_of f.code) 1)
     by_code true = (refl, λ e. absurd (omega (arith, e)))
     by_code false = (refl, λ e. absurd (omega (arith, e)))
 
-short_reused : length (compact_text (answer_data Answer.KeyReused)) ≤ max_content_len
-unfolding escape_byte
-short_reused = omega arith
+short_reused : (style : Style) → length (compact_text (answer_data style Answer.KeyReused)) ≤ max_content_len
+unfolding phrase serde_json_on_literals digits
+short_reused Old = omega arith
+short_reused Problem = omega arith
 
 -- an answer whose number and findings are within the limits has a reply that a client reads
-reply-readable : (a : Answer) → ((n : ℕ) (b : Bool) → a ≡ Answer.Registered n b → n < 2 ^ 64) → ((found : List Pair) (b : Bool) → a ≡ Answer.Refused found b → fits found ≡ true) → IsReadable (reply_of a)
-unfolding reply_of phrase
-reply-readable (Answer.Registered n b) number fit = record {
+reply-readable : (style : Style) (a : Answer) → ((n : ℕ) (b : Bool) → a ≡ Answer.Registered n b → n < 2 ^ 64) → ((found : List Pair) (b : Bool) → a ≡ Answer.Refused found b → fits found ≡ true) → IsReadable (reply_as style a)
+unfolding reply_as phrase
+reply-readable style (Answer.Registered n b) number fit = record {
   named = refl;
   final = λ e. absurd (omega (arith, e));
-  some = answer-some (Answer.Registered n b);
-  short = omega (arith, length-registered n b (number n b refl));
+  some = answer-some style (Answer.Registered n b);
+  short = omega (arith, length-registered style n b (number n b refl));
 }
-reply-readable (Answer.Refused found b) number fit = record {
+reply-readable style (Answer.Refused found b) number fit = record {
   named = (refused-phrased found).0;
   final = (refused-phrased found).1;
-  some = answer-some (Answer.Refused found b);
-  short = omega (arith, length-refused found b (fit found b refl));
+  some = answer-some style (Answer.Refused found b);
+  short = omega (arith, length-refused style found b (fit found b refl));
 }
-reply-readable Answer.KeyReused number fit = record {
+reply-readable style Answer.KeyReused number fit = record {
   named = refl;
   final = λ e. absurd (omega (arith, e));
-  some = answer-some Answer.KeyReused;
-  short = short_reused;
+  some = answer-some style Answer.KeyReused;
+  short = short_reused style;
 }
 
 -- The reply to a filed request, and the one where it could not be decided, are ones that a client reads.
-pub answer-readable : (requests : List Request) (r : Request) → length (firsts requests) ≤ 2 ^ 62 → IsReadable (reply_of (answer requests r))
-answer-readable requests r few = reply-readable (answer requests r)
+pub answer-readable : (style : Style) (requests : List Request) (r : Request) → length (firsts requests) ≤ 2 ^ 62 → IsReadable (reply_as style (answer requests r))
+answer-readable style requests r few = reply-readable style (answer requests r)
     (λ n b told. omega (arith, few, answer_number requests r n b told))
     (λ found b told. answer-fits requests r found b told)
 
 pub unavailable-readable : IsReadable unavailable
-unfolding phrase escape_byte
+unfolding phrase serde_json_on_literals digits
 unavailable-readable = record {
   named = refl;
   final = λ e. absurd (omega (arith, e));
@@ -129,12 +134,12 @@ unavailable-readable = record {
 -- ---- numbers
 
 -- the reply that tells a number confirms it, and no other
-pub told-exactly : (m n : ℕ) (repeat : Bool) → m < 2 ^ 63 → moved Open (reply_of (Answer.Registered m repeat)) ≡ Confirmed n → m ≡ n
-told-exactly m n repeat small h = by_test (nat_le 1 m && nat_lt m (2 ^ 63)) (sym (moved-registered m repeat (omega (arith, small))) ∙ h)
+pub told-exactly : (style : Style) (m n : ℕ) (repeat : Bool) → m < 2 ^ 63 → moved Open (reply_as style (Answer.Registered m repeat)) ≡ Confirmed n → m ≡ n
+told-exactly style m n repeat small h = by_test (nat_le 1 m && nat_lt m (2 ^ 63)) (sym (moved-registered style m repeat (omega (arith, small))) ∙ h)
   where
     by_test : (b : Bool) → cond b (Confirmed m) Open ≡ Confirmed n → m ≡ n
     by_test true e = cc
     by_test false e = absurd (cc)
 
-pub told-confirms : (m : ℕ) (repeat : Bool) → 1 ≤ m → m < 2 ^ 63 → moved Open (reply_of (Answer.Registered m repeat)) ≡ Confirmed m
-told-confirms m repeat some small = moved-registered m repeat (omega (arith, small)) ∙ rw (le-leb 1 m some, lt-ltb m (2 ^ 63) small) refl
+pub told-confirms : (style : Style) (m : ℕ) (repeat : Bool) → 1 ≤ m → m < 2 ^ 63 → moved Open (reply_as style (Answer.Registered m repeat)) ≡ Confirmed m
+told-confirms style m repeat some small = moved-registered style m repeat (omega (arith, small)) ∙ rw (le-leb 1 m some, lt-ltb m (2 ^ 63) small) refl

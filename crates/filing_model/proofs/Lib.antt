@@ -9,6 +9,7 @@ pub mod Valid
 pub mod Stopping
 pub mod Answered
 pub mod Bare
+pub mod Styles
 pub mod Contents
 pub mod Sizes
 pub mod Finals

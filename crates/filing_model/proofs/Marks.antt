@@ -5,22 +5,23 @@ use Rattle.filing_model.specs.Prefix.{IsPrefixOf}
 use Rattle.filing_model.specs.Request.{Request, has_key, firsts}
 use Rattle.filing_model.specs.Answer.{answer}
 use Rattle.filing_model.specs.Reply.{reply_of}
+use Rattle.filing_model.specs.declared.served.Style.TheVariants.{Problem}
 use Rattle.filing_model.specs.declared.served.Mark.{Mark}
 use Rattle.filing_model.specs.declared.served.Mark.TheVariants.{Done, Unavailable, NotFiled}
-use Rattle.filing_model.specs.Text.{Route, Told, Listed, Filed, route, RouteFits, MarkFits, MarksFit, requests_of_route, completed, completed_at, interim_of, reply_text, text, RepliesStand}
+use Rattle.filing_model.specs.Text.{Route, Told, Listed, Filed, route, RouteFits, MarkFits, MarksFit, requests_of_route, completed, completed_at, interim_of, reply_text_with, text_with, RepliesStand}
 use Rattle.filing_model.proofs.Lists.{append_nil, prefix_refl, prefix_after}
 use Rattle.filing_model.proofs.Firsts.{firsts_repeat, firsts_one_more}
-use Rattle.filing_model.proofs.Answers.{answer_stable, reply_of-as_repeat}
+use Rattle.filing_model.proofs.Answers.{answer_stable, reply_as-as_repeat}
 
 -- the text for fewer marks begins the text for more
-pub text_prefix : (limit : ℕ) (requests : List Request) (places : List Place) (ending : Ending) (marks : List Mark) (n : ℕ) → MarksFit limit requests places marks → IsPrefixOf (text requests places ending (take n marks)) (text requests places ending marks)
-unfolding text MarksFit
-text_prefix limit requests places ending [] zero fit = prefix_refl _
-text_prefix limit requests places ending [] (suc n) fit = prefix_refl _
-text_prefix limit requests [] ending (mark ∷ marks) n fit = absurd fit
-text_prefix limit requests (place ∷ places) ending (mark ∷ marks) zero fit = (reply_text requests place mark ++ text (requests ++ completed_at place mark) places ending marks, refl)
-text_prefix limit requests (place ∷ places) ending (mark ∷ marks) (suc n) fit =
-    prefix_after (interim_of place) _ _ (prefix_after (reply_text requests place mark) _ _ (text_prefix limit (requests ++ completed_at place mark) places ending marks n fit.1))
+pub text_prefix : (limit : ℕ) (early requests : List Request) (places : List Place) (ending : Ending) (marks : List Mark) (n : ℕ) → MarksFit limit requests places marks → IsPrefixOf (text_with early requests places ending (take n marks)) (text_with early requests places ending marks)
+unfolding text_with MarksFit
+text_prefix limit early requests places ending [] zero fit = prefix_refl _
+text_prefix limit early requests places ending [] (suc n) fit = prefix_refl _
+text_prefix limit early requests [] ending (mark ∷ marks) n fit = absurd fit
+text_prefix limit early requests (place ∷ places) ending (mark ∷ marks) zero fit = (reply_text_with early requests place mark ++ text_with early (requests ++ completed_at place mark) places ending marks, refl)
+text_prefix limit early requests (place ∷ places) ending (mark ∷ marks) (suc n) fit =
+    prefix_after (interim_of place) _ _ (prefix_after (reply_text_with early requests place mark) _ _ (text_prefix limit early (requests ++ completed_at place mark) places ending marks n fit.1))
 
 -- ---- the register stays within its limit
 
@@ -62,4 +63,4 @@ replies_stand done before (place ∷ places) (mark ∷ marks) later e = (here, r
     here : (r : Request) → completed_at place mark ≡ r ∷ [] → reply_of (answer before r) ≡ reply_of (answer done r)
     here r only =
         let split : done ≡ (before ++ r ∷ []) ++ (completed places marks ++ later) = e ∙ regrouped ∙ ap (λ one. (before ++ one) ++ (completed places marks ++ later)) only in
-        sym (ap (λ requests. reply_of (answer requests r)) split ∙ ap reply_of (answer_stable before r (completed places marks ++ later)) ∙ reply_of-as_repeat (answer before r))
+        sym (ap (λ requests. reply_of (answer requests r)) split ∙ ap reply_of (answer_stable before r (completed places marks ++ later)) ∙ reply_as-as_repeat Problem (answer before r))

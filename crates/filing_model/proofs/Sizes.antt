@@ -1,6 +1,6 @@
 -- How long the contents of replies are.
 use Rattle.std.proofs.Common.{◌≡◌, ℕ, ◌+◌, ◌*◌, ◌^◌, ◌<◌, ◌≤◌, Bool, true, false, cond, List, [], ◌∷◌, ◌++◌, map, length, refl, ap, arith, length-append}
-use Rattle.std.specs.Prelude.{codes, nat_le, decimal}
+use Rattle.std.specs.Prelude.{codes, nat_le, nat_eq, decimal, unwrap_or}
 use Rattle.std.specs.List.{list_all}
 use Rattle.std.proofs.lemmas.Bool.{and_parts, leb-true}
 use Rattle.std.proofs.lemmas.Fmt.{length-decimal-le}
@@ -9,10 +9,13 @@ use Rattle.serde_json.specs.View.{items_of}
 use Rattle.serde_json.specs.Written.{compact_text, items_text, comma_if}
 use Rattle.xbrl_report.specs.declared.code.Code.{Code}
 use Rattle.xbrl_report.specs.declared.code.Code.TheVariants.{NotJson, NotObject, DocumentInfo, DocumentType, Namespaces, NamespaceUri, Taxonomy, Facts, Fact, Value, Decimals, Dimensions, ConceptMissing, EntityMissing, DimensionValue, Name, UnboundPrefix, NotTheFiler, Period, PeriodOrder, UnitForm, Number, Language, UnknownDimension, TooMany}
-use Rattle.xbrl_report.specs.CodeNumber.{text_of}
+use Rattle.xbrl_report.specs.CodeNumber.{number_of, text_of}
 use Rattle.xbrl_report.specs.Pair.{Pair, fits}
 use Rattle.filing_model.specs.Answer.{Answer}
-use Rattle.filing_model.specs.Reply.{answer_data, finding_data}
+use Rattle.filing_model.specs.Reply.{answer_data, finding_data, refused_status}
+use Rattle.http_wire.specs.Reply.{phrase}
+use Rattle.filing_model.specs.declared.served.Style.{Style}
+use Rattle.filing_model.specs.declared.served.Style.TheVariants.{Old, Problem}
 
 -- ---- escaped texts
 
@@ -102,35 +105,71 @@ length-findings later (f ∷ found) short =
 
 -- ---- contents
 
-registered_text : (n : ℕ) (repeat : Bool) → compact_text (answer_data (Answer.Registered n repeat)) ≡ codes "{\"number\":" ++ (decimal n ++ codes ",\"status\":\"registered\"}")
+registered_text : (style : Style) (n : ℕ) (repeat : Bool) → compact_text (answer_data style (Answer.Registered n repeat)) ≡ codes "{\"number\":" ++ (decimal n ++ codes ",\"status\":\"registered\"}")
 unfolding escape_byte
-registered_text n repeat = refl
+registered_text style n repeat = refl
 
-pub length-registered : (n : ℕ) (repeat : Bool) → n < 2 ^ 64 → length (compact_text (answer_data (Answer.Registered n repeat))) ≤ 100
-length-registered n repeat h =
+pub length-registered : (style : Style) (n : ℕ) (repeat : Bool) → n < 2 ^ 64 → length (compact_text (answer_data style (Answer.Registered n repeat))) ≤ 100
+length-registered style n repeat h =
     omega (
       arith,
-      ap length (registered_text n repeat),
+      ap length (registered_text style n repeat),
       length-append (codes "{\"number\":") (decimal n ++ codes ",\"status\":\"registered\"}"),
       length-append (decimal n) (codes ",\"status\":\"registered\"}"),
       length-decimal-le 20 n (omega arith) (omega (arith, h)) h,
     )
 
-refused_text : (found : List Pair) (repeat : Bool) → compact_text (answer_data (Answer.Refused found repeat)) ≡ codes "{\"findings\":[" ++ (items_text false (items_of (map finding_data found)) ++ codes ",\"status\":\"refused\"}")
+-- what stands behind the findings, in each style
+abbrev refused_end : Style → List Pair → List ℕ
+refused_end Old found = codes ",\"status\":\"refused\"}"
+refused_end Problem found =
+    codes ",\"reason\":\"refused\",\"status\":" ++ (decimal (refused_status found) ++ (codes ",\"title\":" ++ (quoted (unwrap_or (phrase (refused_status found)) []) ++ codes ",\"type\":\"about:blank\"}")))
+
+refused_text : (style : Style) (found : List Pair) (repeat : Bool) → compact_text (answer_data style (Answer.Refused found repeat)) ≡ codes "{\"findings\":[" ++ (items_text false (items_of (map finding_data found)) ++ refused_end style found)
 unfolding escape_byte
-refused_text found repeat = refl
+refused_text Old found repeat = refl
+refused_text Problem found repeat = refl
+
+-- the two statuses of a refused report, and their phrases
+refused-small : (found : List Pair) → (refused_status found < 1000) × (length (unwrap_or (phrase (refused_status found)) []) ≤ 31)
+unfolding phrase
+refused-small [] = (omega arith, omega arith)
+refused-small (f ∷ found) = by_code (nat_eq (number_of f.code) 1)
+  where
+    by_code : (b : Bool) → (cond b 400 422 < 1000) × (length (unwrap_or (phrase (cond b 400 422)) []) ≤ 31)
+    by_code true = (omega arith, omega arith)
+    by_code false = (omega arith, omega arith)
+
+length-refused_end : (style : Style) (found : List Pair) → length (refused_end style found) ≤ 400
+length-refused_end Old found = omega arith
+length-refused_end Problem found =
+    let small = refused-small found in
+    let word = decimal (refused_status found) in
+    let title = quoted (unwrap_or (phrase (refused_status found)) []) in
+    let last : List ℕ = codes ",\"type\":\"about:blank\"}" in
+    omega (
+      arith,
+      length-append (codes ",\"reason\":\"refused\",\"status\":") (word ++ (codes ",\"title\":" ++ (title ++ last))),
+      length-append word (codes ",\"title\":" ++ (title ++ last)),
+      length-append (codes ",\"title\":") (title ++ last),
+      length-append title last,
+      length-decimal-le 20 (refused_status found) (omega arith) (omega (arith, small.0)) (omega (arith, small.0)),
+      length-quoted (unwrap_or (phrase (refused_status found)) []),
+      small.1,
+    )
 
 -- within what a client reads, 8,388,608 bytes
-pub length-refused : (found : List Pair) (repeat : Bool) → fits found ≡ true → length (compact_text (answer_data (Answer.Refused found repeat))) ≤ 6400000
+pub length-refused : (style : Style) (found : List Pair) (repeat : Bool) → fits found ≡ true → length (compact_text (answer_data style (Answer.Refused found repeat))) ≤ 6400000
 unfolding fits
-length-refused found repeat fit =
+length-refused style found repeat fit =
     let parts : (nat_le (length found) 1000 ≡ true) × (list_all (λ f. nat_le (length f.place) 1024) found ≡ true) = and_parts _ _ fit in
     let items = items_text false (items_of (map finding_data found)) in
     omega (
       arith,
-      ap length (refused_text found repeat),
-      length-append (codes "{\"findings\":[") (items ++ codes ",\"status\":\"refused\"}"),
-      length-append items (codes ",\"status\":\"refused\"}"),
+      ap length (refused_text style found repeat),
+      length-append (codes "{\"findings\":[") (items ++ refused_end style found),
+      length-append items (refused_end style found),
       length-findings false found parts.1,
       leb-true _ _ parts.0,
+      length-refused_end style found,
     )

@@ -10,7 +10,8 @@ use Rattle.filing_model.specs.Prefix.{IsPrefixOf}
 use Rattle.filing_model.specs.Request.{Request, firsts}
 use Rattle.filing_model.specs.Register.{Filing, register, numbers_of}
 use Rattle.filing_model.specs.Answer.{answer, as_repeat}
-use Rattle.filing_model.specs.Reply.{reply_of}
+use Rattle.filing_model.specs.declared.served.Style.{Style}
+use Rattle.filing_model.specs.Reply.{reply_as}
 use Rattle.filing_model.specs.Serving.{end_of}
 use Rattle.filing_model.specs.Text.{text}
 
@@ -37,10 +38,10 @@ pub record RepeatChangesNothing (requests : List Request) (r : Request) : Type 0
 abbrev pub RegisterGrows : List Request → List Request → Type 0
 RegisterGrows requests more = IsPrefixOf (register requests) (register (requests ++ more))
 
--- whatever comes between and after, a repeat gets the answer that the request got, marked as a repeat, and the same reply
+-- whatever comes between and after, a repeat gets the answer that the request got, marked as a repeat, and the same reply in either style
 pub record RepeatGetsTheFirst (requests : List Request) (r : Request) (more : List Request) : Type 0 where
   pub told : answer ((requests ++ r ∷ []) ++ more) r ≡ as_repeat (answer requests r)
-  pub replied : reply_of (answer ((requests ++ r ∷ []) ++ more) r) ≡ reply_of (answer requests r)
+  pub replied : (style : Style) → reply_as style (answer ((requests ++ r ∷ []) ++ more) r) ≡ reply_as style (answer requests r)
 
 -- whatever comes later, the request stands in the register under this number alone
 abbrev pub StaysRegistered : List Request → Request → ℕ → Type 0

@@ -3,6 +3,7 @@ pub mod Request
 pub mod Register
 pub mod Answer
 pub mod Listing
+pub mod Style
 pub mod Reply
 pub mod Text
 pub mod Views

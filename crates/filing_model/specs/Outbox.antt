@@ -19,9 +19,17 @@ pub data State : Type 0 where
 
 -- ---- what a reply says
 
+-- whether the member of this name is this word
+abbrev pub has_word : List ℕ → List ℕ → Data → Bool
+has_word name word d = unwrap_or (option_map (λ text. bytes_eq text word) (option_and_then as_str (get name d))) false
+
 -- whether the member `status` is this word
 abbrev pub says : List ℕ → Data → Bool
-says word d = unwrap_or (option_map (λ text. bytes_eq text word) (option_and_then as_str (get (codes "status") d))) false
+says word d = has_word (codes "status") word d
+
+-- whether it is refused for this reason: problem details have it in `reason`, and earlier contents in `status`
+abbrev pub refuses : List ℕ → Data → Bool
+refuses word d = says word d || has_word (codes "reason") word d
 
 -- the member `number`, where it is a whole number that is not below zero
 abbrev pub number_told : Data → Option ℕ
@@ -36,8 +44,8 @@ confirmed_by (Some n) = if nat_le 1 n && nat_lt n (2 ^ 63) then Confirmed n else
 abbrev pub state_by : ℕ → Data → State
 state_by status d =
     if (status == 201) && says (codes "registered") d then confirmed_by (number_told d)
-    else (if ((status == 422) || (status == 400)) && says (codes "refused") d then Refused
-    else (if (status == 422) && says (codes "key-reused") d then Clashed else Open))
+    else (if ((status == 422) || (status == 400)) && refuses (codes "refused") d then Refused
+    else (if (status == 422) && refuses (codes "key-reused") d then Clashed else Open))
 
 -- the same, where the content need be no JSON
 abbrev pub state_told : ℕ → Option Data → State
@@ -65,7 +73,7 @@ request_of filer entry = record { filer = filer; key = entry.key; body = entry.b
 
 -- the bytes that are sent for a request
 abbrev pub bytes_of : Request → List ℕ
-bytes_of r = render_post r.filer r.key r.body
+bytes_of r = render_post r.filer None r.key r.body
 
 -- a request that may be sent
 pub record IsSendable (r : Request) : Type 0 where

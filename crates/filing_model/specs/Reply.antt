@@ -1,11 +1,15 @@
 -- The replies to answers and lists: their statuses, and their contents as compact JSON texts.
-use Rattle.std.specs.Prelude.{ℕ, List, [], ◌∷◌, map, codes, nat_eq, if◌then◌else◌}
+use Rattle.std.specs.Prelude.{ℕ, List, [], ◌∷◌, map, codes, nat_eq, if◌then◌else◌, unwrap_or}
 use Rattle.serde_json.specs.Data.{Data, number, string, array, object, unsigned, Members, no_members, member}
 use Rattle.serde_json.specs.Written.{compact_text}
 use Rattle.serde_json.specs.View.{items_of}
 use Rattle.xbrl_report.specs.Pair.{Pair}
 use Rattle.xbrl_report.specs.CodeNumber.{number_of, text_of}
-use Rattle.http_wire.specs.Reply.{ReplyParts}
+use Rattle.http_wire.specs.declared.reply.Kind.{Kind}
+use Rattle.http_wire.specs.declared.reply.Kind.TheVariants.{Json}
+use Rattle.http_wire.specs.Reply.{ReplyParts, phrase}
+use Rattle.filing_model.specs.declared.served.Style.{Style}
+use Rattle.filing_model.specs.declared.served.Style.TheVariants.{Old, Problem}
 use Rattle.filing_model.specs.Answer.{Answer}
 use Rattle.filing_model.specs.Listing.{Listing}
 
@@ -21,12 +25,6 @@ finding_data f = object (member (codes "code") (string (text_of f.code)) (member
 abbrev pub findings_data : List Pair → Data
 findings_data findings = array (items_of (map finding_data findings))
 
--- the content of an answer; a repeat has no other
-abbrev pub answer_data : Answer → Data
-answer_data (Answer.Registered n repeat) = object (member (codes "number") (number (unsigned n)) (status_member (codes "registered")))
-answer_data (Answer.Refused findings repeat) = object (member (codes "findings") (findings_data findings) (status_member (codes "refused")))
-answer_data Answer.KeyReused = object (status_member (codes "key-reused"))
-
 -- a body that is no JSON is a bad request; code 1 stands alone
 abbrev pub refused_status : List Pair → ℕ
 refused_status [] = 422
@@ -38,9 +36,44 @@ answer_status (Answer.Registered n repeat) = 201
 answer_status (Answer.Refused findings repeat) = refused_status findings
 answer_status Answer.KeyReused = 422
 
--- the reply to an answer
-unfoldable pub reply_of : Answer → ReplyParts
-reply_of a = record { status = answer_status a; content = compact_text (answer_data a) }
+-- The members of problem details (RFC 9457, section 3.1), in order of their names. The title is the status's phrase (section 4.2.1), and
+-- `reason` is an extension (section 3.2).
+abbrev pub problem_members : ℕ → List ℕ → Members
+problem_members status reason =
+    member (codes "reason") (string reason)
+    (member (codes "status") (number (unsigned status))
+    (member (codes "title") (string (unwrap_or (phrase status) []))
+    (member (codes "type") (string (codes "about:blank")) no_members)))
+
+-- the members that say why something is refused, in this style
+abbrev pub refusal_members : Style → ℕ → List ℕ → Members
+refusal_members Old status word = status_member word
+refusal_members Problem status word = problem_members status word
+
+-- what a content with them is
+abbrev pub refusal_kind : Style → Kind
+refusal_kind Old = Json
+refusal_kind Problem = Kind.Problem
+
+-- the content of an answer; a repeat has no other
+abbrev pub answer_data : Style → Answer → Data
+answer_data style (Answer.Registered n repeat) = object (member (codes "number") (number (unsigned n)) (status_member (codes "registered")))
+answer_data style (Answer.Refused findings repeat) = object (member (codes "findings") (findings_data findings) (refusal_members style (refused_status findings) (codes "refused")))
+answer_data style Answer.KeyReused = object (refusal_members style 422 (codes "key-reused"))
+
+-- what that content is
+abbrev pub answer_kind : Style → Answer → Kind
+answer_kind style (Answer.Registered n repeat) = Json
+answer_kind style (Answer.Refused findings repeat) = refusal_kind style
+answer_kind style Answer.KeyReused = refusal_kind style
+
+-- the reply to an answer, in this style
+unfoldable pub reply_as : Style → Answer → ReplyParts
+reply_as style a = record { status = answer_status a; content = compact_text (answer_data style a); kind = answer_kind style a }
+
+-- the reply to an answer, for every key that was not kept before there were problem details
+abbrev pub reply_of : Answer → ReplyParts
+reply_of a = reply_as Problem a
 
 -- a filing in a list
 abbrev pub listing_data : Listing → Data
@@ -56,15 +89,11 @@ list_data ls = object (member (codes "filings") (listings_data ls) no_members)
 
 -- the reply that lists filings
 unfoldable pub list_reply : List Listing → ReplyParts
-list_reply ls = record { status = 200; content = compact_text (list_data ls) }
+list_reply ls = record { status = 200; content = compact_text (list_data ls); kind = Json }
 
--- the content of a reply of one word
-abbrev pub word_data : List ℕ → Data
-word_data word = object (status_member word)
-
--- the reply of one word
+-- the refusal for this reason, as problem details
 abbrev pub word_reply : ℕ → List ℕ → ReplyParts
-word_reply status word = record { status = status; content = compact_text (word_data word) }
+word_reply status word = record { status = status; content = compact_text (object (problem_members status word)); kind = Kind.Problem }
 
 -- where a request could not be decided now (RFC 9110, section 15.6.4)
 abbrev pub unavailable : ReplyParts

@@ -8,7 +8,7 @@ use Rattle.filing_model.specs.declared.served.Ended.{Ended}
 use Rattle.filing_model.specs.declared.served.Ended.TheVariants.{Closed, InputEnded, Fault}
 use Rattle.filing_model.specs.Prefix.{IsPrefixOf}
 use Rattle.filing_model.specs.Request.{Request, firsts}
-use Rattle.filing_model.specs.Text.{MarksFit, completed, text}
+use Rattle.filing_model.specs.Text.{MarksFit, completed, text_with}
 
 -- every place has a mark that it may be given
 pub record AreMarked (limit : ℕ) (before : List Request) (places : List Place) (marks : List Mark) : Type 0 where
@@ -27,12 +27,12 @@ kept_by before [] = before
 kept_by before (r ∷ requests) = firsts (before ++ r ∷ requests)
 
 -- All places are marked and answered, and what is kept `after` follows from what was kept `before`.
-pub record IsServed (limit : ℕ) (before after : List Request) (bytes : List ℕ) (marks : List Mark) (ended : Ended) (out : List ℕ) : Type 0 where
+pub record IsServed (limit : ℕ) (early before after : List Request) (bytes : List ℕ) (marks : List Mark) (ended : Ended) (out : List ℕ) : Type 0 where
   pub places : List Place
   pub ending : Ending
   pub splits : HasPlaces bytes places ending
   pub marked : AreMarked limit before places marks
-  pub written : out ≡ text before places ending marks
+  pub written : out ≡ text_with early before places ending marks
   pub kept : after ≡ kept_by before (completed places marks)
   pub end : ended ≡ end_of ending
 
@@ -49,7 +49,7 @@ MayBegin bytes (Refused refusal ∷ places) = IsRefused bytes refusal × (places
 
 -- A fault ended early: the marks are those of the first places, and what went out begins their text, and the interim
 -- response that the rest asks for where no place of it was marked.
-pub record IsCutShort (limit : ℕ) (before after : List Request) (bytes : List ℕ) (marks : List Mark) (out : List ℕ) : Type 0 where
+pub record IsCutShort (limit : ℕ) (early before after : List Request) (bytes : List ℕ) (marks : List Mark) (out : List ℕ) : Type 0 where
   pub messages : List Message
   pub rest : List ℕ
   pub goes : GoesThrough bytes messages rest
@@ -58,11 +58,11 @@ pub record IsCutShort (limit : ℕ) (before after : List Request) (bytes : List 
   pub asks : Bool
   pub asked : asks ≡ true → (last ≡ []) × Asks rest true
   pub marked : AreMarked limit before (map Read messages ++ last) marks
-  pub written : IsPrefixOf out (text before (map Read messages ++ last) (if asks then Rest true else Ending.Closed) marks)
+  pub written : IsPrefixOf out (text_with early before (map Read messages ++ last) (if asks then Rest true else Ending.Closed) marks)
   pub kept : after ≡ kept_by before (completed (map Read messages ++ last) marks)
 
--- what serving these bytes may mark, write, keep and end with
-abbrev pub Serves : ℕ → List Request → List Request → List ℕ → List Mark → Ended → List ℕ → Type 0
-Serves limit before after bytes marks Closed out = IsServed limit before after bytes marks Closed out
-Serves limit before after bytes marks InputEnded out = IsServed limit before after bytes marks InputEnded out
-Serves limit before after bytes marks (Fault fault) out = IsCutShort limit before after bytes marks out
+-- What serving these bytes may mark, write, keep and end with. The early requests were kept before there were problem details.
+abbrev pub Serves : ℕ → List Request → List Request → List Request → List ℕ → List Mark → Ended → List ℕ → Type 0
+Serves limit early before after bytes marks Closed out = IsServed limit early before after bytes marks Closed out
+Serves limit early before after bytes marks InputEnded out = IsServed limit early before after bytes marks InputEnded out
+Serves limit early before after bytes marks (Fault fault) out = IsCutShort limit early before after bytes marks out

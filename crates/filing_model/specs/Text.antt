@@ -18,7 +18,8 @@ use Rattle.filing_model.specs.Request.{Request, has_key, firsts}
 use Rattle.filing_model.specs.Register.{register}
 use Rattle.filing_model.specs.Listing.{listings}
 use Rattle.filing_model.specs.Answer.{answer}
-use Rattle.filing_model.specs.Reply.{reply_of, list_reply, word_reply, unavailable}
+use Rattle.filing_model.specs.Style.{style_of}
+use Rattle.filing_model.specs.Reply.{reply_as, reply_of, list_reply, word_reply, unavailable}
 
 -- what a message asks for: an answer that depends on it alone, a filer's list, or a request to be filed
 pub data Route : Type 0 where
@@ -55,7 +56,7 @@ route_by_filer (Some filer) m = route_by_method filer m
 
 -- a refusal of HEAD has no content
 abbrev pub bare : Bool → Route → Route
-bare true (Told reply) = Told (record { status = reply.status; content = [] })
+bare true (Told reply) = Told (record { status = reply.status; content = []; kind = reply.kind })
 bare true (Listed filer) = Listed filer
 bare true (Filed r) = Filed r
 bare false to = to
@@ -68,15 +69,16 @@ is_head m = bytes_eq m.head.method (codes "HEAD")
 unfoldable pub route : Message → Route
 route m = bare (is_head m) (route_by_filer (filer_of_path m.head.path) m)
 
--- the reply to what is asked, after these requests
-abbrev pub reply_on : List Request → Route → ReplyParts
-reply_on requests (Told reply) = reply
-reply_on requests (Listed filer) = list_reply (listings filer (register requests))
-reply_on requests (Filed r) = reply_of (answer requests r)
+-- The reply to what is asked, after these requests. What the early ones, which were kept before there were problem details, are
+-- told stays as it was.
+abbrev pub reply_on : List Request → List Request → Route → ReplyParts
+reply_on early requests (Told reply) = reply
+reply_on early requests (Listed filer) = list_reply (listings filer (register requests))
+reply_on early requests (Filed r) = reply_as (style_of early r) (answer requests r)
 
 -- the reply to a message after these requests
-abbrev pub reply : List Request → Message → ReplyParts
-reply requests m = reply_on requests (route m)
+abbrev pub reply_with : List Request → List Request → Message → ReplyParts
+reply_with early requests m = reply_on early requests (route m)
 
 -- the reply to a head that is refused
 abbrev pub fault_reply : HeadFault → ReplyParts
@@ -154,17 +156,32 @@ next_interim [] (Ending.Rest false) = []
 next_interim [] Ending.Closed = []
 
 -- the bytes of the reply to a place that is so marked
-abbrev pub reply_text : List Request → Place → Mark → List ℕ
-reply_text requests (Place.Read m) Unavailable = render unavailable (closes m.head)
-reply_text requests (Place.Read m) Done = render (reply requests m) (closes m.head)
-reply_text requests (Place.Read m) NotFiled = render (reply requests m) (closes m.head)
-reply_text requests (Place.Refused refusal) mark = render (refusal_reply refusal) true
+abbrev pub reply_text_with : List Request → List Request → Place → Mark → List ℕ
+reply_text_with early requests (Place.Read m) Unavailable = render unavailable (closes m.head)
+reply_text_with early requests (Place.Read m) Done = render (reply_with early requests m) (closes m.head)
+reply_text_with early requests (Place.Read m) NotFiled = render (reply_with early requests m) (closes m.head)
+reply_text_with early requests (Place.Refused refusal) mark = render (refusal_reply refusal) true
 
 -- what is written for the marked places, and the 100 of the next
-unfoldable pub text : List Request → List Place → Ending → List Mark → List ℕ
-text requests places ending [] = next_interim places ending
-text requests [] ending (mark ∷ marks) = []
-text requests (place ∷ places) ending (mark ∷ marks) = interim_of place ++ (reply_text requests place mark ++ text (requests ++ completed_at place mark) places ending marks)
+unfoldable pub text_with : List Request → List Request → List Place → Ending → List Mark → List ℕ
+text_with early requests places ending [] = next_interim places ending
+text_with early requests [] ending (mark ∷ marks) = []
+text_with early requests (place ∷ places) ending (mark ∷ marks) =
+    interim_of place ++ (reply_text_with early requests place mark ++ text_with early (requests ++ completed_at place mark) places ending marks)
+
+-- ---- where all were kept since there are problem details
+
+-- the reply to a message after these requests
+abbrev pub reply : List Request → Message → ReplyParts
+reply requests m = reply_with [] requests m
+
+-- the bytes of the reply to a place that is so marked
+abbrev pub reply_text : List Request → Place → Mark → List ℕ
+reply_text requests place mark = reply_text_with [] requests place mark
+
+-- what is written for the marked places, and the 100 of the next
+abbrev pub text : List Request → List Place → Ending → List Mark → List ℕ
+text requests places ending marks = text_with [] requests places ending marks
 
 -- ---- stability
 

@@ -10,8 +10,8 @@ use Rattle.filing_model.specs.Answer.{Answer}
 -- an answer
 abbrev pub view_answer : Given → Answer
 view_answer (given.Registered number repeat) = Answer.Registered number repeat
-view_answer (given.Refused found repeat) = Answer.Refused found repeat
-view_answer given.KeyReused = Answer.KeyReused
+view_answer (given.Refused found repeat style) = Answer.Refused found repeat
+view_answer (given.KeyReused style) = Answer.KeyReused
 
 -- a filing as it is listed
 abbrev pub view_row : Row → Listing

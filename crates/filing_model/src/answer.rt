@@ -1,14 +1,25 @@
 //! The answer to a request.
 
+use crate::served::Style;
 use xbrl_report::Findings;
 
-/// The answer to a request. `repeat` says that the same filer, key and body came before.
+/// The answer to a request. `repeat` says that the same filer, key and body came before, and `style` how the reply tells
+/// what is refused.
 #[derive(Drop)]
 pub enum Answer {
     /// The report is registered under this number, which counts from 1.
-    Registered { number: u64, repeat: bool },
+    Registered {
+        number: u64,
+        repeat: bool,
+    },
     /// The report was refused.
-    Refused { findings: Findings, repeat: bool },
+    Refused {
+        findings: Findings,
+        repeat: bool,
+        style: Style,
+    },
     /// The filer used the key before, for another body.
-    KeyReused,
+    KeyReused {
+        style: Style,
+    },
 }

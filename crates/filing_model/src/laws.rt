@@ -2,8 +2,9 @@
 //! live here: functions that do nothing, each with a law about the definitions as its contract. The
 //! code that decides requests has contracts by the same definitions.
 
-ghost use Rattle.std.specs.Prelude.{◌≡◌, ◌≢◌, ℕ, ◌^◌, ◌<◌, ◌≤◌, Bool, true, List, [], ◌++◌, length, codes, Option, Some};
+ghost use Rattle.std.specs.Prelude.{◌≡◌, ◌≢◌, ◌↔◌, ℕ, ◌^◌, ◌<◌, ◌≤◌, Bool, true, List, [], ◌++◌, length, codes, Option, Some};
 ghost use Rattle.http_wire.specs.declared.refusal.ConnFault.{ConnFault};
+ghost use Rattle.http_wire.specs.declared.reply.Kind.TheVariants.{Problem};
 ghost use Rattle.http_wire.specs.Head.{closes};
 ghost use Rattle.http_wire.specs.Message.{Place};
 ghost use Rattle.http_wire.specs.Reply.{render};
@@ -12,15 +13,18 @@ ghost use Rattle.http_wire.specs.Response.{IsReadable};
 ghost use Rattle.filing_model.specs.declared.served.Ended.{Ended};
 ghost use Rattle.filing_model.specs.declared.served.Ended.TheVariants.{Fault};
 ghost use Rattle.filing_model.specs.declared.served.Mark.{Mark};
+ghost use Rattle.filing_model.specs.declared.served.Style.{Style};
+ghost use Rattle.filing_model.specs.declared.served.Style.TheVariants.{Old};
 ghost use Rattle.filing_model.specs.Request.{Request, has_key, firsts};
 ghost use Rattle.filing_model.specs.Register.{register};
 ghost use Rattle.filing_model.specs.Answer.{answer};
-ghost use Rattle.filing_model.specs.Answer.Answer.{Registered};
-ghost use Rattle.filing_model.specs.Outbox.{Open, Confirmed, moved};
-ghost use Rattle.filing_model.specs.Reply.{reply_of, unavailable};
+ghost use Rattle.filing_model.specs.Answer.Answer.{Registered, KeyReused};
+ghost use Rattle.filing_model.specs.Outbox.{Open, Confirmed, Clashed, moved};
+ghost use Rattle.filing_model.specs.Style.{style_of};
+ghost use Rattle.filing_model.specs.Reply.{reply_as, unavailable};
 ghost use Rattle.filing_model.specs.Serving.{Serves};
 ghost use Rattle.filing_model.specs.Stopping.{Crash, No, IsEndOf, IsEndOrStopOf, ServesUntil, StopsOrServes};
-ghost use Rattle.filing_model.specs.Text.{MarkFits, completed, reply, reply_text};
+ghost use Rattle.filing_model.specs.Text.{MarkFits, completed, reply_with, reply_text_with};
 ghost use Rattle.filing_model.specs.Laws.{IsAnswered, IsRegisterOf, RepeatChangesNothing, RegisterGrows, RepeatGetsTheFirst, StaysRegistered};
 
 /// The register is the valid ones among the first request of each filer and key, numbered 1, 2, ..
@@ -54,23 +58,34 @@ pub fn registered_for_good()
 {}
 
 /// Each reply to a request that files is one that a client reads: a final status with a phrase, and a
-/// content of 1 to 8,388,608 bytes. So is the reply where the request could not be decided.
+/// content of 1 to 8,388,608 bytes, in either style. So is the reply where the request could not be decided.
 pub fn every_reply_is_read()
-    ensures answered { (requests : List Request) (r : Request) → length (firsts requests) ≤ 2 ^ 62 → IsReadable (reply_of (answer requests r)) }
+    ensures answered { (style : Style) (requests : List Request) (r : Request) → length (firsts requests) ≤ 2 ^ 62 → IsReadable (reply_as style (answer requests r)) }
     ensures undecided { IsReadable unavailable }
 {}
 
-/// A number is heard as it was told: the reply that tells it moves an open entry to it, and to no other.
+/// A number is heard as it was told, in either style: the reply that tells it moves an open entry to it, and to no other.
 pub fn a_number_is_heard_as_told()
-    ensures confirms { (m : ℕ) (repeat : Bool) → 1 ≤ m → m < 2 ^ 63 → moved Open (reply_of (Registered m repeat)) ≡ Confirmed m }
-    ensures exactly { (m n : ℕ) (repeat : Bool) → m < 2 ^ 63 → moved Open (reply_of (Registered m repeat)) ≡ Confirmed n → m ≡ n }
+    ensures confirms { (style : Style) (m : ℕ) (repeat : Bool) → 1 ≤ m → m < 2 ^ 63 → moved Open (reply_as style (Registered m repeat)) ≡ Confirmed m }
+    ensures exactly { (style : Style) (m n : ℕ) (repeat : Bool) → m < 2 ^ 63 → moved Open (reply_as style (Registered m repeat)) ≡ Confirmed n → m ≡ n }
+{}
+
+/// That a key stands for another body is heard in either style.
+pub fn a_used_key_is_heard()
+    ensures { (style : Style) → moved Open (reply_as style KeyReused) ≡ Clashed }
+{}
+
+/// A filer's key is answered in the old style exactly where it is among those that were kept before
+/// there were problem details.
+pub fn early_keys_are_answered_in_the_old_style()
+    ensures { (early : List Request) (r : Request) → (style_of early r ≡ Old) ↔ (has_key early r ≡ true) }
 {}
 
 /// What was served of the bytes that were read is what may be served of all that were given, after any
 /// requests whose firsts were kept.
 pub fn serves_as_the_model_says()
     ensures { (limit : ℕ) (done before after : List Request) (read more : List ℕ) (marks : List Mark) (ended : Ended) (out : List ℕ)
-        → before ≡ firsts done → IsEndOf read more ended → Serves limit before after read marks ended out
+        → before ≡ firsts done → IsEndOf read more ended → Serves limit [] before after read marks ended out
         → (places : List Place) × ServesUntil limit done (read ++ more) No places marks (Some ended) out × (after ≡ firsts (done ++ completed places marks)) }
 {}
 
@@ -78,7 +93,7 @@ pub fn serves_as_the_model_says()
 /// tells are the first ones, up to the one where it stopped.
 pub fn serves_until_as_the_model_says()
     ensures { (limit : ℕ) (done before after : List Request) (read more : List ℕ) (crash : Crash) (marks : List Mark) (ended : Option Ended) (out : List ℕ)
-        → before ≡ firsts done → IsEndOrStopOf read more ended → StopsOrServes limit before after read crash marks ended out
+        → before ≡ firsts done → IsEndOrStopOf read more ended → StopsOrServes limit [] before after read crash marks ended out
         → (places : List Place) × ServesUntil limit done (read ++ more) crash places marks ended out × (after ≡ firsts (done ++ completed places marks)) }
 {}
 
@@ -90,9 +105,10 @@ pub fn serves_all_without_a_fault()
 {}
 
 /// The reply to a HEAD has no content (RFC 9110, section 9.3.2), whatever its path, and so whatever
-/// mark its place may have.
+/// mark its place may have. It is a refusal, and has the kind of one.
 pub fn head_is_answered_without_content()
-    ensures reply { (requests : List Request) (m : Message) → m.head.method ≡ codes "HEAD" → (reply requests m).content ≡ [] }
-    ensures written { (limit : ℕ) (requests : List Request) (m : Message) (mark : Mark) → m.head.method ≡ codes "HEAD" → MarkFits limit requests (Place.Read m) mark
-        → reply_text requests (Place.Read m) mark ≡ render (record { status = (reply requests m).status; content = [] }) (closes m.head) }
+    ensures reply { (early requests : List Request) (m : Message) → m.head.method ≡ codes "HEAD" → (reply_with early requests m).content ≡ [] }
+    ensures kind { (early requests : List Request) (m : Message) → m.head.method ≡ codes "HEAD" → (reply_with early requests m).kind ≡ Problem }
+    ensures written { (limit : ℕ) (early requests : List Request) (m : Message) (mark : Mark) → m.head.method ≡ codes "HEAD" → MarkFits limit requests (Place.Read m) mark
+        → reply_text_with early requests (Place.Read m) mark ≡ render (record { status = (reply_with early requests m).status; content = []; kind = Problem }) (closes m.head) }
 {}

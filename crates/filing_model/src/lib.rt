@@ -1,5 +1,6 @@
 //! What a register is, said of lists, and what a connection is answered. What may live here: the
-//! definitions that the layers above cite, their laws, and the types in which answers, lists and marks are told.
+//! definitions that the layers above cite, their laws, and the types in which answers, lists, marks and
+//! styles are told.
 #![tactic(auto)]
 
 mod answer;
@@ -9,4 +10,4 @@ mod served;
 
 pub use answer::Answer;
 pub use listing::FilingRow;
-pub use served::{Ended, Mark};
+pub use served::{Ended, Mark, Style};

@@ -11,15 +11,16 @@ use Rattle.http_wire.specs.Reply.{ReplyParts, render}
 use Rattle.http_wire.specs.Response.{SpellsReply, GivesReply, IsReadable}
 use Rattle.http_wire.proofs.ReplyRead.{reply-alone}
 use Rattle.http_wire.proofs.UniqueReply.{SpellsReply-nothing}
+use Rattle.filing_model.specs.declared.served.Style.TheVariants.{Problem}
 use Rattle.filing_model.specs.declared.served.Mark.{Mark}
 use Rattle.filing_model.specs.declared.served.Mark.TheVariants.{Done, Unavailable, NotFiled}
 use Rattle.filing_model.specs.Prefix.{IsPrefixOf}
 use Rattle.filing_model.specs.Request.{Request, firsts}
 use Rattle.filing_model.specs.Answer.{Answer, answer, IsRegistered}
-use Rattle.filing_model.specs.Reply.{reply_of, unavailable, refused_status}
+use Rattle.filing_model.specs.Reply.{reply_as, reply_of, unavailable, refused_status}
 use Rattle.filing_model.specs.Outbox.{Open, Confirmed, Refused, Clashed, moved, state_told, IsSendable, bytes_of}
 use Rattle.filing_model.specs.Stopping.{Crash, No, Before, After, BeginsPlaces}
-use Rattle.filing_model.specs.Text.{Filed, RouteFits, MarksFit, completed, completed_at, requests_of_route, reply, reply_on, reply_text, text, interim_of, next_interim}
+use Rattle.filing_model.specs.Text.{Filed, RouteFits, MarksFit, completed, completed_at, requests_of_route, reply, reply_on, reply_text, text, text_with, interim_of, next_interim}
 use Rattle.filing_model.proofs.Answers.{answer_registered, registered_grows}
 use Rattle.filing_model.proofs.Lists.{append_nil, prefix_nil, take_prefix, take_within, take_all, prefix_trans}
 use Rattle.filing_model.proofs.Finals.{answer-readable, unavailable-readable, told-exactly, answer_number}
@@ -27,7 +28,7 @@ use Rattle.filing_model.proofs.Firsts.{firsts_more}
 use Rattle.filing_world.specs.World.{Sent, Output}
 use Rattle.filing_world.specs.Step.{Hears}
 use Rattle.filing_world.specs.Headline.{IsOutput}
-use Rattle.filing_world.specs.Posting.{IsAlone, FilesAlone}
+use Rattle.filing_world.proofs.Posting.{IsAlone, FilesAlone}
 use Rattle.filing_world.proofs.Posting.{posted, own_front}
 
 -- only what the bytes give is heard
@@ -61,15 +62,15 @@ other_reply reply n h e = other_status reply.status (tree reply.content) n h e
 
 -- only an answer that registers confirms, and under its number
 pub confirms : (a : Answer) (n : ℕ) → ((m : ℕ) (b : Bool) → a ≡ Answer.Registered m b → m < 2 ^ 63) → moved Open (reply_of a) ≡ Confirmed n → (b : Bool) × (a ≡ Answer.Registered n b)
-unfolding reply_of
-confirms (Answer.Registered m b) n small h = (b, ap (λ k. Answer.Registered k b) (told-exactly m n b (small m b refl) h))
+unfolding reply_as
+confirms (Answer.Registered m b) n small h = (b, ap (λ k. Answer.Registered k b) (told-exactly Problem m n b (small m b refl) h))
 confirms (Answer.Refused found b) n small h = absurd (other_reply (reply_of (Answer.Refused found b)) n (refused_other found) h)
 confirms Answer.KeyReused n small h = absurd (other_reply (reply_of Answer.KeyReused) n refl h)
 
 -- ---- an entry's own request
 
 reply_alone : (before : List Request) (m : Message) (r : Request) → FilesAlone m r → reply before m ≡ reply_of (answer before r)
-reply_alone before m r alone = ap (reply_on before) alone.filed
+reply_alone before m r alone = ap (reply_on [] before) alone.filed
 
 module _ (limit : ℕ) (before : List Request) (small : length (firsts before) ≤ 2 ^ 62) (r : Request) (part : List ℕ) (heard : ReplyParts) (n : ℕ) (spelled : SpellsReply part heard) (confirmed : moved Open heard ≡ Confirmed n) where
   nothing_heard : part ≡ [] → ⊥
@@ -82,7 +83,7 @@ module _ (limit : ℕ) (before : List Request) (small : length (firsts before) �
       silent
 
   no_place : (ending : Ending) → (ending ≡ Ending.Closed) ⊎ (ending ≡ Ending.Rest false) → (marks : List Mark) → MarksFit limit before [] marks → IsPrefixOf part (text before [] ending marks) → ⊥
-  unfolding text MarksFit
+  unfolding text_with MarksFit
   no_place ending silent [] fit front = nothing_heard (prefix_nil part (subst (λ bytes. IsPrefixOf part bytes) (silent_end ending silent) front))
   no_place ending silent (mark ∷ marks) fit front = fit
 
@@ -94,7 +95,7 @@ module _ (limit : ℕ) (before : List Request) (small : length (firsts before) �
 
   heard_answer : (close : Bool) → IsPrefixOf part (render (reply_of (answer before r)) close) → IsRegistered (before ++ r ∷ []) r n
   heard_answer close front =
-      let same = heard_is (reply_of (answer before r)) close (answer-readable before r small) front in
+      let same = heard_is (reply_of (answer before r)) close (answer-readable Problem before r small) front in
       let found = confirms (answer before r) n number (ap (moved Open) (sym same) ∙ confirmed) in
       answer_registered before r n found.0 found.1
     where
@@ -110,7 +111,7 @@ module _ (limit : ℕ) (before : List Request) (small : length (firsts before) �
   silent_interim m alone = rw alone.silent refl
 
   one_text : (m : Message) → FilesAlone m r → (mark : Mark) → text before (Place.Read m ∷ []) Ending.Closed (mark ∷ []) ≡ reply_text before (Place.Read m) mark
-  unfolding text
+  unfolding text_with
   one_text m alone mark = ap (λ front. front ++ (reply_text before (Place.Read m) mark ++ [])) (silent_interim m alone) ∙ append_nil (reply_text before (Place.Read m) mark)
 
   by_mark : (m : Message) → FilesAlone m r → (mark : Mark) → RouteFits limit before (Filed r) mark → IsPrefixOf part (reply_text before (Place.Read m) mark) → IsRegistered (before ++ requests_of_route (Filed r) mark) r n
@@ -119,7 +120,7 @@ module _ (limit : ℕ) (before : List Request) (small : length (firsts before) �
   by_mark m alone NotFiled fit front = absurd fit
 
   one_place : (m : Message) → FilesAlone m r → (marks : List Mark) → MarksFit limit before (Place.Read m ∷ []) marks → IsPrefixOf part (text before (Place.Read m ∷ []) Ending.Closed marks) → IsRegistered (before ++ completed (Place.Read m ∷ []) marks) r n
-  unfolding text MarksFit completed
+  unfolding text_with MarksFit completed
   one_place m alone [] fit front = absurd (nothing_heard (prefix_nil part (subst (λ bytes. IsPrefixOf part bytes) (silent_interim m alone) front)))
   one_place m alone (mark ∷ []) fit front =
       subst (λ more. IsRegistered (before ++ more) r n) (sym (append_nil (completed_at (Place.Read m) mark) ∙ ap (λ route. requests_of_route route mark) alone.filed))

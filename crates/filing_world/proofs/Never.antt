@@ -10,16 +10,17 @@ use Rattle.http_wire.specs.Request.{Request as Message}
 use Rattle.http_wire.specs.Reply.{ReplyParts, render}
 use Rattle.http_wire.specs.Response.{SpellsReply, GivesReply, IsReadable}
 use Rattle.http_wire.proofs.ReplyRead.{reply-spells, reply-alone}
+use Rattle.filing_model.specs.declared.served.Style.TheVariants.{Problem}
 use Rattle.filing_model.specs.declared.served.Mark.{Mark}
 use Rattle.filing_model.specs.declared.served.Mark.TheVariants.{Done, Unavailable, NotFiled}
 use Rattle.filing_model.specs.Prefix.{IsPrefixOf}
 use Rattle.filing_model.specs.Request.{Request, same_request, firsts}
 use Rattle.filing_model.specs.Register.{Filing, register, numbers_of}
 use Rattle.filing_model.specs.Answer.{Answer, answer}
-use Rattle.filing_model.specs.Reply.{reply_of, unavailable}
+use Rattle.filing_model.specs.Reply.{reply_as, reply_of, unavailable}
 use Rattle.filing_model.specs.Outbox.{State, bytes_of, IsSendable}
 use Rattle.filing_model.specs.Stopping.{Crash, BeginsPlaces}
-use Rattle.filing_model.specs.Text.{Filed, MarksFit, completed, requests_of_route, interim_of, reply_text, text}
+use Rattle.filing_model.specs.Text.{Filed, MarksFit, completed, requests_of_route, interim_of, reply_text, text, text_with}
 use Rattle.filing_model.proofs.Finals.{answer-readable, unavailable-readable}
 use Rattle.filing_model.proofs.Keeping.{register_numbered}
 use Rattle.filing_model.proofs.Lists.{append_nil, take_prefix, take_all}
@@ -29,7 +30,7 @@ use Rattle.filing_world.specs.World.{World, Outbox, Output, Sent, Deliver, Hand,
 use Rattle.filing_world.specs.Step.{Hears, heard_by, box_after, Hands, Step}
 use Rattle.filing_world.specs.Headline.{IsReached, IsConfirmed, start, states, states_from, states_of}
 use Rattle.filing_world.specs.Invariant.{Keeps}
-use Rattle.filing_world.specs.Posting.{IsAlone, FilesAlone}
+use Rattle.filing_world.proofs.Posting.{IsAlone, FilesAlone}
 use Rattle.filing_world.proofs.Hearing.{hears_gives}
 use Rattle.filing_world.proofs.Keeping.{keeps_start, keeps_run, holds}
 use Rattle.filing_world.proofs.Lists.{same_element, renewed_same}
@@ -126,7 +127,7 @@ abbrev IsOther : ℕ → Type 0
 IsOther status = status ≢ 503
 
 other_status : (a : Answer) → IsOther (reply_of a).status
-unfolding reply_of
+unfolding reply_as
 other_status (Answer.Registered n b) e = omega (arith, e)
 other_status (Answer.Refused [] b) e = omega (arith, e)
 other_status (Answer.Refused (f ∷ found) b) e = by_code _ e
@@ -148,12 +149,12 @@ undecided done r close again few front =
     let part = render unavailable close in
     let cut = take_prefix (length part) part (render (reply_of (answer done r)) again) front in
     let spelled = subst (λ bs. SpellsReply bs unavailable) (sym (take_all part) ∙ cut.1) (reply-spells unavailable close unavailable-readable) in
-    let same = reply-alone (reply_of (answer done r)) unavailable again cut.0 (answer-readable done r few) spelled in
+    let same = reply-alone (reply_of (answer done r)) unavailable again cut.0 (answer-readable Problem done r few) spelled in
     other_status (answer done r) (sym (ap (λ (x : ReplyParts). x.status) same))
 
 module _ (limit : ℕ) (done : List Request) (few : length (firsts done) ≤ 2 ^ 62) (r : Request) (close : Bool) where
   by_mark : (m : Message) → FilesAlone m r → (mark : Mark) → IsPrefixOf (render unavailable close) (text done (Place.Read m ∷ []) Ending.Closed (mark ∷ [])) → requests_of_route (Filed r) mark ≡ []
-  unfolding text
+  unfolding text_with
   by_mark m alone Unavailable front = refl
   by_mark m alone NotFiled front = refl
   by_mark m alone Done front =

@@ -16,14 +16,14 @@ use Rattle.filing_model.specs.Answer.{answer}
 use Rattle.filing_model.specs.Reply.{reply_of}
 use Rattle.filing_model.specs.Outbox.{State, Open, moved, bytes_of, IsSendable}
 use Rattle.filing_model.specs.Stopping.{No, Before, After, ServesUntil}
-use Rattle.filing_model.specs.Text.{RouteFits, requests_of_route, completed, MarksFit, interim_of, reply_text, text}
+use Rattle.filing_model.specs.Text.{RouteFits, requests_of_route, completed, MarksFit, interim_of, reply_text, text, text_with}
 use Rattle.filing_model.proofs.Lists.{append_nil, prefix_trans, take_within}
 use Rattle.filing_model.proofs.Stopping.{HasPlaces-begins}
 use Rattle.filing_world.specs.World.{Output, World, Put, Send, Deliver, Hand, RestartOutbox, numbered, renewed, new_outbox}
-use Rattle.filing_world.specs.Schedules.{entry_with, outbox_with, sent_by, item_of}
+use Rattle.filing_world.proofs.Single.{entry_with, outbox_with, sent_by, item_of}
 use Rattle.filing_world.specs.Step.{Step}
 use Rattle.filing_world.proofs.Posting.{posted, head_is, never_refused, never_whole}
-use Rattle.filing_world.specs.Posting.{IsPosted}
+use Rattle.filing_world.proofs.Posting.{IsPosted}
 
 -- ---- the ends
 
@@ -102,13 +102,13 @@ module _ (r : Request) (sendable : IsSendable r) where
   fit_none limit done = tt
 
   text_one : (done : List Request) → render (reply_of (answer done r)) true ≡ text done (Read is.message ∷ []) Ending.Closed (Done ∷ [])
-  unfolding text
+  unfolding text_with
   text_one done =
       let reply : reply_text done (Read is.message) Done ≡ render (reply_of (answer done r)) true = rw (is.closes', is.alone.filed) refl in
       sym (ap (λ front. front ++ (reply_text done (Read is.message) Done ++ [])) silent ∙ append_nil _ ∙ reply)
 
   text_none : (done : List Request) → [] ≡ text done (Read is.message ∷ []) Ending.Closed []
-  unfolding text
+  unfolding text_with
   text_none done = sym silent
 
   -- the whole request was served, and perhaps stopped
@@ -134,7 +134,7 @@ module _ (r : Request) (sendable : IsSendable r) where
   }
 
   serves_part : (limit : ℕ) (done : List Request) (n : ℕ) → n < length bytes → ServesUntil limit done (take n bytes) No [] [] (Some InputEnded) []
-  unfolding text MarksFit
+  unfolding text_with MarksFit
   serves_part limit done n short = record {
     ending = Rest false;
     fit = tt;

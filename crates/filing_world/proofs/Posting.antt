@@ -1,11 +1,12 @@
 -- The front of an entry's request holds no place, or the one that files it.
-use Rattle.std.proofs.Common.{◌≡◌, ℕ, true, false, List, [], ◌∷◌, ◌++◌, length, take, drop, refl, sym, ap, ◌∙◌, subst, inl, inr, arith, ◌<◌, ◌≤◌}
+use Rattle.std.proofs.Common.{◌≡◌, ℕ, true, false, List, [], ◌∷◌, ◌++◌, length, take, drop, refl, sym, ap, ◌∙◌, subst, inl, inr, arith, ◌<◌, ◌≤◌, ◌⊎◌, None}
+use Rattle.std.specs.Prelude.{codes}
 use Rattle.std.proofs.lemmas.Bool.{both_ways}
 use Rattle.std.proofs.lemmas.Grind.{common_steps}
 use Rattle.std.proofs.lemmas.List.{take-append-drop}
 use Rattle.http_wire.specs.Head.{RequestParts, closes}
-use Rattle.http_wire.specs.Message.{Place, Read, Refused, Ending, Rest, BeginsHead, BeginsRequest, IsRefused, awaits}
-use Rattle.http_wire.specs.Posting.{post_request}
+use Rattle.http_wire.specs.Message.{Place, Read, Refused, Ending, Rest, BeginsHead, BeginsRequest, IsRefused, SpellsRequest, awaits}
+use Rattle.http_wire.specs.Posting.{place_of, post_request}
 use Rattle.http_wire.specs.Request.{Request as Message}
 use Rattle.http_wire.specs.declared.refusal.Refusal.{Refusal}
 use Rattle.http_wire.proofs.MoreBytes.{BeginsHead-more, BeginsRequest-more, IsRefused-more}
@@ -15,24 +16,45 @@ use Rattle.filing_model.specs.Request.{Request}
 use Rattle.filing_model.specs.Outbox.{bytes_of, IsSendable}
 use Rattle.filing_model.specs.Stopping.{BeginsPlaces}
 use Rattle.filing_model.proofs.Posted.{route-post}
-use Rattle.filing_world.specs.Posting.{FilesAlone, IsPosted, IsAlone}
+use Rattle.filing_model.specs.Text.{Filed, route}
+use Rattle.filing_model.proofs.Lists.{append_nil}
+
+-- a message that files the request and asks for no interim response
+pub record FilesAlone (m : Message) (r : Request) : Type 0 where
+  pub filed : route m ≡ Filed r
+  pub silent : awaits m.head ≡ false
+
+-- the bytes that are sent for the request are one message, which files it and closes the connection
+pub record IsPosted (r : Request) : Type 0 where
+  pub message : Message
+  pub spells : SpellsRequest (bytes_of r) message
+  pub closes' : closes message.head ≡ true
+  pub alone : FilesAlone message r
+
+-- no place, or the one that files the request; and nothing asks for an interim response
+abbrev pub IsAlone : List Place → Ending → Request → Type 0
+IsAlone places ending r =
+    ((places ≡ []) × ((ending ≡ Ending.Closed) ⊎ (ending ≡ Ending.Rest false)))
+    ⊎ ((m : Message) × (places ≡ Place.Read m ∷ []) × (ending ≡ Ending.Closed) × FilesAlone m r)
 
 -- the bytes that are sent for a request are one message, which files it
 pub posted : (r : Request) → IsSendable r → IsPosted r
-posted r sendable = record {
-  message = post_request r.filer r.key r.body;
-  spells = post-spells r.filer r.key r.body sendable.filer sendable.key sendable.body;
-  closes' = post_parts-closes r.filer r.key (length r.body);
-  alone = record {
-    filed = route-post (post_request r.filer r.key r.body) r.filer r.key sendable.filer sendable.key (record {
-      method = refl;
-      path = refl;
-      keys = post_parts-key r.filer r.key (length r.body);
-      uncoded = post_parts-uncoded r.filer r.key (length r.body);
-    });
-    silent = post_parts-silent r.filer r.key (length r.body);
-  };
-}
+posted r sendable =
+    let place : List ℕ = place_of r.filer None in
+    record {
+      message = post_request r.filer None r.key r.body;
+      spells = post-spells r.filer None r.key r.body sendable.filer tt sendable.key sendable.body;
+      closes' = post_parts-closes place r.key (length r.body);
+      alone = record {
+        filed = route-post (post_request r.filer None r.key r.body) r.filer r.key sendable.filer sendable.key (record {
+          method = refl;
+          path = ap (λ p. codes "/filings/" ++ p) (append_nil r.filer);
+          keys = post_parts-key place r.key (length r.body);
+          uncoded = post_parts-uncoded place r.key (length r.body);
+        });
+        silent = post_parts-silent place r.key (length r.body);
+      };
+    }
 
 module _ (r : Request) (is : IsPosted r) (n : ℕ) where
   abbrev front : List ℕ

@@ -29,7 +29,7 @@ use Rattle.filing_world.specs.World.{World, Outbox, Output, Sent, Put, Send, Del
 use Rattle.filing_world.specs.Step.{is_no, with_entry, Hears, heard_by, box_after, Step, IsAway, CannotPlay}
 use Rattle.filing_world.specs.Headline.{HasEntry, states}
 use Rattle.filing_world.specs.Laws.{AddsAtMost, IsDelivered, IsAnswerTo, IsDown}
-use Rattle.filing_world.specs.Posting.{FilesAlone}
+use Rattle.filing_world.proofs.Posting.{FilesAlone}
 use Rattle.filing_world.proofs.Hearing.{hears_gives}
 use Rattle.filing_world.proofs.Lists.{renewed_numbered, same_element, any_none}
 use Rattle.filing_world.proofs.Never.{still}

@@ -8,9 +8,10 @@ use Rattle.http_wire.specs.Response.{IsReadable}
 use Rattle.filing_model.specs.Request.{Request, same_key, same_content, has_key, firsts}
 use Rattle.filing_model.specs.Register.{filings, verdict, judged, kept_after, kept, register}
 use Rattle.filing_model.specs.Answer.{Answer, answer, as_repeat, kept_for}
+use Rattle.filing_model.specs.declared.served.Style.TheVariants.{Problem}
 use Rattle.filing_model.specs.Reply.{reply_of}
 use Rattle.filing_model.specs.Outbox.{Open, Confirmed, Clashed, moved}
-use Rattle.filing_model.proofs.Answers.{answer_stable, answer_new, answer_kept, reply_of-as_repeat}
+use Rattle.filing_model.proofs.Answers.{answer_stable, answer_new, answer_kept, reply_as-as_repeat}
 use Rattle.filing_model.proofs.Contents.{moved-reused}
 use Rattle.filing_model.proofs.Finals.{answer-readable, told-confirms}
 use Rattle.filing_model.proofs.Firsts.{firsts_short}
@@ -25,7 +26,7 @@ module _ (r : Request) (good : IsGood r) where
   answer_first = answer_new [] r refl ∙ rw good.valid refl
 
   pub told_first : moved Open (reply_of (answer [] r)) ≡ Confirmed 1
-  told_first = ap (λ a. moved Open (reply_of a)) answer_first ∙ told-confirms 1 false (omega arith) (omega arith)
+  told_first = ap (λ a. moved Open (reply_of a)) answer_first ∙ told-confirms Problem 1 false (omega arith) (omega arith)
 
   pub registered_one : register (r ∷ []) ≡ filing_of r ∷ []
   unfolding firsts kept_after filings verdict
@@ -35,20 +36,20 @@ module _ (r : Request) (good : IsGood r) where
   answer_again = answer_stable [] r [] ∙ ap as_repeat answer_first
 
   pub told_again : moved Open (reply_of (answer (r ∷ []) r)) ≡ Confirmed 1
-  told_again = ap (λ a. moved Open (reply_of a)) answer_again ∙ told-confirms 1 true (omega arith) (omega arith)
+  told_again = ap (λ a. moved Open (reply_of a)) answer_again ∙ told-confirms Problem 1 true (omega arith) (omega arith)
 
   -- both get the same bytes
   pub written_first : render (reply_of (answer [] r)) true ≡ registered_bytes
   written_first = ap (λ a. render (reply_of a) true) answer_first
 
   pub written_again : render (reply_of (answer (r ∷ []) r)) true ≡ registered_bytes
-  written_again = ap (λ a. render (reply_of a) true) answer_again ∙ ap (λ x. render x true) (reply_of-as_repeat (Answer.Registered 1 false))
+  written_again = ap (λ a. render (reply_of a) true) answer_again ∙ ap (λ x. render x true) (reply_as-as_repeat Problem (Answer.Registered 1 false))
 
 -- ---- a second one under the same key
 
 -- the replies after none and after one are read
 pub readable_after : (done : List Request) (r : Request) → length done ≤ 1 → IsReadable (reply_of (answer done r))
-readable_after done r few = answer-readable done r (omega (arith, few, firsts_short done))
+readable_after done r few = answer-readable Problem done r (omega (arith, few, firsts_short done))
 
 module _ (first second : Request) (filer : first.filer ≡ second.filer) (key : first.key ≡ second.key) where
   same : same_key first second ≡ true
@@ -76,4 +77,4 @@ module _ (first second : Request) (filer : first.filer ≡ second.filer) (key : 
   written_clash other = ap (λ a. render (reply_of a) true) (reused other)
 
   pub told_clash : second.body ≢ first.body → moved Open (reply_of (answer (first ∷ []) second)) ≡ Clashed
-  told_clash other = ap (λ a. moved Open (reply_of a)) (reused other) ∙ moved-reused
+  told_clash other = ap (λ a. moved Open (reply_of a)) (reused other) ∙ moved-reused Problem

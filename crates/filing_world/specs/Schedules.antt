@@ -1,31 +1,16 @@
 -- Worked schedules: a few events each, with one entry in each outbox.
-use Rattle.std.specs.Prelude.{◌≡◌, ◌≢◌, ℕ, ◌≤◌, true, false, List, [], ◌∷◌, length, map, codes, Option, Some}
+use Rattle.std.specs.Prelude.{◌≡◌, ◌≢◌, ℕ, ◌≤◌, true, false, List, [], ◌∷◌, length, map, codes}
 use Rattle.xbrl_report.specs.Findings.{findings}
 use Rattle.http_wire.specs.Reply.{render}
 use Rattle.filing_model.specs.Request.{Request}
 use Rattle.filing_model.specs.Register.{Filing, register}
 use Rattle.filing_model.specs.Answer.{Answer}
 use Rattle.filing_model.specs.Reply.{reply_of}
-use Rattle.filing_model.specs.Outbox.{State, Entry, bytes_of, IsSendable}
+use Rattle.filing_model.specs.Outbox.{State, bytes_of, IsSendable}
 use Rattle.filing_model.specs.Stopping.{Crash, No, Before, After}
-use Rattle.filing_world.specs.World.{Outbox, Sent, World, Event, Put, Send, Stranger, Deliver, Hand, RestartServer, RestartOutbox}
+use Rattle.filing_world.specs.World.{World, Event, Put, Send, Stranger, Deliver, Hand, RestartServer, RestartOutbox}
 use Rattle.filing_world.specs.Headline.{states}
 use Rattle.filing_world.specs.Step.{Run}
-
--- an outbox of the request's filer with this one entry
-abbrev pub entry_with : Request → State → Entry
-entry_with r state = record { key = r.key; body = r.body; state = state }
-
-abbrev pub outbox_with : Request → State → Outbox
-outbox_with r state = record { filer = r.filer; entries = entry_with r state ∷ []; up = true }
-
--- the request as it was sent for an entry, or by a stranger
-abbrev pub sent_by : Option (ℕ × ℕ) → Request → Sent
-sent_by sender r = record { from = sender; bytes = bytes_of r }
-
--- the request as that entry sent it
-abbrev pub item_of : ℕ → Request → Sent
-item_of outbox r = sent_by (Some (outbox, 1)) r
 
 -- a report that can be sent, and in which nothing is found
 pub record IsGood (r : Request) : Type 0 where

@@ -106,7 +106,7 @@ pub fn files_such_a_report()
 /// The replies of these schedules, byte for byte.
 pub fn replies_in_these_bytes()
     ensures registered { registered_bytes ≡ codes "HTTP/1.1 201 Created\r\nContent-Type: application/json\r\nContent-Length: 34\r\nConnection: close\r\n\r\n{\"number\":1,\"status\":\"registered\"}" }
-    ensures clash { clash_bytes ≡ codes "HTTP/1.1 422 Unprocessable Content\r\nContent-Type: application/json\r\nContent-Length: 23\r\nConnection: close\r\n\r\n{\"status\":\"key-reused\"}" }
+    ensures clash { clash_bytes ≡ codes "HTTP/1.1 422 Unprocessable Content\r\nContent-Type: application/problem+json\r\nContent-Length: 89\r\nConnection: close\r\n\r\n{\"reason\":\"key-reused\",\"status\":422,\"title\":\"Unprocessable Content\",\"type\":\"about:blank\"}" }
 {}
 
 /// What is handed over of a reply, unless it is the whole, moves no entry: none is confirmed by a reply

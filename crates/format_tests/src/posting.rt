@@ -17,11 +17,23 @@ fn reports_of_a_filer(rt: HostRuntime) -> Result<(), Fail> {
     assert!(rt; is_filer(filer));
     let key = KeyText::new(rt.alloc(), "k-1")?;
     let mut out = Vec::new(rt.alloc());
-    append_request(filer, &key, SMALLEST.as_bytes(), &mut out)?;
+    append_request(filer, None, &key, SMALLEST.as_bytes(), &mut out)?;
     assert_eq!(rt; out.len(), 227);
     assert_eq!(rt; out.as_slice(), SMALLEST_POSTED.as_bytes());
-    append_request(filer, &key, REPORT.as_bytes(), &mut out)?;
+    append_request(filer, None, &key, REPORT.as_bytes(), &mut out)?;
     assert_eq!(rt; out.len(), 227 + 537);
+    Ok(())
+}
+
+#[test]
+fn a_report_that_replaces_a_filing(rt: HostRuntime) -> Result<(), Fail> {
+    let filer = "ACME";
+    assert!(rt; is_filer(filer));
+    let key = KeyText::new(rt.alloc(), "k-1")?;
+    let mut out = Vec::new(rt.alloc());
+    append_request(filer, Some(1), &key, REPORT.as_bytes(), &mut out)?;
+    assert_eq!(rt; out.len(), 539);
+    assert!(rt; out.starts_with(b"POST /filings/ACME/1 HTTP/1.1\r\n"));
     Ok(())
 }
 
@@ -31,7 +43,7 @@ fn a_key_is_spelled_with_escapes(rt: HostRuntime) -> Result<(), Fail> {
     assert!(rt; is_filer(filer));
     let key = KeyText::new(rt.alloc(), "a\"b\\c")?;
     let mut out = Vec::new(rt.alloc());
-    append_request(filer, &key, b"[]", &mut out)?;
+    append_request(filer, None, &key, b"[]", &mut out)?;
     assert_eq!(rt;
         out.as_slice(),
         b"POST /filings/a.b_c-9 HTTP/1.1\r\nHost: localhost\r\nIdempotency-Key: \"a\\\"b\\\\c\"\r\nContent-Type: application/json\r\nContent-Length: 2\r\nConnection: close\r\n\r\n[]".as_slice()

@@ -1,4 +1,4 @@
-use http_wire::{Reply, append_reply, phrase};
+use http_wire::{Kind, Reply, append_reply, phrase};
 use std::test::Fail;
 
 #[test]
@@ -10,6 +10,7 @@ fn bytes_of_replies(rt: HostRuntime) -> Result<(), Fail> {
     let registered = Reply {
         status: 201,
         content,
+        kind: Kind::Json,
     };
     append_reply(rt.alloc(), &registered, false, &mut out)?;
     assert_eq!(rt;
@@ -20,11 +21,12 @@ fn bytes_of_replies(rt: HostRuntime) -> Result<(), Fail> {
     let refused = Reply {
         status: 405,
         content: Vec::new(rt.alloc()),
+        kind: Kind::Problem,
     };
     append_reply(rt.alloc(), &refused, true, &mut out)?;
     assert_eq!(rt;
         &out[110..],
-        b"HTTP/1.1 405 Method Not Allowed\r\nContent-Type: application/json\r\nAllow: GET, POST\r\nConnection: close\r\n\r\n".as_slice()
+        b"HTTP/1.1 405 Method Not Allowed\r\nContent-Type: application/problem+json\r\nAllow: GET, POST\r\nConnection: close\r\n\r\n".as_slice()
     );
     Ok(())
 }

@@ -1,5 +1,5 @@
 use crate::streams::{Pieces, in_pieces};
-use http_wire::{Device, Reply, ReplyFault, append_reply, read_reply};
+use http_wire::{Device, Kind, Reply, ReplyFault, append_reply, read_reply};
 use std::alloc::Global;
 use std::test::Fail;
 
@@ -109,6 +109,7 @@ fn what_is_written_is_read_again(rt: HostRuntime) -> Result<(), Fail> {
     let reply = Reply {
         status: 405,
         content,
+        kind: Kind::Problem,
     };
     let mut bytes = Vec::new(rt.alloc());
     append_reply(rt.alloc(), &reply, true, &mut bytes)?;

@@ -12,17 +12,17 @@ use Rattle.http_wire.specs.Request.{Request as Message}
 use Rattle.filing_model.specs.declared.served.Mark.{Mark}
 use Rattle.filing_model.specs.declared.served.Mark.TheVariants.{Done, Unavailable, NotFiled}
 use Rattle.filing_model.specs.Request.{Request}
-use Rattle.filing_model.specs.Text.{Route, route, reply_text, refusal_reply}
+use Rattle.filing_model.specs.Text.{Route, route, reply_text_with, refusal_reply}
 use Rattle.gateway_server.specs.Answered.{IsMarked, IsDecided}
 use Rattle.gateway_server.specs.declared.decide.Decided.{Decided}
 use Rattle.gateway_server.specs.Decided.{Decides, marked_reply}
 
 -- ---- what was decided
 
-reply_text-marked : (before : List Request) (m : Message) (mark : Mark) → render (marked_reply before (route m) mark) (closes m.head) ≡ reply_text before (Read m) mark
-reply_text-marked before m Done = refl
-reply_text-marked before m Unavailable = refl
-reply_text-marked before m NotFiled = refl
+reply_text-marked : (early before : List Request) (m : Message) (mark : Mark) → render (marked_reply early before (route m) mark) (closes m.head) ≡ reply_text_with early before (Read m) mark
+reply_text-marked early before m Done = refl
+reply_text-marked early before m Unavailable = refl
+reply_text-marked early before m NotFiled = refl
 
 -- the bytes of a reply of these parts
 rendered : (r : Result Reply AllocError) (parts : ReplyParts) (close : Bool) (text : List ℕ) → render parts close ≡ text → IfOk r (λ reply. reply_parts reply ≡ parts) → IfOk r (λ reply. render (reply_parts reply) close ≡ text)
@@ -30,17 +30,17 @@ rendered (Ok reply) parts close text e same = ap (λ p. render p close) same ∙
 rendered (Err fault) parts close text e same = tt
 
 -- a message that was decided, and its mark added
-pub IsDecided-message : (limit : ℕ) (before after : List Request) (m : Message) (to' : Route) (d : Decided) (old new : List Mark) → route m ≡ to' → Decides limit before after to' d → new ≡ old ++ d.mark ∷ [] → IsDecided limit before after (Read m) old new d
-IsDecided-message limit before after m to' d old new asked decides marks =
-    let here = subst (λ (r : Route). Decides limit before after r d) (sym asked) decides in
+pub IsDecided-message : (limit : ℕ) (early before after : List Request) (m : Message) (to' : Route) (d : Decided) (old new : List Mark) → route m ≡ to' → Decides limit early before after to' d → new ≡ old ++ d.mark ∷ [] → IsDecided limit early before after (Read m) old new d
+IsDecided-message limit early before after m to' d old new asked decides marks =
+    let here = subst (λ (r : Route). Decides limit early before after r d) (sym asked) decides in
     record {
       marked = record { mark = d.mark; marks = marks; fit = here.fit; kept = here.kept };
-      reply = rendered d.reply (marked_reply before (route m) d.mark) (closes m.head) (reply_text before (Read m) d.mark) (reply_text-marked before m d.mark) here.reply;
+      reply = rendered d.reply (marked_reply early before (route m) d.mark) (closes m.head) (reply_text_with early before (Read m) d.mark) (reply_text-marked early before m d.mark) here.reply;
     }
 
 -- what was refused, and its mark added
-pub IsDecided-refusal : (limit : ℕ) (before : List Request) (refusal : Refusal) (reply : Result Reply AllocError) (old new : List Mark) → IfOk reply (λ r. reply_parts r ≡ refusal_reply refusal) → new ≡ old ++ NotFiled ∷ [] → IsDecided limit before before (Refused refusal) old new (record { mark = NotFiled; reply = reply })
-IsDecided-refusal limit before refusal reply old new is marks = record {
+pub IsDecided-refusal : (limit : ℕ) (early before : List Request) (refusal : Refusal) (reply : Result Reply AllocError) (old new : List Mark) → IfOk reply (λ r. reply_parts r ≡ refusal_reply refusal) → new ≡ old ++ NotFiled ∷ [] → IsDecided limit early before before (Refused refusal) old new (record { mark = NotFiled; reply = reply })
+IsDecided-refusal limit early before refusal reply old new is marks = record {
   marked = record { mark = NotFiled; marks = marks; fit = tt; kept = refl };
   reply = rendered reply (refusal_reply refusal) true (render (refusal_reply refusal) true) refl is;
 }
@@ -48,15 +48,15 @@ IsDecided-refusal limit before refusal reply old new is marks = record {
 -- ---- what was written of the reply
 
 -- the reply was written
-pub record IsAnswered (limit : ℕ) (before after : List Request) (place : Place) (old new : List Mark) (from to : Option (List ℕ)) : Type 0 where
+pub record IsAnswered (limit : ℕ) (early before after : List Request) (place : Place) (old new : List Mark) (from to : Option (List ℕ)) : Type 0 where
   pub marked : IsMarked limit before after place old new
-  pub written : Appends from to (reply_text before place marked.mark)
+  pub written : Appends from to (reply_text_with early before place marked.mark)
 
 -- a part of it was
-pub record IsPartly (limit : ℕ) (before after : List Request) (place : Place) (old new : List Mark) (from to : Option (List ℕ)) : Type 0 where
+pub record IsPartly (limit : ℕ) (early before after : List Request) (place : Place) (old new : List Mark) (from to : Option (List ℕ)) : Type 0 where
   pub marked : IsMarked limit before after place old new
   pub sent : ℕ
-  pub written : Appends from to (take sent (reply_text before place marked.mark))
+  pub written : Appends from to (take sent (reply_text_with early before place marked.mark))
 
 -- nothing was marked, kept or written
 pub record IsUntouched (before after : List Request) (old new : List Mark) (from to : Option (List ℕ)) : Type 0 where

@@ -19,7 +19,7 @@ use Rattle.filing_model.specs.declared.served.Ended.TheVariants.{Closed, InputEn
 use Rattle.filing_model.specs.declared.served.Mark.{Mark}
 use Rattle.filing_model.specs.Request.{Request}
 use Rattle.filing_model.specs.Serving.{IsServed, IsCutShort}
-use Rattle.filing_model.specs.Text.{interim_of, reply_text, next_interim}
+use Rattle.filing_model.specs.Text.{interim_of, reply_text_with, next_interim}
 use Rattle.filing_model.proofs.Lists.{append_nil}
 use Rattle.gateway_server.specs.Answered.{IsReplyFault}
 use Rattle.gateway_server.specs.Progress.{HasServed, GoesOn, HasMessage, HasRefusal, ServesConnection}
@@ -45,15 +45,15 @@ is_no_limit w w' Memory why e = absurd (cc)
 
 -- ---- what was read
 
-module _ (limit : ℕ) (before now : List Request) (left left' left'' written written' : Option (List ℕ)) (old new : Inbox) (marks : List Mark) (h : GoesOn limit before now left left' written written' old marks) (r : ReadsOn left' left'' old new) where
+module _ (limit : ℕ) (early before now : List Request) (left left' left'' written written' : Option (List ℕ)) (old new : Inbox) (marks : List Mark) (h : GoesOn limit early before now left left' written written' old marks) (r : ReadsOn left' left'' old new) where
   abbrev read_since : List ℕ
   read_since = h.got ++ got old new
 
   consumed : Consumes left left'' read_since
   consumed = Consumes-join left left' left'' h.got (got old new) h.read r.given
 
-  served_held : HasServed limit before now read_since (held new) marks h.sent
-  served_held = subst (λ (rest : List ℕ). HasServed limit before now read_since rest marks h.sent) (sym r.held_is) (HasServed-more limit before now h.got (unread old) (got old new) marks h.sent h.served)
+  served_held : HasServed limit early before now read_since (held new) marks h.sent
+  served_held = subst (λ (rest : List ℕ). HasServed limit early before now read_since rest marks h.sent) (sym r.held_is) (HasServed-more limit early before now h.got (unread old) (got old new) marks h.sent h.served)
 
   counted_since : reads new ≤ length read_since
   counted_since = subst (λ (n : ℕ). reads new ≤ n) (sym (length-append h.got (got old new))) (omega (arith, h.counted, r.each))
@@ -62,21 +62,21 @@ module _ (limit : ℕ) (before now : List Request) (left left' left'' written wr
   wrote_more written'' text w = Appends-join written written' written'' h.sent text h.wrote w
 
   -- a message came
-  pub HasMessage-next : (written'' : Option (List ℕ)) → LendsFirst new → Appends written' written'' (interim_if (lent_awaits new)) → HasMessage limit before now left left'' written written'' new marks
+  pub HasMessage-next : (written'' : Option (List ℕ)) → LendsFirst new → Appends written' written'' (interim_if (lent_awaits new)) → HasMessage limit early before now left left'' written written'' new marks
   HasMessage-next written'' lends w = record { got = read_since; sent = h.sent; read = consumed; counted = counted_since; wrote = wrote_more written'' (interim_if (lent_awaits new)) w; served = served_held; lends = lends }
 
   -- what is refused came
-  pub HasRefusal-next : (written'' : Option (List ℕ)) (refusal : Refusal) → IsRefused (held new) refusal → Appends written' written'' [] → HasRefusal limit before now left left'' written written'' new refusal marks
+  pub HasRefusal-next : (written'' : Option (List ℕ)) (refusal : Refusal) → IsRefused (held new) refusal → Appends written' written'' [] → HasRefusal limit early before now left left'' written written'' new refusal marks
   HasRefusal-next written'' refusal refused w = record { got = read_since; sent = h.sent; read = consumed; wrote = subst (Appends written written'') (append_nil h.sent) (wrote_more written'' [] w); served = served_held; refused = refused }
 
   -- the input ended
-  pub Serves-end : (written'' : Option (List ℕ)) → IsAtEnd left'' → IsRest (held new) → WritesAsked written' written'' (held new) → ServesConnection limit before now left left'' written written'' marks InputEnded
+  pub Serves-end : (written'' : Option (List ℕ)) → IsAtEnd left'' → IsRest (held new) → WritesAsked written' written'' (held new) → ServesConnection limit early before now left left'' written written'' marks InputEnded
   Serves-end written'' ended rest (text, (asks, asked, e), w) = record {
     got = read_since;
     sent = h.sent ++ text;
     read = consumed;
     wrote = wrote_more written'' text w;
-    serves = subst (λ (t : List ℕ). IsServed limit before now read_since marks InputEnded (h.sent ++ t)) (by_asks asks ∙ sym e) (HasServed-end limit before now read_since (held new) marks h.sent served_held asks rest asked);
+    serves = subst (λ (t : List ℕ). IsServed limit early before now read_since marks InputEnded (h.sent ++ t)) (by_asks asks ∙ sym e) (HasServed-end limit early before now read_since (held new) marks h.sent served_held asks rest asked);
     at_end = λ _. ended;
     limited = λ e. absurd (cc);
   }
@@ -89,24 +89,24 @@ module _ (limit : ℕ) (before now : List Request) (left left' left'' written wr
   abbrev Limited : ConnFault → Type 0
   Limited f = f ≡ ReadLimit → max_reads ≤ length read_since
 
-  cut : (written'' : Option (List ℕ)) (text : List ℕ) (f : ConnFault) → Limited f → Appends written' written'' text → IsCutShort limit before now read_since marks (h.sent ++ text) → ServesConnection limit before now left left'' written written'' marks (Fault f)
+  cut : (written'' : Option (List ℕ)) (text : List ℕ) (f : ConnFault) → Limited f → Appends written' written'' text → IsCutShort limit early before now read_since marks (h.sent ++ text) → ServesConnection limit early before now left left'' written written'' marks (Fault f)
   cut written'' text f limited w c = record { got = read_since; sent = h.sent ++ text; read = consumed; wrote = wrote_more written'' text w; serves = c; at_end = λ e. absurd (cc); limited = λ e. limited (cc) }
 
-  cut_asked : (written'' : Option (List ℕ)) (f : ConnFault) → Limited f → WritesAsked written' written'' (held new) → ServesConnection limit before now left left'' written written'' marks (Fault f)
-  cut_asked written'' f limited (text, (asks, asked, e), w) = cut written'' text f limited w (subst (λ (t : List ℕ). IsCutShort limit before now read_since marks (h.sent ++ t)) (sym e) (served_asked limit before now read_since (held new) marks h.sent served_held asks asked))
+  cut_asked : (written'' : Option (List ℕ)) (f : ConnFault) → Limited f → WritesAsked written' written'' (held new) → ServesConnection limit early before now left left'' written written'' marks (Fault f)
+  cut_asked written'' f limited (text, (asks, asked, e), w) = cut written'' text f limited w (subst (λ (t : List ℕ). IsCutShort limit early before now read_since marks (h.sent ++ t)) (sym e) (served_asked limit early before now read_since (held new) marks h.sent served_held asks asked))
 
   -- a fault came
-  pub Serves-fault : (written'' : Option (List ℕ)) (f : ConnFault) → (f ≡ ReadLimit → reads new ≡ max_reads) → WritesUpTo written' written'' (held new) f → ServesConnection limit before now left left'' written written'' marks (Fault f)
+  pub Serves-fault : (written'' : Option (List ℕ)) (f : ConnFault) → (f ≡ ReadLimit → reads new ≡ max_reads) → WritesUpTo written' written'' (held new) f → ServesConnection limit early before now left left'' written written'' marks (Fault f)
   Serves-fault written'' fault.Read all w = cut_asked written'' fault.Read (λ e. absurd (cc)) w
-  Serves-fault written'' (Write sent) all w = cut written'' (take sent interim) (Write sent) (λ e. absurd (cc)) w.2 (served_rest limit before now read_since (held new) marks h.sent served_held sent (λ _. w.0))
+  Serves-fault written'' (Write sent) all w = cut written'' (take sent interim) (Write sent) (λ e. absurd (cc)) w.2 (served_rest limit early before now read_since (held new) marks h.sent served_held sent (λ _. w.0))
   Serves-fault written'' ReadLimit all w = cut_asked written'' ReadLimit (λ e. subst (λ (n : ℕ). n ≤ length read_since) (all refl) counted_since) w
   Serves-fault written'' Memory all (inl w) = cut_asked written'' Memory (λ e. absurd (cc)) w
-  Serves-fault written'' Memory all (inr w) = cut written'' [] Memory (λ e. absurd (cc)) w (served_nothing limit before now read_since (held new) marks h.sent served_held)
+  Serves-fault written'' Memory all (inr w) = cut written'' [] Memory (λ e. absurd (cc)) w (served_nothing limit early before now read_since (held new) marks h.sent served_held)
 
 -- ---- what was answered
 
 -- a place that was answered, after an interim response
-module _ (limit : ℕ) (before now : List Request) (left left' written written' : Option (List ℕ)) (inbox : Inbox) (marks : List Mark) (h : HasMessage limit before now left left' written written' inbox marks) where
+module _ (limit : ℕ) (early before now : List Request) (left left' written written' : Option (List ℕ)) (inbox : Inbox) (marks : List Mark) (h : HasMessage limit early before now left left' written written' inbox marks) where
   abbrev lent : Message
   lent = h.lends.request
 
@@ -119,93 +119,93 @@ module _ (limit : ℕ) (before now : List Request) (left left' written written' 
       (Appends-join written written' written'' (h.sent ++ interim_if (lent_awaits inbox)) text h.wrote w)
 
   -- the message was answered, and the connection closes
-  pub Serves-closed : (after : List Request) (new : List Mark) (written'' : Option (List ℕ)) → closes lent.head ≡ true → IsAnswered limit now after (Read lent) marks new written' written'' → ServesConnection limit before after left left' written written'' new Closed
+  pub Serves-closed : (after : List Request) (new : List Mark) (written'' : Option (List ℕ)) → closes lent.head ≡ true → IsAnswered limit early now after (Read lent) marks new written' written'' → ServesConnection limit early before after left left' written written'' new Closed
   Serves-closed after new written'' closed a = record {
     got = h.got;
-    sent = h.sent ++ (interim_of (Read lent) ++ reply_text now (Read lent) a.marked.mark);
+    sent = h.sent ++ (interim_of (Read lent) ++ reply_text_with early now (Read lent) a.marked.mark);
     read = h.read;
-    wrote = wrote_after written'' (reply_text now (Read lent) a.marked.mark) a.written;
-    serves = subst (λ (ms : List Mark). IsServed limit before after h.got ms Closed (h.sent ++ (interim_of (Read lent) ++ reply_text now (Read lent) a.marked.mark))) (sym a.marked.marks)
-        (served_last limit before now h.got (held inbox) marks h.sent h.served (Read lent) ((lent_len inbox, h.lends.begins), refl) a.marked.mark after closed a.marked.fit a.marked.kept);
+    wrote = wrote_after written'' (reply_text_with early now (Read lent) a.marked.mark) a.written;
+    serves = subst (λ (ms : List Mark). IsServed limit early before after h.got ms Closed (h.sent ++ (interim_of (Read lent) ++ reply_text_with early now (Read lent) a.marked.mark))) (sym a.marked.marks)
+        (served_last limit early before now h.got (held inbox) marks h.sent h.served (Read lent) ((lent_len inbox, h.lends.begins), refl) a.marked.mark after closed a.marked.fit a.marked.kept);
     at_end = λ e. absurd (cc);
     limited = λ e. absurd (cc);
   }
 
   -- the message was answered, and more may come
-  pub GoesOn-answered : (after : List Request) (new : List Mark) (written'' : Option (List ℕ)) → closes lent.head ≡ false → IsAnswered limit now after (Read lent) marks new written' written'' → GoesOn limit before after left left' written written'' inbox new
+  pub GoesOn-answered : (after : List Request) (new : List Mark) (written'' : Option (List ℕ)) → closes lent.head ≡ false → IsAnswered limit early now after (Read lent) marks new written' written'' → GoesOn limit early before after left left' written written'' inbox new
   GoesOn-answered after new written'' open' a = record {
     got = h.got;
-    sent = h.sent ++ (interim_of (Read lent) ++ reply_text now (Read lent) a.marked.mark);
+    sent = h.sent ++ (interim_of (Read lent) ++ reply_text_with early now (Read lent) a.marked.mark);
     read = h.read;
     counted = h.counted;
-    wrote = wrote_after written'' (reply_text now (Read lent) a.marked.mark) a.written;
-    served = subst (λ (ms : List Mark). HasServed limit before after h.got (unread inbox) ms (h.sent ++ (interim_of (Read lent) ++ reply_text now (Read lent) a.marked.mark))) (sym a.marked.marks)
-        (served_push limit before now h.got (held inbox) marks h.sent h.served lent (lent_len inbox) a.marked.mark after h.lends.begins open' a.marked.fit a.marked.kept);
+    wrote = wrote_after written'' (reply_text_with early now (Read lent) a.marked.mark) a.written;
+    served = subst (λ (ms : List Mark). HasServed limit early before after h.got (unread inbox) ms (h.sent ++ (interim_of (Read lent) ++ reply_text_with early now (Read lent) a.marked.mark))) (sym a.marked.marks)
+        (served_push limit early before now h.got (held inbox) marks h.sent h.served lent (lent_len inbox) a.marked.mark after h.lends.begins open' a.marked.fit a.marked.kept);
     more = h.lends.last ∙ open';
   }
 
   -- a fault came
-  pub Serves-unanswered : (after : List Request) (new : List Mark) (written'' : Option (List ℕ)) (f : ConnFault) → f ≢ ReadLimit → IsUntouched now after marks new written' written'' ⊎ IsPartly limit now after (Read lent) marks new written' written'' → ServesConnection limit before after left left' written written'' new (Fault f)
+  pub Serves-unanswered : (after : List Request) (new : List Mark) (written'' : Option (List ℕ)) (f : ConnFault) → f ≢ ReadLimit → IsUntouched now after marks new written' written'' ⊎ IsPartly limit early now after (Read lent) marks new written' written'' → ServesConnection limit early before after left left' written written'' new (Fault f)
   Serves-unanswered after new written'' f other (inl u) = record {
     got = h.got;
     sent = h.sent ++ (interim_of (Read lent) ++ []);
     read = h.read;
     wrote = wrote_after written'' [] u.written;
-    serves = subst (λ (ms : List Mark). IsCutShort limit before after h.got ms (h.sent ++ (interim_of (Read lent) ++ []))) (sym u.marks)
-        (subst (λ (rs : List Request). IsCutShort limit before rs h.got marks (h.sent ++ (interim_of (Read lent) ++ []))) (sym u.kept)
-        (subst (λ (t : List ℕ). IsCutShort limit before now h.got marks (h.sent ++ t)) (sym (append_nil (interim_of (Read lent))))
-        (served_read limit before now h.got (held inbox) marks h.sent h.served lent (lent_len inbox) h.lends.begins)));
+    serves = subst (λ (ms : List Mark). IsCutShort limit early before after h.got ms (h.sent ++ (interim_of (Read lent) ++ []))) (sym u.marks)
+        (subst (λ (rs : List Request). IsCutShort limit early before rs h.got marks (h.sent ++ (interim_of (Read lent) ++ []))) (sym u.kept)
+        (subst (λ (t : List ℕ). IsCutShort limit early before now h.got marks (h.sent ++ t)) (sym (append_nil (interim_of (Read lent))))
+        (served_read limit early before now h.got (held inbox) marks h.sent h.served lent (lent_len inbox) h.lends.begins)));
     at_end = λ e. absurd (cc);
     limited = λ e. absurd (other (cc));
   }
   Serves-unanswered after new written'' f other (inr p) = record {
     got = h.got;
-    sent = h.sent ++ (interim_of (Read lent) ++ take p.sent (reply_text now (Read lent) p.marked.mark));
+    sent = h.sent ++ (interim_of (Read lent) ++ take p.sent (reply_text_with early now (Read lent) p.marked.mark));
     read = h.read;
-    wrote = wrote_after written'' (take p.sent (reply_text now (Read lent) p.marked.mark)) p.written;
-    serves = subst (λ (ms : List Mark). IsCutShort limit before after h.got ms (h.sent ++ (interim_of (Read lent) ++ take p.sent (reply_text now (Read lent) p.marked.mark)))) (sym p.marked.marks)
-        (served_part limit before now h.got (held inbox) marks h.sent h.served (Read lent) ((lent_len inbox, h.lends.begins), refl) p.marked.mark after p.sent p.marked.fit p.marked.kept);
+    wrote = wrote_after written'' (take p.sent (reply_text_with early now (Read lent) p.marked.mark)) p.written;
+    serves = subst (λ (ms : List Mark). IsCutShort limit early before after h.got ms (h.sent ++ (interim_of (Read lent) ++ take p.sent (reply_text_with early now (Read lent) p.marked.mark)))) (sym p.marked.marks)
+        (served_part limit early before now h.got (held inbox) marks h.sent h.served (Read lent) ((lent_len inbox, h.lends.begins), refl) p.marked.mark after p.sent p.marked.fit p.marked.kept);
     at_end = λ e. absurd (cc);
     limited = λ e. absurd (other (cc));
   }
 
 -- ---- what was refused
 
-module _ (limit : ℕ) (before now : List Request) (left left' written written' : Option (List ℕ)) (inbox : Inbox) (refusal : Refusal) (marks : List Mark) (h : HasRefusal limit before now left left' written written' inbox refusal marks) where
+module _ (limit : ℕ) (early before now : List Request) (left left' written written' : Option (List ℕ)) (inbox : Inbox) (refusal : Refusal) (marks : List Mark) (h : HasRefusal limit early before now left left' written written' inbox refusal marks) where
   wrote_refusal : (written'' : Option (List ℕ)) (text : List ℕ) → Appends written' written'' text → Appends written written'' (h.sent ++ text)
   wrote_refusal written'' text w = Appends-join written written' written'' h.sent text h.wrote w
 
   -- it was answered
-  pub Serves-refused : (new : List Mark) (written'' : Option (List ℕ)) → IsAnswered limit now now (Refused refusal) marks new written' written'' → ServesConnection limit before now left left' written written'' new Closed
+  pub Serves-refused : (new : List Mark) (written'' : Option (List ℕ)) → IsAnswered limit early now now (Refused refusal) marks new written' written'' → ServesConnection limit early before now left left' written written'' new Closed
   Serves-refused new written'' a = record {
     got = h.got;
-    sent = h.sent ++ reply_text now (Refused refusal) a.marked.mark;
+    sent = h.sent ++ reply_text_with early now (Refused refusal) a.marked.mark;
     read = h.read;
-    wrote = wrote_refusal written'' (reply_text now (Refused refusal) a.marked.mark) a.written;
-    serves = subst (λ (ms : List Mark). IsServed limit before now h.got ms Closed (h.sent ++ reply_text now (Refused refusal) a.marked.mark)) (sym a.marked.marks)
-        (served_last limit before now h.got (held inbox) marks h.sent h.served (Refused refusal) (h.refused, refl) a.marked.mark now tt a.marked.fit a.marked.kept);
+    wrote = wrote_refusal written'' (reply_text_with early now (Refused refusal) a.marked.mark) a.written;
+    serves = subst (λ (ms : List Mark). IsServed limit early before now h.got ms Closed (h.sent ++ reply_text_with early now (Refused refusal) a.marked.mark)) (sym a.marked.marks)
+        (served_last limit early before now h.got (held inbox) marks h.sent h.served (Refused refusal) (h.refused, refl) a.marked.mark now tt a.marked.fit a.marked.kept);
     at_end = λ e. absurd (cc);
     limited = λ e. absurd (cc);
   }
 
   -- a fault came
-  pub Serves-unrefused : (new : List Mark) (written'' : Option (List ℕ)) (f : ConnFault) → f ≢ ReadLimit → IsUntouched now now marks new written' written'' ⊎ IsPartly limit now now (Refused refusal) marks new written' written'' → ServesConnection limit before now left left' written written'' new (Fault f)
+  pub Serves-unrefused : (new : List Mark) (written'' : Option (List ℕ)) (f : ConnFault) → f ≢ ReadLimit → IsUntouched now now marks new written' written'' ⊎ IsPartly limit early now now (Refused refusal) marks new written' written'' → ServesConnection limit early before now left left' written written'' new (Fault f)
   Serves-unrefused new written'' f other (inl u) = record {
     got = h.got;
     sent = h.sent ++ [];
     read = h.read;
     wrote = wrote_refusal written'' [] u.written;
-    serves = subst (λ (ms : List Mark). IsCutShort limit before now h.got ms (h.sent ++ [])) (sym u.marks) (served_nothing limit before now h.got (held inbox) marks h.sent h.served);
+    serves = subst (λ (ms : List Mark). IsCutShort limit early before now h.got ms (h.sent ++ [])) (sym u.marks) (served_nothing limit early before now h.got (held inbox) marks h.sent h.served);
     at_end = λ e. absurd (cc);
     limited = λ e. absurd (other (cc));
   }
   Serves-unrefused new written'' f other (inr p) = record {
     got = h.got;
-    sent = h.sent ++ take p.sent (reply_text now (Refused refusal) p.marked.mark);
+    sent = h.sent ++ take p.sent (reply_text_with early now (Refused refusal) p.marked.mark);
     read = h.read;
-    wrote = wrote_refusal written'' (take p.sent (reply_text now (Refused refusal) p.marked.mark)) p.written;
-    serves = subst (λ (ms : List Mark). IsCutShort limit before now h.got ms (h.sent ++ take p.sent (reply_text now (Refused refusal) p.marked.mark))) (sym p.marked.marks)
-        (served_part limit before now h.got (held inbox) marks h.sent h.served (Refused refusal) (h.refused, refl) p.marked.mark now p.sent p.marked.fit p.marked.kept);
+    wrote = wrote_refusal written'' (take p.sent (reply_text_with early now (Refused refusal) p.marked.mark)) p.written;
+    serves = subst (λ (ms : List Mark). IsCutShort limit early before now h.got ms (h.sent ++ take p.sent (reply_text_with early now (Refused refusal) p.marked.mark))) (sym p.marked.marks)
+        (served_part limit early before now h.got (held inbox) marks h.sent h.served (Refused refusal) (h.refused, refl) p.marked.mark now p.sent p.marked.fit p.marked.kept);
     at_end = λ e. absurd (cc);
     limited = λ e. absurd (other (cc));
   }
@@ -216,26 +216,26 @@ unread-new : (inbox : Inbox) → IsNew inbox → unread inbox ≡ []
 unread-new inbox is = ap (drop (lent_len inbox)) is.empty ∙ drop-nil (lent_len inbox)
 
 -- a new inbox, and nothing marked
-pub GoesOn-new : (limit : ℕ) (before : List Request) (left written : Option (List ℕ)) (inbox : Inbox) (marks : List Mark) → IsNew inbox → marks ≡ [] → GoesOn limit before before left left written written inbox marks
-GoesOn-new limit before left written inbox marks is none = record {
+pub GoesOn-new : (limit : ℕ) (early before : List Request) (left written : Option (List ℕ)) (inbox : Inbox) (marks : List Mark) → IsNew inbox → marks ≡ [] → GoesOn limit early before before left left written written inbox marks
+GoesOn-new limit early before left written inbox marks is none = record {
   got = [];
   sent = [];
   read = Consumes-nil left;
   counted = omega (arith, is.count);
   wrote = Appends-nil written;
-  served = subst (λ (ms : List Mark). HasServed limit before before [] (unread inbox) ms []) (sym none)
-      (subst (λ (rest : List ℕ). HasServed limit before before [] rest [] []) (sym (unread-new inbox is)) (HasServed-none limit before));
+  served = subst (λ (ms : List Mark). HasServed limit early before before [] (unread inbox) ms []) (sym none)
+      (subst (λ (rest : List ℕ). HasServed limit early before before [] rest [] []) (sym (unread-new inbox is)) (HasServed-none limit early before));
   more = is.more;
 }
 
 -- no memory for an inbox
-pub Serves-none : (limit : ℕ) (before : List Request) (left written : Option (List ℕ)) (marks : List Mark) → marks ≡ [] → ServesConnection limit before before left left written written marks (Fault Memory)
-Serves-none limit before left written marks none = record {
+pub Serves-none : (limit : ℕ) (early before : List Request) (left written : Option (List ℕ)) (marks : List Mark) → marks ≡ [] → ServesConnection limit early before before left left written written marks (Fault Memory)
+Serves-none limit early before left written marks none = record {
   got = [];
   sent = [];
   read = Consumes-nil left;
   wrote = Appends-nil written;
-  serves = subst (λ (ms : List Mark). IsCutShort limit before before [] ms []) (sym none) (served_nothing limit before before [] [] [] [] (HasServed-none limit before));
+  serves = subst (λ (ms : List Mark). IsCutShort limit early before before [] ms []) (sym none) (served_nothing limit early before before [] [] [] [] (HasServed-none limit early before));
   at_end = λ e. absurd (cc);
   limited = λ e. absurd (cc);
 }

@@ -14,20 +14,20 @@ use Rattle.gateway_server.specs.declared.route.Told.{Told}
 use Rattle.gateway_server.specs.Decided.{Decides, IsUnavailable, marked_reply, told_reply}
 use Rattle.gateway_server.specs.Route.{view_route}
 
-decides : (limit : ℕ) (requests : List Request) (to : Route) (d : Decided) → IsUnavailable d → RouteFits limit requests to Unavailable → requests ≡ kept_by requests (requests_of_route to Unavailable) → Decides limit requests requests to d
-decides limit requests to d is fit kept = record {
+decides : (limit : ℕ) (early requests : List Request) (to : Route) (d : Decided) → IsUnavailable d → RouteFits limit requests to Unavailable → requests ≡ kept_by requests (requests_of_route to Unavailable) → Decides limit early requests requests to d
+decides limit early requests to d is fit kept = record {
   fit = subst (λ (m : Mark). RouteFits limit requests to m) (sym is.mark) fit;
   kept = subst (λ (m : Mark). requests ≡ kept_by requests (requests_of_route to m)) (sym is.mark) kept;
-  reply = subst (λ (m : Mark). IfOk d.reply (λ r. reply_parts r ≡ marked_reply requests to m)) (sym is.mark) is.reply;
+  reply = subst (λ (m : Mark). IfOk d.reply (λ r. reply_parts r ≡ marked_reply early requests to m)) (sym is.mark) is.reply;
 }
 
-pub Decides-listed_unavailable : (limit : ℕ) (requests : List Request) (filer : List ℕ) (d : Decided) → IsUnavailable d → Decides limit requests requests (Listed filer) d
-Decides-listed_unavailable limit requests filer d is = decides limit requests (Listed filer) d is tt refl
+pub Decides-listed_unavailable : (limit : ℕ) (early requests : List Request) (filer : List ℕ) (d : Decided) → IsUnavailable d → Decides limit early requests requests (Listed filer) d
+Decides-listed_unavailable limit early requests filer d is = decides limit early requests (Listed filer) d is tt refl
 
-pub Decides-filed_unavailable : (limit : ℕ) (requests : List Request) (r : Request) (d : Decided) → IsUnavailable d → Decides limit requests requests (Filed r) d
-Decides-filed_unavailable limit requests r d is = decides limit requests (Filed r) d is tt refl
+pub Decides-filed_unavailable : (limit : ℕ) (early requests : List Request) (r : Request) (d : Decided) → IsUnavailable d → Decides limit early requests requests (Filed r) d
+Decides-filed_unavailable limit early requests r d is = decides limit early requests (Filed r) d is tt refl
 
 -- an answer that depends on the message alone changes nothing
-pub Decides-told : (limit : ℕ) (requests : List Request) (why : Told) (body : List ℕ) (is_bare : Bool) (reply : Result Reply AllocError) → IfOk reply (λ r. reply_parts r ≡ told_reply why is_bare) → Decides limit requests requests (bare is_bare (view_route (asked.Told why) body)) (record { mark = NotFiled; reply = reply })
-Decides-told limit requests why body true reply is = record { fit = tt; kept = refl; reply = is }
-Decides-told limit requests why body false reply is = record { fit = tt; kept = refl; reply = is }
+pub Decides-told : (limit : ℕ) (early requests : List Request) (why : Told) (body : List ℕ) (is_bare : Bool) (reply : Result Reply AllocError) → IfOk reply (λ r. reply_parts r ≡ told_reply why is_bare) → Decides limit early requests requests (bare is_bare (view_route (asked.Told why) body)) (record { mark = NotFiled; reply = reply })
+Decides-told limit early requests why body true reply is = record { fit = tt; kept = refl; reply = is }
+Decides-told limit early requests why body false reply is = record { fit = tt; kept = refl; reply = is }

@@ -11,7 +11,7 @@ use Rattle.filing_model.specs.declared.served.Ended.TheVariants.{Closed}
 use Rattle.filing_model.specs.Prefix.{IsPrefixOf}
 use Rattle.filing_model.specs.Request.{Request}
 use Rattle.filing_model.specs.Serving.{kept_by, AreMarked, MayBegin, IsServed, IsCutShort}
-use Rattle.filing_model.specs.Text.{MarkFits, MarksFit, completed, completed_at, interim_of, reply_text, text}
+use Rattle.filing_model.specs.Text.{text_with, MarkFits, MarksFit, completed, completed_at, interim_of, reply_text_with}
 use Rattle.filing_model.proofs.Lists.{append_nil}
 use Rattle.gateway_server.specs.Progress.{HasServed}
 use Rattle.gateway_server.proofs.Progress.{closing, HasServed-last, HasServed-push, HasServed-cut}
@@ -20,64 +20,64 @@ pub completed-one : (place : Place) (mark : Mark) → completed (place ∷ []) (
 unfolding completed
 completed-one place mark = append_nil (completed_at place mark)
 
-text-one : (now : List Request) (place : Place) (mark : Mark) → text now (place ∷ []) Ending.Closed (mark ∷ []) ≡ interim_of place ++ reply_text now place mark
-unfolding text
-text-one now place mark = ap (λ t. interim_of place ++ t) (append_nil (reply_text now place mark))
+text-one : (early now : List Request) (place : Place) (mark : Mark) → text_with early now (place ∷ []) Ending.Closed (mark ∷ []) ≡ interim_of place ++ reply_text_with early now place mark
+unfolding text_with
+text-one early now place mark = ap (λ t. interim_of place ++ t) (append_nil (reply_text_with early now place mark))
 
 pub marked-one : (limit : ℕ) (now : List Request) (place : Place) (mark : Mark) → MarkFits limit now place mark → AreMarked limit now (place ∷ []) (mark ∷ [])
 unfolding MarksFit
 marked-one limit now place mark fit = record { all = refl; fit = (fit, tt) }
 
-module _ (limit : ℕ) (before now : List Request) (bytes rest : List ℕ) (marks : List Mark) (out : List ℕ) (h : HasServed limit before now bytes rest marks out) where
+module _ (limit : ℕ) (early before now : List Request) (bytes rest : List ℕ) (marks : List Mark) (out : List ℕ) (h : HasServed limit early before now bytes rest marks out) where
   -- the place was answered, and the connection closes
   pub served_last : (place : Place) (b : MayBegin rest (place ∷ [])) (mark : Mark) (after : List Request) → closing rest place b → MarkFits limit now place mark → after ≡ kept_by now (completed_at place mark)
-      → IsServed limit before after bytes (marks ++ mark ∷ []) Closed (out ++ (interim_of place ++ reply_text now place mark))
+      → IsServed limit early before after bytes (marks ++ mark ∷ []) Closed (out ++ (interim_of place ++ reply_text_with early now place mark))
   served_last place b mark after closed fit kept =
-      subst (λ (t : List ℕ). IsServed limit before after bytes (marks ++ mark ∷ []) Closed (out ++ t)) (text-one now place mark)
-      (HasServed-last limit before now bytes rest marks out h place b mark after closed (marked-one limit now place mark fit) (kept ∙ ap (kept_by now) (sym (completed-one place mark))))
+      subst (λ (t : List ℕ). IsServed limit early before after bytes (marks ++ mark ∷ []) Closed (out ++ t)) (text-one early now place mark)
+      (HasServed-last limit early before now bytes rest marks out h place b mark after closed (marked-one limit now place mark fit) (kept ∙ ap (kept_by now) (sym (completed-one place mark))))
 
   -- the message was answered, and more may come
   pub served_push : (message : Message) (n : ℕ) (mark : Mark) (after : List Request) → BeginsRequest rest message n → closes message.head ≡ false → MarkFits limit now (Read message) mark → after ≡ kept_by now (completed_at (Read message) mark)
-      → HasServed limit before after bytes (drop n rest) (marks ++ mark ∷ []) (out ++ (interim_of (Read message) ++ reply_text now (Read message) mark))
+      → HasServed limit early before after bytes (drop n rest) (marks ++ mark ∷ []) (out ++ (interim_of (Read message) ++ reply_text_with early now (Read message) mark))
   served_push message n mark after begins open' fit kept =
-      subst (λ (t : List ℕ). HasServed limit before after bytes (drop n rest) (marks ++ mark ∷ []) (out ++ t)) (text-one now (Read message) mark)
-      (HasServed-push limit before now bytes rest marks out h message n mark after begins open' (marked-one limit now (Read message) mark fit) (kept ∙ ap (kept_by now) (sym (completed-one (Read message) mark))))
+      subst (λ (t : List ℕ). HasServed limit early before after bytes (drop n rest) (marks ++ mark ∷ []) (out ++ t)) (text-one early now (Read message) mark)
+      (HasServed-push limit early before now bytes rest marks out h message n mark after begins open' (marked-one limit now (Read message) mark fit) (kept ∙ ap (kept_by now) (sym (completed-one (Read message) mark))))
 
   -- the place was marked, and a part of its reply was written
   pub served_part : (place : Place) → MayBegin rest (place ∷ []) → (mark : Mark) (after : List Request) (sent : ℕ) → MarkFits limit now place mark → after ≡ kept_by now (completed_at place mark)
-      → IsCutShort limit before after bytes (marks ++ mark ∷ []) (out ++ (interim_of place ++ take sent (reply_text now place mark)))
+      → IsCutShort limit early before after bytes (marks ++ mark ∷ []) (out ++ (interim_of place ++ take sent (reply_text_with early now place mark)))
   served_part place b mark after sent fit kept =
-      let reply : List ℕ = reply_text now place mark in
-      HasServed-cut limit before now bytes rest marks out h (place ∷ []) false (mark ∷ []) after (interim_of place ++ take sent reply) b (λ no'. absurd (cc)) (marked-one limit now place mark fit) (kept ∙ ap (kept_by now) (sym (completed-one place mark)))
-      (drop sent reply, text-one now place mark ∙ grind (arith, common_steps))
+      let reply : List ℕ = reply_text_with early now place mark in
+      HasServed-cut limit early before now bytes rest marks out h (place ∷ []) false (mark ∷ []) after (interim_of place ++ take sent reply) b (λ no'. absurd (cc)) (marked-one limit now place mark fit) (kept ∙ ap (kept_by now) (sym (completed-one place mark)))
+      (drop sent reply, text-one early now place mark ∙ grind (arith, common_steps))
 
-  unmarked : (asks : Bool) (part : List ℕ) → (asks ≡ true → Asks rest true) → IsPrefixOf part (if asks then interim else []) → IsCutShort limit before now bytes marks (out ++ part)
-  unfolding text MarksFit completed
+  unmarked : (asks : Bool) (part : List ℕ) → (asks ≡ true → Asks rest true) → IsPrefixOf part (if asks then interim else []) → IsCutShort limit early before now bytes marks (out ++ part)
+  unfolding text_with MarksFit completed
   unmarked asks part asked prefix =
-      subst (λ (ms : List Mark). IsCutShort limit before now bytes ms (out ++ part)) (append_nil marks)
-      (HasServed-cut limit before now bytes rest marks out h [] asks [] now part tt (λ yes. (refl, asked yes)) (record { all = refl; fit = tt }) refl (by_asks asks prefix))
+      subst (λ (ms : List Mark). IsCutShort limit early before now bytes ms (out ++ part)) (append_nil marks)
+      (HasServed-cut limit early before now bytes rest marks out h [] asks [] now part tt (λ yes. (refl, asked yes)) (record { all = refl; fit = tt }) refl (by_asks asks prefix))
     where
-      by_asks : (b : Bool) → IsPrefixOf part (if b then interim else []) → IsPrefixOf part (text now [] (if b then Rest true else Ending.Closed) [])
+      by_asks : (b : Bool) → IsPrefixOf part (if b then interim else []) → IsPrefixOf part (text_with early now [] (if b then Rest true else Ending.Closed) [])
       by_asks true p = p
       by_asks false p = p
 
   -- a message was read, and not marked
-  pub served_read : (message : Message) (n : ℕ) → BeginsRequest rest message n → IsCutShort limit before now bytes marks (out ++ interim_of (Read message))
+  pub served_read : (message : Message) (n : ℕ) → BeginsRequest rest message n → IsCutShort limit early before now bytes marks (out ++ interim_of (Read message))
   served_read message n begins =
       unmarked (awaits message.head) (interim_of (Read message)) (λ yes. (message.head, begins.head_len, begins.head, yes)) ([], sym (append_nil _))
 
   -- a fault came before another place was whole
-  pub served_asked : (asks : Bool) → Asks rest asks → IsCutShort limit before now bytes marks (out ++ (if asks then interim else []))
+  pub served_asked : (asks : Bool) → Asks rest asks → IsCutShort limit early before now bytes marks (out ++ (if asks then interim else []))
   served_asked asks asked = unmarked asks (if asks then interim else []) (λ yes. subst (Asks rest) yes asked) ([], sym (append_nil _))
 
-  pub served_nothing : IsCutShort limit before now bytes marks (out ++ [])
+  pub served_nothing : IsCutShort limit early before now bytes marks (out ++ [])
   served_nothing = unmarked false [] (λ no'. absurd (cc)) ([], refl)
 
   -- a fault came after this part of an interim response
-  pub served_rest : (sent : ℕ) → (0 < sent → Asks rest true) → IsCutShort limit before now bytes marks (out ++ take sent interim)
+  pub served_rest : (sent : ℕ) → (0 < sent → Asks rest true) → IsCutShort limit early before now bytes marks (out ++ take sent interim)
   served_rest sent asked = ⊎_elim
       (λ (some : 0 < sent). unmarked true (take sent interim) (λ _. asked some) (drop sent interim, grind (arith, common_steps)))
       (λ (none : sent ≤ 0).
       let zero : 0 ≡ sent = omega arith in
-      subst (λ (n : ℕ). IsCutShort limit before now bytes marks (out ++ take n interim)) zero (unmarked false [] (λ no'. absurd (cc)) ([], refl)))
+      subst (λ (n : ℕ). IsCutShort limit early before now bytes marks (out ++ take n interim)) zero (unmarked false [] (λ no'. absurd (cc)) ([], refl)))
       (cases_lt 0 sent)

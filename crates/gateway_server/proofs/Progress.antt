@@ -1,5 +1,5 @@
 -- What one more place does to a connection that was served so far.
-use Rattle.std.proofs.Common.{◌≡◌, ℕ, ◌≤◌, Bool, true, false, List, [], ◌∷◌, ◌++◌, length, drop, map, refl, sym, ap, ◌∙◌, subst, append_assoc, arith, true≢false}
+use Rattle.std.proofs.Common.{◌≡◌, ℕ, Bool, true, false, List, [], ◌∷◌, ◌++◌, drop, map, refl, sym, ap, ◌∙◌, subst, append_assoc, arith, true≢false}
 use Rattle.std.specs.Prelude.{if◌then◌else◌}
 use Rattle.std.proofs.lemmas.Grind.{common_steps}
 use Rattle.std.proofs.lemmas.List.{map-append}
@@ -12,7 +12,7 @@ use Rattle.filing_model.specs.declared.served.Ended.TheVariants.{Closed, InputEn
 use Rattle.filing_model.specs.Prefix.{IsPrefixOf}
 use Rattle.filing_model.specs.Request.{Request}
 use Rattle.filing_model.specs.Serving.{kept_by, AreMarked, GoesThrough, MayBegin, IsServed, IsCutShort}
-use Rattle.filing_model.specs.Text.{MarksFit, completed, text, next_interim}
+use Rattle.filing_model.specs.Text.{text_with, MarksFit, completed, next_interim}
 use Rattle.filing_model.proofs.Lists.{append_nil}
 use Rattle.filing_model.proofs.Serving.{drop-more}
 use Rattle.filing_model.proofs.Appending.{completed-append, text-append, text_now, are_marked_now, kept_by-append, AreMarked-append}
@@ -48,9 +48,9 @@ has_places-closing rest (Refused refusal) b closed = (b.0, refl, refl)
 -- ---- one more place
 
 -- at first nothing was served
-pub HasServed-none : (limit : ℕ) (before : List Request) → HasServed limit before before [] [] [] []
-unfolding completed MarksFit text
-HasServed-none limit before = record {
+pub HasServed-none : (limit : ℕ) (early before : List Request) → HasServed limit early before before [] [] [] []
+unfolding completed MarksFit text_with
+HasServed-none limit early before = record {
   messages = [];
   goes = refl;
   marked = record { all = refl; fit = tt };
@@ -59,8 +59,8 @@ HasServed-none limit before = record {
 }
 
 -- more was read
-pub HasServed-more : (limit : ℕ) (before now : List Request) (bytes rest more : List ℕ) (marks : List Mark) (out : List ℕ) → HasServed limit before now bytes rest marks out → HasServed limit before now (bytes ++ more) (rest ++ more) marks out
-HasServed-more limit before now bytes rest more marks out h = record {
+pub HasServed-more : (limit : ℕ) (early before now : List Request) (bytes rest more : List ℕ) (marks : List Mark) (out : List ℕ) → HasServed limit early before now bytes rest marks out → HasServed limit early before now (bytes ++ more) (rest ++ more) marks out
+HasServed-more limit early before now bytes rest more marks out h = record {
   messages = h.messages;
   goes = goes-more bytes h.messages rest more h.goes;
   marked = h.marked;
@@ -68,7 +68,7 @@ HasServed-more limit before now bytes rest more marks out h = record {
   kept = h.kept;
 }
 
-module _ (limit : ℕ) (before now : List Request) (bytes rest : List ℕ) (marks : List Mark) (out : List ℕ) (h : HasServed limit before now bytes rest marks out) where
+module _ (limit : ℕ) (early before now : List Request) (bytes rest : List ℕ) (marks : List Mark) (out : List ℕ) (h : HasServed limit early before now bytes rest marks out) where
   abbrev pub done : List Request
   done = completed (map Read h.messages) marks
 
@@ -76,11 +76,11 @@ module _ (limit : ℕ) (before now : List Request) (bytes rest : List ℕ) (mark
   pub marked_on : (places : List Place) (ms : List Mark) → AreMarked limit now places ms → AreMarked limit before (map Read h.messages ++ places) (marks ++ ms)
   marked_on places ms m = AreMarked-append limit before (map Read h.messages) marks places ms h.marked (are_marked_now now before done h.kept limit places ms m)
 
-  pub written_on : (places : List Place) (ending : Ending) (ms : List Mark) → out ++ text now places ending ms ≡ text before (map Read h.messages ++ places) ending (marks ++ ms)
+  pub written_on : (places : List Place) (ending : Ending) (ms : List Mark) → out ++ text_with early now places ending ms ≡ text_with early before (map Read h.messages ++ places) ending (marks ++ ms)
   written_on places ending ms =
-      ap (λ o. o ++ text now places ending ms) h.written
-      ∙ ap (λ t. text before (map Read h.messages) Ending.Closed marks ++ t) (text_now now before done h.kept places ending ms)
-      ∙ sym (text-append before (map Read h.messages) marks places ending ms h.marked.all)
+      ap (λ o. o ++ text_with early now places ending ms) h.written
+      ∙ ap (λ t. text_with early before (map Read h.messages) Ending.Closed marks ++ t) (text_now now before done h.kept early places ending ms)
+      ∙ sym (text-append early before (map Read h.messages) marks places ending ms h.marked.all)
 
   pub kept_on : (places : List Place) (ms : List Mark) → kept_by now (completed places ms) ≡ kept_by before (completed (map Read h.messages ++ places) (marks ++ ms))
   kept_on places ms =
@@ -90,7 +90,7 @@ module _ (limit : ℕ) (before now : List Request) (bytes rest : List ℕ) (mark
 
   -- the last place was marked and answered
   pub HasServed-last : (place : Place) (b : MayBegin rest (place ∷ [])) (mark : Mark) (after : List Request) → closing rest place b → AreMarked limit now (place ∷ []) (mark ∷ []) → after ≡ kept_by now (completed (place ∷ []) (mark ∷ []))
-      → IsServed limit before after bytes (marks ++ mark ∷ []) Closed (out ++ text now (place ∷ []) Ending.Closed (mark ∷ []))
+      → IsServed limit early before after bytes (marks ++ mark ∷ []) Closed (out ++ text_with early now (place ∷ []) Ending.Closed (mark ∷ []))
   HasServed-last place b mark after closed m kept = record {
     places = map Read h.messages ++ place ∷ [];
     ending = Ending.Closed;
@@ -102,10 +102,10 @@ module _ (limit : ℕ) (before now : List Request) (bytes rest : List ℕ) (mark
   }
 
   -- the input ended
-  pub HasServed-end : (asks : Bool) → IsRest rest → Asks rest asks → IsServed limit before now bytes marks InputEnded (out ++ next_interim [] (Rest asks))
-  unfolding text completed MarksFit
+  pub HasServed-end : (asks : Bool) → IsRest rest → Asks rest asks → IsServed limit early before now bytes marks InputEnded (out ++ next_interim [] (Rest asks))
+  unfolding text_with completed MarksFit
   HasServed-end asks is asked =
-      subst (λ (ms : List Mark). IsServed limit before now bytes ms InputEnded (out ++ next_interim [] (Rest asks))) (append_nil marks) (record {
+      subst (λ (ms : List Mark). IsServed limit early before now bytes ms InputEnded (out ++ next_interim [] (Rest asks))) (append_nil marks) (record {
         places = map Read h.messages ++ [];
         ending = Rest asks;
         splits = has_places-after bytes h.messages rest [] (Rest asks) h.goes (asks, is, asked, refl);
@@ -117,7 +117,7 @@ module _ (limit : ℕ) (before now : List Request) (bytes rest : List ℕ) (mark
 
   -- a message was marked and answered, and more may come
   pub HasServed-push : (message : Message) (n : ℕ) (mark : Mark) (after : List Request) → BeginsRequest rest message n → closes message.head ≡ false → AreMarked limit now (Read message ∷ []) (mark ∷ []) → after ≡ kept_by now (completed (Read message ∷ []) (mark ∷ []))
-      → HasServed limit before after bytes (drop n rest) (marks ++ mark ∷ []) (out ++ text now (Read message ∷ []) Ending.Closed (mark ∷ []))
+      → HasServed limit early before after bytes (drop n rest) (marks ++ mark ∷ []) (out ++ text_with early now (Read message ∷ []) Ending.Closed (mark ∷ []))
   HasServed-push message n mark after begins open' m kept =
       let places : map Read (h.messages ++ message ∷ []) ≡ map Read h.messages ++ Read message ∷ [] = map-append Read h.messages (message ∷ []) in
       record {
@@ -130,7 +130,7 @@ module _ (limit : ℕ) (before now : List Request) (bytes rest : List ℕ) (mark
 
   -- a fault ended it, with these marks of the place that stands next, and this part of its text
   pub HasServed-cut : (last : List Place) (asks : Bool) (ms : List Mark) (after : List Request) (part : List ℕ) → MayBegin rest last → (asks ≡ true → (last ≡ []) × Asks rest true) → AreMarked limit now last ms → after ≡ kept_by now (completed last ms)
-      → IsPrefixOf part (text now last (if asks then Rest true else Ending.Closed) ms) → IsCutShort limit before after bytes (marks ++ ms) (out ++ part)
+      → IsPrefixOf part (text_with early now last (if asks then Rest true else Ending.Closed) ms) → IsCutShort limit early before after bytes (marks ++ ms) (out ++ part)
   HasServed-cut last asks ms after part begins asked m kept prefix = record {
     messages = h.messages;
     rest = rest;

@@ -11,9 +11,10 @@ use Rattle.http_wire.specs.Replies.{reply_parts}
 use Rattle.http_wire.specs.Reply.{ReplyParts, phrase}
 use Rattle.xbrl_report.specs.CodeNumber.{number_of}
 use Rattle.xbrl_report.specs.Pair.{Pair}
+use Rattle.filing_model.specs.declared.served.Style.{Style}
 use Rattle.filing_model.specs.Answer.{Answer, Registered, Refused, KeyReused}
 use Rattle.filing_model.specs.Listing.{Listing}
-use Rattle.filing_model.specs.Reply.{reply_of, list_reply, refused_status, unavailable}
+use Rattle.filing_model.specs.Reply.{reply_as, list_reply, refused_status, unavailable}
 use Rattle.filing_model.specs.Text.{fault_reply, refusal_reply}
 use Rattle.gateway_server.specs.declared.route.Told.{Told}
 use Rattle.gateway_server.specs.declared.route.Told.TheVariants.{NoPath, NoMethod, ContentCoding, KeyMissing, KeyBad}
@@ -31,11 +32,11 @@ refused_phrase (f ∷ fs) = ⊎_elim
     (λ (h : nat_eq (number_of f.code) 1 ≡ false). rw h refl)
     (cases_Bool (nat_eq (number_of f.code) 1))
 
-pub phrase-reply_of : (a : Answer) → HasPhrase (reply_of a)
-unfolding reply_of phrase
-phrase-reply_of (Registered n repeat) = refl
-phrase-reply_of (Refused findings repeat) = refused_phrase findings
-phrase-reply_of KeyReused = refl
+pub phrase-reply_as : (style : Style) (a : Answer) → HasPhrase (reply_as style a)
+unfolding reply_as phrase
+phrase-reply_as style (Registered n repeat) = refl
+phrase-reply_as style (Refused findings repeat) = refused_phrase findings
+phrase-reply_as style KeyReused = refl
 
 pub phrase-list_reply : (ls : List Listing) → HasPhrase (list_reply ls)
 unfolding list_reply phrase

@@ -10,7 +10,7 @@ use Rattle.filing_model.specs.declared.served.Mark.{Mark}
 use Rattle.filing_model.specs.Request.{Request}
 use Rattle.filing_model.specs.Serving.{kept_by, MayBegin}
 use Rattle.filing_model.specs.Stopping.{Crash, No, Before, After, ComeBefore, IsStopAt, marked}
-use Rattle.filing_model.specs.Text.{MarksFit, completed, completed_at, interim_of, text}
+use Rattle.filing_model.specs.Text.{text_with, MarksFit, completed, completed_at, interim_of}
 use Rattle.filing_model.proofs.Lists.{append_nil}
 use Rattle.gateway_server.specs.declared.serving.Turn.{Turn}
 use Rattle.gateway_server.specs.declared.serving.Turn.TheVariants.{On, Stopped, Ended as Ends}
@@ -70,20 +70,20 @@ take-first marks mark n all = grind (arith, common_steps, all)
 take-whole : (marks : List Mark) (n : ℕ) → length marks ≡ n → take n marks ≡ marks
 take-whole marks n all = grind (arith, common_steps, all)
 
-module _ (limit : ℕ) (before now : List Request) (left left' written written' : Option (List ℕ)) (got sent rest : List ℕ) (marks : List Mark) (place : Place) (read : Consumes left left' got) (wrote : Appends written written' (sent ++ interim_of place)) (h : HasServed limit before now got rest marks sent) (begins : MayBegin rest (place ∷ [])) (crash : Crash) where
+module _ (limit : ℕ) (early before now : List Request) (left left' written written' : Option (List ℕ)) (got sent rest : List ℕ) (marks : List Mark) (place : Place) (read : Consumes left left' got) (wrote : Appends written written' (sent ++ interim_of place)) (h : HasServed limit early before now got rest marks sent) (begins : MayBegin rest (place ∷ [])) (crash : Crash) where
   count : length marks ≡ length h.messages
   count = h.marked.all ∙ length-map h.messages (λ m. Read m)
 
-  written_up : sent ++ interim_of place ≡ text before (map Read h.messages ++ place ∷ []) Ending.Closed marks
-  unfolding text
-  written_up = subst (λ (ms : List Mark). sent ++ interim_of place ≡ text before (map Read h.messages ++ place ∷ []) Ending.Closed ms) (append_nil marks) (written_on limit before now got rest marks sent h (place ∷ []) Ending.Closed [])
+  written_up : sent ++ interim_of place ≡ text_with early before (map Read h.messages ++ place ∷ []) Ending.Closed marks
+  unfolding text_with
+  written_up = subst (λ (ms : List Mark). sent ++ interim_of place ≡ text_with early before (map Read h.messages ++ place ∷ []) Ending.Closed ms) (append_nil marks) (written_on limit early before now got rest marks sent h (place ∷ []) Ending.Closed [])
 
   kept_up : now ≡ kept_by before (completed (map Read h.messages ++ place ∷ []) marks)
   unfolding completed
-  kept_up = subst (λ (ms : List Mark). now ≡ kept_by before (completed (map Read h.messages ++ place ∷ []) ms)) (append_nil marks) (kept_on limit before now got rest marks sent h (place ∷ []) [])
+  kept_up = subst (λ (ms : List Mark). now ≡ kept_by before (completed (map Read h.messages ++ place ∷ []) ms)) (append_nil marks) (kept_on limit early before now got rest marks sent h (place ∷ []) [])
 
   -- the place is known, and nothing was decided of it
-  pub StopsConnection-before : IsBefore crash (length marks + 1) → StopsConnection limit before now left left' written written' crash marks
+  pub StopsConnection-before : IsBefore crash (length marks + 1) → StopsConnection limit early before now left left' written written' crash marks
   StopsConnection-before stop =
       let at = at-before crash (length h.messages) (subst (λ n. IsBefore crash (n + 1)) count stop) in
       record {
@@ -100,17 +100,17 @@ module _ (limit : ℕ) (before now : List Request) (left left' written written' 
           here = at.0;
           all = count ∙ at.1;
           fit = fit-more limit before (map Read h.messages) (place ∷ []) marks h.marked.fit;
-          written = written_up ∙ ap (text before (map Read h.messages ++ place ∷ []) Ending.Closed) (sym (take-whole marks (length h.messages) count));
+          written = written_up ∙ ap (text_with early before (map Read h.messages ++ place ∷ []) Ending.Closed) (sym (take-whole marks (length h.messages) count));
           kept = kept_up;
         };
       }
 
   -- it is marked, and nothing of its reply was written
-  pub StopsConnection-after : (after : List Request) (new : List Mark) → IsAfter crash (length marks + 1) → IsMarked limit now after place marks new → StopsConnection limit before after left left' written written' crash new
+  pub StopsConnection-after : (after : List Request) (new : List Mark) → IsAfter crash (length marks + 1) → IsMarked limit now after place marks new → StopsConnection limit early before after left left' written written' crash new
   StopsConnection-after after new stop m =
       let more : length new ≡ suc (length h.messages) = omega (arith, ap length m.marks, length-append marks (m.mark ∷ []), count) in
       let at = at-after crash (length h.messages) (subst (λ n. IsAfter crash (n + 1)) count stop) in
-      let fit = (marked_on limit before now got rest marks sent h (place ∷ []) (m.mark ∷ []) (marked-one limit now place m.mark m.fit)).fit in
+      let fit = (marked_on limit early before now got rest marks sent h (place ∷ []) (m.mark ∷ []) (marked-one limit now place m.mark m.fit)).fit in
       record {
         got = got;
         sent = sent ++ interim_of place;
@@ -125,16 +125,16 @@ module _ (limit : ℕ) (before now : List Request) (left left' written written' 
           here = at.0;
           all = more ∙ at.1;
           fit = subst (MarksFit limit before (map Read h.messages ++ place ∷ [])) (sym m.marks) fit;
-          written = written_up ∙ ap (text before (map Read h.messages ++ place ∷ []) Ending.Closed) (sym (ap (take (length h.messages)) m.marks ∙ take-first marks m.mark (length h.messages) count));
-          kept = m.kept ∙ ap (kept_by now) (sym (completed-one place m.mark)) ∙ kept_on limit before now got rest marks sent h (place ∷ []) (m.mark ∷ []) ∙ ap (λ ms. kept_by before (completed (map Read h.messages ++ place ∷ []) ms)) (sym m.marks);
+          written = written_up ∙ ap (text_with early before (map Read h.messages ++ place ∷ []) Ending.Closed) (sym (ap (take (length h.messages)) m.marks ∙ take-first marks m.mark (length h.messages) count));
+          kept = m.kept ∙ ap (kept_by now) (sym (completed-one place m.mark)) ∙ kept_on limit early before now got rest marks sent h (place ∷ []) (m.mark ∷ []) ∙ ap (λ ms. kept_by before (completed (map Read h.messages ++ place ∷ []) ms)) (sym m.marks);
         };
       }
 
 -- ---- the whole connection
 
 -- it was stopped, or has ended before the place to stop at
-pub ServesConnectionUntil-either : (limit : ℕ) (before after : List Request) (left left' written written' : Option (List ℕ)) (crash : Crash) (marks : List Mark) (ended : Option Ended) → IsCountUntil crash (length marks) ended → StopsOrEnds limit before after left left' written written' crash marks ended → ServesConnectionUntil limit before after left left' written written' crash marks ended
-ServesConnectionUntil-either limit before after left left' written written' crash marks None count s = record {
+pub ServesConnectionUntil-either : (limit : ℕ) (early before after : List Request) (left left' written written' : Option (List ℕ)) (crash : Crash) (marks : List Mark) (ended : Option Ended) → IsCountUntil crash (length marks) ended → StopsOrEnds limit early before after left left' written written' crash marks ended → ServesConnectionUntil limit early before after left left' written written' crash marks ended
+ServesConnectionUntil-either limit early before after left left' written written' crash marks None count s = record {
   got = s.got;
   sent = s.sent;
   read = s.read;
@@ -143,7 +143,7 @@ ServesConnectionUntil-either limit before after left left' written written' cras
   at_end = λ e. absurd (cc);
   limited = λ e. absurd (cc);
 }
-ServesConnectionUntil-either limit before after left left' written written' crash marks (Some ended) count s = record {
+ServesConnectionUntil-either limit early before after left left' written written' crash marks (Some ended) count s = record {
   got = s.got;
   sent = s.sent;
   read = s.read;
@@ -154,8 +154,8 @@ ServesConnectionUntil-either limit before after left left' written written' cras
 }
 
 -- where it ended, it was served to its end
-pub ServesConnection-ended : (limit : ℕ) (before after : List Request) (left left' written written' : Option (List ℕ)) (crash : Crash) (marks : List Mark) (ended : Ended) → ServesConnectionUntil limit before after left left' written written' crash marks (Some ended) → ServesConnection limit before after left left' written written' marks ended
-ServesConnection-ended limit before after left left' written written' crash marks ended s = record {
+pub ServesConnection-ended : (limit : ℕ) (early before after : List Request) (left left' written written' : Option (List ℕ)) (crash : Crash) (marks : List Mark) (ended : Ended) → ServesConnectionUntil limit early before after left left' written written' crash marks (Some ended) → ServesConnection limit early before after left left' written written' marks ended
+ServesConnection-ended limit early before after left left' written written' crash marks ended s = record {
   got = s.got;
   sent = s.sent;
   read = s.read;

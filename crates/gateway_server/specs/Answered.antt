@@ -12,7 +12,7 @@ use Rattle.http_wire.specs.Reply.{render}
 use Rattle.filing_model.specs.declared.served.Mark.{Mark}
 use Rattle.filing_model.specs.Request.{Request}
 use Rattle.filing_model.specs.Serving.{kept_by}
-use Rattle.filing_model.specs.Text.{MarkFits, completed_at, reply_text}
+use Rattle.filing_model.specs.Text.{MarkFits, completed_at, reply_text_with}
 use Rattle.gateway_server.specs.declared.decide.Decided.{Decided}
 
 -- whether the connection closes after the reply to the place
@@ -28,14 +28,14 @@ pub record IsMarked (limit : ℕ) (before after : List Request) (place : Place) 
   pub kept : after ≡ kept_by before (completed_at place mark)
 
 -- the place is marked, and the reply that was decided for it, if there was memory for one, is its reply
-pub record IsDecided (limit : ℕ) (before after : List Request) (place : Place) (old new : List Mark) (d : Decided) : Type 0 where
+pub record IsDecided (limit : ℕ) (early before after : List Request) (place : Place) (old new : List Mark) (d : Decided) : Type 0 where
   pub marked : IsMarked limit before after place old new
-  pub reply : IfOk d.reply (λ r. render (reply_parts r) (closes_after place) ≡ reply_text before place marked.mark)
+  pub reply : IfOk d.reply (λ r. render (reply_parts r) (closes_after place) ≡ reply_text_with early before place marked.mark)
 
 -- the place was decided, or nothing was marked and kept
-abbrev pub Marks : ℕ → List Request → List Request → Place → List Mark → List Mark → Result Decided AllocError → Type 0
-Marks limit before after place old new result =
-    MatchResult result (λ d. IsDecided limit before after place old new d) (λ _. (after ≡ before) × (new ≡ old))
+abbrev pub Marks : ℕ → List Request → List Request → List Request → Place → List Mark → List Mark → Result Decided AllocError → Type 0
+Marks limit early before after place old new result =
+    MatchResult result (λ d. IsDecided limit early before after place old new d) (λ _. (after ≡ before) × (new ≡ old))
 
 -- the text was written, or a part of it
 abbrev pub WritesText : Option (List ℕ) → Option (List ℕ) → List ℕ → Result (Unit {0}) ConnFault → Type 0

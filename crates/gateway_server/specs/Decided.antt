@@ -1,6 +1,7 @@
 -- What a message gets. No public clause cites this file.
 use Rattle.std.specs.Prelude.{◌≡◌, ℕ, Bool, List, [], IfOk, IsSome, if◌then◌else◌}
 use Rattle.http_wire.specs.Replies.{reply_parts}
+use Rattle.http_wire.specs.declared.reply.Kind.TheVariants.{Problem}
 use Rattle.http_wire.specs.Reply.{ReplyParts, phrase}
 use Rattle.filing_model.specs.declared.served.Mark.{Mark}
 use Rattle.filing_model.specs.declared.served.Mark.TheVariants.{Done, Unavailable, NotFiled}
@@ -14,19 +15,19 @@ use Rattle.gateway_server.specs.Route.{told_status, told_word}
 
 -- the reply that depends on the message alone
 abbrev pub told_reply : Why → Bool → ReplyParts
-told_reply why is_bare = if is_bare then record { status = told_status why; content = [] } else word_reply (told_status why) (told_word why)
+told_reply why is_bare = if is_bare then record { status = told_status why; content = []; kind = Problem } else word_reply (told_status why) (told_word why)
 
 -- the reply to what was asked for and marked so
-abbrev pub marked_reply : List Request → Route → Mark → ReplyParts
-marked_reply requests to Done = reply_on requests to
-marked_reply requests to Unavailable = unavailable
-marked_reply requests to NotFiled = reply_on requests to
+abbrev pub marked_reply : List Request → List Request → Route → Mark → ReplyParts
+marked_reply early requests to Done = reply_on early requests to
+marked_reply early requests to Unavailable = unavailable
+marked_reply early requests to NotFiled = reply_on early requests to
 
 -- the mark fits, the reply is the one for it, and what is kept follows from it
-pub record Decides (limit : ℕ) (before after : List Request) (to : Route) (d : Decided) : Type 0 where
+pub record Decides (limit : ℕ) (early before after : List Request) (to : Route) (d : Decided) : Type 0 where
   pub fit : RouteFits limit before to d.mark
   pub kept : after ≡ kept_by before (requests_of_route to d.mark)
-  pub reply : IfOk d.reply (λ r. reply_parts r ≡ marked_reply before to d.mark)
+  pub reply : IfOk d.reply (λ r. reply_parts r ≡ marked_reply early before to d.mark)
 
 -- the mark and the reply of what could not be answered
 pub record IsUnavailable (d : Decided) : Type 0 where

@@ -17,53 +17,54 @@ use Rattle.filing_model.specs.declared.served.Ended.TheVariants.{InputEnded, Clo
 use Rattle.filing_model.specs.declared.served.Mark.{Mark}
 use Rattle.filing_model.specs.Request.{Request}
 use Rattle.filing_model.specs.Serving.{AreMarked, GoesThrough, Serves, kept_by}
-use Rattle.filing_model.specs.Text.{completed, text}
+use Rattle.filing_model.specs.Text.{completed, text_with}
 use Rattle.gateway_server.specs.Answered.{IsReplyFault}
 
--- The bytes begin with messages that are marked and answered, none of which closes; the rest follows.
-pub record HasServed (limit : ℕ) (before now : List Request) (bytes rest : List ℕ) (marks : List Mark) (out : List ℕ) : Type 0 where
+-- The bytes begin with messages that are marked and answered, none of which closes; the rest follows. The early requests were kept
+-- before there were problem details.
+pub record HasServed (limit : ℕ) (early before now : List Request) (bytes rest : List ℕ) (marks : List Mark) (out : List ℕ) : Type 0 where
   pub messages : List Message
   pub goes : GoesThrough bytes messages rest
   pub marked : AreMarked limit before (map Read messages) marks
-  pub written : out ≡ text before (map Read messages) Ending.Closed marks
+  pub written : out ≡ text_with early before (map Read messages) Ending.Closed marks
   pub kept : now ≡ kept_by before (completed (map Read messages) marks)
 
 -- Since the connection began, so much was read and written, and so far that is served. Each read that is counted gave a byte.
-pub record GoesOn (limit : ℕ) (before now : List Request) (left left' written written' : Option (List ℕ)) (inbox : Inbox) (marks : List Mark) : Type 0 where
+pub record GoesOn (limit : ℕ) (early before now : List Request) (left left' written written' : Option (List ℕ)) (inbox : Inbox) (marks : List Mark) : Type 0 where
   pub got : List ℕ
   pub sent : List ℕ
   pub read : Consumes left left' got
   pub counted : reads inbox ≤ length got
   pub wrote : Appends written written' sent
-  pub served : HasServed limit before now got (unread inbox) marks sent
+  pub served : HasServed limit early before now got (unread inbox) marks sent
   pub more : is_over inbox ≡ false
 
 -- The same, where a message is lent that is neither answered nor marked. Its interim response was written.
-pub record HasMessage (limit : ℕ) (before now : List Request) (left left' written written' : Option (List ℕ)) (inbox : Inbox) (marks : List Mark) : Type 0 where
+pub record HasMessage (limit : ℕ) (early before now : List Request) (left left' written written' : Option (List ℕ)) (inbox : Inbox) (marks : List Mark) : Type 0 where
   pub got : List ℕ
   pub sent : List ℕ
   pub read : Consumes left left' got
   pub counted : reads inbox ≤ length got
   pub wrote : Appends written written' (sent ++ interim_if (lent_awaits inbox))
-  pub served : HasServed limit before now got (held inbox) marks sent
+  pub served : HasServed limit early before now got (held inbox) marks sent
   pub lends : LendsFirst inbox
 
 -- the same, where the bytes that are held begin with what is refused
-pub record HasRefusal (limit : ℕ) (before now : List Request) (left left' written written' : Option (List ℕ)) (inbox : Inbox) (refusal : Refusal) (marks : List Mark) : Type 0 where
+pub record HasRefusal (limit : ℕ) (early before now : List Request) (left left' written written' : Option (List ℕ)) (inbox : Inbox) (refusal : Refusal) (marks : List Mark) : Type 0 where
   pub got : List ℕ
   pub sent : List ℕ
   pub read : Consumes left left' got
   pub wrote : Appends written written' sent
-  pub served : HasServed limit before now got (held inbox) marks sent
+  pub served : HasServed limit early before now got (held inbox) marks sent
   pub refused : IsRefused (held inbox) refusal
 
 -- what the whole connection came to
-pub record ServesConnection (limit : ℕ) (before after : List Request) (left left' written written' : Option (List ℕ)) (marks : List Mark) (ended : Ended) : Type 0 where
+pub record ServesConnection (limit : ℕ) (early before after : List Request) (left left' written written' : Option (List ℕ)) (marks : List Mark) (ended : Ended) : Type 0 where
   pub got : List ℕ
   pub sent : List ℕ
   pub read : Consumes left left' got
   pub wrote : Appends written written' sent
-  pub serves : Serves limit before after got marks ended sent
+  pub serves : Serves limit early before after got marks ended sent
   pub at_end : ended ≡ InputEnded → IsAtEnd left'
   pub limited : ended ≡ Fault fault.ReadLimit → max_reads ≤ length got
 

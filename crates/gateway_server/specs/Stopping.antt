@@ -23,12 +23,12 @@ view_stop (stop.Before number) = Before number
 view_stop (stop.After number) = After number
 
 -- what the connection came to, up to its end or to the stop
-pub record ServesConnectionUntil (limit : ℕ) (before after : List Request) (left left' written written' : Option (List ℕ)) (crash : Crash) (marks : List Mark) (ended : Option Ended) : Type 0 where
+pub record ServesConnectionUntil (limit : ℕ) (early before after : List Request) (left left' written written' : Option (List ℕ)) (crash : Crash) (marks : List Mark) (ended : Option Ended) : Type 0 where
   pub got : List ℕ
   pub sent : List ℕ
   pub read : Consumes left left' got
   pub wrote : Appends written written' sent
-  pub serves : StopsOrServes limit before after got crash marks ended sent
+  pub serves : StopsOrServes limit early before after got crash marks ended sent
   pub at_end : ended ≡ Some how.InputEnded → IsAtEnd left'
   pub limited : ended ≡ Some (how.Fault fault.ReadLimit) → max_reads ≤ length got
 
@@ -63,23 +63,23 @@ IsAfter (Before j) number = ⊥
 IsAfter (After j) number = number ≡ max 1 j
 
 -- what a connection came to that was stopped
-pub record StopsConnection (limit : ℕ) (before after : List Request) (left left' written written' : Option (List ℕ)) (crash : Crash) (marks : List Mark) : Type 0 where
+pub record StopsConnection (limit : ℕ) (early before after : List Request) (left left' written written' : Option (List ℕ)) (crash : Crash) (marks : List Mark) : Type 0 where
   pub got : List ℕ
   pub sent : List ℕ
   pub read : Consumes left left' got
   pub wrote : Appends written written' sent
-  pub stopped : IsStopped limit before after got crash marks sent
+  pub stopped : IsStopped limit early before after got crash marks sent
 
 -- it goes on, or was stopped, or has ended so
-abbrev pub Continues : ℕ → List Request → List Request → Option (List ℕ) → Option (List ℕ) → Option (List ℕ) → Option (List ℕ) → Inbox → Crash → List Mark → Turn → Type 0
-Continues limit before now left left' written written' inbox crash marks On = GoesOn limit before now left left' written written' inbox marks
-Continues limit before now left left' written written' inbox crash marks Stopped = StopsConnection limit before now left left' written written' crash marks
-Continues limit before now left left' written written' inbox crash marks (Ends ended) = ServesConnection limit before now left left' written written' marks ended
+abbrev pub Continues : ℕ → List Request → List Request → List Request → Option (List ℕ) → Option (List ℕ) → Option (List ℕ) → Option (List ℕ) → Inbox → Crash → List Mark → Turn → Type 0
+Continues limit early before now left left' written written' inbox crash marks On = GoesOn limit early before now left left' written written' inbox marks
+Continues limit early before now left left' written written' inbox crash marks Stopped = StopsConnection limit early before now left left' written written' crash marks
+Continues limit early before now left left' written written' inbox crash marks (Ends ended) = ServesConnection limit early before now left left' written written' marks ended
 
 -- it was stopped, or has ended so
-abbrev pub StopsOrEnds : ℕ → List Request → List Request → Option (List ℕ) → Option (List ℕ) → Option (List ℕ) → Option (List ℕ) → Crash → List Mark → Option Ended → Type 0
-StopsOrEnds limit before now left left' written written' crash marks None = StopsConnection limit before now left left' written written' crash marks
-StopsOrEnds limit before now left left' written written' crash marks (Some ended) = ServesConnection limit before now left left' written written' marks ended
+abbrev pub StopsOrEnds : ℕ → List Request → List Request → List Request → Option (List ℕ) → Option (List ℕ) → Option (List ℕ) → Option (List ℕ) → Crash → List Mark → Option Ended → Type 0
+StopsOrEnds limit early before now left left' written written' crash marks None = StopsConnection limit early before now left left' written written' crash marks
+StopsOrEnds limit early before now left left' written written' crash marks (Some ended) = ServesConnection limit early before now left left' written written' marks ended
 
 -- so many marks there are after it
 abbrev pub IsCountAt : Crash → ℕ → Turn → Type 0

@@ -28,7 +28,7 @@ pub(crate) fn mark<S: Alter>(
     marks: &mut Vec<Mark>,
 ) -> Result<Decided, AllocError>
     requires { length message.now.body.now ≤ max_body_len }
-    ensures marked { Turns S.Store intake.old intake.new (λ before after. Marks (limit_of intake.old) before after (ReadPlace (view_message message.now)) marks.old.items marks.new.items result) }
+    ensures marked { Turns S.Store intake.old intake.new (λ early before after. Marks (limit_of intake.old) early before after (ReadPlace (view_message message.now)) marks.old.items marks.new.items result) }
     ensures phrase { IfOk result IsPhrased }
     ensures counted { MatchResult result (λ _. vec_len marks.new ≡ vec_len marks.old + 1) (λ _. vec_len marks.new ≡ vec_len marks.old) }
     ensures clean { IsClean S.Store intake.new → IsClean S.Store intake.old }
@@ -51,7 +51,7 @@ fn mark_route<S: Alter>(
     requires body { length message.now.body.now ≤ max_body_len }
     requires filer { HasFiler asked }
     requires asked { route (view_message message.now) ≡ bare (is_head (view_message message.now)) (view_route asked message.now.body.now) }
-    ensures marked { Turns S.Store intake.old intake.new (λ before after. IsDecided (limit_of intake.old) before after (ReadPlace (view_message message.now)) marks.old.items marks.new.items result) }
+    ensures marked { Turns S.Store intake.old intake.new (λ early before after. IsDecided (limit_of intake.old) early before after (ReadPlace (view_message message.now)) marks.old.items marks.new.items result) }
     ensures phrase { IsPhrased result }
     ensures counted { vec_len marks.new ≡ vec_len marks.old + 1 }
     ensures clean { IsClean S.Store intake.new → IsClean S.Store intake.old }
@@ -68,7 +68,7 @@ pub(crate) fn mark_refusal(
     refusal: Refusal,
     marks: &mut Vec<Mark>,
 ) -> Result<Decided, AllocError>
-    ensures marked { (limit : ℕ) (before : List Request) → Marks limit before before (RefusedPlace refusal) marks.old.items marks.new.items result }
+    ensures marked { (limit : ℕ) (early before : List Request) → Marks limit early before before (RefusedPlace refusal) marks.old.items marks.new.items result }
     ensures phrase { IfOk result IsPhrased }
     ensures counted { MatchResult result (λ _. vec_len marks.new ≡ vec_len marks.old + 1) (λ _. vec_len marks.new ≡ vec_len marks.old) }
 {

@@ -6,13 +6,13 @@ ghost use Rattle.http_wire.specs.Head.{max_body_len};
 ghost use Rattle.http_wire.specs.Replies.{reply_parts};
 ghost use Rattle.filing_model.specs.Text.{Listed as AsksList, Filed as AsksFiling, bare};
 ghost use Rattle.filing_model.specs.Views.{the_request};
-ghost use Rattle.gateway_server.specs.Route.{told_status, told_word, view_route, HasFiler};
+ghost use Rattle.gateway_server.specs.Route.{view_route, HasFiler};
 ghost use Rattle.intake_core.specs.Held.{limit_of, IsClean, Turns};
 ghost use Rattle.gateway_server.specs.Decided.{told_reply, Decides, IsUnavailable, IsPhrased};
 
 use crate::route::{Route, Told};
 use filing_model::Mark;
-use http_wire::Reply;
+use http_wire::{Kind, Reply};
 use intake_core::{Intake, list_reply, reply_of, word_reply};
 use key_string::KeyText;
 use sqlite::Alter;
@@ -35,7 +35,7 @@ pub(crate) fn decide<S: Alter>(
 ) -> Decided
     requires filer { HasFiler route }
     requires body { length body.now ≤ max_body_len }
-    ensures decided { Turns S.Store intake.old intake.new (λ before after. Decides (limit_of intake.old) before after (bare is_bare (view_route route.entry body.now)) result) }
+    ensures decided { Turns S.Store intake.old intake.new (λ early before after. Decides (limit_of intake.old) early before after (bare is_bare (view_route route.entry body.now)) result) }
     ensures phrase { IsPhrased result }
     ensures clean { IsClean S.Store intake.new → IsClean S.Store intake.old }
     ensures limit { limit_of intake.new ≡ limit_of intake.old }
@@ -57,6 +57,7 @@ fn told_reply(alloc: Global, why: Told, is_bare: bool) -> Result<Reply, AllocErr
         Ok(Reply {
             status: why.status(),
             content: Vec::new(alloc),
+            kind: Kind::Problem,
         })
     } else {
         word_reply(alloc, why.status(), why.word())
@@ -64,7 +65,7 @@ fn told_reply(alloc: Global, why: Told, is_bare: bool) -> Result<Reply, AllocErr
 }
 
 fn list<S: Alter>(alloc: Global, intake: &mut Intake<S>, filer: &str) -> Decided
-    ensures decided { Turns S.Store intake.old intake.new (λ before after. Decides (limit_of intake.old) before after (AsksList filer.now) result) }
+    ensures decided { Turns S.Store intake.old intake.new (λ early before after. Decides (limit_of intake.old) early before after (AsksList filer.now) result) }
     ensures phrase { IsPhrased result }
     ensures clean { IsClean S.Store intake.new → IsClean S.Store intake.old }
     ensures limit { limit_of intake.new ≡ limit_of intake.old }
@@ -87,7 +88,7 @@ fn file<S: Alter>(
 ) -> Decided
     requires filer { is_filer filer.now ≡ true }
     requires body { length body.now ≤ max_body_len }
-    ensures decided { Turns S.Store intake.old intake.new (λ before after. Decides (limit_of intake.old) before after (AsksFiling (the_request filer.now key.now body.now)) result) }
+    ensures decided { Turns S.Store intake.old intake.new (λ early before after. Decides (limit_of intake.old) early before after (AsksFiling (the_request filer.now key.now body.now)) result) }
     ensures phrase { IsPhrased result }
     ensures clean { IsClean S.Store intake.new → IsClean S.Store intake.old }
     ensures limit { limit_of intake.new ≡ limit_of intake.old }

@@ -57,17 +57,17 @@ pub const REGISTERED_CLOSED: &str =
 pub const REGISTERED_SECOND: &str =
     "HTTP/1.1 201 Created\r\nContent-Type: application/json\r\nContent-Length: 34\r\n\r\n{\"number\":2,\"status\":\"registered\"}";
 
-/// The reply to a body that is no JSON text, 144 bytes.
+/// The reply to a body that is no JSON text, 209 bytes.
 pub const NOT_JSON: &str =
-    "HTTP/1.1 400 Bad Request\r\nContent-Type: application/json\r\nContent-Length: 64\r\n\r\n{\"findings\":[{\"code\":\"not-json\",\"place\":\"\"}],\"status\":\"refused\"}";
+    "HTTP/1.1 400 Bad Request\r\nContent-Type: application/problem+json\r\nContent-Length: 120\r\n\r\n{\"findings\":[{\"code\":\"not-json\",\"place\":\"\"}],\"reason\":\"refused\",\"status\":400,\"title\":\"Bad Request\",\"type\":\"about:blank\"}";
 
 /// The reply to a head that is malformed.
 pub const MALFORMED: &str =
-    "HTTP/1.1 400 Bad Request\r\nContent-Type: application/json\r\nContent-Length: 22\r\nConnection: close\r\n\r\n{\"status\":\"malformed\"}";
+    "HTTP/1.1 400 Bad Request\r\nContent-Type: application/problem+json\r\nContent-Length: 78\r\nConnection: close\r\n\r\n{\"reason\":\"malformed\",\"status\":400,\"title\":\"Bad Request\",\"type\":\"about:blank\"}";
 
 /// The reply where a request can't be decided now.
 pub const UNAVAILABLE: &str =
-    "HTTP/1.1 503 Service Unavailable\r\nContent-Type: application/json\r\nContent-Length: 24\r\n\r\n{\"status\":\"unavailable\"}";
+    "HTTP/1.1 503 Service Unavailable\r\nContent-Type: application/problem+json\r\nContent-Length: 88\r\n\r\n{\"reason\":\"unavailable\",\"status\":503,\"title\":\"Service Unavailable\",\"type\":\"about:blank\"}";
 
 /// The request that lists the filings, 40 bytes.
 pub const LIST: &str = "GET /filings/ACME HTTP/1.1\r\nHost: h\r\n\r\n";

@@ -105,7 +105,7 @@ const AWAITED: &str =
 const CONTINUE: &str = "HTTP/1.1 100 Continue\r\n\r\n";
 
 const HEAD_TOO_LARGE: &str =
-    "HTTP/1.1 431 Request Header Fields Too Large\r\nContent-Type: application/json\r\nContent-Length: 27\r\nConnection: close\r\n\r\n{\"status\":\"head-too-large\"}";
+    "HTTP/1.1 431 Request Header Fields Too Large\r\nContent-Type: application/problem+json\r\nContent-Length: 103\r\nConnection: close\r\n\r\n{\"reason\":\"head-too-large\",\"status\":431,\"title\":\"Request Header Fields Too Large\",\"type\":\"about:blank\"}";
 
 /// A block of 16,384 bytes is the longest, after an empty line that does not count, and one of 64 fields has the most. A body has at
 /// most 1,048,576 bytes, 84 of which are the smallest report.

@@ -7,12 +7,12 @@ pub mod FoundLemmas
 pub mod HeadLemmas
 pub mod InboxLemmas
 pub mod LineLemmas
+pub mod LinePieces
 pub mod MoreBytes
 pub mod PartLemmas
 pub mod PostHead
 pub mod PostLaws
 pub mod PostLemmas
-pub mod PostLines
 pub mod ReceivedLemmas
 pub mod RefusedReply
 pub mod ReplyAgain

@@ -1,6 +1,10 @@
 -- The head of a filer's request, and what it says.
 use Rattle.std.proofs.Common.{◌≡◌, ℕ, ◌+◌, ◌*◌, ◌-◌, ◌<◌, ◌≤◌, Bool, true, false, ◌==◌, List, [], ◌∷◌, ◌++◌, length, reverse, take, drop, get_or, refl, sym, ap, ◌∙◌, subst, inl, inr, arith, length-append, None, rules}
-use Rattle.std.specs.Prelude.{codes, IsTrue, not, IsUtf8, nat_lt, nat_eq}
+use Rattle.std.specs.Prelude.{codes, IsTrue, not, IsUtf8, nat_lt, nat_eq, Option, Some, ◌^◌}
+use Rattle.std.specs.Char.{is_ascii_digit}
+use Rattle.std.specs.Fmt.{decimal}
+use Rattle.std.proofs.lemmas.Fmt.{length-decimal-le, IsAscii-decimal}
+use Rattle.std.proofs.lemmas.List.{append-nil}
 use Rattle.std.specs.List.{list_all, flat_map, ends_with}
 use Rattle.std.proofs.lemmas.Bool.{and_parts, cases_lt}
 use Rattle.std.proofs.lemmas.Bool.Decides.{nat_tests}
@@ -21,14 +25,16 @@ use Rattle.key_string.specs.Filer.{is_filer, is_filer_byte}
 use Rattle.key_string.specs.Key.{spelling, character, is_escaped, is_printable, IsPrintable}
 use Rattle.key_string.proofs.FilerLemmas.{is_filer-IsUtf8}
 use Rattle.http_wire.specs.Head.{written_path, before_query}
+use Rattle.http_wire.specs.Posting.{IsTarget, place_of}
+use Rattle.http_wire.proofs.ValueLemmas.{decimal-digits}
 
 -- ---- the filer's code
 
 filer-path : (c : ℕ) → IsTrue (is_filer_byte c) → IsTrue (is_path_byte c)
 filer-path c h = grind (arith, nat_tests, h)
 
-filer-plain : (c : ℕ) → IsTrue (is_filer_byte c) → IsTrue (is_value_byte c)
-filer-plain c h = grind (arith, nat_tests, h)
+path-plain : (c : ℕ) → IsTrue (is_path_byte c) → IsTrue (is_value_byte c)
+path-plain c h = grind (arith, nat_tests, h)
 
 path-uri : (c : ℕ) → IsTrue (is_path_byte c) → IsTrue (is_uri_byte c)
 path-uri c h = grind (arith, nat_tests, h)
@@ -61,72 +67,104 @@ written-self target path whole same =
     rw (whole, same, self) refl
 
 abbrev pub target_of : List ℕ → List ℕ
-target_of filer = codes "/filings/" ++ filer
+target_of place = codes "/filings/" ++ place
 
-module _ (filer : List ℕ) (is : is_filer filer ≡ true) where
-  pub filer-length : (0 < length filer) × (length filer ≤ 64)
-  unfolding is_filer
-  filer-length = (grind (arith, nat_tests, is), grind (arith, nat_tests, is))
+-- what may stand behind `/filings/`
+pub record IsPlace (place : List ℕ) : Type 0 where
+  some : 0 < length place
+  short : length place ≤ 85
+  path : AllPass is_path_byte place
+  utf8 : IsUtf8 place
 
-  filer-bytes : AllPass is_filer_byte filer
-  unfolding is_filer
-  filer-bytes = AllPass-from_list_all is_filer_byte filer (and_parts _ _ is).1
+digit-path : (c : ℕ) → IsTrue (is_ascii_digit c) → IsTrue (is_path_byte c)
+digit-path c h = grind (arith, nat_tests, h)
 
-  target-path : AllPass is_path_byte (target_of filer)
-  target-path = All-append (λ c. IsTrue (is_path_byte c)) (codes "/filings/") filer (AllPass-from_list_all is_path_byte (codes "/filings/") refl) (All-weaker (λ c. IsTrue (is_filer_byte c)) (λ c. IsTrue (is_path_byte c)) filer-path filer filer-bytes)
+filer-place : (filer : List ℕ) → is_filer filer ≡ true → (0 < length filer) × (length filer ≤ 64) × AllPass is_path_byte filer × IsUtf8 filer
+unfolding is_filer
+filer-place filer is = (
+  grind (arith, nat_tests, is),
+  grind (arith, nat_tests, is),
+  All-weaker (λ c. IsTrue (is_filer_byte c)) (λ c. IsTrue (is_path_byte c)) filer-path filer (AllPass-from_list_all is_filer_byte filer (and_parts _ _ is).1),
+  is_filer-IsUtf8 filer is,
+)
 
-  pub target-uri : AllPass is_uri_byte (target_of filer)
-  target-uri = All-weaker (λ c. IsTrue (is_path_byte c)) (λ c. IsTrue (is_uri_byte c)) path-uri (target_of filer) target-path
+-- a filer's code is such a place, and so it is with a number behind it
+pub IsPlace-of : (filer : List ℕ) (target : Option ℕ) → is_filer filer ≡ true → IsTarget target → IsPlace (place_of filer target)
+IsPlace-of filer None is target_is =
+    let facts = filer-place filer is in
+    subst IsPlace (sym (append-nil filer)) (record { some = facts.0; short = omega (arith, facts.1); path = facts.2; utf8 = facts.3 })
+IsPlace-of filer (Some n) is target_is =
+    let small : n < 2 ^ 64 = omega (arith, target_is.1) in
+    let facts = filer-place filer is in
+    let slash : List ℕ = codes "/" in
+    let digits : AllPass is_path_byte (decimal n) = All-weaker (λ c. IsTrue (is_ascii_digit c)) (λ c. IsTrue (is_path_byte c)) digit-path (decimal n) (decimal-digits n small) in
+    let size = length-decimal-le 20 n (omega arith) (omega (arith, small)) small in
+    record {
+      some = omega (arith, facts.0, length-append filer (slash ++ decimal n));
+      short = omega (arith, facts.1, length-append filer (slash ++ decimal n), length-append slash (decimal n), size);
+      path = All-append (λ c. IsTrue (is_path_byte c)) filer (slash ++ decimal n) facts.2 (All-append (λ c. IsTrue (is_path_byte c)) slash (decimal n) (AllPass-from_list_all is_path_byte slash refl) digits);
+      utf8 = IsUtf8-append filer (slash ++ decimal n) facts.3 (IsUtf8-append slash (decimal n) (IsUtf8-from_ascii slash (ascii-of slash refl)) (IsUtf8-from_ascii (decimal n) (IsAscii-decimal n small)));
+    }
 
-  target-length : length (target_of filer) ≡ 9 + length filer
-  target-length = length-append (codes "/filings/") filer
+module _ (place : List ℕ) (is : IsPlace place) where
+  pub place-length : (0 < length place) × (length place ≤ 85)
+  place-length = (is.some, is.short)
 
-  pub target-utf8 : IsUtf8 (target_of filer)
-  target-utf8 = IsUtf8-append (codes "/filings/") filer (IsUtf8-from_ascii (codes "/filings/") (ascii-of (codes "/filings/") refl)) (is_filer-IsUtf8 filer is)
+  target-path : AllPass is_path_byte (target_of place)
+  target-path = All-append (λ c. IsTrue (is_path_byte c)) (codes "/filings/") place (AllPass-from_list_all is_path_byte (codes "/filings/") refl) is.path
 
-  pub filer-value : AllPass is_value_byte filer
-  filer-value = All-weaker (λ c. IsTrue (is_filer_byte c)) (λ c. IsTrue (is_value_byte c)) filer-plain filer filer-bytes
+  pub target-uri : AllPass is_uri_byte (target_of place)
+  target-uri = All-weaker (λ c. IsTrue (is_path_byte c)) (λ c. IsTrue (is_uri_byte c)) path-uri (target_of place) target-path
 
-  no_hash : AllPass (λ c. not (c == hash_sign)) (target_of filer)
-  no_hash = All-weaker (λ c. IsTrue (is_path_byte c)) (λ c. IsTrue (not (c == hash_sign))) path-no_hash (target_of filer) target-path
+  target-length : length (target_of place) ≡ 9 + length place
+  target-length = length-append (codes "/filings/") place
 
-  no_mark : AllPass (λ c. not (c == question_mark)) (target_of filer)
-  no_mark = All-weaker (λ c. IsTrue (is_path_byte c)) (λ c. IsTrue (not (c == question_mark))) path-no_mark (target_of filer) target-path
+  pub target-utf8 : IsUtf8 (target_of place)
+  target-utf8 = IsUtf8-append (codes "/filings/") place (IsUtf8-from_ascii (codes "/filings/") (ascii-of (codes "/filings/") refl)) is.utf8
 
-  target-unfragmented : without_fragment (target_of filer) ≡ target_of filer
-  target-unfragmented = front-uncut hash_sign (target_of filer) no_hash
+  pub place-value : AllPass is_value_byte place
+  place-value = All-weaker (λ c. IsTrue (is_path_byte c)) (λ c. IsTrue (is_value_byte c)) path-plain place is.path
 
-  target-unqueried : split_once_front question_mark (target_of filer) ≡ target_of filer
-  target-unqueried = front-uncut question_mark (target_of filer) no_mark
+  no_hash : AllPass (λ c. not (c == hash_sign)) (target_of place)
+  no_hash = All-weaker (λ c. IsTrue (is_path_byte c)) (λ c. IsTrue (not (c == hash_sign))) path-no_hash (target_of place) target-path
 
-  target-input : IsPathAndQuery (target_of filer)
+  no_mark : AllPass (λ c. not (c == question_mark)) (target_of place)
+  no_mark = All-weaker (λ c. IsTrue (is_path_byte c)) (λ c. IsTrue (not (c == question_mark))) path-no_mark (target_of place) target-path
+
+  target-unfragmented : without_fragment (target_of place) ≡ target_of place
+  target-unfragmented = front-uncut hash_sign (target_of place) no_hash
+
+  target-unqueried : split_once_front question_mark (target_of place) ≡ target_of place
+  target-unqueried = front-uncut question_mark (target_of place) no_mark
+
+  target-input : IsPathAndQuery (target_of place)
   target-input =
-      let whole : (nat_lt (index_of question_mark (target_of filer)) (length (target_of filer))) ≡ false = let e = uncut question_mark (target_of filer) no_mark in grind (arith, nat_tests, e) in
+      let whole : (nat_lt (index_of question_mark (target_of place)) (length (target_of place))) ≡ false = let e = uncut question_mark (target_of place) no_mark in grind (arith, nat_tests, e) in
       record {
         start = inr (inr (inl refl));
         path = subst (AllPass is_path_byte) (sym target-unqueried) target-path;
         query = rw whole tt;
         utf8 = target-utf8;
-        short = omega (arith, target-length, filer-length);
+        short = omega (arith, target-length, place-length);
       }
 
   -- the target, as a URI
   pub target_uri : Uri
-  target_uri = record { scheme = None; authority = None; path_and_query = target_of filer; absolute = search rules; authority_alone = search rules }
+  target_uri = record { scheme = None; authority = None; path_and_query = target_of place; absolute = search rules; authority_alone = search rules }
 
-  pub target-spells : Spells (target_of filer) target_uri
+  pub target-spells : Spells (target_of place) target_uri
   unfolding target_uri
   target-spells =
-      let short : length (target_of filer) ≤ 65534 = omega (arith, target-length, filer-length) in
+      let short : length (target_of place) ≤ 65534 = omega (arith, target-length, place-length) in
       (short, ((inr refl, record { start = inr refl; short = short; kept = subst IsPathAndQuery (sym target-unfragmented) target-input }), sym target-unfragmented))
 
   -- and its path
-  pub target-written : target_of filer ≡ written_path (target_of filer) (uri_path target_uri)
+  pub target-written : target_of place ≡ written_path (target_of place) (uri_path target_uri)
   unfolding target_uri
   target-written =
-      let whole : before_query (target_of filer) ≡ target_of filer = ap (split_once_front question_mark) target-unfragmented ∙ target-unqueried in
-      let path : uri_path target_uri ≡ target_of filer = let some : (length (target_of filer) == 0) ≡ false = let size = target-length in grind (arith, nat_tests, size) in simp (some, target-unqueried) in
-      written-self (target_of filer) (uri_path target_uri) whole path
+      let whole : before_query (target_of place) ≡ target_of place = ap (split_once_front question_mark) target-unfragmented ∙ target-unqueried in
+      let path : uri_path target_uri ≡ target_of place = let some : (length (target_of place) == 0) ≡ false = let size = target-length in grind (arith, nat_tests, size) in simp (some, target-unqueried) in
+      written-self (target_of place) (uri_path target_uri) whole path
 
 -- ---- the key
 

@@ -12,7 +12,7 @@ use Rattle.http_wire.specs.declared.response.ResponseHead.{ResponseHead}
 use Rattle.http_wire.specs.Received.{held_bytes, read_count}
 use Rattle.http_wire.specs.Reply.{ReplyParts}
 use Rattle.http_wire.specs.ReplyFaults.{content_length, HasGiven, IsReplyFailure}
-use Rattle.http_wire.specs.ReplyReading.{ShowsParts, Takes, TakesHead, HasSkipped, IsHeadFailure, IsContentFailure}
+use Rattle.http_wire.specs.ReplyReading.{ShowsParts, Takes, TakesHead, IsHeadFailure, IsContentFailure}
 use Rattle.http_wire.specs.Response.{ResponseParts, BeginsResponseHead, BeginsInterims, BeginsReply, DeclaresContent, GivesReply, is_interim}
 use Rattle.http_wire.proofs.DeviceLemmas.{Consumes-join, Consumes-nil}
 use Rattle.http_wire.proofs.RefusedReply.{DeclaresContent-of, content_length-fault, IsLengthFault, IsCutReply-unended, IsCutReply-content}
@@ -59,6 +59,13 @@ Given-takes first mid after old new taken text g t =
 interims-takes : (mid after : Option (List ℕ)) (old new : Received) (taken text : List ℕ) (n : ℕ) → BeginsInterims (taken ++ held_bytes old) n → Takes mid after old new text → BeginsInterims ((taken ++ text) ++ held_bytes new) n
 interims-takes mid after old new taken text n h t =
     subst (λ l. BeginsInterims l n) (sym (joined taken (held_bytes old) t.read text (held_bytes new) t.bytes)) (BeginsInterims-more (taken ++ held_bytes old) t.read n h)
+
+-- Since the reader stood at `first` it gave interim responses, which were taken, and what is held.
+pub record HasSkipped (first after : Option (List ℕ)) (r : Received) : Type 0 where
+  pub taken : List ℕ
+  pub given : Consumes first after (taken ++ held_bytes r)
+  pub count : read_count r ≤ length (taken ++ held_bytes r)
+  pub interims : BeginsInterims (taken ++ held_bytes r) (length taken)
 
 -- at first nothing is skipped
 pub HasSkipped-none : (a : Option (List ℕ)) (r : Received) → held_bytes r ≡ [] → read_count r ≡ 0 → HasSkipped a a r
@@ -205,7 +212,7 @@ module _ (first mid after : Option (List ℕ)) (old new : Received) (head : Resp
     content_failure a b Memory f = f
 
     begins-reply : (content : List ℕ) → Takes after later new last content → length content ≡ len
-        → BeginsReply (all-bytes content) (record { status = head.status; content = content }) (length ((here.front ++ here.block) ++ content))
+        → BeginsReply (all-bytes content) (record { status = head.status; content = content; kind = head.kind }) (length ((here.front ++ here.block) ++ content))
     unfolding all-bytes
     begins-reply content t2 size =
         let exact : length ((here.front ++ here.block) ++ content) ≡ length here.front + length here.block + length content = simp length-append in
@@ -217,13 +224,14 @@ module _ (first mid after : Option (List ℕ)) (old new : Received) (head : Resp
           head = after-begins content t2;
           declares = subst (DeclaresContent here.parts) (sym size) (DeclaresContent-of here.parts len here-final own-length);
           status = here.shows.status;
+          kind = here.shows.kind;
           length_is = exact;
           whole = omega (arith, exact, sizes content);
           content = content-part here.front here.block content (held_bytes last);
         }
 
     -- its content was read
-    pub reply_given : (content : List ℕ) → Takes after later new last content → length content ≡ len → HasGiven first later (λ bytes. GivesReply bytes (record { status = head.status; content = content }))
+    pub reply_given : (content : List ℕ) → Takes after later new last content → length content ≡ len → HasGiven first later (λ bytes. GivesReply bytes (record { status = head.status; content = content; kind = head.kind }))
     unfolding all-bytes
     reply_given content t2 size =
-        (all-bytes content, (after-head content t2).given, GivesReply-front ((here.front ++ here.block) ++ content) (held_bytes last) (record { status = head.status; content = content }) (begins-reply content t2 size))
+        (all-bytes content, (after-head content t2).given, GivesReply-front ((here.front ++ here.block) ++ content) (held_bytes last) (record { status = head.status; content = content; kind = head.kind }) (begins-reply content t2 size))

@@ -9,11 +9,12 @@ use Rattle.http_wire.specs.Block.{IsUnended, IsTooLong}
 use Rattle.http_wire.specs.Device.{HasFailed}
 use Rattle.http_wire.specs.Received.{held_bytes, read_count, max_reads}
 use Rattle.http_wire.specs.ReplyFaults.{BeginsBadHead, content_length}
-use Rattle.http_wire.specs.Response.{ResponseParts, ReadsResponseHead, BeginsResponseHead, BeginsInterims}
+use Rattle.http_wire.specs.Response.{ResponseParts, ReadsResponseHead, BeginsResponseHead, kind_of}
 
 -- what a client needs of these parts
 pub record ShowsParts (head : ResponseHead) (parts : ResponseParts) : Type 0 where
   pub status : head.status ≡ parts.status
+  pub kind : head.kind ≡ kind_of parts.fields
   pub content_len : head.content_len ≡ content_length parts.fields
 
 -- the block is the head of a response, of which this is shown
@@ -58,10 +59,3 @@ IsContentFailure before after failures failures' old new len TooLarge = ⊥
 IsContentFailure before after failures failures' old new len Read = HasFailed failures failures'
 IsContentFailure before after failures failures' old new len ReadLimit = (failures' ≡ failures) × TakesLess before after old new len × (read_count new ≡ max_reads)
 IsContentFailure before after failures failures' old new len Memory = failures' ≡ failures
-
--- Since the reader stood at `first` it gave interim responses, which were taken, and what is held.
-pub record HasSkipped (first after : Option (List ℕ)) (r : Received) : Type 0 where
-  pub taken : List ℕ
-  pub given : Consumes first after (taken ++ held_bytes r)
-  pub count : read_count r ≤ length (taken ++ held_bytes r)
-  pub interims : BeginsInterims (taken ++ held_bytes r) (length taken)

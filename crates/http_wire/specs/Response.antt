@@ -1,10 +1,14 @@
 -- Reading a reply: interim responses, and then the final one with its content (RFC 9110 and RFC 9112).
-use Rattle.std.specs.Prelude.{◌≡◌, ◌≢◌, ℕ, ◌+◌, ◌<◌, ◌≤◌, IsSome, Bool, true, false, List, [], length, take, drop, slice_range, codes, nat_le, ◌&&◌, map}
-use Rattle.httparse.specs.Grammar.{ResponseHead, ReadsResponse, status_code}
+use Rattle.std.specs.Prelude.{◌≡◌, ◌≢◌, ℕ, ◌+◌, ◌<◌, ◌≤◌, IsSome, Bool, true, false, List, [], length, take, drop, slice_range, codes, nat_le, ◌&&◌, map, ◌∷◌, if◌then◌else◌}
+use Rattle.httparse.specs.Ascii.{semicolon}
+use Rattle.httparse.specs.Grammar.{ResponseHead, ReadsResponse, status_code, trim_ows}
 use Rattle.httparse.specs.Spans.{name_and_value}
+use Rattle.http_uri.specs.ByteClasses.{split_once_front}
 use Rattle.http_wire.specs.Block.{skipped_len, IsBlockEnd}
-use Rattle.http_wire.specs.Head.{HasPlainLines, max_fields, values_named, parts_named, agree, agreed_number}
-use Rattle.http_wire.specs.Reply.{ReplyParts, phrase}
+use Rattle.http_wire.specs.Head.{HasPlainLines, max_fields, same_name, values_named, parts_named, agree, agreed_number}
+use Rattle.http_wire.specs.Reply.{ReplyParts, phrase, media_type}
+use Rattle.http_wire.specs.declared.reply.Kind.{Kind}
+use Rattle.http_wire.specs.declared.reply.Kind.TheVariants.{Json, Problem}
 
 -- own rule: the most bytes of a reply's content that a client reads
 abbrev pub max_content_len : ℕ
@@ -48,6 +52,20 @@ pub record DeclaresContent (parts : ResponseParts) (len : ℕ) : Type 0 where
   pub length_is : len ≡ agreed_number (parts_named (codes "content-length") parts.fields)
   pub short : len ≤ max_content_len
 
+-- the media type that a value of Content-Type names: what stands before its parameters (RFC 9110, section 8.3.1)
+abbrev pub named_type : List ℕ → List ℕ
+named_type value = trim_ows (split_once_front semicolon value)
+
+-- one line names the media type of problem details, without case (RFC 9110, section 8.3.1); own rule: anything else is read as JSON
+abbrev pub kind_by : List (List ℕ) → Kind
+kind_by [] = Json
+kind_by (value ∷ []) = if same_name (named_type value) (media_type Problem) then Problem else Json
+kind_by (value ∷ another ∷ values) = Json
+
+-- what the fields of a head say of the content
+abbrev pub kind_of : List (List ℕ × List ℕ) → Kind
+kind_of fields = kind_by (values_named (codes "content-type") fields)
+
 -- the bytes begin with this reply, and it ends after n bytes
 pub record BeginsReply (bytes : List ℕ) (reply : ReplyParts) (n : ℕ) : Type 0 where
   pub skipped : ℕ
@@ -57,6 +75,7 @@ pub record BeginsReply (bytes : List ℕ) (reply : ReplyParts) (n : ℕ) : Type 
   pub head : BeginsResponseHead (drop skipped bytes) parts head_len
   pub declares : DeclaresContent parts (length reply.content)
   pub status : reply.status ≡ parts.status
+  pub kind : reply.kind ≡ kind_of parts.fields
   pub length_is : n ≡ skipped + head_len + length reply.content
   pub whole : n ≤ length bytes
   pub content : reply.content ≡ slice_range bytes (skipped + head_len) n

@@ -7,7 +7,7 @@ ghost use Rattle.key_string.specs.Filer.{is_filer};
 ghost use Rattle.key_string.specs.Key.{IsKey};
 ghost use Rattle.http_wire.specs.Head.{max_body_len};
 ghost use Rattle.http_wire.specs.Message.{Place, Ending, HasPlaces, SpellsRequest};
-ghost use Rattle.http_wire.specs.Posting.{render_post, post_request, HoldsAlone};
+ghost use Rattle.http_wire.specs.Posting.{IsTarget, render_post, post_request, HoldsAlone};
 ghost use Rattle.http_wire.specs.Reply.{ReplyParts, render};
 ghost use Rattle.http_wire.specs.ReplyFaults.{HasGiven, IsRefusedReply, IsReplyFailure, IsOfReader};
 ghost use Rattle.http_wire.specs.Request.{Request};
@@ -24,16 +24,16 @@ pub fn request_is_no_front_of_another()
     ensures { (bytes more : List ℕ) (request other : Request) → SpellsRequest bytes request → SpellsRequest (bytes ++ more) other → (more ≡ []) × (other ≡ request) }
 {}
 
-/// What a filer writes is read as the request that it is made of: a POST to the filer's path, with the
-/// key and the report.
+/// What a filer writes is read as the request that it is made of: a POST to the filer's path, or to that
+/// of a filing, with the key and the report.
 pub fn post_is_read()
-    ensures { (filer key body : List ℕ) → is_filer filer ≡ true → IsKey key → length body ≤ max_body_len → SpellsRequest (render_post filer key body) (post_request filer key body) }
+    ensures { (filer : List ℕ) (target : Option ℕ) (key body : List ℕ) → is_filer filer ≡ true → IsTarget target → IsKey key → length body ≤ max_body_len → SpellsRequest (render_post filer target key body) (post_request filer target key body) }
 {}
 
 /// However it is cut, nothing else is read in it: what arrives of a filer's request holds no place and
 /// asks for nothing, or it is the whole request, after which the connection closes.
 pub fn cut_post_is_nothing_or_whole()
-    ensures { (filer key body : List ℕ) → is_filer filer ≡ true → IsKey key → length body ≤ max_body_len → (n : ℕ) (places : List Place) (ending : Ending) → HasPlaces (take n (render_post filer key body)) places ending → HoldsAlone (post_request filer key body) places ending }
+    ensures { (filer : List ℕ) (target : Option ℕ) (key body : List ℕ) → is_filer filer ≡ true → IsTarget target → IsKey key → length body ≤ max_body_len → (n : ℕ) (places : List Place) (ending : Ending) → HasPlaces (take n (render_post filer target key body)) places ending → HoldsAlone (post_request filer target key body) places ending }
 {}
 
 /// What the intake writes of a final reply with content is read as this reply.

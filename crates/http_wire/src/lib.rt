@@ -36,6 +36,6 @@ pub use inbox::{Inbox, Message};
 pub use posting::append_request;
 pub use received::MAX_READS;
 pub use refusal::{ConnFault, Next, Refusal, ReplyFault};
-pub use reply::{Reply, append_reply, phrase};
+pub use reply::{Kind, Reply, append_reply, phrase};
 pub use reply_reader::read_reply;
 pub use write::{write_all, write_reply};

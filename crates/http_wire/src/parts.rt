@@ -48,7 +48,7 @@ impl<'h> Iterator for Parts<'h> {
 }
 
 /// The value without the spaces and tabs at its ends.
-fn trim_ows(value: &[u8]) -> &[u8]
+pub(crate) fn trim_ows(value: &[u8]) -> &[u8]
     ensures { result.now ≡ trim_ows value.now }
 {
     trim_ows_end(trim_ows_start(value))

@@ -1,16 +1,39 @@
 //! The bytes of a reply (RFC 9112, section 4).
-ghost use Rattle.std.specs.Prelude.{◌≡◌, ◌++◌, IsSome, IfOk, OnOk, OnErr, nat_lt, option_copied};
+ghost use Rattle.std.specs.Prelude.{◌≡◌, ◌++◌, IsSome, IfOk, OnOk, OnErr, codes, nat_lt, option_copied};
 ghost use Rattle.std.specs.Fmt.{decimal};
-ghost use Rattle.http_wire.specs.Reply.{phrase, render, render_head, status_line, length_line, only_if};
+ghost use Rattle.http_wire.specs.Reply.{phrase, render, render_head, status_line, length_line, line, media_type, only_if};
 ghost use Rattle.http_wire.specs.Replies.{reply_parts};
 
 use std::alloc::{AllocError, Global};
 
-/// What the intake answers to a request: a status code of three digits, and JSON text or nothing.
+/// What the content of a reply is.
+#[derive(Clone, Copy, Debug, PartialEq, Eq)]
+pub enum Kind {
+    /// A JSON text (RFC 8259).
+    Json,
+    /// Problem details (RFC 9457).
+    Problem,
+}
+
+impl Kind {
+    /// The media type by which a content of this kind is told (RFC 8259, section 11; RFC 9457,
+    /// section 3).
+    pub(crate) fn media_type(self) -> &'static str
+        ensures { result.now ≡ media_type self }
+    {
+        match self {
+            Kind::Json => "application/json",
+            Kind::Problem => "application/problem+json",
+        }
+    }
+}
+
+/// What the intake answers to a request: a status code of three digits, and a content or nothing.
 #[derive(Debug, Drop)]
 pub struct Reply {
     pub status: u16,
     pub content: Vec<u8>,
+    pub kind: Kind,
 }
 
 /// The phrase of a status that the intake answers with (RFC 9110, section 15; RFC 6585).
@@ -67,7 +90,7 @@ fn reply_head(alloc: Global, reply: &Reply, close: bool) -> Result<Vec<u8>, Allo
 {
     let mut head = Vec::new(alloc);
     push_status(reply.status, &mut head)?;
-    head.extend_from_slice(b"Content-Type: application/json\r\n")?;
+    push_type(reply.kind, &mut head)?;
     push_content_length(reply.content.len(), &mut head)?;
     push_if(reply.status == 405, b"Allow: GET, POST\r\n", &mut head)?;
     push_if(close, b"Connection: close\r\n", &mut head)?;
@@ -84,6 +107,14 @@ fn push_status(status: u16, out: &mut Vec<u8>) -> Result<(), AllocError>
     push_number(usize::from(status), out)?;
     out.extend_from_slice(b" ")?;
     out.extend_from_slice(phrase(status).unwrap().as_bytes())?;
+    out.extend_from_slice(b"\r\n")
+}
+
+fn push_type(kind: Kind, out: &mut Vec<u8>) -> Result<(), AllocError>
+    ensures { OnOk result (out.new.items ≡ out.old.items ++ line (codes "Content-Type: " ++ media_type kind)) }
+{
+    out.extend_from_slice(b"Content-Type: ")?;
+    out.extend_from_slice(kind.media_type().as_bytes())?;
     out.extend_from_slice(b"\r\n")
 }
 

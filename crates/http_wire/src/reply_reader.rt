@@ -33,6 +33,7 @@ pub fn read_reply<R: Source>(alloc: Global, reader: &mut R) -> Result<Reply, Rep
             return Ok(Reply {
                 status: head.status,
                 content,
+                kind: head.kind,
             });
         }
     }

@@ -1,15 +1,20 @@
-//! The head of a response: its status, and the length of its content (RFC 9112, sections 4 and 6).
+//! The head of a response: its status, and what it says of its content (RFC 9110, section 8.3; RFC 9112,
+//! sections 4 and 6).
 ghost use Rattle.std.specs.Prelude.{◌≡◌, All, length, map, nat_lt, MatchOption};
 ghost use Rattle.httparse.specs.Spans.{IsHeaderWithin, header_bytes};
-ghost use Rattle.http_wire.specs.Head.{values_named};
+ghost use Rattle.http_wire.specs.Head.{same_name, values_named};
+ghost use Rattle.http_wire.specs.Reply.{media_type};
 ghost use Rattle.http_wire.specs.ReplyFaults.{content_length, IsNoResponse};
 ghost use Rattle.http_wire.specs.ReplyReading.{IsResponseBlock};
+ghost use Rattle.http_wire.specs.Response.{kind_of, named_type};
 
 use crate::fields::FieldsNamed;
 use crate::head::{MAX_FIELDS, has_plain_lines};
 use crate::lists::{MAX_CONTENT_LEN, agreed_length};
-use crate::parts::Parts;
+use crate::parts::{Parts, trim_ows};
 use crate::refusal::ReplyFault;
+use crate::reply::Kind;
+use crate::split::split_at_first;
 use httparse::Status;
 use httparse::spans::{EMPTY_HEADER_SPAN, HeaderSpan, parse_response};
 
@@ -17,6 +22,7 @@ use httparse::spans::{EMPTY_HEADER_SPAN, HeaderSpan, parse_response};
 #[derive(Clone, Copy)]
 pub(crate) struct ResponseHead {
     pub(crate) status: u16,
+    pub(crate) kind: Kind,
     /// The declared length of the content, or why the content isn't read.
     pub(crate) content_len: Result<usize, ReplyFault>,
 }
@@ -32,10 +38,31 @@ pub(crate) fn read_response(block: &[u8]) -> Option<ResponseHead>
     match parse_response(block, &mut fields) {
         Ok(Status::Complete(head)) if head.len == block.len() => Some(ResponseHead {
             status: head.code,
+            kind: content_kind(block, &fields[..head.headers]),
             content_len: content_length(block, &fields[..head.headers]),
         }),
         _ => None,
     }
+}
+
+/// What the content is: problem details where one line names their media type, else JSON.
+fn content_kind(block: &[u8], fields: &[HeaderSpan]) -> Kind
+    requires { All (IsHeaderWithin (length block.now)) fields.now }
+    ensures { result ≡ kind_of (map (header_bytes block.now) fields.now) }
+{
+    let mut types = FieldsNamed::of(block, fields, b"content-type");
+    match (types.next(), types.next()) {
+        (Some(value), None) if names_problem(value) => Kind::Problem,
+        _ => Kind::Json,
+    }
+}
+
+/// Whether a value of Content-Type names the media type of problem details, without case.
+fn names_problem(value: &[u8]) -> bool
+    ensures { result ≡ same_name (named_type value.now) (media_type Kind.Problem) }
+{
+    let (named, _) = split_at_first(value, b';');
+    trim_ows(named).eq_ignore_ascii_case(Kind::Problem.media_type().as_bytes())
 }
 
 /// The declared length of the content, or why it isn't read.

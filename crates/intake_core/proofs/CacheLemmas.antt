@@ -1,9 +1,11 @@
 -- What a cache remembers is kept, and gives the answer to a repeat.
-use Rattle.std.proofs.Common.{◌≡◌, ℕ, Bool, true, List, Some, ◌++◌, Result, Ok, Err, IfOk, IfSome, OnOk, OnErr, sym, ◌∙◌, subst, inl, inr, Contains}
+use Rattle.std.proofs.Common.{◌≡◌, ℕ, Bool, true, List, Some, ◌++◌, Result, Ok, Err, IfOk, IfSome, OnOk, OnErr, refl, sym, ◌∙◌, subst, inl, inr, Contains}
 use Rattle.std.specs.Result.{result_ok}
 use Rattle.filing_model.specs.Request.{Request, has_key}
 use Rattle.filing_model.specs.Register.{Kept, kept}
 use Rattle.filing_model.specs.Answer.{answer, answer_from, kept_for}
+use Rattle.filing_model.specs.Style.{style_of, HasStyle}
+use Rattle.filing_model.specs.declared.served.Style.{Style}
 use Rattle.filing_model.specs.declared.answer.Answer.{Answer as Given}
 use Rattle.filing_model.specs.Views.{the_request, view_answer}
 use Rattle.filing_model.proofs.Answers.{answer_kept, kept_for_grows}
@@ -11,9 +13,10 @@ use Rattle.filing_model.proofs.Keeping.{kept_has_key}
 use Rattle.lru.specs.LruCache.{LruCache, lru_cache, put_entries}
 use Rattle.lru.proofs.CallerLemmas.{Contains-put_entries}
 use Rattle.intake_core.specs.declared.cache.Remembered.{Remembered}
-use Rattle.intake_core.specs.Cache.{kept_of, IsKeptIn, AreKeptIn}
+use Rattle.intake_core.specs.Answered.{IsAnswerTo}
+use Rattle.intake_core.specs.Cache.{IsKeptIn, IsKnownIn, AreKnownIn}
 
-module _ (requests : List Request) (filer key body : List ℕ) (k : Kept) (is : IsKeptIn requests k) (same_filer : k.request.filer ≡ filer) (same_key : k.request.key ≡ key) where
+module _ (early requests : List Request) (filer key body : List ℕ) (k : Kept) (is : IsKeptIn requests k) (same_filer : k.request.filer ≡ filer) (same_key : k.request.key ≡ key) where
   abbrev r : Request
   r = the_request filer key body
 
@@ -29,20 +32,26 @@ module _ (requests : List Request) (filer key body : List ℕ) (k : Kept) (is : 
   pub answer-known : answer requests r ≡ answer_from (Some k) r true
   answer-known = answer_kept requests r k found
 
+  -- so its style is that of such a request
+  style-known : style_of early k.request ≡ style_of early r
+  style-known = subst (λ (t : List ℕ). style_of early k.request ≡ style_of early (the_request filer t body)) same_key
+      (subst (λ (f : List ℕ). style_of early k.request ≡ style_of early (the_request f k.request.key body)) same_filer refl)
+
   -- an answer that was made from it is the answer to such a request
-  pub if_some-known : {E : Type 0} (result : Result Given E) → IfOk result (λ a. view_answer a ≡ answer_from (Some k) r true) → IfSome (result_ok result) (λ a. (view_answer a ≡ answer requests r) × (has_key requests r ≡ true))
-  if_some-known (Ok a) h = (h ∙ sym answer-known, has_key-known)
-  if_some-known (Err e) h = tt
+  pub if_some-known : {E : Type 0} (result : Result Given E) (style : Style) → style ≡ style_of early k.request
+      → IfOk result (λ a. (view_answer a ≡ answer_from (Some k) r true) × HasStyle style a) → IfSome (result_ok result) (λ a. IsAnswerTo early requests r a × (has_key requests r ≡ true))
+  if_some-known (Ok a) style is told = ((told.0 ∙ sym answer-known, subst (λ (s : Style). HasStyle s a) (is ∙ style-known) told.1), has_key-known)
+  if_some-known (Err e) style is told = tt
 
 -- what is kept stays so
 pub IsKeptIn-more : (old new : List Request) (k : Kept) → IsKeptIn old k → IsKeptIn (old ++ new) k
 IsKeptIn-more old new k is = kept_for_grows old new k.request k is
 
--- one more that is kept
-pub AreKeptIn-put : {K X E : Type 0} (eq : K → K → Bool) (requests : List Request) (s t : LruCache K Remembered) (k : K) (v : Remembered) (r : Result X E)
-    → OnOk r (t ≡ lru_cache (put_entries eq s k v) s.cap) → OnErr r (t ≡ s) → AreKeptIn requests s.entries → IsKeptIn requests (kept_of v) → AreKeptIn requests t.entries
-AreKeptIn-put {K} eq requests s t k v (Ok x) put same h new = λ e within. elim (Contains-put_entries eq s k v e (subst (λ (c : LruCache K Remembered). Contains c.entries e) put within)) [
+-- one more that is known
+pub AreKnownIn-put : {K X E : Type 0} (eq : K → K → Bool) (early requests : List Request) (s t : LruCache K Remembered) (k : K) (v : Remembered) (r : Result X E)
+    → OnOk r (t ≡ lru_cache (put_entries eq s k v) s.cap) → OnErr r (t ≡ s) → AreKnownIn early requests s.entries → IsKnownIn early requests v → AreKnownIn early requests t.entries
+AreKnownIn-put {K} eq early requests s t k v (Ok x) put same h new = λ e within. elim (Contains-put_entries eq s k v e (subst (λ (c : LruCache K Remembered). Contains c.entries e) put within)) [
   | inl was ↦ h e was
-  | inr is ↦ subst (λ (w : Remembered). IsKeptIn requests (kept_of w)) (sym is.0) new
+  | inr is ↦ subst (λ (w : Remembered). IsKnownIn early requests w) (sym is.0) new
 ]
-AreKeptIn-put {K} eq requests s t k v (Err x) put same h new = λ e within. h e (subst (λ (c : LruCache K Remembered). Contains c.entries e) same within)
+AreKnownIn-put {K} eq early requests s t k v (Err x) put same h new = λ e within. h e (subst (λ (c : LruCache K Remembered). Contains c.entries e) same within)

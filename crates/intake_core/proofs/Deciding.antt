@@ -1,29 +1,33 @@
 -- What an intake holds after a new request, and after a repeat.
-use Rattle.std.proofs.Common.{◌≡◌, true, false, List, [], ◌∷◌, ◌++◌, Option, Some, None, Result, Ok, Err, IfOk, refl, sym, ap, ◌∙◌, subst, ⊎_elim}
+use Rattle.std.proofs.Common.{◌≡◌, ◌⊎◌, ℕ, zero, suc, Bool, true, false, List, [], ◌∷◌, ◌++◌, take, inl, inr, Option, Some, None, Result, Ok, Err, IfOk, refl, sym, ap, ◌∙◌, subst, ⊎_elim}
 use Rattle.std.proofs.lemmas.Bool.{cases_Bool}
+use Rattle.std.proofs.lemmas.List.{take-append-le}
 use Rattle.std.proofs.lemmas.List.Folds.{find-append}
+use Rattle.std.specs.Prelude.{◌||◌}
 use Rattle.std.specs.Result.{result_ok}
 use Rattle.sqlite.specs.Store.{Ghosts}
 use Rattle.filing_model.specs.Request.{Request, same_key, firsts, has_key}
 use Rattle.filing_model.specs.Register.{Kept, judged, kept, Outcome}
 use Rattle.filing_model.specs.Answer.{kept_for}
+use Rattle.filing_model.specs.Style.{style_of}
+use Rattle.filing_model.specs.declared.served.Style.TheVariants.{Problem}
 use Rattle.filing_model.proofs.Firsts.{firsts_new, firsts_repeat, same_key-refl}
 use Rattle.filing_model.proofs.Keeping.{kept_new, kept_none, kept_found}
 use Rattle.register_store.specs.Store.{HasRequests}
 use Rattle.intake_core.specs.declared.cache.Cache.{Cache}
 use Rattle.intake_core.specs.declared.intake.Intake.{Intake}
 use Rattle.intake_core.specs.Cache.{IsKeptIn, RemembersIfAny, Remembers}
-use Rattle.intake_core.specs.Held.{Holds}
+use Rattle.intake_core.specs.Held.{Holds, early_of, early_in}
 use Rattle.intake_core.proofs.CacheLemmas.{IsKeptIn-more}
 
 -- a new cache remembers nothing
-pub RemembersIfAny-new : {E : Type 0} (requests : List Request) (made : Result Cache E) → IfOk made (Remembers requests) → RemembersIfAny requests (result_ok made)
-RemembersIfAny-new requests (Ok c) h = h
-RemembersIfAny-new requests (Err e) h = tt
+pub RemembersIfAny-new : {E : Type 0} (early requests : List Request) (made : Result Cache E) → IfOk made (Remembers early requests) → RemembersIfAny early requests (result_ok made)
+RemembersIfAny-new early requests (Ok c) h = h
+RemembersIfAny-new early requests (Err e) h = tt
 
-RemembersIfAny-more : (old new : List Request) (c : Option Cache) → RemembersIfAny old c → RemembersIfAny (old ++ new) c
-RemembersIfAny-more old new None h = tt
-RemembersIfAny-more old new (Some c) h = λ e within. IsKeptIn-more old new _ (h e within)
+RemembersIfAny-more : (early old new : List Request) (c : Option Cache) → RemembersIfAny early old c → RemembersIfAny early (old ++ new) c
+RemembersIfAny-more early old new None h = tt
+RemembersIfAny-more early old new (Some c) h = λ e within. (IsKeptIn-more old new _ (h e within).0, (h e within).1)
 
 -- a filer and key of which nothing is kept are new
 pub has_key-none : (requests : List Request) (r : Request) → kept_for (kept requests) r ≡ None → has_key requests r ≡ false
@@ -44,13 +48,36 @@ IsKeptIn-new requests r o new is =
 pub firsts-more : (requests : List Request) (r : Request) → firsts requests ≡ requests → has_key requests r ≡ false → firsts (requests ++ r ∷ []) ≡ requests ++ r ∷ []
 firsts-more requests r are new = firsts_new requests r new ∙ ap (λ rs. rs ++ r ∷ []) are
 
+-- a key that is new among them all is new among the first so many
+has_key-take : (n : ℕ) (requests : List Request) (r : Request) → has_key requests r ≡ false → has_key (take n requests) r ≡ false
+has_key-take zero requests r new = refl
+has_key-take (suc n) [] r new = refl
+has_key-take (suc n) (s ∷ requests) r new = by_first (same_key s r) (has_key-take n requests r) new
+  where
+    by_first : (b : Bool) → (has_key requests r ≡ false → has_key (take n requests) r ≡ false) → (b || has_key requests r) ≡ false → (b || has_key (take n requests) r) ≡ false
+    by_first true more e = absurd (cc)
+    by_first false more e = more e
+
+-- so it is told in the new style
+pub style_of-new : (n : ℕ) (requests : List Request) (r : Request) → has_key requests r ≡ false → style_of (take n requests) r ≡ Problem
+style_of-new n requests r new = rw (has_key-take n requests r new) refl
+
 module _ {S : Type 0} {g : Ghosts S} (requests : List Request) (r : Request) where
+  -- what was kept early stays so after a request
+  pub early_in-after : (old new : Intake S) → early_of new ≡ early_of old → Holds g old requests → early_in new (firsts (requests ++ r ∷ [])) ≡ early_in old requests
+  early_in-after old new same h = ap (λ n. take n (firsts (requests ++ r ∷ []))) same ∙ by_key (cases_Bool (has_key requests r))
+    where
+      by_key : (has_key requests r ≡ true) ⊎ (has_key requests r ≡ false) → take (early_of old) (firsts (requests ++ r ∷ [])) ≡ early_in old requests
+      by_key (inl known) = ap (take (early_of old)) (firsts_repeat requests r known ∙ h.firsts')
+      by_key (inr fresh) = ap (take (early_of old)) (firsts-more requests r h.firsts' fresh) ∙ take-append-le (early_of old) requests (r ∷ []) h.rows.within
+
   -- after a new request
-  pub Holds-more : (old new : Intake S) → has_key requests r ≡ false → Holds g old requests → new.cache ≡ old.cache → HasRequests g new.store (requests ++ r ∷ []) → Holds g new (requests ++ r ∷ [])
-  Holds-more old new fresh h same rows = record {
+  pub Holds-more : (old new : Intake S) → has_key requests r ≡ false → Holds g old requests → new.cache ≡ old.cache → early_of new ≡ early_of old → HasRequests g new.store (requests ++ r ∷ []) → Holds g new (requests ++ r ∷ [])
+  Holds-more old new fresh h same early rows = record {
     firsts' = firsts-more requests r h.firsts' fresh;
     rows = rows;
-    known = subst (RemembersIfAny (requests ++ r ∷ [])) (sym same) (RemembersIfAny-more requests (r ∷ []) old.cache h.known);
+    known = subst (λ es. RemembersIfAny es (requests ++ r ∷ []) new.cache) (sym (ap (λ n. take n (requests ++ r ∷ [])) early ∙ take-append-le (early_of old) requests (r ∷ []) h.rows.within))
+        (subst (RemembersIfAny (early_in old requests) (requests ++ r ∷ [])) (sym same) (RemembersIfAny-more (early_in old requests) requests (r ∷ []) old.cache h.known));
   }
 
   -- after a repeat
@@ -62,5 +89,9 @@ module _ {S : Type 0} {g : Ghosts S} (requests : List Request) (r : Request) whe
   Holds-new new are fresh h = subst (Holds g new) (sym (firsts-more requests r are fresh)) h
 
 -- the register was asked, and nothing else has changed
-pub Holds-asked : {S : Type 0} {g : Ghosts S} (requests : List Request) (old new : Intake S) → Holds g old requests → new.cache ≡ old.cache → HasRequests g new.store requests → Holds g new requests
-Holds-asked requests old new h same rows = record { firsts' = h.firsts'; rows = rows; known = subst (RemembersIfAny requests) (sym same) h.known }
+pub Holds-asked : {S : Type 0} {g : Ghosts S} (requests : List Request) (old new : Intake S) → Holds g old requests → new.cache ≡ old.cache → early_of new ≡ early_of old → HasRequests g new.store requests → Holds g new requests
+Holds-asked requests old new h same early rows = record {
+  firsts' = h.firsts';
+  rows = rows;
+  known = subst (λ n. RemembersIfAny (take n requests) requests new.cache) (sym early) (subst (RemembersIfAny (early_in old requests) requests) (sym same) h.known);
+}

@@ -1,3 +1,4 @@
 pub mod CacheLemmas
 pub mod Deciding
 pub mod Floats
+pub mod Styles

@@ -3,6 +3,7 @@ use Rattle.std.specs.Prelude.{◌≡◌, List, Option, Some, None, Contains, str
 use Rattle.filing_model.specs.Request.{Request}
 use Rattle.filing_model.specs.Register.{Kept, kept}
 use Rattle.filing_model.specs.Answer.{kept_for}
+use Rattle.filing_model.specs.Style.{style_of}
 use Rattle.register_store.specs.Outcomes.{kept_as}
 use Rattle.intake_core.specs.declared.cache.Cache.{Cache}
 use Rattle.intake_core.specs.declared.cache.Remembered.{Remembered}
@@ -15,15 +16,20 @@ kept_of r = kept_as (string_bytes r.filer) (string_bytes r.key) r.row
 abbrev pub IsKeptIn : List Request → Kept → Type 0
 IsKeptIn requests k = kept_for (kept requests) k.request ≡ Some k
 
--- each of the entries is, whatever it is found under
-abbrev pub AreKeptIn : {K : Type 0} → List Request → List (K × Remembered) → Type 0
-AreKeptIn {K} requests es = (e : K × Remembered) → Contains es e → IsKeptIn requests (kept_of e.1)
+-- It is what is kept after these requests, with the style of its filer and key; the early requests were kept before there were
+-- problem details.
+abbrev pub IsKnownIn : List Request → List Request → Remembered → Type 0
+IsKnownIn early requests r = IsKeptIn requests (kept_of r) × (r.row.style ≡ style_of early (kept_of r).request)
 
--- what a cache remembers is kept
-abbrev pub Remembers : List Request → Cache → Type 0
-Remembers requests c = AreKeptIn requests c.answers.entries
+-- each of the entries is, whatever it is found under
+abbrev pub AreKnownIn : {K : Type 0} → List Request → List Request → List (K × Remembered) → Type 0
+AreKnownIn {K} early requests es = (e : K × Remembered) → Contains es e → IsKnownIn early requests e.1
+
+-- what a cache remembers is known
+abbrev pub Remembers : List Request → List Request → Cache → Type 0
+Remembers early requests c = AreKnownIn early requests c.answers.entries
 
 -- what a cache remembers that may be there
-abbrev pub RemembersIfAny : List Request → Option Cache → Type 0
-RemembersIfAny requests None = Unit {0}
-RemembersIfAny requests (Some c) = Remembers requests c
+abbrev pub RemembersIfAny : List Request → List Request → Option Cache → Type 0
+RemembersIfAny early requests None = Unit {0}
+RemembersIfAny early requests (Some c) = Remembers early requests c

@@ -1,13 +1,16 @@
 //! A cache of answers: what the tables would answer, for the requests of late.
 
-ghost use Rattle.std.specs.Prelude.{◌≡◌, ℕ, true, List, [], IfOk, IfSome};
+ghost use Rattle.std.specs.Prelude.{◌≡◌, ℕ, true, List, IfOk, IfSome};
+ghost use Rattle.filing_model.specs.declared.served.Style.{Style};
 ghost use Rattle.filing_model.specs.Request.{Request, has_key};
-ghost use Rattle.filing_model.specs.Answer.{answer, answer_by, answer_from};
+ghost use Rattle.filing_model.specs.Answer.{answer_by, answer_from};
+ghost use Rattle.filing_model.specs.Style.{style_of, HasStyle};
 ghost use Rattle.filing_model.specs.Views.{view_answer, the_request};
 ghost use Rattle.register_store.specs.Outcomes.{view_outcome, kept_as};
+ghost use Rattle.intake_core.specs.Answered.{IsAnswerTo};
 ghost use Rattle.intake_core.specs.Cache.{kept_of, IsKeptIn, Remembers};
 
-use filing_model::Answer;
+use filing_model::{Answer, Style};
 use key_string::KeyText;
 use lru::LruCache;
 use register_store::{KeptRow, Outcome};
@@ -20,7 +23,7 @@ const CAPACITY: usize = 64;
 /// The most bytes of a body that is remembered.
 const MAX_CACHED_LEN: usize = 65_536;
 
-/// A kept request with its outcome.
+/// A kept request with its outcome and its style.
 #[derive(Drop)]
 pub(crate) struct Remembered {
     filer: String,
@@ -35,8 +38,9 @@ impl Remembered {
         key: &str,
         body: &[u8],
         outcome: &Outcome,
+        style: Style,
     ) -> Result<Remembered, AllocError>
-        ensures { IfOk result (λ r. kept_of r ≡ record { request = the_request filer.now key.now body.now; outcome = view_outcome outcome.now }) }
+        ensures { IfOk result (λ r. (kept_of r ≡ record { request = the_request filer.now key.now body.now; outcome = view_outcome outcome.now }) × (r.row.style ≡ style)) }
     {
         Ok(Remembered {
             filer: String::from_str(alloc, filer)?,
@@ -44,6 +48,7 @@ impl Remembered {
             row: KeptRow {
                 body: Vec::from_slice(alloc, body)?,
                 outcome: copied(alloc, outcome)?,
+                style,
             },
         })
     }
@@ -58,7 +63,7 @@ pub(crate) struct Cache {
 impl Cache {
     /// A cache that remembers nothing yet.
     pub(crate) fn new(alloc: Global) -> Result<Cache, AllocError>
-        ensures { (requests : List Request) → IfOk result (Remembers requests) }
+        ensures { (early requests : List Request) → IfOk result (Remembers early requests) }
     {
         let capacity = NonZeroUsize::new(CAPACITY).unwrap();
         Ok(Cache {
@@ -74,8 +79,9 @@ impl Cache {
         key: &KeyText,
         body: &[u8],
     ) -> Option<Answer>
-        ensures answer { (requests : List Request) → Remembers requests self.old → IfSome result (λ a. (view_answer a ≡ answer requests (the_request filer.now key.now body.now)) × (has_key requests (the_request filer.now key.now body.now) ≡ true)) }
-        ensures same { (requests : List Request) → Remembers requests self.old → Remembers requests self.new }
+        ensures answer { (early requests : List Request) → Remembers early requests self.old
+            → IfSome result (λ a. IsAnswerTo early requests (the_request filer.now key.now body.now) a × (has_key requests (the_request filer.now key.now body.now) ≡ true)) }
+        ensures same { (early requests : List Request) → Remembers early requests self.old → Remembers early requests self.new }
     {
         let name = name_of(alloc, filer, key.as_str()).ok()?;
         let answer = self.look_up(alloc, name.as_str(), filer, key, body);
@@ -92,7 +98,8 @@ impl Cache {
         key: &KeyText,
         body: &[u8],
     ) -> Option<Answer>
-        ensures { (requests : List Request) → Remembers requests self.now → IfSome result (λ a. (view_answer a ≡ answer requests (the_request filer.now key.now body.now)) × (has_key requests (the_request filer.now key.now body.now) ≡ true)) }
+        ensures { (early requests : List Request) → Remembers early requests self.now
+            → IfSome result (λ a. IsAnswerTo early requests (the_request filer.now key.now body.now) a × (has_key requests (the_request filer.now key.now body.now) ≡ true)) }
     {
         let found = self.answers.peek(name)?;
         if found.filer.as_str() != filer || found.key.as_str() != key.as_str() {
@@ -101,7 +108,7 @@ impl Cache {
         answer_again(alloc, &found.row, body).ok()
     }
 
-    /// Remembers a kept request with its outcome, where the body is short and there is memory for it.
+    /// Remembers a kept request with its outcome and its style, where the body is short and there is memory for it.
     pub(crate) fn remember(
         &mut self,
         alloc: Global,
@@ -109,8 +116,10 @@ impl Cache {
         key: &KeyText,
         body: &[u8],
         outcome: &Outcome,
+        style: Style,
     )
-        ensures { (requests : List Request) → Remembers requests self.old → IsKeptIn requests (record { request = the_request filer.now key.now body.now; outcome = view_outcome outcome.now }) → Remembers requests self.new }
+        ensures { (early requests : List Request) → Remembers early requests self.old → IsKeptIn requests (record { request = the_request filer.now key.now body.now; outcome = view_outcome outcome.now })
+            → style ≡ style_of early (the_request filer.now key.now body.now) → Remembers early requests self.new }
     {
         if body.len() > MAX_CACHED_LEN {
             return;
@@ -118,7 +127,7 @@ impl Cache {
         let Ok(name) = name_of(alloc, filer, key.as_str()) else {
             return;
         };
-        let Ok(request) = Remembered::new(alloc, filer, key.as_str(), body, outcome) else {
+        let Ok(request) = Remembered::new(alloc, filer, key.as_str(), body, outcome, style) else {
             return;
         };
         // Where there is no room, it is not remembered.
@@ -142,22 +151,26 @@ fn copied(alloc: Global, outcome: &Outcome) -> Result<Outcome, AllocError>
 }
 
 /// The answer to a request whose filer and key are kept with this row: what the first got, or that
-/// the key was used for another body.
+/// the key was used for another body, in the style of the row.
 fn answer_again(alloc: Global, row: &KeptRow, body: &[u8]) -> Result<Answer, AllocError>
-    ensures { (filer key : List ℕ) → IfOk result (λ a. view_answer a ≡ answer_from (Some (kept_as filer key row.now)) (the_request filer key body.now) true) }
+    ensures { (filer key : List ℕ) → IfOk result (λ a. (view_answer a ≡ answer_from (Some (kept_as filer key row.now)) (the_request filer key body.now) true) × HasStyle row.now.style a) }
 {
     if row.body.as_slice() != body {
-        return Ok(Answer::KeyReused);
+        return Ok(Answer::KeyReused { style: row.style });
     }
-    Ok(answer_by(copied(alloc, &row.outcome)?, true))
+    Ok(answer_by(copied(alloc, &row.outcome)?, true, row.style))
 }
 
-/// The answer that an outcome gives, to its own request or to a repeat.
-pub(crate) fn answer_by(outcome: Outcome, repeat: bool) -> Answer
-    ensures { view_answer result ≡ answer_by (view_outcome outcome) repeat }
+/// The answer that an outcome gives, to its own request or to a repeat, in this style.
+pub(crate) fn answer_by(outcome: Outcome, repeat: bool, style: Style) -> Answer
+    ensures { (view_answer result ≡ answer_by (view_outcome outcome) repeat) × HasStyle style result }
 {
     match outcome {
         Outcome::Registered(number) => Answer::Registered { number, repeat },
-        Outcome::Refused(findings) => Answer::Refused { findings, repeat },
+        Outcome::Refused(findings) => Answer::Refused {
+            findings,
+            repeat,
+            style,
+        },
     }
 }

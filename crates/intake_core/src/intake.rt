@@ -1,22 +1,23 @@
 //! The intake: its register, and the answer to the next request.
 
-ghost use Rattle.std.specs.Prelude.{◌≡◌, ◌<◌, ◌≤◌, ◌^◌, ◌+◌, ◌++◌, ◌∷◌, ◌↔◌, ◌⊎◌, [], ℕ, List, length, map, true, false, Err, Some, IsTrue, IfOk, IfErr, IfSome, OnOk, OnErr, ◌≢◌};
+ghost use Rattle.std.specs.Prelude.{◌≡◌, ◌<◌, ◌≤◌, ◌^◌, ◌+◌, ◌++◌, ◌∷◌, ◌↔◌, ◌⊎◌, [], ℕ, List, length, map, true, false, Err, Some, IsTrue, IfOk, IfSome, OnOk, OnErr, ◌≢◌};
 ghost use Rattle.key_string.specs.Filer.{is_filer};
 ghost use Rattle.http_wire.specs.Head.{max_body_len};
 ghost use Rattle.filing_model.specs.Request.{Request, firsts, has_key};
 ghost use Rattle.filing_model.specs.Register.{kept, judged, register};
 ghost use Rattle.filing_model.specs.Listing.{listings};
-ghost use Rattle.filing_model.specs.Answer.{answer, answer_from, kept_for};
+ghost use Rattle.filing_model.specs.Answer.{answer_from};
+ghost use Rattle.filing_model.specs.Style.{style_of, HasStyle};
 ghost use Rattle.filing_model.specs.Views.{view_answer, view_row, the_request};
 ghost use Rattle.sqlite.specs.Tree.{Trees};
-ghost use Rattle.sqlite.specs.State.{HasCleanDisk, Survives};
+ghost use Rattle.sqlite.specs.State.{Survives};
 ghost use Rattle.register_store.specs.Outcomes.{view_outcome, kept_as};
 ghost use Rattle.register_store.specs.Store.{HasRequests, Leaves};
 ghost use Rattle.register_store.specs.Store as register_store;
 ghost use Rattle.intake_core.specs.declared.intake.Unavailable.TheVariants.{Down, Full, Memory, Store as StoreFailed};
 
 use crate::cache::{Cache, answer_by};
-use filing_model::{Answer, FilingRow};
+use filing_model::{Answer, FilingRow, Style};
 use key_string::KeyText;
 use register_store::{KeptRow, NewRow, Outcome, Registered, Store, StoreFault};
 use sqlite::Alter;
@@ -91,7 +92,8 @@ impl<S: Alter + Drop> Drop for Intake<S> {
 }
 
 impl<S: Alter> Intake<S> {
-    ghost use Rattle.intake_core.specs.Held.{store_of, shows, limit_of, has_stopped, Holds, IsClean};
+    ghost use Rattle.intake_core.specs.Answered.{IsAnswerTo};
+    ghost use Rattle.intake_core.specs.Held.{store_of, shows, limit_of, early_of, early_in, has_stopped, Holds, IsClean};
 
     /// An intake over this register, which keeps at most `limit` keys.
     pub fn new(alloc: Global, store: Store<S>, limit: u64) -> Intake<S>
@@ -134,17 +136,19 @@ impl<S: Alter> Intake<S> {
 
     /// Decides a request (own rule): the first of a filer and key is judged and kept, whether it is
     /// valid or not, and a later one gets what the first got, or that the key was used for another
-    /// body. The filer is a filer code, and the body has at most 1,048,576 bytes.
+    /// body. The filer is a filer code, and the body has at most 1,048,576 bytes. An answer to a filer's
+    /// key that was kept before there were problem details is in the old style.
     pub fn submit(&mut self, filer: &str, key: &KeyText, body: &[u8]) -> Result<Answer, Unavailable>
         requires filer { is_filer filer.now ≡ true }
         requires body { length body.now ≤ max_body_len }
         ensures answer { IsClean S.Store self.new → (requests : List Request) → Holds S.Store self.old requests
-            → IfOk result (λ a. (view_answer a ≡ answer requests (the_request filer.now key.now body.now)) × Holds S.Store self.new (firsts (requests ++ the_request filer.now key.now body.now ∷ []))) }
+            → IfOk result (λ a. IsAnswerTo (early_in self.old requests) requests (the_request filer.now key.now body.now) a × Holds S.Store self.new (firsts (requests ++ the_request filer.now key.now body.now ∷ []))) }
 
-        // Nothing changes where there is no answer, and the limit never does.
+        // Nothing changes where there is no answer, and the limit and the early requests never do.
         ensures err { IsClean S.Store self.new → (requests : List Request) → Holds S.Store self.old requests → OnErr result (Holds S.Store self.new requests) }
         ensures clean { IsClean S.Store self.new → IsClean S.Store self.old }
         ensures limit { limit_of self.new ≡ limit_of self.old }
+        ensures early { early_of self.new ≡ early_of self.old }
 
         // Full comes for a new key alone, and always where the limit is reached.
         ensures full { IsClean S.Store self.new → (requests : List Request) → Holds S.Store self.old requests → (k : ℕ) → result ≡ Err (Full k)
@@ -154,9 +158,9 @@ impl<S: Alter> Intake<S> {
 
         // A crash leaves what one before the call could leave, or the requests with this one, and after an answer these alone.
         ensures crash { Survives (shows S.Store self.old) (shows S.Store self.new) (λ trees. (requests : List Request) → Holds S.Store self.old requests → IsTrue (shows S.Store self.old).is_open
-            → Leaves (firsts (requests ++ the_request filer.now key.now body.now ∷ [])) trees) }
+            → Leaves (early_of self.old) (firsts (requests ++ the_request filer.now key.now body.now ∷ [])) trees) }
         ensures durable { IsClean S.Store self.new → (requests : List Request) → Holds S.Store self.old requests → IsTrue (shows S.Store self.old).is_open
-            → OnOk result (IsTrue (shows S.Store self.new).is_open × ((trees : Trees) → (shows S.Store self.new).may_leave trees → Leaves (firsts (requests ++ the_request filer.now key.now body.now ∷ [])) trees)) }
+            → OnOk result (IsTrue (shows S.Store self.new).is_open × ((trees : Trees) → (shows S.Store self.new).may_leave trees → Leaves (early_of self.old) (firsts (requests ++ the_request filer.now key.now body.now ∷ [])) trees)) }
 
         // After a refusal of the database there is no other answer than that.
         ensures down { has_stopped self.old ≡ true → (result ≡ Err Down) × (self.new ≡ self.old) }
@@ -176,7 +180,7 @@ impl<S: Alter> Intake<S> {
 }
 
 impl<S: Alter> Intake<S> {
-    ghost use Rattle.intake_core.specs.Held.{shows, limit_of, has_stopped, Holds, IsClean};
+    ghost use Rattle.intake_core.specs.Held.{shows, limit_of, early_of, has_stopped, Holds, IsClean};
 
     /// The filings of a filer, ascending by number. Full never comes here.
     pub fn list(&mut self, filer: &str) -> Result<Vec<FilingRow>, Unavailable>
@@ -186,10 +190,11 @@ impl<S: Alter> Intake<S> {
         ensures kept { IsClean S.Store self.new → (requests : List Request) → Holds S.Store self.old requests → Holds S.Store self.new requests }
         ensures clean { IsClean S.Store self.new → IsClean S.Store self.old }
         ensures limit { limit_of self.new ≡ limit_of self.old }
+        ensures early { early_of self.new ≡ early_of self.old }
 
         // A crash leaves what it could leave before.
         ensures crash { Survives (shows S.Store self.old) (shows S.Store self.new) (λ _. ⊥) }
-        ensures durable { IsClean S.Store self.new → (requests : List Request) → Holds S.Store self.old requests → OnOk result (IsTrue (shows S.Store self.new).is_open × ((trees : Trees) → (shows S.Store self.new).may_leave trees → Leaves requests trees)) }
+        ensures durable { IsClean S.Store self.new → (requests : List Request) → Holds S.Store self.old requests → OnOk result (IsTrue (shows S.Store self.new).is_open × ((trees : Trees) → (shows S.Store self.new).may_leave trees → Leaves (early_of self.old) requests trees)) }
 
         // After a refusal of the database there is no other answer than that.
         ensures down { has_stopped self.old ≡ true → (result ≡ Err Down) × (self.new ≡ self.old) }
@@ -213,10 +218,11 @@ impl<S: Alter> Intake<S> {
         ensures kept { IsClean S.Store self.new → (requests : List Request) → Holds S.Store self.old requests → Holds S.Store self.new requests }
         ensures clean { IsClean S.Store self.new → IsClean S.Store self.old }
         ensures limit { limit_of self.new ≡ limit_of self.old }
+        ensures early { early_of self.new ≡ early_of self.old }
 
         // A crash leaves what it could leave before.
         ensures crash { Survives (shows S.Store self.old) (shows S.Store self.new) (λ _. ⊥) }
-        ensures durable { IsClean S.Store self.new → (requests : List Request) → Holds S.Store self.old requests → OnOk result (IsTrue (shows S.Store self.new).is_open × ((trees : Trees) → (shows S.Store self.new).may_leave trees → Leaves requests trees)) }
+        ensures durable { IsClean S.Store self.new → (requests : List Request) → Holds S.Store self.old requests → OnOk result (IsTrue (shows S.Store self.new).is_open × ((trees : Trees) → (shows S.Store self.new).may_leave trees → Leaves (early_of self.old) requests trees)) }
 
         // After a refusal of the database there is no other answer than that.
         ensures down { has_stopped self.old ≡ true → (result ≡ Err Down) × (self.new ≡ self.old) }
@@ -234,13 +240,14 @@ impl<S: Alter> Intake<S> {
 }
 
 impl<S: Alter> Intake<S> {
+    ghost use Rattle.intake_core.specs.Answered.{IsAnswerTo};
     ghost use Rattle.intake_core.specs.Cache.{IsKeptIn};
-    ghost use Rattle.intake_core.specs.Held.{store_of, shows, limit_of, has_stopped, Holds, IsClean};
+    ghost use Rattle.intake_core.specs.Held.{store_of, shows, limit_of, early_of, early_in, has_stopped, Holds, IsClean};
 
     /// The answer to a request that the cache remembers. The cache is made here, where there is memory for it.
     fn recall(&mut self, filer: &str, key: &KeyText, body: &[u8]) -> Option<Answer>
         ensures answer { (requests : List Request) → Holds S.Store self.old requests
-            → IfSome result (λ a. (view_answer a ≡ answer requests (the_request filer.now key.now body.now)) × (has_key requests (the_request filer.now key.now body.now) ≡ true)) }
+            → IfSome result (λ a. IsAnswerTo (early_in self.old requests) requests (the_request filer.now key.now body.now) a × (has_key requests (the_request filer.now key.now body.now) ≡ true)) }
         ensures same { (requests : List Request) → Holds S.Store self.old requests → Holds S.Store self.new requests }
         ensures rest { (store_of self.new ≡ store_of self.old) × (limit_of self.new ≡ limit_of self.old) × (has_stopped self.new ≡ has_stopped self.old) }
     {
@@ -254,12 +261,13 @@ impl<S: Alter> Intake<S> {
     }
 
     /// Remembers a kept request.
-    fn remember(&mut self, filer: &str, key: &KeyText, body: &[u8], outcome: &Outcome)
-        ensures same { (requests : List Request) → Holds S.Store self.old requests → IsKeptIn requests (record { request = the_request filer.now key.now body.now; outcome = view_outcome outcome.now }) → Holds S.Store self.new requests }
+    fn remember(&mut self, filer: &str, key: &KeyText, body: &[u8], outcome: &Outcome, style: Style)
+        ensures same { (requests : List Request) → Holds S.Store self.old requests → IsKeptIn requests (record { request = the_request filer.now key.now body.now; outcome = view_outcome outcome.now })
+            → style ≡ style_of (early_in self.old requests) (the_request filer.now key.now body.now) → Holds S.Store self.new requests }
         ensures rest { (store_of self.new ≡ store_of self.old) × (limit_of self.new ≡ limit_of self.old) × (has_stopped self.new ≡ has_stopped self.old) }
     {
         if let Some(cache) = &mut self.cache {
-            cache.remember(self.alloc, filer, key, body, outcome);
+            cache.remember(self.alloc, filer, key, body, outcome, style);
         }
     }
 
@@ -268,17 +276,18 @@ impl<S: Alter> Intake<S> {
         requires filer { is_filer filer.now ≡ true }
         requires body { length body.now ≤ max_body_len }
         ensures answer { IsClean S.Store self.new → (requests : List Request) → Holds S.Store self.old requests
-            → IfOk result (λ a. (view_answer a ≡ answer requests (the_request filer.now key.now body.now)) × Holds S.Store self.new (firsts (requests ++ the_request filer.now key.now body.now ∷ []))) }
+            → IfOk result (λ a. IsAnswerTo (early_in self.old requests) requests (the_request filer.now key.now body.now) a × Holds S.Store self.new (firsts (requests ++ the_request filer.now key.now body.now ∷ []))) }
         ensures err { IsClean S.Store self.new → (requests : List Request) → Holds S.Store self.old requests → OnErr result (Holds S.Store self.new requests) }
         ensures clean { IsClean S.Store self.new → IsClean S.Store self.old }
         ensures limit { (limit_of self.new ≡ limit_of self.old) × (has_stopped self.new ≡ has_stopped self.old) }
+        ensures early { early_of self.new ≡ early_of self.old }
         ensures full { IsClean S.Store self.new → (requests : List Request) → Holds S.Store self.old requests → (k : ℕ) → result ≡ Err (Full k)
             → (has_key requests (the_request filer.now key.now body.now) ≡ false) × (limit_of self.old ≤ k) × (k ≡ length requests) }
         ensures room { IsClean S.Store self.new → (requests : List Request) → Holds S.Store self.old requests
             → OnOk result (has_key requests (the_request filer.now key.now body.now) ≡ false → length requests < limit_of self.old) }
         ensures running { result ≢ Err Down }
         ensures crash { Survives (shows S.Store self.old) (shows S.Store self.new) (λ trees. (requests : List Request) → Holds S.Store self.old requests → IsTrue (shows S.Store self.old).is_open
-            → Leaves (firsts (requests ++ the_request filer.now key.now body.now ∷ [])) trees) }
+            → Leaves (early_of self.old) (firsts (requests ++ the_request filer.now key.now body.now ∷ [])) trees) }
         ensures open { IsClean S.Store self.new → (requests : List Request) → Holds S.Store self.old requests → OnOk result (IsTrue (shows S.Store self.new).is_open) }
     {
         match self.store.find(filer, key)? {
@@ -289,15 +298,16 @@ impl<S: Alter> Intake<S> {
 
     /// Answers a request whose filer and key are kept with this row.
     fn repeat(&mut self, filer: &str, key: &KeyText, body: &[u8], row: KeptRow) -> Answer
-        ensures answer { view_answer result ≡ answer_from (Some (kept_as filer.now key.now row)) (the_request filer.now key.now body.now) true }
-        ensures same { (requests : List Request) → Holds S.Store self.old requests → IsKeptIn requests (kept_as filer.now key.now row) → Holds S.Store self.new requests }
+        ensures answer { (view_answer result ≡ answer_from (Some (kept_as filer.now key.now row)) (the_request filer.now key.now body.now) true) × HasStyle row.style result }
+        ensures same { (requests : List Request) → Holds S.Store self.old requests → IsKeptIn requests (kept_as filer.now key.now row)
+            → row.style ≡ style_of (early_in self.old requests) (the_request filer.now key.now body.now) → Holds S.Store self.new requests }
         ensures rest { (store_of self.new ≡ store_of self.old) × (limit_of self.new ≡ limit_of self.old) × (has_stopped self.new ≡ has_stopped self.old) }
     {
-        self.remember(filer, key, &row.body, &row.outcome);
+        self.remember(filer, key, &row.body, &row.outcome, row.style);
         if row.body.as_slice() == body {
-            answer_by(row.outcome, true)
+            answer_by(row.outcome, true, row.style)
         } else {
-            Answer::KeyReused
+            Answer::KeyReused { style: row.style }
         }
     }
 
@@ -306,15 +316,16 @@ impl<S: Alter> Intake<S> {
         requires filer { is_filer filer.now ≡ true }
         requires body { length body.now ≤ max_body_len }
         ensures answer { IsClean S.Store self.new → (requests : List Request) → Holds S.Store self.old requests → has_key requests (the_request filer.now key.now body.now) ≡ false
-            → IfOk result (λ a. (view_answer a ≡ answer requests (the_request filer.now key.now body.now)) × Holds S.Store self.new (requests ++ the_request filer.now key.now body.now ∷ [])) }
+            → IfOk result (λ a. IsAnswerTo (early_in self.old requests) requests (the_request filer.now key.now body.now) a × Holds S.Store self.new (requests ++ the_request filer.now key.now body.now ∷ [])) }
         ensures err { IsClean S.Store self.new → (requests : List Request) → Holds S.Store self.old requests → OnErr result (Holds S.Store self.new requests) }
         ensures clean { IsClean S.Store self.new → IsClean S.Store self.old }
         ensures limit { (limit_of self.new ≡ limit_of self.old) × (has_stopped self.new ≡ has_stopped self.old) }
+        ensures early { early_of self.new ≡ early_of self.old }
         ensures full { (requests : List Request) → Holds S.Store self.old requests → (k : ℕ) → result ≡ Err (Full k) → (limit_of self.old ≤ k) × (k ≡ length requests) }
         ensures room { (requests : List Request) → Holds S.Store self.old requests → OnOk result (length requests < limit_of self.old) }
         ensures running { result ≢ Err Down }
         ensures crash { Survives (shows S.Store self.old) (shows S.Store self.new) (λ trees. (requests : List Request) → Holds S.Store self.old requests → IsTrue (shows S.Store self.old).is_open
-            → has_key requests (the_request filer.now key.now body.now) ≡ false → Leaves (requests ++ the_request filer.now key.now body.now ∷ []) trees) }
+            → has_key requests (the_request filer.now key.now body.now) ≡ false → Leaves (early_of self.old) (requests ++ the_request filer.now key.now body.now ∷ []) trees) }
         ensures open { IsClean S.Store self.new → (requests : List Request) → Holds S.Store self.old requests → has_key requests (the_request filer.now key.now body.now) ≡ false → OnOk result (IsTrue (shows S.Store self.new).is_open) }
     {
         let kept = self.store.kept_count()?;
@@ -328,7 +339,7 @@ impl<S: Alter> Intake<S> {
             body,
             judged: &judged,
         })?;
-        self.remember(filer, key, body, &outcome);
-        Ok(answer_by(outcome, false))
+        self.remember(filer, key, body, &outcome, Style::Problem);
+        Ok(answer_by(outcome, false, Style::Problem))
     }
 }

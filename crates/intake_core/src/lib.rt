@@ -7,6 +7,6 @@ mod intake;
 mod memory;
 mod reply;
 
-pub use filing_model::{Answer, FilingRow};
+pub use filing_model::{Answer, FilingRow, Style};
 pub use intake::{Intake, Unavailable};
 pub use reply::{list_reply, reply_of, word_reply};

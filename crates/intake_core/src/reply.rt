@@ -1,28 +1,33 @@
 //! The replies to answers and lists, to the byte. Their forms are own rules; statuses are those of RFC
-//! 9110, section 15.
+//! 9110, section 15, and refusals are problem details (RFC 9457).
 
 ghost use Rattle.std.specs.Prelude.{◌≡◌, false, map, IfOk};
 ghost use Rattle.http_wire.specs.Replies.{reply_parts};
 ghost use Rattle.serde_json.specs.View.{view};
 ghost use Rattle.serde_json.specs.Written.{compact_text, has_float};
-ghost use Rattle.filing_model.specs.Reply.{reply_of, list_reply, word_reply, answer_data, answer_status, refused_status, listing_data, listings_data, list_data, word_data};
+ghost use Rattle.filing_model.specs.declared.served.Style.{Style};
+ghost use Rattle.filing_model.specs.Reply.{reply_as, list_reply, word_reply, answer_data, answer_kind, answer_status, listing_data, listings_data, list_data};
+ghost use Rattle.filing_model.specs.Style.{HasStyle};
 ghost use Rattle.filing_model.specs.Views.{view_answer, view_row};
+ghost use Rattle.intake_core.specs.Answered.{told_style};
 
-use filing_model::{Answer, FilingRow};
-use http_wire::Reply;
-use register_store::findings_value;
+use filing_model::{Answer, FilingRow, Style};
+use http_wire::{Kind, Reply};
+use register_store::{
+    problem_value, refusal_value, refused_status, refused_value, registered_value,
+};
 use serde_json::{Value, json};
 use std::alloc::{AllocError, Global};
-use xbrl_report::{Code, Findings};
 
 /// The reply to an answer, as compact JSON: 201 with the number, 400 with the finding that the body is
-/// no JSON text, 422 with other findings, or 422 where the key was reused. A repeat gets the same.
-#[tactic(auto, using(register_store::proofs::Floats::answer_data_no_float), unfolding(filing_model::specs::Reply::reply_of))]
+/// no JSON text, 422 with other findings, or 422 where the key was reused, in the style of the answer. A repeat gets
+/// the same.
+#[tactic(auto, using(register_store::proofs::Floats::answer_data_no_float), unfolding(filing_model::specs::Reply::reply_as))]
 pub fn reply_of(alloc: Global, answer: &Answer) -> Result<Reply, AllocError>
-    ensures { IfOk result (λ r. reply_parts r ≡ reply_of (view_answer answer.now)) }
+    ensures { (style : Style) → HasStyle style answer.now → IfOk result (λ r. reply_parts r ≡ reply_as style (view_answer answer.now)) }
 {
     let content = answer_value(alloc, answer)?;
-    reply_with(alloc, answer_status(answer), &content)
+    reply_with(alloc, answer_status(answer), &content, answer_kind(answer))
 }
 
 /// The reply that lists filings: 200, with the number of each and how many facts it has, as compact
@@ -32,26 +37,27 @@ pub fn list_reply(alloc: Global, rows: &[FilingRow]) -> Result<Reply, AllocError
     ensures { IfOk result (λ r. reply_parts r ≡ list_reply (map view_row rows.now)) }
 {
     let content = list_value(alloc, rows)?;
-    reply_with(alloc, 200, &content)
+    reply_with(alloc, 200, &content, Kind::Json)
 }
 
-/// The reply of one word under `status`, which is to be a status code of three digits: a JSON object
-/// whose `status` is the word.
+/// The reply that refuses a request for this reason, under `status`, which is to be a status code of three digits: problem
+/// details (RFC 9457).
 pub fn word_reply(alloc: Global, status: u16, word: &str) -> Result<Reply, AllocError>
     ensures { IfOk result (λ r. reply_parts r ≡ word_reply status word.now) }
 {
-    let content = word_value(alloc, word)?;
-    reply_with(alloc, status, &content)
+    let content = problem_value(alloc, status, word)?;
+    reply_with(alloc, status, &content, Kind::Problem)
 }
 
 /// The reply whose content is the compact text of a value.
-fn reply_with(alloc: Global, status: u16, content: &Value) -> Result<Reply, AllocError>
+fn reply_with(alloc: Global, status: u16, content: &Value, kind: Kind) -> Result<Reply, AllocError>
     requires { has_float (view content.now) ≡ false }
-    ensures { IfOk result (λ r. reply_parts r ≡ record { status = status; content = compact_text (view content.now) }) }
+    ensures { IfOk result (λ r. reply_parts r ≡ record { status = status; content = compact_text (view content.now); kind = kind }) }
 {
     Ok(Reply {
         status,
         content: content.to_string(alloc)?.into_bytes(),
+        kind,
     })
 }
 
@@ -61,32 +67,33 @@ fn answer_status(answer: &Answer) -> u16
     match answer {
         Answer::Registered { .. } => 201,
         Answer::Refused { findings, .. } => refused_status(findings),
-        Answer::KeyReused => 422,
+        Answer::KeyReused { .. } => 422,
     }
 }
 
-/// 400 where the body is no JSON text, and else 422.
-fn refused_status(findings: &Findings) -> u16
-    ensures { result ≡ refused_status findings.now }
+fn answer_kind(answer: &Answer) -> Kind
+    ensures { result ≡ answer_kind (told_style answer.now) (view_answer answer.now) }
 {
-    match findings.list() {
-        [first, ..] if first.code == Code::NotJson => 400,
-        _ => 422,
+    match answer {
+        Answer::Registered { .. } => Kind::Json,
+        Answer::Refused { style, .. } | Answer::KeyReused { style } => match style {
+            Style::Old => Kind::Json,
+            Style::Problem => Kind::Problem,
+        },
     }
 }
 
 fn answer_value(alloc: Global, answer: &Answer) -> Result<Value, AllocError>
-    ensures { IfOk result (λ v. view v ≡ answer_data (view_answer answer.now)) }
+    ensures { IfOk result (λ v. view v ≡ answer_data (told_style answer.now) (view_answer answer.now)) }
 {
     match answer {
-        Answer::Registered { number, .. } => {
-            json!(in alloc; {"number": *number, "status": "registered"})
-        }
-        Answer::Refused { findings, .. } => {
-            let findings = findings_value(alloc, findings.list())?;
-            json!(in alloc; {"findings": findings, "status": "refused"})
-        }
-        Answer::KeyReused => json!(in alloc; {"status": "key-reused"}),
+        Answer::Registered { number, .. } => registered_value(alloc, *number),
+        Answer::Refused {
+            findings,
+            style,
+            ..
+        } => refused_value(alloc, *style, findings),
+        Answer::KeyReused { style } => refusal_value(alloc, *style, 422, "key-reused"),
     }
 }
 
@@ -111,10 +118,4 @@ fn list_value(alloc: Global, rows: &[FilingRow]) -> Result<Value, AllocError>
 {
     let filings = rows_value(alloc, rows)?;
     json!(in alloc; {"filings": filings})
-}
-
-fn word_value(alloc: Global, word: &str) -> Result<Value, AllocError>
-    ensures { IfOk result (λ v. view v ≡ word_data word.now) }
-{
-    json!(in alloc; {"status": word})
 }

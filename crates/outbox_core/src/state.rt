@@ -1,10 +1,10 @@
 //! The states of an entry, and how a reply moves them.
 
-ghost use Rattle.std.specs.Prelude.{◌≡◌, ◌≢◌, ◌↔◌, ◌<◌, ◌≤◌, ◌^◌, Option, Some, None, IsTrue, IfOk, codes};
+ghost use Rattle.std.specs.Prelude.{◌≡◌, ◌≢◌, ◌<◌, ◌^◌, Option, Some, IfOk};
 ghost use Rattle.serde_json.specs.View.{view};
 ghost use Rattle.xbrl_report.specs.Findings.{tree};
 ghost use Rattle.http_wire.specs.Replies.{reply_parts};
-ghost use Rattle.filing_model.specs.Outbox.{says, confirmed_by, state_by, state_told, moved};
+ghost use Rattle.filing_model.specs.Outbox.{has_word, says, refuses, confirmed_by, state_by, state_told, moved};
 ghost use Rattle.outbox_core.specs.Entries.{FitsNumber};
 ghost use Rattle.outbox_core.specs.Reading.{view_state};
 
@@ -27,12 +27,27 @@ pub enum State {
 
 const NUMBER_LIMIT: u64 = 1 << 63;
 
+/// Whether the member of this name is this word.
+fn has_word(tree: &Value, name: &str, word: &str) -> bool
+    ensures { result ≡ has_word name.now word.now (view tree.now) }
+{
+    let found = tree.get(name).and_then(Value::as_str);
+    found.map_or(false, |text| text == word)
+}
+
 /// Whether the member `status` is this word.
 fn says(tree: &Value, word: &str) -> bool
     ensures { result ≡ says word.now (view tree.now) }
 {
-    let status = tree.get("status").and_then(Value::as_str);
-    status.map_or(false, |text| text == word)
+    has_word(tree, "status", word)
+}
+
+/// Whether the report is refused for this reason: problem details have it in `reason` (RFC 9457), and contents of before in
+/// `status`.
+fn refuses(tree: &Value, word: &str) -> bool
+    ensures { result ≡ refuses word.now (view tree.now) }
+{
+    says(tree, word) || has_word(tree, "reason", word)
 }
 
 fn confirmed_by(number: Option<u64>) -> State
@@ -52,9 +67,9 @@ fn state_by(status: u16, tree: &Value) -> State
 {
     if status == 201 && says(tree, "registered") {
         confirmed_by(tree.get("number").and_then(Value::as_u64))
-    } else if (status == 422 || status == 400) && says(tree, "refused") {
+    } else if (status == 422 || status == 400) && refuses(tree, "refused") {
         State::Refused
-    } else if status == 422 && says(tree, "key-reused") {
+    } else if status == 422 && refuses(tree, "key-reused") {
         State::Clashed
     } else {
         State::Open

@@ -15,11 +15,11 @@ use Rattle.register_store.specs.Changes.{GainsRows, AddsInside}
 use Rattle.register_store.proofs.Growing.{kept_grows, finding_grows, filing_grows, fact_grows}
 
 -- no row more
-same_rows : (db : Database) (ks fs gs gs' hs hs' : List Row) → gs ≡ gs' → hs ≡ hs' → HasRows db ks fs gs hs → HasRows db ks fs gs' hs'
-same_rows db ks fs gs gs' hs hs' p q h = subst (λ x. HasRows db ks fs gs' x) q (subst (λ x. HasRows db ks fs x hs) p h)
+same_rows : (early : ℕ) (db : Database) (ks fs gs gs' hs hs' : List Row) → gs ≡ gs' → hs ≡ hs' → HasRows db early ks fs gs hs → HasRows db early ks fs gs' hs'
+same_rows early db ks fs gs gs' hs hs' p q h = subst (λ x. HasRows db early ks fs gs' x) q (subst (λ x. HasRows db early ks fs x hs) p h)
 
-same_findings : (db : Database) (ks fs fs' gs hs : List Row) → fs ≡ fs' → HasRows db ks fs gs hs → HasRows db ks fs' gs hs
-same_findings db ks fs fs' gs hs p h = subst (λ x. HasRows db ks x gs hs) p h
+same_findings : (early : ℕ) (db : Database) (ks fs fs' gs hs : List Row) → fs ≡ fs' → HasRows db early ks fs gs hs → HasRows db early ks fs' gs hs
+same_findings early db ks fs fs' gs hs p h = subst (λ x. HasRows db early ks x gs hs) p h
 
 module _ (seq : ℕ) (r : Request) where
   -- the findings of a refused one
@@ -28,9 +28,9 @@ module _ (seq : ℕ) (r : Request) where
       → AddsInside seq (record { request = r; outcome = Outcome.Refused found }) first last
   adds_refused found first mid last one two = record {
     adds = record {
-      rows = λ ks fs gs hs has.
-          let more = kept_grows first.now mid.now ks fs gs hs _ has (one.gains has.declared) in
-          same_rows last.now _ _ _ _ _ _ (sym (append-nil gs)) (sym (append-nil hs)) (finding_grows mid.now last.now _ fs gs hs _ more (two.gains more.declared));
+      rows = λ early ks fs gs hs has.
+          let more = kept_grows first.now mid.now early ks fs gs hs _ has (one.gains has.declared) in
+          same_rows early last.now _ _ _ _ _ _ (sym (append-nil gs)) (sym (append-nil hs)) (finding_grows mid.now last.now early _ fs gs hs _ more (two.gains more.declared));
       sound = λ d sound.
           let g = one.gains d in
           (two.gains (still_declared register_tables first.now mid.now g.schema_is d)).sound (g.sound sound);
@@ -47,10 +47,10 @@ module _ (seq : ℕ) (r : Request) where
       → AddsInside seq (record { request = r; outcome = Outcome.Registered number }) first last
   adds_accepted number first mid next last one two three = record {
     adds = record {
-      rows = λ ks fs gs hs has.
-          let more = kept_grows first.now mid.now ks fs gs hs _ has (one.gains has.declared) in
-          let still = filing_grows mid.now next.now _ fs gs hs _ more (two.gains more.declared) in
-          same_findings last.now _ _ _ _ _ (sym (append-nil fs)) (fact_grows next.now last.now _ fs _ hs _ still (three.gains still.declared));
+      rows = λ early ks fs gs hs has.
+          let more = kept_grows first.now mid.now early ks fs gs hs _ has (one.gains has.declared) in
+          let still = filing_grows mid.now next.now early _ fs gs hs _ more (two.gains more.declared) in
+          same_findings early last.now _ _ _ _ _ (sym (append-nil fs)) (fact_grows next.now last.now early _ fs _ hs _ still (three.gains still.declared));
       sound = λ d sound.
           let g = one.gains d in
           let e = still_declared register_tables first.now mid.now g.schema_is d in

@@ -8,8 +8,8 @@ use Rattle.sqlite.specs.Listing.{understood}
 use Rattle.sqlite_catalog.specs.Listing.{automatic}
 use Rattle.table_rows.specs.Tables.{no_schema}
 use Rattle.table_rows.proofs.CreateLemmas.{IsCreation}
-use Rattle.register_store.specs.Making.{create_meta, create_kept, create_finding, create_filing, create_fact}
-use Rattle.register_store.specs.Schema.{meta_table, kept_table, finding_table, filing_table, fact_table}
+use Rattle.register_store.specs.Making.{create_meta, create_kept, create_finding, create_filing, create_fact, create_migrated, create_amends}
+use Rattle.register_store.specs.Schema.{meta_table, kept_table, finding_table, filing_table, fact_table, migrated_table, amends_table}
 
 abbrev pub first_schema : Schema
 first_schema = created no_schema meta_table
@@ -22,6 +22,12 @@ third_schema = created second_schema finding_table
 
 abbrev pub fourth_schema : Schema
 fourth_schema = created third_schema filing_table
+
+abbrev pub fifth_schema : Schema
+fifth_schema = created fourth_schema fact_table
+
+abbrev pub sixth_schema : Schema
+sixth_schema = created fifth_schema migrated_table
 
 pub creates_meta : IsCreation no_schema create_meta meta_table
 unfolding understood everything
@@ -42,6 +48,14 @@ creates_filing = record { command = refl; statement = refl; defined = refl; plai
 pub creates_fact : IsCreation fourth_schema create_fact (record fact_table { tree = 0 })
 unfolding understood everything
 creates_fact = record { command = refl; statement = refl; defined = refl; plain = (refl, refl) }
+
+pub creates_migrated : IsCreation fifth_schema create_migrated (record migrated_table { tree = 0 })
+unfolding understood everything
+creates_migrated = record { command = refl; statement = refl; defined = refl; plain = (refl, refl) }
+
+pub creates_amends : IsCreation sixth_schema create_amends (record amends_table { tree = 0 })
+unfolding understood everything
+creates_amends = record { command = refl; statement = refl; defined = refl; plain = (refl, refl) }
 
 -- the indexes that SQLite makes for the keys
 abbrev pub own_indexes : List Index

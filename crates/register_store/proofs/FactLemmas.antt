@@ -120,7 +120,7 @@ said_back n at (x ∷ xs) = ap₂ (λ y ys. y ∷ ys) (same x.value x.decimals) 
         → fact_in (said (fact_row n at (record { id = x.id; concept = x.concept; dimensions = x.dimensions; value = value; decimals = decimals }))) ≡ record { id = x.id; concept = x.concept; dimensions = x.dimensions; value = value; decimals = decimals }
     same value decimals = ap₂ (λ v d. record { id = x.id; concept = x.concept; dimensions = x.dimensions; value = v; decimals = d }) (back value decimals) (again decimals)
 
-module _ (F : List Request) (old new : State) (rows : List Row) (was : Stands (IsRegisterOf F) old) (n : ℕ) where
+module _ {early : ℕ} (F : List Request) (old new : State) (rows : List Row) (was : Stands (IsRegisterOf early F) old) (n : ℕ) where
   its_table : filter (has_number n) (joined_from fact_rows 1 (kept F)) ≡ counted_from (fact_row n) 1 (unwrap_or (facts_numbered n (register F)) [])
   its_table = ap (filter (has_number n)) (table_is 1 (kept F)) ∙ its_rows n 1 (register F) (register_numbered F)
 

@@ -16,14 +16,14 @@ use Rattle.table_rows.specs.Tables.{schema_with}
 use Rattle.table_rows.proofs.SelectLemmas.{one_table}
 use Rattle.table_rows.proofs.ReadingLemmas.{by_each}
 use Rattle.table_rows.proofs.FailLemmas.{IsWhole, failure_cause}
-use Rattle.register_store.specs.Opening.{all_meta, all_kept, all_findings, all_filings, all_facts}
-use Rattle.register_store.specs.Schema.{register_tables, IsDeclared}
-use Rattle.register_store.proofs.ReadTexts.{columns, asks_meta, asks_kept, asks_findings, asks_filings, asks_facts}
+use Rattle.register_store.specs.Opening.{all_meta, all_kept, all_findings, all_filings, all_facts, all_migrated, all_amends}
+use Rattle.register_store.specs.Schema.{common_tables, register_tables, HasCommon, IsDeclared}
+use Rattle.register_store.proofs.ReadTexts.{columns, asks_meta, asks_kept, asks_findings, asks_filings, asks_facts, asks_migrated, asks_amends}
 
 -- under the declared tables each of the five texts is one statement without a parameter
 module _ (tables : List Table) (indexes : List Index) (views : List View) where
   abbrev schema : Schema
-  schema = schema_with register_tables tables indexes views
+  schema = schema_with common_tables tables indexes views
 
   meta_whole : IsWhole schema all_meta (one_table 0 [] (columns (0 ∷ 2 ∷ 3 ∷ [])) (by_each (col 1 0 ∷ [])))
   unfolding understood everything
@@ -45,11 +45,11 @@ module _ (tables : List Table) (indexes : List Index) (views : List View) where
   unfolding understood everything
   facts_whole = record { tail = le_refl _; unnamed = refl; typed = refl }
 
-on_ours : (text : List ℕ) (q : Query) → ((tables : List Table) (indexes : List Index) (views : List View) → IsWhole (schema_with register_tables tables indexes views) text q) → (s : Schema) → IsDeclared s → IsWhole s text q
+on_ours : (text : List ℕ) (q : Query) → ((tables : List Table) (indexes : List Index) (views : List View) → IsWhole (schema_with common_tables tables indexes views) text q) → (s : Schema) → HasCommon s → IsWhole s text q
 on_ours text q whole s d = subst (λ t. IsWhole t text q) (sym d.is) (whole d.tables d.indexes d.views)
 
 -- none of the five queries fails for another cause
-module _ (old new : State) (d : IsDeclared old.now.schema) (unlimited : old.step_limit ≡ None) (e : Error) where
+module _ (old new : State) (d : HasCommon old.now.schema) (unlimited : old.step_limit ≡ None) (e : Error) where
   pub meta_fails : FailsToQuery all_meta [] old new e → cause_of e ≡ Other → ⊥
   meta_fails = failure_cause all_meta 0 [] _ _ old new (asks_meta old.now.schema d) (on_ours all_meta _ meta_whole old.now.schema d) unlimited e
 
@@ -64,3 +64,26 @@ module _ (old new : State) (d : IsDeclared old.now.schema) (unlimited : old.step
 
   pub facts_fail : FailsToQuery all_facts [] old new e → cause_of e ≡ Other → ⊥
   facts_fail = failure_cause all_facts 7 [] _ _ old new (asks_facts old.now.schema d) (on_ours all_facts _ facts_whole old.now.schema d) unlimited e
+
+-- ---- the tables that an earlier form did not have
+
+module _ (tables : List Table) (indexes : List Index) (views : List View) where
+  abbrev whole_schema : Schema
+  whole_schema = schema_with register_tables tables indexes views
+
+  migrated_whole : IsWhole whole_schema all_migrated (one_table 9 [] (columns (0 ∷ 2 ∷ [])) (by_each (col 1 0 ∷ [])))
+  unfolding understood everything
+  migrated_whole = record { tail = le_refl _; unnamed = refl; typed = refl }
+
+  amends_whole : IsWhole whole_schema all_amends (one_table 10 [] (columns (0 ∷ 2 ∷ [])) (by_each (col 1 0 ∷ [])))
+  unfolding understood everything
+  amends_whole = record { tail = le_refl _; unnamed = refl; typed = refl }
+
+module _ (old new : State) (d : IsDeclared old.now.schema) (unlimited : old.step_limit ≡ None) (e : Error) where
+  pub migrated_fails : FailsToQuery all_migrated [] old new e → cause_of e ≡ Other → ⊥
+  migrated_fails = failure_cause all_migrated 9 [] _ _ old new (asks_migrated old.now.schema d)
+      (subst (λ t. IsWhole t all_migrated (one_table 9 [] (columns (0 ∷ 2 ∷ [])) (by_each (col 1 0 ∷ [])))) (sym d.is) (migrated_whole d.tables d.indexes d.views)) unlimited e
+
+  pub amends_fail : FailsToQuery all_amends [] old new e → cause_of e ≡ Other → ⊥
+  amends_fail = failure_cause all_amends 10 [] _ _ old new (asks_amends old.now.schema d)
+      (subst (λ t. IsWhole t all_amends (one_table 10 [] (columns (0 ∷ 2 ∷ [])) (by_each (col 1 0 ∷ [])))) (sym d.is) (amends_whole d.tables d.indexes d.views)) unlimited e

@@ -1,5 +1,5 @@
 -- A register whose files are given back, and opened again.
-use Rattle.std.proofs.Common.{List, subst, sym}
+use Rattle.std.proofs.Common.{ℕ, List, subst, sym}
 use Rattle.sqlite_disk.specs.declared.Disk.{Ghosts}
 use Rattle.sqlite_disk.specs.declared.Files.{Files}
 use Rattle.sqlite_store.specs.declared.store.FileStore.{FileStore}
@@ -13,7 +13,7 @@ use Rattle.register_store.specs.Store.{StoreParts, IsRegisterOf, HasRequests}
 use Rattle.register_store.specs.Files.{HoldRegister}
 
 module _ {D : Type 0} {g : Ghosts D} where
-  pub closed_register : (store : StoreParts (FileStore D g)) (F : List Request) (files : Files D) → HasRequests over_files store F → IsCopied store.conn files → AreUsable g files → HoldRegister g files F
+  pub closed_register : (store : StoreParts (FileStore D g)) (F : List Request) (files : Files D) → HasRequests over_files store F → IsCopied store.conn files → AreUsable g files → HoldRegister g files store.early F
   closed_register store F files has copied usable =
       let is = has.stands.now copied.was_open in
       record {
@@ -24,5 +24,5 @@ module _ {D : Type 0} {g : Ghosts D} where
       }
 
   -- an opening finds the register that the files hold
-  pub opened_register : (conn : Held (FileStore D g)) (F : List Request) (files : Files D) → HoldRegister g files F → Finds files conn → IsOpened conn → IsRegisterOf F (file_state conn).now
-  opened_register conn F files holds found opened = subst (IsRegisterOf F) (sym (finds files conn found opened holds.db holds.held)) holds.register
+  pub opened_register : (conn : Held (FileStore D g)) (early : ℕ) (F : List Request) (files : Files D) → HoldRegister g files early F → Finds files conn → IsOpened conn → IsRegisterOf early F (file_state conn).now
+  opened_register conn early F files holds found opened = subst (IsRegisterOf early F) (sym (finds files conn found opened holds.db holds.held)) holds.register

@@ -1,6 +1,6 @@
 -- What the look-ups find of the requests that the rows stand for.
-use Rattle.std.proofs.Common.{◌≡◌, ◌⊎◌, inl, inr, ◌<◌, ◌≤◌, ℕ, ◌+◌, suc, pos, true, false, List, [], ◌∷◌, ◌++◌, map, filter, length, Option, Some, None, refl, sym, ap, ap₂, subst, ◌∙◌, IsPermutation, nat_eq, arith, append-nil, ⊎_elim}
-use Rattle.std.specs.Prelude.{bytes_eq, find}
+use Rattle.std.proofs.Common.{◌≡◌, ◌⊎◌, inl, inr, ◌<◌, ◌≤◌, ℕ, ◌+◌, zero, suc, pos, cond, take, true, false, List, [], ◌∷◌, ◌++◌, map, filter, length, Option, Some, None, refl, sym, ap, ap₂, subst, ◌∙◌, IsPermutation, nat_eq, arith, append-nil, ⊎_elim}
+use Rattle.std.specs.Prelude.{bytes_eq, find, nat_lt, nat_le}
 use Rattle.std.proofs.lemmas.Bool.{cases_Bool, and_parts}
 use Rattle.std.proofs.lemmas.Bool.Decides.{nat_tests}
 use Rattle.std.proofs.lemmas.Slice.Eq.{bytes_eq-Decides}
@@ -14,11 +14,13 @@ use Rattle.xbrl_report.specs.Pair.{Pair}
 use Rattle.xbrl_report.specs.CodeNumber.{number_of}
 use Rattle.xbrl_report.specs.declared.code.Code.{Code}
 use Rattle.xbrl_report.specs.declared.code.Code.TheVariants.{NotJson, NotObject, DocumentInfo, DocumentType, Namespaces, NamespaceUri, Taxonomy, Facts, Fact, Value, Decimals, Dimensions, ConceptMissing, EntityMissing, DimensionValue, Name, UnboundPrefix, NotTheFiler, Period, PeriodOrder, UnitForm, Number, Language, UnknownDimension, TooMany}
-use Rattle.filing_model.specs.Request.{Request, same_key, firsts}
+use Rattle.filing_model.specs.Request.{Request, same_key, has_key, firsts}
 use Rattle.filing_model.specs.Register.{Kept, kept}
 use Rattle.filing_model.specs.Answer.{kept_for}
+use Rattle.filing_model.specs.Style.{style_of}
+use Rattle.filing_model.specs.declared.served.Style.TheVariants.{Old, Problem}
 use Rattle.filing_model.specs.Views.{the_request}
-use Rattle.filing_model.proofs.Firsts.{firsts_once}
+use Rattle.filing_model.proofs.Firsts.{firsts_once, same_key-refl}
 use Rattle.filing_model.proofs.Keeping.{requests_of_kept}
 use Rattle.filing_model.proofs.Lists.{filter-map, length-map}
 use Rattle.table_rows.specs.Rows.{counted_from}
@@ -29,6 +31,7 @@ use Rattle.register_store.specs.Schema.{kept_table, finding_table}
 use Rattle.register_store.specs.Register.{kept_row, finding_row, finding_rows, findings_of, joined_from}
 use Rattle.register_store.specs.Reads.{by_second}
 use Rattle.register_store.specs.Found.{has_texts, has_seq, unsorted, found_in, pair_in, found_row, finding_in, code_in, IsPlaced, IsReading, IsLookUp}
+use Rattle.register_store.specs.Outcomes.{style_at}
 use Rattle.register_store.specs.declared.found.Found.{Found}
 use Rattle.register_store.specs.Store.{IsRegisterOf}
 
@@ -109,7 +112,7 @@ pub record IsThere (filer key : List ℕ) (F : List Request) (rows : List Row) :
 abbrev pub IsRead : List ℕ → List ℕ → List Request → List Row → Type 0
 IsRead filer key F rows = (((body : List ℕ) → kept_for (kept F) (the_request filer key body) ≡ None) × (rows ≡ [])) ⊎ IsThere filer key F rows
 
-module _ (filer key : List ℕ) (F : List Request) (old new : State) (rows : List Row) (was : Stands (IsRegisterOf F) old) where
+module _ {early : ℕ} (filer key : List ℕ) (F : List Request) (old new : State) (rows : List Row) (was : Stands (IsRegisterOf early F) old) where
   its_row : IsNone filer key [] (kept F) (filter (has_texts filer key) (counted_from kept_row 1 (kept F))) ⊎ IsOnly filer key [] 1 (kept F) (filter (has_texts filer key) (counted_from kept_row 1 (kept F)))
       → IsPermutation (map found_in (filter (has_texts filer key) (counted_from kept_row 1 (kept F)))) rows → IsRead filer key F rows
   its_row (inl none) same = inl ((λ body. none.is), nothing rows (rw none.rows_are at same))
@@ -145,7 +148,7 @@ looked_up filer key F rows (inr one) (Some found) h =
     }
 
 -- the answer of a look-up
-pub key_found : (filer key : List ℕ) (F : List Request) (old new : State) (rows : List Row) → Stands (IsRegisterOf F) old → ReadsRows kept_table (has_texts filer key) unsorted found_in rows old new
+pub key_found : {early : ℕ} (filer key : List ℕ) (F : List Request) (old new : State) (rows : List Row) → Stands (IsRegisterOf early F) old → ReadsRows kept_table (has_texts filer key) unsorted found_in rows old new
     → (found : Option Found) → IsReading rows found → IsLookUp filer key F found
 key_found filer key F old new rows was h found reading = looked_up filer key F rows (key_read filer key F old new rows was h) found reading
 
@@ -187,6 +190,47 @@ module _ (seq : ℕ) where
       let apart : nat_eq at seq ≡ false = grind (arith, nat_tests) in
       filter-append (has_seq (pos seq)) (finding_rows at x) (joined_from finding_rows (at + 1) ks) ∙ ap₂ ◌++◌ (none_its at 1 (findings_of x.outcome) apart) (its_rows (at + 1) ks k later)
 
+-- ---- the style of a filer and key
+
+module _ (filer key body : List ℕ) where
+  abbrev asked : Request
+  asked = the_request filer key body
+
+  abbrev alike : List Kept → List Kept
+  alike ks = filter (λ k. same_key k.request asked) ks
+
+  some_placed : (at seq : ℕ) (ks : List Kept) (k : Kept) → IsPlaced at seq ks k → same_key k.request asked ≡ true → 1 ≤ length (alike ks)
+  some_placed at seq [] k h so = absurd h
+  some_placed at seq (x ∷ ks) k (inl here) so = let is : same_key x.request asked ≡ true = ap (λ (y : Kept). same_key y.request asked) (sym here.1) ∙ so in rw is (omega arith)
+  some_placed at seq (x ∷ ks) k (inr later) so = ⊎_elim
+      (λ (is : same_key x.request asked ≡ true). rw is (omega arith))
+      (λ (is : same_key x.request asked ≡ false). rw is (some_placed (at + 1) seq ks k later so))
+      (cases_Bool (same_key x.request asked))
+
+  -- the first so many have them where the kept request stands among these
+  among_first : (n at seq : ℕ) (ks : List Kept) (k : Kept) → length (alike ks) ≤ 1 → IsPlaced at seq ks k → same_key k.request asked ≡ true
+      → has_key (take n (map (λ (k : Kept). k.request) ks)) asked ≡ nat_lt seq (at + n)
+  among_first n at seq [] k few h so = absurd h
+  among_first zero at seq (x ∷ ks) k few placed so = let above = placed_from seq at (x ∷ ks) k placed in grind (arith, nat_tests, above)
+  among_first (suc n) at seq (x ∷ ks) k few (inl here) so =
+      let is : same_key x.request asked ≡ true = ap (λ (y : Kept). same_key y.request asked) (sym here.1) ∙ so in
+      let low : seq < at + suc n = omega (arith, here.0) in
+      rw is (grind (arith, nat_tests, low))
+  among_first (suc n) at seq (x ∷ ks) k few (inr later) so = ⊎_elim
+      (λ (is : same_key x.request asked ≡ true). absurd (let less : suc (length (alike ks)) ≤ 1 = rw is at few in omega (arith, less, some_placed (at + 1) seq ks k later so)))
+      (λ (is : same_key x.request asked ≡ false). rw is (among_first n (at + 1) seq ks k (rw is at few) later so ∙ ap (nat_lt seq) (omega arith)))
+      (cases_Bool (same_key x.request asked))
+
+  -- so the place of the kept request tells the style
+  pub styled : (early : ℕ) (F : List Request) → firsts F ≡ F → (seq : ℕ) (k : Kept) → IsPlaced 1 seq (kept F) k → same_key k.request asked ≡ true → style_at early seq ≡ style_of (take early F) asked
+  styled early F distinct seq k placed so =
+      let has : has_key (take early (map (λ (k : Kept). k.request) (kept F))) asked ≡ nat_lt seq (1 + early) = among_first early 1 seq (kept F) k (few_kept F asked) placed so in
+      let same : nat_le seq early ≡ nat_lt seq (1 + early) = grind (arith, nat_tests) in
+      ap (λ b. cond b Old Problem) (same ∙ sym has ∙ ap (λ rs. has_key (take early rs) asked) (requests_of_kept F ∙ distinct))
+
+pub has_same_key : (s : Request) (filer key body other : List ℕ) → s ≡ the_request filer key body → same_key s (the_request filer key other) ≡ true
+has_same_key s filer key body other is = ap (λ (r : Request). same_key r (the_request filer key other)) is ∙ same_key-refl (the_request filer key body)
+
 -- what a row says of its finding
 pub code_back : (c : Code) → code_in (Int (pos (number_of c))) ≡ c
 code_back NotJson = refl
@@ -219,7 +263,7 @@ pairs_back : (seq at : ℕ) (fs : List Pair) → map finding_in (map pair_in (co
 pairs_back seq at [] = refl
 pairs_back seq at (f ∷ fs) = ap₂ (λ c l. record { place = f.place; code = c } ∷ l) (code_back f.code) (pairs_back seq (at + 1) fs)
 
-module _ (F : List Request) (old new : State) (rows : List Row) (was : Stands (IsRegisterOf F) old) (seq : ℕ) (k : Kept) (placed : IsPlaced 1 seq (kept F) k) where
+module _ {early : ℕ} (F : List Request) (old new : State) (rows : List Row) (was : Stands (IsRegisterOf early F) old) (seq : ℕ) (k : Kept) (placed : IsPlaced 1 seq (kept F) k) where
   its_table : filter (has_seq (pos seq)) (joined_from finding_rows 1 (kept F)) ≡ finding_rows seq k
   its_table = its_rows seq 1 (kept F) k placed
 

@@ -15,7 +15,7 @@ use Rattle.table_rows.proofs.SelectLemmas.{one_table}
 use Rattle.table_rows.proofs.ReadingLemmas.{by_each}
 use Rattle.table_rows.proofs.QueryLemmas.{Asks}
 use Rattle.table_rows.proofs.TextLemmas.{IsQueryText}
-use Rattle.register_store.specs.Schema.{register_tables, IsDeclared}
+use Rattle.register_store.specs.Schema.{common_tables, HasCommon}
 use Rattle.register_store.proofs.ReadTexts.{columns, equals}
 
 abbrev pub find_text : List ℕ
@@ -38,7 +38,7 @@ same_filer_and_key = op2 (Compare Eq Binary) (col 1 2) (col 0 0) ∷ op2 (Compar
 
 module _ (tables : List Table) (indexes : List Index) (views : List View) where
   abbrev schema : Schema
-  schema = schema_with register_tables tables indexes views
+  schema = schema_with common_tables tables indexes views
 
   key_text : Asks schema find_text (one_table 1 same_filer_and_key (columns (0 ∷ 4 ∷ 5 ∷ [])) (by_each []))
   unfolding understood everything
@@ -49,8 +49,8 @@ module _ (tables : List Table) (indexes : List Index) (views : List View) where
   seq_text = record { names = codes "code" ∷ codes "place" ∷ []; is = refl; plain = (refl, refl); listing = refl }
 
 -- the same of any schema that begins with our tables
-pub asks_key : (s : Schema) → IsDeclared s → Asks s find_text (one_table 1 same_filer_and_key (columns (0 ∷ 4 ∷ 5 ∷ [])) (by_each []))
+pub asks_key : (s : Schema) → HasCommon s → Asks s find_text (one_table 1 same_filer_and_key (columns (0 ∷ 4 ∷ 5 ∷ [])) (by_each []))
 asks_key s d = subst (λ t. Asks t find_text (one_table 1 same_filer_and_key (columns (0 ∷ 4 ∷ 5 ∷ [])) (by_each []))) (sym d.is) (key_text d.tables d.indexes d.views)
 
-pub asks_seq : (s : Schema) → IsDeclared s → Asks s found_text (one_table 3 (equals 1) (columns (3 ∷ 4 ∷ [])) (by_each (col 1 2 ∷ [])))
+pub asks_seq : (s : Schema) → HasCommon s → Asks s found_text (one_table 3 (equals 1) (columns (3 ∷ 4 ∷ [])) (by_each (col 1 2 ∷ [])))
 asks_seq s d = subst (λ t. Asks t found_text (one_table 3 (equals 1) (columns (3 ∷ 4 ∷ [])) (by_each (col 1 2 ∷ [])))) (sym d.is) (seq_text d.tables d.indexes d.views)

@@ -1,14 +1,14 @@
 -- The rows of a register, with those that a table gained.
-use Rattle.std.proofs.Common.{List, ◌++◌, arith}
+use Rattle.std.proofs.Common.{ℕ, List, ◌++◌, arith}
 use Rattle.sqlite.specs.Order.{Row}
 use Rattle.sqlite.specs.Effect.{Database}
 use Rattle.table_rows.specs.Rows.{Gains}
 use Rattle.table_rows.proofs.GainLemmas.{holds_more, same_rows, still_declared}
-use Rattle.register_store.specs.Schema.{register_tables, meta_table, kept_table, finding_table, filing_table, fact_table}
+use Rattle.register_store.specs.Schema.{register_tables, meta_table, kept_table, finding_table, filing_table, fact_table, migrated_table, amends_table}
 use Rattle.register_store.specs.Register.{HasRows}
 
-module _ (old new : Database) (ks fs gs hs rows : List Row) (has : HasRows old ks fs gs hs) where
-  pub kept_grows : Gains register_tables kept_table rows old new → HasRows new (ks ++ rows) fs gs hs
+module _ (old new : Database) (early : ℕ) (ks fs gs hs rows : List Row) (has : HasRows old early ks fs gs hs) where
+  pub kept_grows : Gains register_tables kept_table rows old new → HasRows new early (ks ++ rows) fs gs hs
   kept_grows g =
       let o = g.others in
       record {
@@ -18,9 +18,11 @@ module _ (old new : Database) (ks fs gs hs rows : List Row) (has : HasRows old k
         finding_is = same_rows finding_table fs old new (o.1.1.0 (λ e. absurd (omega (arith, e)))) has.finding_is;
         filing_is = same_rows filing_table gs old new (o.1.1.1.0 (λ e. absurd (omega (arith, e)))) has.filing_is;
         fact_is = same_rows fact_table hs old new (o.1.1.1.1.0 (λ e. absurd (omega (arith, e)))) has.fact_is;
+        migrated_is = same_rows migrated_table _ old new (o.1.1.1.1.1.0 (λ e. absurd (omega (arith, e)))) has.migrated_is;
+        amends_is = same_rows amends_table _ old new (o.1.1.1.1.1.1.0 (λ e. absurd (omega (arith, e)))) has.amends_is;
       }
 
-  pub finding_grows : Gains register_tables finding_table rows old new → HasRows new ks (fs ++ rows) gs hs
+  pub finding_grows : Gains register_tables finding_table rows old new → HasRows new early ks (fs ++ rows) gs hs
   finding_grows g =
       let o = g.others in
       record {
@@ -30,9 +32,11 @@ module _ (old new : Database) (ks fs gs hs rows : List Row) (has : HasRows old k
         finding_is = holds_more register_tables finding_table fs rows old new has.finding_is g;
         filing_is = same_rows filing_table gs old new (o.1.1.1.0 (λ e. absurd (omega (arith, e)))) has.filing_is;
         fact_is = same_rows fact_table hs old new (o.1.1.1.1.0 (λ e. absurd (omega (arith, e)))) has.fact_is;
+        migrated_is = same_rows migrated_table _ old new (o.1.1.1.1.1.0 (λ e. absurd (omega (arith, e)))) has.migrated_is;
+        amends_is = same_rows amends_table _ old new (o.1.1.1.1.1.1.0 (λ e. absurd (omega (arith, e)))) has.amends_is;
       }
 
-  pub filing_grows : Gains register_tables filing_table rows old new → HasRows new ks fs (gs ++ rows) hs
+  pub filing_grows : Gains register_tables filing_table rows old new → HasRows new early ks fs (gs ++ rows) hs
   filing_grows g =
       let o = g.others in
       record {
@@ -42,9 +46,11 @@ module _ (old new : Database) (ks fs gs hs rows : List Row) (has : HasRows old k
         finding_is = same_rows finding_table fs old new (o.1.1.0 (λ e. absurd (omega (arith, e)))) has.finding_is;
         filing_is = holds_more register_tables filing_table gs rows old new has.filing_is g;
         fact_is = same_rows fact_table hs old new (o.1.1.1.1.0 (λ e. absurd (omega (arith, e)))) has.fact_is;
+        migrated_is = same_rows migrated_table _ old new (o.1.1.1.1.1.0 (λ e. absurd (omega (arith, e)))) has.migrated_is;
+        amends_is = same_rows amends_table _ old new (o.1.1.1.1.1.1.0 (λ e. absurd (omega (arith, e)))) has.amends_is;
       }
 
-  pub fact_grows : Gains register_tables fact_table rows old new → HasRows new ks fs gs (hs ++ rows)
+  pub fact_grows : Gains register_tables fact_table rows old new → HasRows new early ks fs gs (hs ++ rows)
   fact_grows g =
       let o = g.others in
       record {
@@ -54,4 +60,6 @@ module _ (old new : Database) (ks fs gs hs rows : List Row) (has : HasRows old k
         finding_is = same_rows finding_table fs old new (o.1.1.0 (λ e. absurd (omega (arith, e)))) has.finding_is;
         filing_is = same_rows filing_table gs old new (o.1.1.1.0 (λ e. absurd (omega (arith, e)))) has.filing_is;
         fact_is = holds_more register_tables fact_table hs rows old new has.fact_is g;
+        migrated_is = same_rows migrated_table _ old new (o.1.1.1.1.1.0 (λ e. absurd (omega (arith, e)))) has.migrated_is;
+        amends_is = same_rows amends_table _ old new (o.1.1.1.1.1.1.0 (λ e. absurd (omega (arith, e)))) has.amends_is;
       }

@@ -3,6 +3,7 @@ pub mod AuditLemmas
 pub mod AuditRefutes
 pub mod AuditSteps
 pub mod CellLemmas
+pub mod CommonLemmas
 pub mod CreateTexts
 pub mod DamageLemmas
 pub mod FactLemmas
@@ -19,6 +20,7 @@ pub mod MoreRequests
 pub mod NextLemmas
 pub mod NumberLemmas
 pub mod OpenLemmas
+pub mod Opened
 pub mod OurGains
 pub mod ReadLemmas
 pub mod ReadTexts
@@ -33,3 +35,8 @@ pub mod WalkLemmas
 pub mod WalkOpens
 pub mod PickTexts
 pub mod PickLemmas
+pub mod EarlierReads
+pub mod MigrateTexts
+pub mod Migrates
+pub mod Surveyed
+pub mod NotSurveyed

@@ -16,14 +16,15 @@ use Rattle.register_store.specs.Columns.{request_in, filing_in}
 use Rattle.register_store.specs.Reads.{Knows, every, whole, by_first}
 use Rattle.register_store.specs.Register.{kept_row}
 use Rattle.register_store.specs.Schema.{kept_table}
+use Rattle.register_store.proofs.CommonLemmas.{has_common}
 use Rattle.register_store.specs.Store.{IsRegisterOf}
 
-pub knows : (F : List Request) (s : State) → Stands (IsRegisterOf F) s → Knows s
-knows F s was alive = (was.now alive).rows.rows.declared
+pub knows : {early : ℕ} (F : List Request) (s : State) → Stands (IsRegisterOf early F) s → Knows s
+knows F s was alive = has_common s.now.schema (was.now alive).rows.rows.declared
 
 -- a call that wrote nothing
-pub stays : (F : List Request) (old new : State) → Stands (IsRegisterOf F) old → Keeps old new → Stands (IsRegisterOf F) new
-stays F old new was keeps = stands_on (IsRegisterOf F) old new keeps was
+pub stays : {early : ℕ} (F : List Request) (old new : State) → Stands (IsRegisterOf early F) old → Keeps old new → Stands (IsRegisterOf early F) new
+stays {early} F old new was keeps = stands_on (IsRegisterOf early F) old new keeps was
 
 pub filter_every : (rows : List Row) → filter every rows ≡ rows
 filter_every [] = refl
@@ -34,7 +35,7 @@ map_whole [] = refl
 map_whole (r ∷ rows) = ap (λ l. r ∷ l) (map_whole rows)
 
 -- all kept rows, in order
-pub kept_read : (F : List Request) (old new : State) (rows : List Row) → Stands (IsRegisterOf F) old → ReadsRows kept_table every by_first whole rows old new → rows ≡ counted_from kept_row 1 (kept F)
+pub kept_read : {early : ℕ} (F : List Request) (old new : State) (rows : List Row) → Stands (IsRegisterOf early F) old → ReadsRows kept_table every by_first whole rows old new → rows ≡ counted_from kept_row 1 (kept F)
 kept_read F old new rows was r =
     let wanted = counted_from kept_row 1 (kept F) in
     let has = (was.now r.same.0.was_open).rows.rows.kept_is in
@@ -46,7 +47,7 @@ requests_said at [] = refl
 requests_said at (k ∷ ks) = ap (λ l. k.request ∷ l) (requests_said (at + 1) ks)
 
 -- they say the requests
-pub requests_read : (F : List Request) (old new : State) (rows : List Row) → Stands (IsRegisterOf F) old → ReadsRows kept_table every by_first whole rows old new → map request_in rows ≡ F
+pub requests_read : {early : ℕ} (F : List Request) (old new : State) (rows : List Row) → Stands (IsRegisterOf early F) old → ReadsRows kept_table every by_first whole rows old new → map request_in rows ≡ F
 requests_read F old new rows was r =
     ap (map request_in) (kept_read F old new rows was r) ∙ requests_said 1 (kept F) ∙ requests_of_kept F ∙ (was.now r.same.0.was_open).rows.distinct
 
@@ -64,5 +65,5 @@ filings_said at (k ∷ ks) = go k.outcome (filings_said (at + 1) ks)
     go (Refused findings) h = h
 
 -- and the filings
-pub filings_read : (F : List Request) (old new : State) (rows : List Row) → Stands (IsRegisterOf F) old → ReadsRows kept_table every by_first whole rows old new → filter_map filing_in rows ≡ register F
+pub filings_read : {early : ℕ} (F : List Request) (old new : State) (rows : List Row) → Stands (IsRegisterOf early F) old → ReadsRows kept_table every by_first whole rows old new → filter_map filing_in rows ≡ register F
 filings_read F old new rows was r = ap (filter_map filing_in) (kept_read F old new rows was r) ∙ filings_said 1 (kept F)

@@ -52,13 +52,13 @@ registered_more F r new =
     one r (Outcome.Registered number) = refl
     one r (Outcome.Refused found) = refl
 
-module _ (F : List Request) (r : Request) (new : has_key F r ≡ false) (completed : IsCompleted r) where
-  pub stands_for_more : (old after : Database) → StandsFor old F → AddsRows (suc (length F)) (judged (kept F) r) old after → StandsFor after (F ++ r ∷ [])
+module _ (early : ℕ) (F : List Request) (r : Request) (new : has_key F r ≡ false) (completed : IsCompleted r) where
+  pub stands_for_more : (old after : Database) → StandsFor old early F → AddsRows (suc (length F)) (judged (kept F) r) old after → StandsFor after early (F ++ r ∷ [])
   stands_for_more old after stands adds =
       let ks = kept F in
       let k = judged (kept F) r in
       let at : 1 + length ks ≡ suc (length F) = omega (arith, kept_length F stands.distinct) in
-      let has = adds.rows _ _ _ _ stands.rows in
+      let has = adds.rows early _ _ _ _ stands.rows in
       let kept_is = ap (counted_from kept_row 1) (kept_new F r new) ∙ counted_push kept_row 1 ks k ∙ ap (λ n. counted_from kept_row 1 ks ++ kept_row n k ∷ []) at in
       let finding_is = ap (joined_from finding_rows 1) (kept_new F r new) ∙ joined_push finding_rows 1 ks k ∙ ap (λ n. joined_from finding_rows 1 ks ++ finding_rows n k) at in
       let filing_is = ap (joined_from filing_rows 1) (kept_new F r new) ∙ joined_push filing_rows 1 ks k ∙ ap (λ n. joined_from filing_rows 1 ks ++ filing_rows n k) at in
@@ -66,10 +66,11 @@ module _ (F : List Request) (r : Request) (new : has_key F r ≡ false) (complet
       record {
         distinct = firsts_new F r new ∙ ap (λ front. front ++ r ∷ []) stands.distinct;
         completed = all_push IsCompleted F r stands.completed completed;
+        within = omega (arith, stands.within, length-append F (r ∷ []));
         rows = rw (kept_is, finding_is, filing_is, fact_is) has;
       }
 
-  pub register_of_more : (old after : Database) → IsRegisterOf F old → AddsRows (suc (length F)) (judged (kept F) r) old after → IsRegisterOf (F ++ r ∷ []) after
+  pub register_of_more : (old after : Database) → IsRegisterOf early F old → AddsRows (suc (length F)) (judged (kept F) r) old after → IsRegisterOf early (F ++ r ∷ []) after
   register_of_more old after register adds = record {
     sound = adds.sound register.rows.rows.declared register.sound;
     rows = stands_for_more old after register.rows adds;

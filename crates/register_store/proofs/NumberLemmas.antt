@@ -54,7 +54,7 @@ module _ (filer : List ℕ) where
       go true is (Refused findings) h = h
       go false is (Refused findings) h = h
 
-  pub numbers_read : (F : List Request) (old new : State) (rows : List Row) → Stands (IsRegisterOf F) old → ReadsRows kept_table (has_filer filer) by_first number_alone rows old new
+  pub numbers_read : {early : ℕ} (F : List Request) (old new : State) (rows : List Row) → Stands (IsRegisterOf early F) old → ReadsRows kept_table (has_filer filer) by_first number_alone rows old new
       → filter_map first_number rows ≡ numbers_under filer (register F)
   numbers_read F old new rows was r =
       let wanted = counted_from kept_row 1 (kept F) in

@@ -14,7 +14,7 @@ use Rattle.table_rows.proofs.SelectLemmas.{one_table}
 use Rattle.table_rows.proofs.ReadingLemmas.{by_each}
 use Rattle.table_rows.proofs.QueryLemmas.{Asks}
 use Rattle.table_rows.proofs.TextLemmas.{IsQueryText}
-use Rattle.register_store.specs.Schema.{register_tables, IsDeclared}
+use Rattle.register_store.specs.Schema.{common_tables, HasCommon}
 use Rattle.register_store.proofs.ReadTexts.{columns, equals}
 use Rattle.register_store.proofs.FindTexts.{same_filer_and_key}
 
@@ -85,7 +85,7 @@ query_count_facts = refl
 
 module _ (tables : List Table) (indexes : List Index) (views : List View) where
   abbrev schema : Schema
-  schema = schema_with register_tables tables indexes views
+  schema = schema_with common_tables tables indexes views
 
   means_kept_at : Asks schema kept_at_text (one_table 1 (equals 0) (columns (0 ∷ 2 ∷ 3 ∷ 4 ∷ 5 ∷ [])) (by_each (col 1 0 ∷ [])))
   unfolding understood everything
@@ -124,32 +124,32 @@ module _ (tables : List Table) (indexes : List Index) (views : List View) where
   means_count_facts = record { names = codes "count(*)" ∷ []; is = refl; plain = (refl, refl); listing = refl }
 
 -- the same of any schema that begins with our tables
-on_ours : (text : List ℕ) (q : Query) → ((tables : List Table) (indexes : List Index) (views : List View) → Asks (schema_with register_tables tables indexes views) text q) → (s : Schema) → IsDeclared s → Asks s text q
+on_ours : (text : List ℕ) (q : Query) → ((tables : List Table) (indexes : List Index) (views : List View) → Asks (schema_with common_tables tables indexes views) text q) → (s : Schema) → HasCommon s → Asks s text q
 on_ours text q asks s d = subst (λ t. Asks t text q) (sym d.is) (asks d.tables d.indexes d.views)
 
-pub asks_kept_at : (s : Schema) → IsDeclared s → Asks s kept_at_text (one_table 1 (equals 0) (columns (0 ∷ 2 ∷ 3 ∷ 4 ∷ 5 ∷ [])) (by_each (col 1 0 ∷ [])))
+pub asks_kept_at : (s : Schema) → HasCommon s → Asks s kept_at_text (one_table 1 (equals 0) (columns (0 ∷ 2 ∷ 3 ∷ 4 ∷ 5 ∷ [])) (by_each (col 1 0 ∷ [])))
 asks_kept_at = on_ours _ _ means_kept_at
 
-pub asks_findings_at : (s : Schema) → IsDeclared s → Asks s findings_at_text (one_table 3 (equals 1) (columns (1 ∷ 2 ∷ 3 ∷ 4 ∷ [])) (by_each (col 1 2 ∷ [])))
+pub asks_findings_at : (s : Schema) → HasCommon s → Asks s findings_at_text (one_table 3 (equals 1) (columns (1 ∷ 2 ∷ 3 ∷ 4 ∷ [])) (by_each (col 1 2 ∷ [])))
 asks_findings_at = on_ours _ _ means_findings_at
 
-pub asks_filings_numbered : (s : Schema) → IsDeclared s → Asks s filings_numbered_text (one_table 5 (equals 0) (columns (0 ∷ 2 ∷ [])) (by_each (col 1 0 ∷ [])))
+pub asks_filings_numbered : (s : Schema) → HasCommon s → Asks s filings_numbered_text (one_table 5 (equals 0) (columns (0 ∷ 2 ∷ [])) (by_each (col 1 0 ∷ [])))
 asks_filings_numbered = on_ours _ _ means_filings_numbered
 
-pub asks_facts_numbered : (s : Schema) → IsDeclared s → Asks s facts_numbered_text (one_table 7 (equals 1) (columns (1 ∷ 2 ∷ 3 ∷ 4 ∷ 5 ∷ 6 ∷ 7 ∷ [])) (by_each (col 1 2 ∷ [])))
+pub asks_facts_numbered : (s : Schema) → HasCommon s → Asks s facts_numbered_text (one_table 7 (equals 1) (columns (1 ∷ 2 ∷ 3 ∷ 4 ∷ 5 ∷ 6 ∷ 7 ∷ [])) (by_each (col 1 2 ∷ [])))
 asks_facts_numbered = on_ours _ _ means_facts_numbered
 
-pub asks_with_key : (s : Schema) → IsDeclared s → Asks s with_key_text (one_table 1 same_filer_and_key (columns (0 ∷ [])) (by_each (col 1 0 ∷ [])))
+pub asks_with_key : (s : Schema) → HasCommon s → Asks s with_key_text (one_table 1 same_filer_and_key (columns (0 ∷ [])) (by_each (col 1 0 ∷ [])))
 asks_with_key = on_ours _ _ means_with_key
 
-pub asks_count_kept : (s : Schema) → IsDeclared s → Asks s count_kept_text (counting (one_table 1 [] [] []))
+pub asks_count_kept : (s : Schema) → HasCommon s → Asks s count_kept_text (counting (one_table 1 [] [] []))
 asks_count_kept = on_ours _ _ means_count_kept
 
-pub asks_count_findings : (s : Schema) → IsDeclared s → Asks s count_findings_text (counting (one_table 3 [] [] []))
+pub asks_count_findings : (s : Schema) → HasCommon s → Asks s count_findings_text (counting (one_table 3 [] [] []))
 asks_count_findings = on_ours _ _ means_count_findings
 
-pub asks_count_filings : (s : Schema) → IsDeclared s → Asks s count_filings_text (counting (one_table 5 [] [] []))
+pub asks_count_filings : (s : Schema) → HasCommon s → Asks s count_filings_text (counting (one_table 5 [] [] []))
 asks_count_filings = on_ours _ _ means_count_filings
 
-pub asks_count_facts : (s : Schema) → IsDeclared s → Asks s count_facts_text (counting (one_table 7 [] [] []))
+pub asks_count_facts : (s : Schema) → HasCommon s → Asks s count_facts_text (counting (one_table 7 [] [] []))
 asks_count_facts = on_ours _ _ means_count_facts

@@ -16,8 +16,8 @@ use Rattle.table_rows.proofs.SelectLemmas.{one_table}
 use Rattle.table_rows.proofs.ReadingLemmas.{by_each}
 use Rattle.table_rows.proofs.QueryLemmas.{Asks}
 use Rattle.table_rows.proofs.TextLemmas.{IsQueryText}
-use Rattle.register_store.specs.Opening.{all_meta, all_kept, all_findings, all_filings, all_facts}
-use Rattle.register_store.specs.Schema.{register_tables, IsDeclared}
+use Rattle.register_store.specs.Opening.{all_meta, all_kept, all_findings, all_filings, all_facts, all_migrated, all_amends}
+use Rattle.register_store.specs.Schema.{common_tables, register_tables, HasCommon, IsDeclared}
 
 abbrev pub filer_numbers : List ℕ
 filer_numbers = codes "SELECT number FROM kept WHERE filer = ?1 ORDER BY seq"
@@ -50,6 +50,14 @@ pub query_facts : IsQueryText all_facts
 unfolding everything
 query_facts = refl
 
+pub query_migrated : IsQueryText all_migrated
+unfolding everything
+query_migrated = refl
+
+pub query_amends : IsQueryText all_amends
+unfolding everything
+query_amends = refl
+
 pub query_numbers : IsQueryText filer_numbers
 unfolding everything
 query_numbers = refl
@@ -73,7 +81,7 @@ equals at = op2 (Compare Eq Binary) (col 1 at) (col 0 0) ∷ []
 
 module _ (tables : List Table) (indexes : List Index) (views : List View) where
   abbrev schema : Schema
-  schema = schema_with register_tables tables indexes views
+  schema = schema_with common_tables tables indexes views
 
   meta_text : Asks schema all_meta (one_table 0 [] (columns (0 ∷ 2 ∷ 3 ∷ [])) (by_each (col 1 0 ∷ [])))
   unfolding understood everything
@@ -112,30 +120,48 @@ module _ (tables : List Table) (indexes : List Index) (views : List View) where
   unfolding understood everything
   said_text = record { names = codes "id" ∷ codes "concept" ∷ codes "dimensions" ∷ codes "value" ∷ codes "decimals" ∷ []; is = refl; plain = (refl, refl); listing = refl }
 
--- the same of any schema that begins with our tables
-on_ours : (text : List ℕ) (q : Query) → ((tables : List Table) (indexes : List Index) (views : List View) → Asks (schema_with register_tables tables indexes views) text q) → (s : Schema) → IsDeclared s → Asks s text q
+module _ (tables : List Table) (indexes : List Index) (views : List View) where
+  abbrev whole_schema : Schema
+  whole_schema = schema_with register_tables tables indexes views
+
+  migrated_text : Asks whole_schema all_migrated (one_table 9 [] (columns (0 ∷ 2 ∷ [])) (by_each (col 1 0 ∷ [])))
+  unfolding understood everything
+  migrated_text = record { names = codes "id" ∷ codes "last" ∷ []; is = refl; plain = (refl, refl); listing = refl }
+
+  amends_text : Asks whole_schema all_amends (one_table 10 [] (columns (0 ∷ 2 ∷ [])) (by_each (col 1 0 ∷ [])))
+  unfolding understood everything
+  amends_text = record { names = codes "seq" ∷ codes "target" ∷ []; is = refl; plain = (refl, refl); listing = refl }
+
+pub asks_migrated : (s : Schema) → IsDeclared s → Asks s all_migrated (one_table 9 [] (columns (0 ∷ 2 ∷ [])) (by_each (col 1 0 ∷ [])))
+asks_migrated s d = subst (λ t. Asks t all_migrated (one_table 9 [] (columns (0 ∷ 2 ∷ [])) (by_each (col 1 0 ∷ [])))) (sym d.is) (migrated_text d.tables d.indexes d.views)
+
+pub asks_amends : (s : Schema) → IsDeclared s → Asks s all_amends (one_table 10 [] (columns (0 ∷ 2 ∷ [])) (by_each (col 1 0 ∷ [])))
+asks_amends s d = subst (λ t. Asks t all_amends (one_table 10 [] (columns (0 ∷ 2 ∷ [])) (by_each (col 1 0 ∷ [])))) (sym d.is) (amends_text d.tables d.indexes d.views)
+
+-- the same of any schema that begins with the tables of every form
+on_ours : (text : List ℕ) (q : Query) → ((tables : List Table) (indexes : List Index) (views : List View) → Asks (schema_with common_tables tables indexes views) text q) → (s : Schema) → HasCommon s → Asks s text q
 on_ours text q asks s d = subst (λ t. Asks t text q) (sym d.is) (asks d.tables d.indexes d.views)
 
-pub asks_meta : (s : Schema) → IsDeclared s → Asks s all_meta (one_table 0 [] (columns (0 ∷ 2 ∷ 3 ∷ [])) (by_each (col 1 0 ∷ [])))
+pub asks_meta : (s : Schema) → HasCommon s → Asks s all_meta (one_table 0 [] (columns (0 ∷ 2 ∷ 3 ∷ [])) (by_each (col 1 0 ∷ [])))
 asks_meta = on_ours _ _ meta_text
 
-pub asks_kept : (s : Schema) → IsDeclared s → Asks s all_kept (one_table 1 [] (columns (0 ∷ 2 ∷ 3 ∷ 4 ∷ 5 ∷ [])) (by_each (col 1 0 ∷ [])))
+pub asks_kept : (s : Schema) → HasCommon s → Asks s all_kept (one_table 1 [] (columns (0 ∷ 2 ∷ 3 ∷ 4 ∷ 5 ∷ [])) (by_each (col 1 0 ∷ [])))
 asks_kept = on_ours _ _ kept_text
 
-pub asks_findings : (s : Schema) → IsDeclared s → Asks s all_findings (one_table 3 [] (columns (1 ∷ 2 ∷ 3 ∷ 4 ∷ [])) (by_each (col 1 1 ∷ col 1 2 ∷ [])))
+pub asks_findings : (s : Schema) → HasCommon s → Asks s all_findings (one_table 3 [] (columns (1 ∷ 2 ∷ 3 ∷ 4 ∷ [])) (by_each (col 1 1 ∷ col 1 2 ∷ [])))
 asks_findings = on_ours _ _ findings_text
 
-pub asks_filings : (s : Schema) → IsDeclared s → Asks s all_filings (one_table 5 [] (columns (0 ∷ 2 ∷ [])) (by_each (col 1 0 ∷ [])))
+pub asks_filings : (s : Schema) → HasCommon s → Asks s all_filings (one_table 5 [] (columns (0 ∷ 2 ∷ [])) (by_each (col 1 0 ∷ [])))
 asks_filings = on_ours _ _ filings_text
 
-pub asks_facts : (s : Schema) → IsDeclared s → Asks s all_facts (one_table 7 [] (columns (1 ∷ 2 ∷ 3 ∷ 4 ∷ 5 ∷ 6 ∷ 7 ∷ [])) (by_each (col 1 1 ∷ col 1 2 ∷ [])))
+pub asks_facts : (s : Schema) → HasCommon s → Asks s all_facts (one_table 7 [] (columns (1 ∷ 2 ∷ 3 ∷ 4 ∷ 5 ∷ 6 ∷ 7 ∷ [])) (by_each (col 1 1 ∷ col 1 2 ∷ [])))
 asks_facts = on_ours _ _ facts_text
 
-pub asks_numbers : (s : Schema) → IsDeclared s → Asks s filer_numbers (one_table 1 (equals 2) (columns (5 ∷ [])) (by_each (col 1 0 ∷ [])))
+pub asks_numbers : (s : Schema) → HasCommon s → Asks s filer_numbers (one_table 1 (equals 2) (columns (5 ∷ [])) (by_each (col 1 0 ∷ [])))
 asks_numbers = on_ours _ _ numbers_text
 
-pub asks_places : (s : Schema) → IsDeclared s → Asks s fact_places (one_table 7 (equals 1) (columns (2 ∷ [])) (by_each (col 1 2 ∷ [])))
+pub asks_places : (s : Schema) → HasCommon s → Asks s fact_places (one_table 7 (equals 1) (columns (2 ∷ [])) (by_each (col 1 2 ∷ [])))
 asks_places = on_ours _ _ places_text
 
-pub asks_said : (s : Schema) → IsDeclared s → Asks s facts_said (one_table 7 (equals 1) (columns (3 ∷ 4 ∷ 5 ∷ 6 ∷ 7 ∷ [])) (by_each (col 1 2 ∷ [])))
+pub asks_said : (s : Schema) → HasCommon s → Asks s facts_said (one_table 7 (equals 1) (columns (3 ∷ 4 ∷ 5 ∷ 6 ∷ 7 ∷ [])) (by_each (col 1 2 ∷ [])))
 asks_said = on_ours _ _ said_text

@@ -1,5 +1,5 @@
 -- What the calls of a store keep.
-use Rattle.std.proofs.Common.{◌≡◌, ◌+◌, suc, false, List, [], ◌∷◌, ◌++◌, length, length-append, IsTrue, sym, ap, subst, ◌∙◌, arith}
+use Rattle.std.proofs.Common.{◌≡◌, ◌≤◌, ℕ, ◌+◌, suc, false, List, [], ◌∷◌, ◌++◌, length, length-append, IsTrue, sym, ap, subst, ◌∙◌, arith}
 use Rattle.sqlite.specs.Store.{Ghosts}
 use Rattle.sqlite.specs.Tree.{Trees}
 use Rattle.sqlite.specs.Effect.{Database}
@@ -17,8 +17,8 @@ use Rattle.register_store.specs.Store.{StoreParts, shows, HasRequests, IsRegiste
 use Rattle.register_store.proofs.MoreRequests.{judged_as, registered_more, register_of_more}
 
 -- while the store is open, a crash leaves the requests that stand
-pub leaves : (F : List Request) (s : State) → Stands (IsRegisterOf F) s → IsTrue s.is_open → (trees : Trees) → trees ≡ s.committed.trees → Leaves F trees
-leaves F s h alive trees last = record { db = s.now; is = last ∙ ap (λ (d : Database). d.trees) (h.committed alive); register = h.now alive }
+pub leaves : (early : ℕ) (F : List Request) (s : State) → Stands (IsRegisterOf early F) s → IsTrue s.is_open → (trees : Trees) → trees ≡ s.committed.trees → Leaves early F trees
+leaves early F s h alive trees last = record { db = s.now; is = last ∙ ap (λ (d : Database). d.trees) (h.committed alive); register = h.now alive }
 
 -- a request that is kept as it was judged, after those that the store has
 module _ {S : Type 0} (g : Ghosts S) (store : StoreParts S) (r : Request) (j : Judged) (completed : IsCompleted r) (is : IsJudgement r.filer r.body j) where
@@ -32,22 +32,25 @@ module _ {S : Type 0} (g : Ghosts S) (store : StoreParts S) (r : Request) (j : J
         next : store.filings + 1 ≡ suc (length (register F))
         next = omega (arith, was.filings_is)
 
-    register_more : (after : Database) → IsTrue (shows g store).is_open → AddsRows (store.kept + 1) it (shows g store).now after → IsRegisterOf (F ++ r ∷ []) after
+    register_more : (after : Database) → IsTrue (shows g store).is_open → AddsRows (store.kept + 1) it (shows g store).now after → IsRegisterOf store.early (F ++ r ∷ []) after
     register_more after alive adds =
         let place : store.kept + 1 ≡ suc (length F) = omega (arith, was.kept_is) in
         let here = subst (λ n. AddsRows n it (shows g store).now after) place adds in
-        register_of_more F r new_key completed (shows g store).now after (was.stands.now alive) (subst (λ o. AddsRows (suc (length F)) (record { request = r; outcome = o }) (shows g store).now after) outcome_is here)
+        register_of_more store.early F r new_key completed (shows g store).now after (was.stands.now alive) (subst (λ o. AddsRows (suc (length F)) (record { request = r; outcome = o }) (shows g store).now after) outcome_is here)
 
-    pub stands_more : (new : State) → new.in_transaction ≡ false → Adds (store.kept + 1) it (shows g store) new → Stands (IsRegisterOf (F ++ r ∷ [])) new
+    pub stands_more : (new : State) → new.in_transaction ≡ false → Adds (store.kept + 1) it (shows g store) new → Stands (IsRegisterOf store.early (F ++ r ∷ [])) new
     stands_more new idle a = record { autocommit = idle; now = λ _. register_more new.now a.was_open a.adds; committed = λ _. a.committed }
 
     pub kept_more : store.kept + 1 ≡ length (F ++ r ∷ [])
     kept_more = omega (arith, was.kept_is, length-append F (r ∷ []))
+
+    pub within_more : store.early ≤ length (F ++ r ∷ [])
+    within_more = omega (arith, was.within, length-append F (r ∷ []))
 
     pub filings_more : (o : Outcome) → o ≡ outcome_of (store.filings + 1) j → store.filings + filings_by o ≡ length (register (F ++ r ∷ []))
     filings_more o told = rw (told ∙ outcome_is, was.filings_is) (sym (registered_more F r new_key))
 
   -- what a crash may leave of the call
   pub crash_more : (new : State) → Survives (shows g store) new (AddsTo (store.kept + 1) it (shows g store).now)
-      → Survives (shows g store) new (λ trees. (F : List Request) → HasRequests g store F → IsTrue (shows g store).is_open → has_key F r ≡ false → Leaves (F ++ r ∷ []) trees)
+      → Survives (shows g store) new (λ trees. (F : List Request) → HasRequests g store F → IsTrue (shows g store).is_open → has_key F r ≡ false → Leaves store.early (F ++ r ∷ []) trees)
   crash_more new = survives_weaker (shows g store) new _ _ (λ _ trees a F was alive new_key. record { db = a.db; is = a.is; register = register_more F was new_key a.db alive a.adds })

@@ -12,7 +12,7 @@ use Rattle.sqlite_tied.specs.Compute.{everything}
 use Rattle.sqlite.specs.Listing.{understood}
 use Rattle.sqlite.proofs.Callers.{IsPlain, command_of}
 use Rattle.table_rows.specs.Tables.{schema_with}
-use Rattle.register_store.specs.Making.{insert_meta}
+use Rattle.register_store.specs.Making.{insert_meta, insert_none_early}
 use Rattle.register_store.specs.Schema.{register_tables}
 
 abbrev pub insert_kept : List ℕ
@@ -51,6 +51,10 @@ module _ (tables : List Table) (indexes : List Index) (views : List View) where
   unfolding understood everything
   plain_inserts = ((refl, refl), (refl, refl), (refl, refl), (refl, refl))
 
-  pub inserts_meta : (command_of (understood schema insert_meta) ≡ Insert 0 (Values (lit (Int (pos 1)) ∷ lit Null ∷ lit (Text (codes "register")) ∷ lit (Int (pos 2)) ∷ []) 4)) × IsPlain (understood schema insert_meta)
+  pub inserts_meta : (command_of (understood schema insert_meta) ≡ Insert 0 (Values (lit (Int (pos 1)) ∷ lit Null ∷ lit (Text (codes "register")) ∷ lit (Int (pos 4)) ∷ []) 4)) × IsPlain (understood schema insert_meta)
   unfolding understood everything
   inserts_meta = (refl, (refl, refl))
+
+  pub inserts_none_early : (command_of (understood schema insert_none_early) ≡ Insert 5 (Values (lit (Int (pos 1)) ∷ lit Null ∷ lit (Int (pos 0)) ∷ []) 3)) × IsPlain (understood schema insert_none_early)
+  unfolding understood everything
+  inserts_none_early = (refl, (refl, refl))

@@ -21,7 +21,7 @@ use Rattle.filing_model.proofs.Firsts.{firsts_new}
 use Rattle.filing_model.proofs.Keeping.{kept_new, requests_of_kept, register_numbered, all_push}
 use Rattle.table_rows.specs.Rows.{Holds, counted_from}
 use Rattle.table_rows.proofs.OrderLemmas.{same_number, and_true}
-use Rattle.register_store.specs.declared.opening.Counts.{Counts}
+use Rattle.register_store.specs.declared.walk.Totals.{Totals}
 use Rattle.register_store.specs.declared.walk.Left.{Left}
 use Rattle.register_store.specs.declared.walk.Sizes.{Sizes}
 use Rattle.sqlite.specs.declared.error.Error.{Error}
@@ -359,7 +359,7 @@ start_of k f g a db one two three four (Some s) says =
     (subst (λ o. IfSome o (λ n. CountsTo filing_table n db)) says.2 three) (subst (λ o. IfSome o (λ n. CountsTo fact_table n db)) says.3 four)
 
 -- where nothing is left, these are the rows
-pub amounts_of : (total : ℕ) (left : Left) (db : Database) → Walked total total left db → (found : Option Counts)
+pub amounts_of : (total : ℕ) (left : Left) (db : Database) → Walked total total left db → (found : Option Totals)
     → IfSome found (λ c. (c.kept ≡ total) × (left.findings ≡ 0) × (left.filings ≡ 0) × (left.facts ≡ 0) × (left.number ≡ c.filings + 1)) → IfSome found (λ c. Amounts c db)
 amounts_of total left db w None says = tt
 amounts_of total left db w (Some c) says =

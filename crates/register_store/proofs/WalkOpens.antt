@@ -1,5 +1,5 @@
 -- What an opening says of a database that was walked over.
-use Rattle.std.proofs.Common.{◌≡◌, ◌≢◌, inl, inr, ◌<◌, ◌≤◌, ℕ, ◌+◌, Bool, true, false, not, List, [], ◌∷◌, filter, length, nat_eq, refl, sym, ap, ap₂, subst, ◌∙◌, arith, Option, Some, None, Ok, Err, IsTrue, IsPermutation}
+use Rattle.std.proofs.Common.{◌≡◌, ◌≢◌, inl, inr, ◌<◌, ◌≤◌, ℕ, ◌+◌, Bool, true, false, not, List, [], ◌∷◌, filter, length, nat_eq, refl, sym, ap, ap₂, subst, ◌∙◌, arith, Option, Some, None, Ok, Err, IsPermutation}
 use Rattle.std.specs.List.{AllByRecursion}
 use Rattle.std.proofs.lemmas.Bool.Decides.{nat_tests}
 use Rattle.std.proofs.lemmas.List.Sorted.{IsPermutation-sym, IsPermutation-trans, length_permutation}
@@ -9,7 +9,7 @@ use Rattle.sqlite.specs.Store.{Ghosts}
 use Rattle.sqlite.specs.Held.{Held, state}
 use Rattle.sqlite.specs.Clock.{timed}
 use Rattle.sqlite.specs.Listing.{understood, reads_listing, IsSourceOf}
-use Rattle.sqlite.specs.State.{State, IsLive, IsStatement, IsNoStatement, IsNotRun, IsUnchanged, Shown, ShowsRows, Fails, FailsToQuery, FailsToShow, store_error}
+use Rattle.sqlite.specs.State.{State, IsStatement, IsNoStatement, IsNotRun, IsUnchanged, Shown, ShowsRows, Fails, FailsToQuery, FailsToShow, store_error}
 use Rattle.sqlite.specs.declared.error.Error.{Error}
 use Rattle.sqlite.proofs.Callers.{unchanged_then, one_permutation}
 use Rattle.sqlite_keyed.proofs.ListLemmas.{all_weaker, filter_all, filter_none, IsPermutation-filter}
@@ -17,27 +17,29 @@ use Rattle.sqlite_resolve.specs.declared.compiled.Compiled.{Compiled}
 use Rattle.sqlite_schema.specs.declared.command.Returning.{Returning}
 use Rattle.sqlite_trees.specs.declared.error.StoreError.{StoreError}
 use Rattle.sqlite_trees.specs.declared.error.StoreError.TheVariants.{OutOfMemory, Io, Corrupt, Full, Broken, Unstorable}
-use Rattle.filing_model.specs.Request.{Request}
-use Rattle.filing_model.specs.Register.{Kept, kept, register}
+use Rattle.filing_model.specs.Request.{Request, firsts}
+use Rattle.filing_model.specs.Register.{Kept, kept}
 use Rattle.table_rows.specs.Causes.{cause_of}
-use Rattle.table_rows.specs.Rows.{counted_from}
-use Rattle.table_rows.specs.Standing.{Stands}
+use Rattle.table_rows.specs.Rows.{Holds, counted_from}
 use Rattle.table_rows.specs.declared.cause.Cause.{Cause}
 use Rattle.table_rows.specs.declared.cause.Cause.TheVariants as cause
 use Rattle.table_rows.proofs.OrderLemmas.{same_number, and_true}
-use Rattle.table_rows.proofs.StandLemmas.{stands_on}
-use Rattle.table_rows.proofs.TextLemmas.{IsQueryText, no_returning, query_same}
+use Rattle.table_rows.proofs.TextLemmas.{IsQueryText, no_returning}
 use Rattle.register_store.specs.declared.opening.Counts.{Counts}
-use Rattle.register_store.specs.Opening.{all_meta, all_kept, table_texts, IsRead, AreRead, StopsFor}
+use Rattle.register_store.specs.declared.audit.Verdict.TheVariants.{Sound}
+use Rattle.register_store.specs.Audit.{Others, AreRowsOf, IsVerdict}
+use Rattle.register_store.specs.Columns.{request_in}
+use Rattle.filing_model.proofs.Lists.{length-map}
+use Rattle.register_store.specs.Opening.{all_kept, row_texts, Later, SaysEarly, IsRead, AreRead, StopsFor}
 use Rattle.register_store.specs.Reads.{by_first, has_number}
 use Rattle.register_store.specs.Register.{meta_row, kept_row}
-use Rattle.register_store.specs.Schema.{IsDeclared, meta_table}
+use Rattle.register_store.specs.Schema.{IsDeclared, meta_table, kept_table, finding_table, filing_table, fact_table, migrated_table, amends_table}
 use Rattle.register_store.specs.Store.{IsRegisterOf}
-use Rattle.register_store.specs.Walk.{Amounts, AreAllOf, IsStopped}
+use Rattle.register_store.specs.Walk.{AreCounted, AreAllOf, IsStopped}
 use Rattle.register_store.proofs.AuditSteps.{requests_first}
-use Rattle.register_store.proofs.OpenLemmas.{Gets, got_meta, is_read}
+use Rattle.register_store.proofs.OpenLemmas.{Gets, Four, Two, is_read, says_early, same_early}
 use Rattle.register_store.proofs.PickLemmas.{failed_after}
-use Rattle.register_store.proofs.ReadTexts.{query_meta, query_kept}
+use Rattle.register_store.proofs.ReadTexts.{query_kept}
 
 -- ---- why the walk stopped
 
@@ -64,7 +66,7 @@ module _ (old new : State) (e : Error) where
 
 -- for memory or the disk, so would the query of all kept rows
 pub stops_for : {S : Type 0} (g : Ghosts S) (a e : Held S) (error : Error) (why : Cause) → why ≢ cause.Other → cause_of error ≡ why → IsStopped (state g a) (state g e) error
-    → StopsFor g (cause_of error) table_texts a e
+    → StopsFor g (cause_of error) row_texts a e
 unfolding FailsToQuery IsNotRun
 stops_for g a e error why other is stopped = inl (error, inl (inr (failed_by (state g a) (state g e) error why other is stopped)), refl)
 
@@ -112,11 +114,11 @@ module _ {S : Type 0} (g : Ghosts S) (a b e : Held S) (same : IsUnchanged (state
   read_before : (mid : Held S) (rows : List Row) → IsRead g all_kept b mid rows → IsRead g all_kept a mid rows
   read_before mid rows h = is_read g all_kept a mid rows (shown_before all_kept query_kept (state g a) (state g b) (state g mid) same rows h.shown) (h.limit ∙ limit)
 
-  pub are_read_before : (rows : List (List Row)) → AreRead g table_texts b e rows → AreRead g table_texts a e rows
+  pub are_read_before : (rows : List (List Row)) → AreRead g row_texts b e rows → AreRead g row_texts a e rows
   are_read_before [] h = absurd h
   are_read_before (r ∷ rs) h = (h.0, read_before h.0 r h.1, h.2)
 
-  pub stops_before : (state g a).faults ≤ (state g b).faults → (why : Cause) → StopsFor g why table_texts b e → StopsFor g why table_texts a e
+  pub stops_before : (state g a).faults ≤ (state g b).faults → (why : Cause) → StopsFor g why row_texts b e → StopsFor g why row_texts a e
   stops_before low why (inl h) = inl (h.0, fails_before all_kept query_kept (state g a) (state g b) (state g e) same limit low h.0 h.1, h.2)
   stops_before low why (inr h) = inr (h.0, h.1, read_before h.0 h.1 h.2, h.3)
 
@@ -161,54 +163,59 @@ one_order at (k ∷ ks) (j ∷ js) same =
     let same_row : kept_row at j ≡ kept_row at k = cc in
     ap₂ (λ r l. r ∷ l) same_row more
 
--- ---- a database that was walked over
+-- ---- a database that was counted
 
-module _ (F : List Request) (db : Database) (are : AreAllOf F db) where
-  registered : IsDatabase db → IsDeclared db.schema → Gets meta_table by_first (meta_row ∷ []) db → IsRegisterOf F db
-  registered sound declared meta = record {
+-- rows that were read whole
+pub all_of : (F : List Request) (db : Database) (kept_are : List Row) (others : Others) → Four kept_are others db → AreRowsOf kept_are others F → AreAllOf F db
+all_of F db kept_are others four are = record {
+  distinct = are.distinct;
+  completed = are.completed;
+  kept_is = subst (Holds db kept_table) are.kept_is four.kept_is.held;
+  finding_is = subst (Holds db finding_table) are.finding_is four.finding_is.held;
+  filing_is = subst (Holds db filing_table) are.filing_is four.filing_is.held;
+  fact_is = subst (Holds db fact_table) are.fact_is four.fact_is.held;
+}
+
+pub counted_whole : (counts : Counts) (later : Later) (db : Database) (kept_are : List Row) (others : Others) → Four kept_are others db → counts.kept ≡ length kept_are → SaysEarly counts.kept counts.early later
+    → IsVerdict kept_are others (Sound counts.filings) → AreCounted counts later db
+counted_whole counts later db kept_are others four many says is = record {
+  requests = is.0;
+  are = all_of is.0 db kept_are others four is.1;
+  kept_is = many ∙ sym (length-map request_in kept_are) ∙ ap length (requests_first kept_are is.0 is.1.distinct is.1.kept_is);
+  filings_is = is.2;
+  early_is = says;
+}
+
+-- it stands for no others
+pub only_these : (F : List Request) (db : Database) → AreAllOf F db → (G : List Request) → firsts G ≡ G → Holds db kept_table (counted_from kept_row 1 (kept G)) → F ≡ G
+only_these F db are G distinct held =
+    let K = counted_from kept_row 1 (kept G) in
+    let same = one_order 1 (kept G) (kept F) (IsPermutation-trans _ _ _ held (IsPermutation-sym _ _ are.kept_is)) in
+    sym (requests_first K F are.distinct (sym same)) ∙ requests_first K G distinct refl
+
+module _ (db : Database) (counts : Counts) (later : Later) (counted : AreCounted counts later db) where
+  pub counted_register : IsDatabase db → IsDeclared db.schema → Gets meta_table by_first (meta_row ∷ []) db → Two later db → IsRegisterOf counts.early counted.requests db
+  counted_register sound declared meta two = record {
     sound = sound;
     rows = record {
-      distinct = are.distinct;
-      completed = are.completed;
+      distinct = counted.are.distinct;
+      completed = counted.are.completed;
+      within = subst (λ n. counts.early ≤ n) counted.kept_is counted.early_is.within;
       rows = record {
         declared = declared;
         meta_is = meta.held;
-        kept_is = are.kept_is;
-        finding_is = are.finding_is;
-        filing_is = are.filing_is;
-        fact_is = are.fact_is;
+        kept_is = counted.are.kept_is;
+        finding_is = counted.are.finding_is;
+        filing_is = counted.are.filing_is;
+        fact_is = counted.are.fact_is;
+        migrated_is = subst (Holds db migrated_table) counted.early_is.migrated_is two.migrated_is.held;
+        amends_is = subst (Holds db amends_table) counted.early_is.amends_is two.amends_is.held;
       };
     };
   }
 
-  -- it stands for no others
-  only_these : (G : List Request) → IsRegisterOf G db → F ≡ G
-  only_these G is =
-      let K = counted_from kept_row 1 (kept G) in
-      let same = one_order 1 (kept G) (kept F) (IsPermutation-trans _ _ _ is.rows.rows.kept_is (IsPermutation-sym _ _ are.kept_is)) in
-      sym (requests_first K F are.distinct (sym same)) ∙ requests_first K G is.rows.distinct refl
-
-module _ {S : Type 0} (g : Ghosts S) (a b e : Held S) (one : IsRead g all_meta a b (meta_row ∷ [])) (after : IsUnchanged (state g b) (state g e)) where
-  pub same_walked : IsUnchanged (state g a) (state g e)
-  same_walked = unchanged_then (state g a) (state g b) (state g e) (query_same all_meta query_meta [] (state g a) (state g b) (meta_row ∷ []) one.shown) after
-
-  module _ (d : IsDeclared (state g a).now.schema) (live : IsLive (state g a)) (idle : a.in_transaction ≡ false) (settled : IsTrue (state g a).is_open → (state g a).now ≡ (state g a).committed)
-      (counts : Counts) (walked : IsDeclared (state g b).now.schema → Amounts counts (state g b).now) where
-    got : IsUnchanged (state g a) (state g b) × Gets meta_table by_first (meta_row ∷ []) (state g a).now
-    got = got_meta (state g a) (state g b) (meta_row ∷ []) d one.shown
-
-    it : Amounts counts (state g a).now
-    it = subst (Amounts counts) got.0.0.now_is (walked (subst (λ (db : Database). IsDeclared db.schema) (sym got.0.0.now_is) d))
-
-    stood : (F : List Request) → IsRegisterOf F (state g a).now → Stands (IsRegisterOf F) (state g e)
-    stood F here = stands_on (IsRegisterOf F) (state g a) (state g e) (inl same_walked) (record { autocommit = idle; now = λ _. here; committed = λ alive. sym (settled alive) })
-
-    pub finds_walked : (F : List Request) × IsRegisterOf F (state g a).now × Stands (IsRegisterOf F) (state g e) × (counts.kept ≡ length F) × (counts.filings ≡ length (register F))
-    finds_walked =
-        let here = registered it.requests (state g a).now it.are (live got.0.0.was_open).0 d got.1 in
-        (it.requests, here, stood it.requests here, it.kept_is, it.filings_is)
-
-    pub counts_walked : (F : List Request) → IsRegisterOf F (state g a).now → Stands (IsRegisterOf F) (state g e) × (counts.kept ≡ length F) × (counts.filings ≡ length (register F))
-    counts_walked F here =
-        let same : it.requests ≡ F = only_these it.requests (state g a).now it.are F here in
-        (stood F here, it.kept_is ∙ ap length same, it.filings_is ∙ ap (λ H. length (register H)) same)
+  pub counted_only : Two later db → (early : ℕ) (F : List Request) → IsRegisterOf early F db → (counts.early ≡ early) × (counted.requests ≡ F)
+  counted_only two early F is = (
+    same_early counts.early early counts.kept (length F) later counted.early_is (says_early early F db is later two),
+    only_these counted.requests db counted.are F is.rows.distinct is.rows.rows.kept_is,
+  )

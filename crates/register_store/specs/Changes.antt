@@ -12,7 +12,7 @@ use Rattle.register_store.specs.Register.{HasRows, kept_row, finding_rows, filin
 
 -- inside a transaction, which goes on, there are the tables of a register with no request
 pub record MakesTables (old new : State) : Type 0 where
-  pub rows : HasRows new.now [] [] [] []
+  pub rows : HasRows new.now 0 [] [] [] []
   pub sound : IsDatabase new.now
   pub committed : new.committed ≡ old.committed
 
@@ -22,8 +22,8 @@ GainsRows = GainsInside register_tables
 
 -- the tables gain the rows of the kept request at this place, whatever their rows were
 pub record AddsRows (seq : ℕ) (k : Kept) (old new : Database) : Type 0 where
-  pub rows : (ks fs gs hs : List Row) → HasRows old ks fs gs hs
-      → HasRows new (ks ++ kept_row seq k ∷ []) (fs ++ finding_rows seq k) (gs ++ filing_rows seq k) (hs ++ fact_rows seq k)
+  pub rows : (early : ℕ) (ks fs gs hs : List Row) → HasRows old early ks fs gs hs
+      → HasRows new early (ks ++ kept_row seq k ∷ []) (fs ++ finding_rows seq k) (gs ++ filing_rows seq k) (hs ++ fact_rows seq k)
   pub sound : IsDeclared old.schema → IsDatabase old → IsDatabase new
 
 -- so they do inside a transaction, which goes on

@@ -1,5 +1,5 @@
 -- A register that lies in files, while no store is open.
-use Rattle.std.specs.Prelude.{◌≡◌, List}
+use Rattle.std.specs.Prelude.{◌≡◌, ℕ, List}
 use Rattle.sqlite_disk.specs.declared.Disk.{Ghosts}
 use Rattle.sqlite_disk.specs.declared.Files.{Files}
 use Rattle.sqlite_store.specs.declared.store.FileStore.{FileStore}
@@ -19,9 +19,9 @@ use Rattle.register_store.specs.declared.fault.StoreFault.{StoreFault}
 use Rattle.register_store.specs.Store.{IsRegisterOf}
 
 -- the files hold the register of these requests, in the database file alone as well, and can be opened
-pub record HoldRegister {D : Type 0} (g : Ghosts D) (files : Files D) (F : List Request) : Type 0 where
+pub record HoldRegister {D : Type 0} (g : Ghosts D) (files : Files D) (early : ℕ) (F : List Request) : Type 0 where
   pub db : Database
-  pub register : IsRegisterOf F db
+  pub register : IsRegisterOf early F db
   pub held : HoldsDatabase g files db
   pub usable : AreUsable g files
 

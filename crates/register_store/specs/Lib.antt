@@ -2,10 +2,12 @@ pub mod Audit
 pub mod Cells
 pub mod Changes
 pub mod Columns
+pub mod Earlier
 pub mod Faults
 pub mod Files
 pub mod Found
 pub mod Making
+pub mod Migrating
 pub mod Numbered
 pub mod Opening
 pub mod Outcomes

@@ -1,5 +1,5 @@
 -- The statements that make a register, and what a refusal of them says.
-use Rattle.std.specs.Prelude.{◌≡◌, ◌⊎◌, ◌≤◌, ℕ, true, List, [], ◌∷◌, codes, Ok, Err}
+use Rattle.std.specs.Prelude.{◌≡◌, ◌⊎◌, ◌≤◌, ℕ, true, List, [], ◌∷◌, ◌++◌, codes, Ok, Err}
 use Rattle.sqlite.specs.Store.{Ghosts}
 use Rattle.sqlite.specs.Held.{Held, state}
 use Rattle.sqlite.specs.Tree.{Trees}
@@ -22,11 +22,29 @@ create_filing = codes "CREATE TABLE filing (number INTEGER PRIMARY KEY, seq INTE
 abbrev pub create_fact : List ℕ
 create_fact = codes "CREATE TABLE fact (number INTEGER NOT NULL, pos INTEGER NOT NULL, id BLOB NOT NULL, concept BLOB NOT NULL, dimensions BLOB NOT NULL, value BLOB, decimals INTEGER, PRIMARY KEY (number, pos)) STRICT"
 
+abbrev pub create_migrated : List ℕ
+create_migrated = codes "CREATE TABLE migrated (id INTEGER PRIMARY KEY, last INTEGER NOT NULL) STRICT"
+
+abbrev pub create_amends : List ℕ
+create_amends = codes "CREATE TABLE amends (seq INTEGER PRIMARY KEY, target INTEGER NOT NULL) STRICT"
+
 abbrev pub insert_meta : List ℕ
-insert_meta = codes "INSERT INTO intake_meta VALUES (1, 'register', 2)"
+insert_meta = codes "INSERT INTO intake_meta VALUES (1, 'register', 4)"
+
+-- none of the requests of a new register was kept before there were problem details
+abbrev pub insert_none_early : List ℕ
+insert_none_early = codes "INSERT INTO migrated VALUES (1, 0)"
+
+-- they make the tables of every form
+abbrev pub common_texts : List (List ℕ)
+common_texts = create_meta ∷ create_kept ∷ create_finding ∷ create_filing ∷ create_fact ∷ []
+
+-- and they the others, and the rows that every register has
+abbrev pub later_texts : List (List ℕ)
+later_texts = create_migrated ∷ create_amends ∷ insert_meta ∷ insert_none_early ∷ []
 
 abbrev pub making_texts : List (List ℕ)
-making_texts = create_meta ∷ create_kept ∷ create_finding ∷ create_filing ∷ create_fact ∷ insert_meta ∷ []
+making_texts = common_texts ++ later_texts
 
 -- inside a transaction, which goes on, the statements are run, one after another
 abbrev pub AreRun : {S : Type 0} → Ghosts S → List (List ℕ) → Held S → Held S → Type 0

@@ -1,5 +1,5 @@
 -- What an opening reads, and why a database is not opened.
-use Rattle.std.specs.Prelude.{◌≡◌, ◌≢◌, ◌⊎◌, ℕ, List, [], ◌∷◌, codes}
+use Rattle.std.specs.Prelude.{◌≡◌, ◌≢◌, ◌⊎◌, ◌≤◌, ℕ, List, [], ◌∷◌, ◌++◌, length, codes}
 use Rattle.sqlite.specs.Order.{Row}
 use Rattle.sqlite.specs.Store.{Ghosts}
 use Rattle.sqlite.specs.Held.{Held, state}
@@ -12,7 +12,7 @@ use Rattle.register_store.specs.declared.audit.Verdict.TheVariants as verdict
 use Rattle.register_store.specs.declared.fault.OpenFault.{OpenFault}
 use Rattle.register_store.specs.declared.fault.OpenFault.TheVariants as fault
 use Rattle.register_store.specs.Audit.{Others, IsVerdict}
-use Rattle.register_store.specs.Register.{meta_row}
+use Rattle.register_store.specs.Register.{meta_row, migrated_row}
 
 -- ---- the rows of the tables, each in the order of its key
 
@@ -31,9 +31,23 @@ all_filings = codes "SELECT number, seq FROM filing ORDER BY number"
 abbrev pub all_facts : List ℕ
 all_facts = codes "SELECT number, pos, id, concept, dimensions, value, decimals FROM fact ORDER BY number, pos"
 
+abbrev pub all_migrated : List ℕ
+all_migrated = codes "SELECT id, last FROM migrated ORDER BY id"
+
+abbrev pub all_amends : List ℕ
+all_amends = codes "SELECT seq, target FROM amends ORDER BY seq"
+
+-- the tables with the rows of kept requests
+abbrev pub row_texts : List (List ℕ)
+row_texts = all_kept ∷ all_findings ∷ all_filings ∷ all_facts ∷ []
+
+-- those that an earlier form did not have
+abbrev pub new_texts : List (List ℕ)
+new_texts = all_migrated ∷ all_amends ∷ []
+
 -- the tables beside `intake_meta`
 abbrev pub table_texts : List (List ℕ)
-table_texts = all_kept ∷ all_findings ∷ all_filings ∷ all_facts ∷ []
+table_texts = new_texts ++ row_texts
 
 -- the query shows these rows, and the limit on steps stays
 pub record IsRead {S : Type 0} (g : Ghosts S) (text : List ℕ) (old new : Held S) (rows : List Row) : Type 0 where
@@ -53,28 +67,59 @@ StopsFor g why [] old new = ⊥
 StopsFor {S} g why (text ∷ texts) old new =
     ((error : Error) × FailsToQuery text [] (state g old) (state g new) error × (cause_of error ≡ why)) ⊎ ((mid : Held S) × (rows : List Row) × IsRead g text old mid rows × StopsFor g why texts mid new)
 
+-- ---- the rows beside those of kept requests
+
+-- the rows of `migrated` and of `amends`
+pub record Later : Type 0 where
+  pub migrated : List Row
+  pub amends : List Row
+
+-- of so many kept requests the first `early` are told what they were told before, and none replaces a filing
+pub record SaysEarly (kept early : ℕ) (later : Later) : Type 0 where
+  pub migrated_is : later.migrated ≡ migrated_row early ∷ []
+  pub amends_is : later.amends ≡ []
+  pub within : early ≤ kept
+
+-- so it is of no number
+abbrev pub SaysNothing : ℕ → Later → Type 0
+SaysNothing kept later = (early : ℕ) → SaysEarly kept early later → ⊥
+
+-- why the rows stand for no register: the first kept row that is not sound, or 0; and 0 where the four tables are sound, but not these
+abbrev pub AreDamaged : List Row → Others → Later → ℕ → Type 0
+AreDamaged kept others later row =
+    IsVerdict kept others (verdict.Damaged row) ⊎ ((row ≡ 0) × ((filings : ℕ) × IsVerdict kept others (verdict.Sound filings)) × SaysNothing (length kept) later)
+
 -- ---- why a database is not opened
 
 -- `intake_meta` cannot be read, for another cause than memory or disk, or its rows are not the one row
 abbrev pub IsNoRegister : {S : Type 0} → Ghosts S → Held S → Held S → Type 0
 IsNoRegister g old new = StopsFor g cause.Other (all_meta ∷ []) old new ⊎ ((rows : List Row) × IsRead g all_meta old new rows × (rows ≢ meta_row ∷ []))
 
--- another table cannot be read so, and the row is 0; or the rows of the four tables stand for no requests, and the row is the
--- first kept one that is not sound, or 0
+-- another table cannot be read so, and the row is 0; or the rows stand for no register, and this row is told
 abbrev pub IsDamagedAt : {S : Type 0} → Ghosts S → ℕ → Held S → Held S → Type 0
 IsDamagedAt g row old new =
     ((row ≡ 0) × StopsFor g cause.Other table_texts old new)
-    ⊎ ((kept : List Row) × (others : Others) × AreRead g table_texts old new (kept ∷ others.finding ∷ others.filing ∷ others.fact ∷ []) × IsVerdict kept others (verdict.Damaged row))
+    ⊎ ((later : Later) × (kept : List Row) × (others : Others)
+    × AreRead g table_texts old new (later.migrated ∷ later.amends ∷ kept ∷ others.finding ∷ others.filing ∷ others.fact ∷ []) × AreDamaged kept others later row)
 
 -- so it is where the rows of `intake_meta` are the one row
 abbrev pub IsDamaged : {S : Type 0} → Ghosts S → ℕ → Held S → Held S → Type 0
 IsDamaged {S} g row old new = (mid : Held S) × IsRead g all_meta old mid (meta_row ∷ []) × IsDamagedAt g row mid new
 
--- the five queries show their rows
+-- the same of the tables with the rows of kept requests, where those of the others were read
+abbrev pub IsRefusedAfter : {S : Type 0} → Ghosts S → Later → OpenFault → Held S → Held S → Type 0
+IsRefusedAfter g later fault.NotOurs old new = ⊥
+IsRefusedAfter g later (fault.Damaged row) old new =
+    ((row ≡ 0) × StopsFor g cause.Other row_texts old new)
+    ⊎ ((kept : List Row) × (others : Others) × AreRead g row_texts old new (kept ∷ others.finding ∷ others.filing ∷ others.fact ∷ []) × AreDamaged kept others later row)
+IsRefusedAfter g later fault.Memory old new = StopsFor g cause.Memory row_texts old new ⊎ ((rows : List (List Row)) × AreRead g row_texts old new rows)
+IsRefusedAfter g later fault.Disk old new = StopsFor g cause.Disk row_texts old new
+
+-- the seven queries show their rows
 abbrev pub AreAllRead : {S : Type 0} → Ghosts S → Held S → Held S → Type 0
 AreAllRead g old new = (rows : List (List Row)) × AreRead g (all_meta ∷ table_texts) old new rows
 
--- What a refusal says of the database. The disk is blamed where a query of the five failed by it, and memory where one
+-- What a refusal says of the database. The disk is blamed where a query of the seven failed by it, and memory where one
 -- failed for want of it, or where none failed and the rows were looked through.
 abbrev pub IsRefused : {S : Type 0} → Ghosts S → OpenFault → Held S → Held S → Type 0
 IsRefused g fault.NotOurs old new = IsNoRegister g old new

@@ -1,7 +1,9 @@
 -- Outcomes and kept rows without where they lie in memory.
-use Rattle.std.specs.Prelude.{ℕ, List}
+use Rattle.std.specs.Prelude.{ℕ, List, nat_le, if◌then◌else◌}
 use Rattle.xbrl_report.specs.declared.judging.Judged.{Judged}
 use Rattle.xbrl_report.specs.declared.judging.Judged.TheVariants.{Valid, Refused}
+use Rattle.filing_model.specs.declared.served.Style.{Style}
+use Rattle.filing_model.specs.declared.served.Style.TheVariants.{Old, Problem}
 use Rattle.filing_model.specs.Register.{Outcome, Kept}
 use Rattle.filing_model.specs.Views.{the_request}
 use Rattle.register_store.specs.declared.outcome.Outcome.{Outcome as Stored}
@@ -25,3 +27,7 @@ outcome_of number (Refused findings) = Outcome.Refused findings
 abbrev pub filings_by : Outcome → ℕ
 filings_by (Outcome.Registered number) = 1
 filings_by (Outcome.Refused findings) = 0
+
+-- the style in which the kept request at this place is answered, where the first so many were kept before there were problem details
+abbrev pub style_at : ℕ → ℕ → Style
+style_at early place = if nat_le place early then Old else Problem

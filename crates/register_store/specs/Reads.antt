@@ -7,11 +7,11 @@ use Rattle.sqlite.specs.Ops.{binary, is_true}
 use Rattle.sqlite_sql.specs.declared.ops.BinaryOp.TheVariants.{Compare}
 use Rattle.sqlite_sql.specs.declared.ops.CompareOp.TheVariants.{Eq}
 use Rattle.sqlite.specs.State.{State}
-use Rattle.register_store.specs.Schema.{IsDeclared}
+use Rattle.register_store.specs.Schema.{HasCommon}
 
--- while the connection is open, its tables are declared as ours
+-- while the connection is open, the tables of every form are declared as ours
 abbrev pub Knows : State → Type 0
-Knows s = IsTrue s.is_open → IsDeclared s.now.schema
+Knows s = IsTrue s.is_open → HasCommon s.now.schema
 
 abbrev pub every : Row → Bool
 every _ = true

@@ -16,13 +16,21 @@ use Rattle.filing_model.specs.Request.{Request, firsts}
 use Rattle.filing_model.specs.Register.{Outcome, Kept, kept}
 use Rattle.filing_model.specs.Register.Outcome.{Registered, Refused}
 use Rattle.table_rows.specs.Rows.{Holds, counted_from}
-use Rattle.register_store.specs.Schema.{IsDeclared, meta_table, kept_table, finding_table, filing_table, fact_table}
+use Rattle.register_store.specs.Schema.{IsDeclared, meta_table, kept_table, finding_table, filing_table, fact_table, migrated_table, amends_table}
 
 -- ---- what a kept request puts into each table, as SELECT * shows it; `seq` is its place among the kept ones, from 1
 
--- the one row of `intake_meta`: a register, in the form of these tables
+-- the one row of `intake_meta`: a register, in this form
+abbrev pub form_row : ℕ → Row
+form_row form = Int (pos 1) ∷ Text (codes "register") ∷ Int (pos form) ∷ []
+
+-- so it is in the form of these tables
 abbrev pub meta_row : Row
-meta_row = Int (pos 1) ∷ Text (codes "register") ∷ Int (pos 2) ∷ []
+meta_row = form_row 4
+
+-- the one row of `migrated`, where the first `early` kept requests are told what they were told before
+abbrev pub migrated_row : ℕ → Row
+migrated_row early = Int (pos 1) ∷ Int (pos early) ∷ []
 
 -- the number of a registered request
 abbrev pub number_of : Outcome → Option ℕ
@@ -71,13 +79,15 @@ joined_from rows seq (k ∷ ks) = rows seq k ++ joined_from rows (seq + 1) ks
 -- ---- the tables
 
 -- the tables of a register have these rows, each once and in any order, and no others
-pub record HasRows (db : Database) (kept_are finding_are filing_are fact_are : List Row) : Type 0 where
+pub record HasRows (db : Database) (early : ℕ) (kept_are finding_are filing_are fact_are : List Row) : Type 0 where
   pub declared : IsDeclared db.schema
   pub meta_is : Holds db meta_table (meta_row ∷ [])
   pub kept_is : Holds db kept_table kept_are
   pub finding_is : Holds db finding_table finding_are
   pub filing_is : Holds db filing_table filing_are
   pub fact_is : Holds db fact_table fact_are
+  pub migrated_is : Holds db migrated_table (migrated_row early ∷ [])
+  pub amends_is : Holds db amends_table []
 
 -- a request as filers may complete one
 pub record IsCompleted (r : Request) : Type 0 where
@@ -85,8 +95,10 @@ pub record IsCompleted (r : Request) : Type 0 where
   pub key : IsKey r.key
   pub body : length r.body ≤ max_body_len
 
--- the rows stand for these requests, each the first of its filer and key, in order and with its outcome
-pub record StandsFor (db : Database) (F : List Request) : Type 0 where
+-- The rows stand for these requests, each the first of its filer and key, in order and with its outcome. The first `early` of
+-- them were kept before there were problem details.
+pub record StandsFor (db : Database) (early : ℕ) (F : List Request) : Type 0 where
   pub distinct : firsts F ≡ F
   pub completed : AllByRecursion IsCompleted F
-  pub rows : HasRows db (counted_from kept_row 1 (kept F)) (joined_from finding_rows 1 (kept F)) (joined_from filing_rows 1 (kept F)) (joined_from fact_rows 1 (kept F))
+  pub within : early ≤ length F
+  pub rows : HasRows db early (counted_from kept_row 1 (kept F)) (joined_from finding_rows 1 (kept F)) (joined_from filing_rows 1 (kept F)) (joined_from fact_rows 1 (kept F))

@@ -1,5 +1,5 @@
 -- How the tables of a register are declared.
-use Rattle.std.specs.Prelude.{Bool, ◌||◌, List, [], ◌∷◌, ℕ, codes}
+use Rattle.std.specs.Prelude.{Bool, ◌||◌, List, [], ◌∷◌, ◌++◌, ℕ, codes}
 use Rattle.std.specs.List.{list_any}
 use Rattle.sqlite_value.specs.Keys.{plain}
 use Rattle.sqlite.specs.Table.{Table}
@@ -31,13 +31,29 @@ abbrev pub fact_table : Table
 fact_table = paired (codes "fact") 7
     (needed (codes "number") Integer ∷ needed (codes "pos") Integer ∷ needed (codes "id") Blob ∷ needed (codes "concept") Blob ∷ needed (codes "dimensions") Blob ∷ optional (codes "value") Blob ∷ optional (codes "decimals") Integer ∷ [])
 
--- the tables of a register; the trees between them are those of the indexes that SQLite makes for their keys
+-- which of the kept requests are told what they were told before there were problem details: the first so many, in one row
+abbrev pub migrated_table : Table
+migrated_table = keyed (codes "migrated") 9 (optional (codes "id") Integer ∷ needed (codes "last") Integer ∷ []) [] []
+
+-- the filings that kept requests are to replace; there is no such request yet
+abbrev pub amends_table : Table
+amends_table = keyed (codes "amends") 10 (optional (codes "seq") Integer ∷ needed (codes "target") Integer ∷ []) [] []
+
+-- the tables of a register in every form; the trees between them are those of the indexes that SQLite makes for their keys
+abbrev pub common_tables : List Table
+common_tables = meta_table ∷ kept_table ∷ finding_table ∷ filing_table ∷ fact_table ∷ []
+
+-- the tables of a register
 abbrev pub register_tables : List Table
-register_tables = meta_table ∷ kept_table ∷ finding_table ∷ filing_table ∷ fact_table ∷ []
+register_tables = common_tables ++ migrated_table ∷ amends_table ∷ []
 
 -- they come first, and others may follow
 abbrev pub IsDeclared : Schema → Type 0
 IsDeclared = BeginsWith register_tables
+
+-- those of every form do
+abbrev pub HasCommon : Schema → Type 0
+HasCommon = BeginsWith common_tables
 
 -- whether a table, an index or a view has the name; SQLite compares names without case
 abbrev pub has_name : Schema → List ℕ → Bool

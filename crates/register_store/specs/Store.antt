@@ -11,41 +11,46 @@ use Rattle.filing_model.specs.Register.{register}
 use Rattle.table_rows.specs.Standing.{Stands}
 use Rattle.register_store.specs.Register.{StandsFor}
 
--- a connection, and how many requests are kept and how many of them are filings
+-- a connection, how many requests are kept, how many of them are filings, and how many were kept before there were problem details
 pub record StoreParts (S : Type 0) : Type 0 where
   pub conn : Held S
   pub kept : ℕ
   pub filings : ℕ
+  pub early : ℕ
 
 abbrev pub parts_code : {S : Type 0} → Coded S → Coded (StoreParts S)
 parts_code {S} store =
-    code_by (Held S × (ℕ × ℕ)) (coded× (held_code store) (coded× coded_ℕ coded_ℕ)) (λ s. (s.conn, (s.kept, s.filings))) (λ p. record { conn = p.0; kept = p.1.0; filings = p.1.1 }) (λ _. refl)
+    code_by (Held S × (ℕ × (ℕ × ℕ))) (coded× (held_code store) (coded× coded_ℕ (coded× coded_ℕ coded_ℕ))) (λ s. (s.conn, (s.kept, (s.filings, s.early))))
+    (λ p. record { conn = p.0; kept = p.1.0; filings = p.1.1.0; early = p.1.1.1 }) (λ _. refl)
 
 -- between calls no transaction is under way, no statement is cut short, and the next number is within what a row holds
-pub record IsIdle {S : Type 0} (conn : Held S) (kept filings : ℕ) : Type 0 where
+pub record IsIdle {S : Type 0} (conn : Held S) (kept filings early : ℕ) : Type 0 where
   pub autocommit : conn.in_transaction ≡ false
   pub unlimited : conn.step_limit ≡ None
   pub few : kept ≤ 2 ^ 62
   pub fewer : filings ≤ kept
+  pub within : early ≤ kept
 
 -- what its connection shows
 abbrev pub shows : {S : Type 0} → Ghosts S → StoreParts S → State
 shows g store = state g store.conn
 
--- a database, as SQLite's files have one, whose rows stand for these requests
-pub record IsRegisterOf (F : List Request) (db : Database) : Type 0 where
+-- a database, as SQLite's files have one, whose rows stand for these requests, the first `early` of them kept before there were
+-- problem details
+pub record IsRegisterOf (early : ℕ) (F : List Request) (db : Database) : Type 0 where
   pub sound : IsDatabase db
-  pub rows : StandsFor db F
+  pub rows : StandsFor db early F
 
 -- While it is open, the store's rows stand for these requests, and are committed. One that a fault of the disk shut says
 -- nothing of its rows.
 pub record HasRequests {S : Type 0} (g : Ghosts S) (store : StoreParts S) (F : List Request) : Type 0 where
-  pub stands : Stands (IsRegisterOf F) (shows g store)
+  pub stands : Stands (IsRegisterOf store.early F) (shows g store)
   pub kept_is : store.kept ≡ length F
   pub filings_is : store.filings ≡ length (register F)
+  pub within : store.early ≤ length F
 
 -- an open after a crash that left these trees finds the rows of these requests
-pub record Leaves (F : List Request) (trees : Trees) : Type 0 where
+pub record Leaves (early : ℕ) (F : List Request) (trees : Trees) : Type 0 where
   pub db : Database
   pub is : trees ≡ db.trees
-  pub register : IsRegisterOf F db
+  pub register : IsRegisterOf early F db

@@ -12,8 +12,10 @@ use Rattle.table_rows.specs.declared.cause.Cause.TheVariants as cause
 use Rattle.xbrl_report.specs.Findings.{findings as found_in}
 use Rattle.filing_model.specs.Request.{Request, firsts}
 use Rattle.filing_model.specs.Register.{Kept, outcome_by, kept, register}
-use Rattle.register_store.specs.declared.opening.Counts.{Counts}
+use Rattle.register_store.specs.declared.walk.Totals.{Totals}
 use Rattle.register_store.specs.declared.walk.Left.{Left}
+use Rattle.register_store.specs.declared.opening.Counts.{Counts}
+use Rattle.register_store.specs.Opening.{Later, SaysEarly}
 use Rattle.register_store.specs.Found.{has_texts}
 use Rattle.register_store.specs.Outcomes.{filings_by}
 use Rattle.register_store.specs.Reads.{has_number}
@@ -99,8 +101,16 @@ pub record AreAllOf (requests : List Request) (db : Database) : Type 0 where
   pub fact_is : Holds db fact_table (joined_from fact_rows 1 (kept requests))
 
 -- so they have, and so many requests are kept and registered
-pub record Amounts (counts : Counts) (db : Database) : Type 0 where
+pub record Amounts (counts : Totals) (db : Database) : Type 0 where
   pub requests : List Request
   pub are : AreAllOf requests db
   pub kept_is : counts.kept ≡ length requests
   pub filings_is : counts.filings ≡ length (register requests)
+
+-- so it is of the rows that were counted, where those of the later tables say how many were kept before there were problem details
+pub record AreCounted (counts : Counts) (later : Later) (db : Database) : Type 0 where
+  pub requests : List Request
+  pub are : AreAllOf requests db
+  pub kept_is : counts.kept ≡ length requests
+  pub filings_is : counts.filings ≡ length (register requests)
+  pub early_is : SaysEarly counts.kept counts.early later

@@ -23,9 +23,9 @@ const MAX_NUMBER: u64 = i64::MAX as u64;
 
 /// How many facts the filing of this number has, none where there is no such filing.
 fn count_facts<S: Alter>(conn: &mut Connection<S>, number: u64) -> Result<usize, StoreFault>
-    ensures counted { HasCleanDisk (state S.Store conn.new) → (F : List Request) → Stands (IsRegisterOf F) (state S.Store conn.old) → IfOk result (λ count. count ≡ length (unwrap_or (facts_numbered number (register F)) [])) }
-    ensures same { HasCleanDisk (state S.Store conn.new) → (F : List Request) → Stands (IsRegisterOf F) (state S.Store conn.old) → Stands (IsRegisterOf F) (state S.Store conn.new) }
-    ensures open { HasCleanDisk (state S.Store conn.new) → (F : List Request) → Stands (IsRegisterOf F) (state S.Store conn.old) → OnOk result (IsTrue (state S.Store conn.new).is_open) }
+    ensures counted { HasCleanDisk (state S.Store conn.new) → (early : ℕ) (F : List Request) → Stands (IsRegisterOf early F) (state S.Store conn.old) → IfOk result (λ count. count ≡ length (unwrap_or (facts_numbered number (register F)) [])) }
+    ensures same { HasCleanDisk (state S.Store conn.new) → (early : ℕ) (F : List Request) → Stands (IsRegisterOf early F) (state S.Store conn.old) → Stands (IsRegisterOf early F) (state S.Store conn.new) }
+    ensures open { HasCleanDisk (state S.Store conn.new) → (early : ℕ) (F : List Request) → Stands (IsRegisterOf early F) (state S.Store conn.old) → OnOk result (IsTrue (state S.Store conn.new).is_open) }
     ensures mode { conn.old.in_transaction ≡ false → conn.new.in_transaction ≡ false }
     ensures survives { Survives (state S.Store conn.old) (state S.Store conn.new) (λ _. ⊥) }
 {
@@ -44,9 +44,9 @@ pub(crate) fn count_each<S: Alter>(
     alloc: Global,
     numbers: &[u64],
 ) -> Result<Vec<FilingRow>, StoreFault>
-    ensures rows { HasCleanDisk (state S.Store conn.new) → (F : List Request) → Stands (IsRegisterOf F) (state S.Store conn.old) → IfOk result (λ rows. map view_row rows.items ≡ map (counted_under (register F)) numbers.now) }
-    ensures same { HasCleanDisk (state S.Store conn.new) → (F : List Request) → Stands (IsRegisterOf F) (state S.Store conn.old) → Stands (IsRegisterOf F) (state S.Store conn.new) }
-    ensures open { HasCleanDisk (state S.Store conn.new) → (F : List Request) → Stands (IsRegisterOf F) (state S.Store conn.old) → IsTrue (state S.Store conn.old).is_open → OnOk result (IsTrue (state S.Store conn.new).is_open) }
+    ensures rows { HasCleanDisk (state S.Store conn.new) → (early : ℕ) (F : List Request) → Stands (IsRegisterOf early F) (state S.Store conn.old) → IfOk result (λ rows. map view_row rows.items ≡ map (counted_under (register F)) numbers.now) }
+    ensures same { HasCleanDisk (state S.Store conn.new) → (early : ℕ) (F : List Request) → Stands (IsRegisterOf early F) (state S.Store conn.old) → Stands (IsRegisterOf early F) (state S.Store conn.new) }
+    ensures open { HasCleanDisk (state S.Store conn.new) → (early : ℕ) (F : List Request) → Stands (IsRegisterOf early F) (state S.Store conn.old) → IsTrue (state S.Store conn.old).is_open → OnOk result (IsTrue (state S.Store conn.new).is_open) }
     ensures mode { conn.old.in_transaction ≡ false → conn.new.in_transaction ≡ false }
     ensures survives { Survives (state S.Store conn.old) (state S.Store conn.new) (λ _. ⊥) }
 {
@@ -64,9 +64,9 @@ fn numbers_of<S: Alter>(
     alloc: Global,
     filer: &str,
 ) -> Result<Vec<u64>, StoreFault>
-    ensures numbers { HasCleanDisk (state S.Store conn.new) → (F : List Request) → Stands (IsRegisterOf F) (state S.Store conn.old) → IfOk result (λ numbers. numbers.items ≡ numbers_under filer.now (register F)) }
-    ensures same { HasCleanDisk (state S.Store conn.new) → (F : List Request) → Stands (IsRegisterOf F) (state S.Store conn.old) → Stands (IsRegisterOf F) (state S.Store conn.new) }
-    ensures open { HasCleanDisk (state S.Store conn.new) → (F : List Request) → Stands (IsRegisterOf F) (state S.Store conn.old) → OnOk result (IsTrue (state S.Store conn.new).is_open) }
+    ensures numbers { HasCleanDisk (state S.Store conn.new) → (early : ℕ) (F : List Request) → Stands (IsRegisterOf early F) (state S.Store conn.old) → IfOk result (λ numbers. numbers.items ≡ numbers_under filer.now (register F)) }
+    ensures same { HasCleanDisk (state S.Store conn.new) → (early : ℕ) (F : List Request) → Stands (IsRegisterOf early F) (state S.Store conn.old) → Stands (IsRegisterOf early F) (state S.Store conn.new) }
+    ensures open { HasCleanDisk (state S.Store conn.new) → (early : ℕ) (F : List Request) → Stands (IsRegisterOf early F) (state S.Store conn.old) → OnOk result (IsTrue (state S.Store conn.new).is_open) }
     ensures mode { conn.old.in_transaction ≡ false → conn.new.in_transaction ≡ false }
     ensures survives { Survives (state S.Store conn.old) (state S.Store conn.new) (λ _. ⊥) }
 {
@@ -82,9 +82,9 @@ pub(crate) fn filings_of<S: Alter>(
     alloc: Global,
     filer: &str,
 ) -> Result<Vec<FilingRow>, StoreFault>
-    ensures rows { HasCleanDisk (state S.Store conn.new) → (F : List Request) → Stands (IsRegisterOf F) (state S.Store conn.old) → IfOk result (λ rows. map view_row rows.items ≡ listings filer.now (register F)) }
-    ensures same { HasCleanDisk (state S.Store conn.new) → (F : List Request) → Stands (IsRegisterOf F) (state S.Store conn.old) → Stands (IsRegisterOf F) (state S.Store conn.new) }
-    ensures open { HasCleanDisk (state S.Store conn.new) → (F : List Request) → Stands (IsRegisterOf F) (state S.Store conn.old) → OnOk result (IsTrue (state S.Store conn.new).is_open) }
+    ensures rows { HasCleanDisk (state S.Store conn.new) → (early : ℕ) (F : List Request) → Stands (IsRegisterOf early F) (state S.Store conn.old) → IfOk result (λ rows. map view_row rows.items ≡ listings filer.now (register F)) }
+    ensures same { HasCleanDisk (state S.Store conn.new) → (early : ℕ) (F : List Request) → Stands (IsRegisterOf early F) (state S.Store conn.old) → Stands (IsRegisterOf early F) (state S.Store conn.new) }
+    ensures open { HasCleanDisk (state S.Store conn.new) → (early : ℕ) (F : List Request) → Stands (IsRegisterOf early F) (state S.Store conn.old) → OnOk result (IsTrue (state S.Store conn.new).is_open) }
     ensures mode { conn.old.in_transaction ≡ false → conn.new.in_transaction ≡ false }
     ensures survives { Survives (state S.Store conn.old) (state S.Store conn.new) (λ _. ⊥) }
 {

@@ -8,7 +8,7 @@ ghost use Rattle.sqlite.specs.State.{HasCleanDisk, KeepsCommit, Survives, Execut
 ghost use Rattle.table_rows.specs.Tables.{no_schema};
 ghost use Rattle.register_store.specs.Changes.{AddsNothing};
 ghost use Rattle.register_store.specs.Faults.{create_fault};
-ghost use Rattle.register_store.specs.Making.{making_texts, AreRun, StopsWith, Makes, FailsToMake};
+ghost use Rattle.register_store.specs.Making.{common_texts, later_texts, making_texts, AreRun, StopsWith, Makes, FailsToMake};
 ghost use Rattle.register_store.specs.Schema.{is_taken};
 ghost use Rattle.register_store.specs.Store.{IsRegisterOf};
 
@@ -18,7 +18,7 @@ use crate::opening::is_settled;
 use sqlite::{Alter, Connection, Error, Transaction};
 
 /// Runs a statement that has no parameter.
-fn run<S: Alter>(tx: &mut Transaction<'_, S>, sql: &str) -> Result<(), Error>
+pub(crate) fn run<S: Alter>(tx: &mut Transaction<'_, S>, sql: &str) -> Result<(), Error>
     ensures same_reference { tx.new.conn.ghost_name ≡ tx.old.conn.ghost_name }
     ensures ran { HasCleanDisk (state S.Store tx.new.conn.now) → OnOk result ((count : ℕ) × ExecutesInside 0 sql.now [] (state S.Store tx.old.conn.now) (state S.Store tx.new.conn.now) (Ok count)) }
     ensures failed { HasCleanDisk (state S.Store tx.new.conn.now) → IsTrue (state S.Store tx.old.conn.now).in_transaction
@@ -30,11 +30,12 @@ fn run<S: Alter>(tx: &mut Transaction<'_, S>, sql: &str) -> Result<(), Error>
     Ok(())
 }
 
-fn make_tables<S: Alter>(tx: &mut Transaction<'_, S>) -> Result<(), Error>
+/// Makes the tables of every form.
+fn make_common<S: Alter>(tx: &mut Transaction<'_, S>) -> Result<(), Error>
     ensures same_reference { tx.new.conn.ghost_name ≡ tx.old.conn.ghost_name }
-    ensures ran { HasCleanDisk (state S.Store tx.new.conn.now) → OnOk result (AreRun S.Store making_texts tx.old.conn.now tx.new.conn.now) }
+    ensures ran { HasCleanDisk (state S.Store tx.new.conn.now) → OnOk result (AreRun S.Store common_texts tx.old.conn.now tx.new.conn.now) }
     ensures failed { HasCleanDisk (state S.Store tx.new.conn.now) → IsTrue (state S.Store tx.old.conn.now).in_transaction
-        → IfErr result (λ error. StopsWith S.Store error making_texts tx.old.conn.now tx.new.conn.now) }
+        → IfErr result (λ error. StopsWith S.Store error common_texts tx.old.conn.now tx.new.conn.now) }
     ensures inside { HasCleanDisk (state S.Store tx.new.conn.now) → OnOk result (IsTrue (state S.Store tx.new.conn.now).in_transaction) }
     ensures keeps { HasCleanDisk (state S.Store tx.new.conn.now) → KeepsCommit (state S.Store tx.old.conn.now) (state S.Store tx.new.conn.now) }
     ensures survives { Survives (state S.Store tx.old.conn.now) (state S.Store tx.new.conn.now) (λ _. ⊥) }
@@ -58,8 +59,42 @@ fn make_tables<S: Alter>(tx: &mut Transaction<'_, S>) -> Result<(), Error>
     run(
         tx,
         "CREATE TABLE fact (number INTEGER NOT NULL, pos INTEGER NOT NULL, id BLOB NOT NULL, concept BLOB NOT NULL, dimensions BLOB NOT NULL, value BLOB, decimals INTEGER, PRIMARY KEY (number, pos)) STRICT",
+    )
+}
+
+/// Makes the other tables, and the rows that every register has.
+fn make_later<S: Alter>(tx: &mut Transaction<'_, S>) -> Result<(), Error>
+    ensures same_reference { tx.new.conn.ghost_name ≡ tx.old.conn.ghost_name }
+    ensures ran { HasCleanDisk (state S.Store tx.new.conn.now) → OnOk result (AreRun S.Store later_texts tx.old.conn.now tx.new.conn.now) }
+    ensures failed { HasCleanDisk (state S.Store tx.new.conn.now) → IsTrue (state S.Store tx.old.conn.now).in_transaction
+        → IfErr result (λ error. StopsWith S.Store error later_texts tx.old.conn.now tx.new.conn.now) }
+    ensures inside { HasCleanDisk (state S.Store tx.new.conn.now) → OnOk result (IsTrue (state S.Store tx.new.conn.now).in_transaction) }
+    ensures keeps { HasCleanDisk (state S.Store tx.new.conn.now) → KeepsCommit (state S.Store tx.old.conn.now) (state S.Store tx.new.conn.now) }
+    ensures survives { Survives (state S.Store tx.old.conn.now) (state S.Store tx.new.conn.now) (λ _. ⊥) }
+{
+    run(
+        tx,
+        "CREATE TABLE migrated (id INTEGER PRIMARY KEY, last INTEGER NOT NULL) STRICT",
     )?;
-    run(tx, "INSERT INTO intake_meta VALUES (1, 'register', 2)")
+    run(
+        tx,
+        "CREATE TABLE amends (seq INTEGER PRIMARY KEY, target INTEGER NOT NULL) STRICT",
+    )?;
+    run(tx, "INSERT INTO intake_meta VALUES (1, 'register', 4)")?;
+    run(tx, "INSERT INTO migrated VALUES (1, 0)")
+}
+
+fn make_tables<S: Alter>(tx: &mut Transaction<'_, S>) -> Result<(), Error>
+    ensures same_reference { tx.new.conn.ghost_name ≡ tx.old.conn.ghost_name }
+    ensures ran { HasCleanDisk (state S.Store tx.new.conn.now) → OnOk result (AreRun S.Store making_texts tx.old.conn.now tx.new.conn.now) }
+    ensures failed { HasCleanDisk (state S.Store tx.new.conn.now) → IsTrue (state S.Store tx.old.conn.now).in_transaction
+        → IfErr result (λ error. StopsWith S.Store error making_texts tx.old.conn.now tx.new.conn.now) }
+    ensures inside { HasCleanDisk (state S.Store tx.new.conn.now) → OnOk result (IsTrue (state S.Store tx.new.conn.now).in_transaction) }
+    ensures keeps { HasCleanDisk (state S.Store tx.new.conn.now) → KeepsCommit (state S.Store tx.old.conn.now) (state S.Store tx.new.conn.now) }
+    ensures survives { Survives (state S.Store tx.old.conn.now) (state S.Store tx.new.conn.now) (λ _. ⊥) }
+{
+    make_common(tx)?;
+    make_later(tx)
 }
 
 /// Runs the statements in one transaction.
@@ -67,7 +102,7 @@ fn make<S: Alter>(conn: &mut Connection<S>) -> Result<(), Error>
     requires autocommit { conn.old.in_transaction ≡ false }
     ensures autocommit { conn.new.in_transaction ≡ false }
     ensures made { HasCleanDisk (state S.Store conn.new) → (state S.Store conn.old).now.schema ≡ no_schema
-        → OnOk result (IsTrue (state S.Store conn.new).is_open × IsRegisterOf [] (state S.Store conn.new).now × ((state S.Store conn.new).committed ≡ (state S.Store conn.new).now)) }
+        → OnOk result (IsTrue (state S.Store conn.new).is_open × IsRegisterOf 0 [] (state S.Store conn.new).now × ((state S.Store conn.new).committed ≡ (state S.Store conn.new).now)) }
     ensures durable { HasCleanDisk (state S.Store conn.new) → OnOk result ((trees : Trees) → (state S.Store conn.new).may_leave trees → trees ≡ (state S.Store conn.new).now.trees) }
     ensures failed { HasCleanDisk (state S.Store conn.new) → IfErr result (λ error. FailsToMake S.Store error conn.old conn.new) }
     ensures neither { HasCleanDisk (state S.Store conn.new) → OnErr result (AddsNothing (state S.Store conn.old) (state S.Store conn.new)) }
@@ -84,7 +119,7 @@ pub fn make_register<S: Alter>(conn: &mut Connection<S>) -> Result<(), CreateFau
     requires autocommit { conn.old.in_transaction ≡ false }
     ensures autocommit { conn.new.in_transaction ≡ false }
     ensures made { HasCleanDisk (state S.Store conn.new) → (state S.Store conn.old).now.schema ≡ no_schema
-        → OnOk result (IsTrue (state S.Store conn.new).is_open × IsRegisterOf [] (state S.Store conn.new).now × ((state S.Store conn.new).committed ≡ (state S.Store conn.new).now)) }
+        → OnOk result (IsTrue (state S.Store conn.new).is_open × IsRegisterOf 0 [] (state S.Store conn.new).now × ((state S.Store conn.new).committed ≡ (state S.Store conn.new).now)) }
     ensures durable { HasCleanDisk (state S.Store conn.new) → OnOk result ((trees : Trees) → (state S.Store conn.new).may_leave trees → trees ≡ (state S.Store conn.new).now.trees) }
 
     // Taken comes where one of the names is in use, and always there. Another refusal has its cause in a statement or in the commit.

@@ -28,10 +28,10 @@ pub enum CreateFault {
     Disk,
 }
 
-/// Why a register was not opened. The database is as it was, and its connection is given up.
+/// Why a register was not opened or not migrated. The rows are as they were, and the connection is given up.
 #[derive(Clone, Copy, Debug, PartialEq, Eq, thiserror::Error)]
 pub enum OpenFault {
-    /// The database is no register in the form that is read here.
+    /// The database is no register in a form that is read here, or the name of a table that a migration is to make is in use.
     #[error("not a register")]
     NotOurs,
     /// The rows are those of no register: the kept row at this place, counted from 1, is the first that is not sound; at 0 rows of

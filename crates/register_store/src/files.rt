@@ -1,6 +1,6 @@
 //! Giving the files of a store back.
 
-ghost use Rattle.std.specs.Prelude.{◌≡◌, List, IsTrue, IfOk, IfErr};
+ghost use Rattle.std.specs.Prelude.{List, IsTrue, IfOk, IfErr};
 ghost use Rattle.filing_model.specs.Request.{Request};
 ghost use Rattle.sqlite.specs.Closing.{IsCopied};
 ghost use Rattle.sqlite.specs.Files.{over_files};
@@ -19,7 +19,7 @@ impl<D: Disk + Drop> Store<FileStore<D>> {
     /// fault for which it isn't all there, but in the log still. A store that a fault of the disk shut has files too, where
     /// the disk takes part again.
     pub fn close(self) -> Result<Files<D>, (StoreFault, Files<D>)>
-        ensures kept { IfOk result (λ files. AreClean D.Disk files.log files.db → (F : List Request) → HasRequests over_files self F → HoldRegister D.Disk files F) }
+        ensures kept { IfOk result (λ files. AreClean D.Disk files.log files.db → (F : List Request) → HasRequests over_files self F → HoldRegister D.Disk files self.early F) }
         ensures copied { IfOk result (λ files. AreClean D.Disk files.log files.db → IsCopied self.conn files) }
         ensures usable { IfOk result (λ files. IsTrue (D.Disk.is_usable files.log) × IsTrue (D.Disk.is_usable files.db)) }
 
@@ -34,7 +34,7 @@ impl<D: Disk + Drop> Store<FileStore<D>> {
 
     /// The files, with all that was committed in the database file. A refusal gives the files up: `close` gives them back.
     pub fn into_files(self) -> Result<Files<D>, StoreFault>
-        ensures kept { IfOk result (λ files. AreClean D.Disk files.log files.db → (F : List Request) → HasRequests over_files self F → HoldRegister D.Disk files F) }
+        ensures kept { IfOk result (λ files. AreClean D.Disk files.log files.db → (F : List Request) → HasRequests over_files self F → HoldRegister D.Disk files self.early F) }
         ensures copied { IfOk result (λ files. AreClean D.Disk files.log files.db → IsCopied self.conn files) }
         ensures usable { IfOk result (λ files. IsTrue (D.Disk.is_usable files.log) × IsTrue (D.Disk.is_usable files.db)) }
 

@@ -1,23 +1,25 @@
 //! What is kept of a filer and key: its row, and the findings where it was refused.
 
-ghost use Rattle.std.specs.Prelude.{◌≡◌, ℕ, pos, false, List, map, option_map, IsTrue, IfOk, OnOk};
+ghost use Rattle.std.specs.Prelude.{◌≡◌, ℕ, pos, false, List, map, take, option_map, IsTrue, IfOk, IfSome, OnOk};
 ghost use Rattle.sqlite.specs.Held.{state};
 ghost use Rattle.sqlite.specs.State.{HasCleanDisk, Survives};
 ghost use Rattle.filing_model.specs.Request.{Request};
 ghost use Rattle.filing_model.specs.Register.{Kept, kept};
 ghost use Rattle.filing_model.specs.Answer.{kept_for};
+ghost use Rattle.filing_model.specs.Style.{style_of};
 ghost use Rattle.filing_model.specs.Views.{the_request};
 ghost use Rattle.table_rows.specs.Standing.{Stands};
 ghost use Rattle.register_store.specs.Register.{findings_of, number_of};
 ghost use Rattle.xbrl_report.specs.CodeNumber.{number_of as code_number};
 ghost use Rattle.register_store.specs.Store.{IsRegisterOf};
-ghost use Rattle.register_store.specs.Outcomes.{kept_as};
+ghost use Rattle.register_store.specs.Outcomes.{kept_as, style_at};
 ghost use Rattle.register_store.specs.Found.{IsFound, IsLookUp, IsPlaced, IsReading, found_row, finding_in};
 
 use crate::facts::read_text;
 use crate::fault::StoreFault;
 use crate::outcome::{KeptRow, Outcome};
 use crate::rows::{rows_of_findings, rows_with_key};
+use filing_model::Style;
 use sqlite::{Alter, Connection, Row};
 use std::alloc::Global;
 use xbrl_report::{Code, Finding, Findings};
@@ -98,9 +100,9 @@ fn look_up<S: Alter>(
     filer: &str,
     key: &str,
 ) -> Result<Option<Found>, StoreFault>
-    ensures found { HasCleanDisk (state S.Store conn.new) → (F : List Request) → Stands (IsRegisterOf F) (state S.Store conn.old) → IfOk result (IsLookUp filer.now key.now F) }
-    ensures same { HasCleanDisk (state S.Store conn.new) → (F : List Request) → Stands (IsRegisterOf F) (state S.Store conn.old) → Stands (IsRegisterOf F) (state S.Store conn.new) }
-    ensures open { HasCleanDisk (state S.Store conn.new) → (F : List Request) → Stands (IsRegisterOf F) (state S.Store conn.old) → OnOk result (IsTrue (state S.Store conn.new).is_open) }
+    ensures found { HasCleanDisk (state S.Store conn.new) → (early : ℕ) (F : List Request) → Stands (IsRegisterOf early F) (state S.Store conn.old) → IfOk result (IsLookUp filer.now key.now F) }
+    ensures same { HasCleanDisk (state S.Store conn.new) → (early : ℕ) (F : List Request) → Stands (IsRegisterOf early F) (state S.Store conn.old) → Stands (IsRegisterOf early F) (state S.Store conn.new) }
+    ensures open { HasCleanDisk (state S.Store conn.new) → (early : ℕ) (F : List Request) → Stands (IsRegisterOf early F) (state S.Store conn.old) → OnOk result (IsTrue (state S.Store conn.new).is_open) }
     ensures mode { conn.old.in_transaction ≡ false → conn.new.in_transaction ≡ false }
     ensures survives { Survives (state S.Store conn.old) (state S.Store conn.new) (λ _. ⊥) }
 {
@@ -116,10 +118,10 @@ fn findings_at<S: Alter>(
     alloc: Global,
     seq: i64,
 ) -> Result<Findings, StoreFault>
-    ensures found { HasCleanDisk (state S.Store conn.new) → (F : List Request) → Stands (IsRegisterOf F) (state S.Store conn.old)
+    ensures found { HasCleanDisk (state S.Store conn.new) → (early : ℕ) (F : List Request) → Stands (IsRegisterOf early F) (state S.Store conn.old)
         → (n : ℕ) (k : Kept) → seq ≡ pos n → IsPlaced 1 n (kept F) k → IfOk result (λ findings. findings ≡ findings_of k.outcome) }
-    ensures same { HasCleanDisk (state S.Store conn.new) → (F : List Request) → Stands (IsRegisterOf F) (state S.Store conn.old) → Stands (IsRegisterOf F) (state S.Store conn.new) }
-    ensures open { HasCleanDisk (state S.Store conn.new) → (F : List Request) → Stands (IsRegisterOf F) (state S.Store conn.old) → OnOk result (IsTrue (state S.Store conn.new).is_open) }
+    ensures same { HasCleanDisk (state S.Store conn.new) → (early : ℕ) (F : List Request) → Stands (IsRegisterOf early F) (state S.Store conn.old) → Stands (IsRegisterOf early F) (state S.Store conn.new) }
+    ensures open { HasCleanDisk (state S.Store conn.new) → (early : ℕ) (F : List Request) → Stands (IsRegisterOf early F) (state S.Store conn.old) → OnOk result (IsTrue (state S.Store conn.new).is_open) }
     ensures mode { conn.old.in_transaction ≡ false → conn.new.in_transaction ≡ false }
     ensures survives { Survives (state S.Store conn.old) (state S.Store conn.new) (λ _. ⊥) }
 {
@@ -129,51 +131,69 @@ fn findings_at<S: Alter>(
     }
 }
 
+/// The style in which the request at this place is answered, where the first so many are answered as before.
+fn style_at(early: u64, seq: i64) -> Style
+    ensures { (place : ℕ) → seq ≡ pos place → result ≡ style_at early place }
+{
+    match u64::try_from(seq) {
+        Ok(place) if place <= early => Style::Old,
+        _ => Style::Problem,
+    }
+}
+
 /// A kept row whole: with its number, or with its findings where it has none.
 fn complete<S: Alter>(
     conn: &mut Connection<S>,
     alloc: Global,
+    early: u64,
     found: Found,
 ) -> Result<KeptRow, StoreFault>
-    ensures found { HasCleanDisk (state S.Store conn.new) → (filer key : List ℕ) (F : List Request) → Stands (IsRegisterOf F) (state S.Store conn.old)
+    ensures found { HasCleanDisk (state S.Store conn.new) → (filer key : List ℕ) (n : ℕ) (F : List Request) → Stands (IsRegisterOf n F) (state S.Store conn.old)
         → (is : IsFound filer key F found) → IfOk result (λ row. kept_as filer key row ≡ is.k) }
-    ensures same { HasCleanDisk (state S.Store conn.new) → (F : List Request) → Stands (IsRegisterOf F) (state S.Store conn.old) → Stands (IsRegisterOf F) (state S.Store conn.new) }
-    ensures open { HasCleanDisk (state S.Store conn.new) → (F : List Request) → Stands (IsRegisterOf F) (state S.Store conn.old) → IsTrue (state S.Store conn.old).is_open → OnOk result (IsTrue (state S.Store conn.new).is_open) }
+    ensures style { (place : ℕ) → found.seq ≡ pos place → IfOk result (λ row. row.style ≡ style_at early place) }
+    ensures same { HasCleanDisk (state S.Store conn.new) → (n : ℕ) (F : List Request) → Stands (IsRegisterOf n F) (state S.Store conn.old) → Stands (IsRegisterOf n F) (state S.Store conn.new) }
+    ensures open { HasCleanDisk (state S.Store conn.new) → (n : ℕ) (F : List Request) → Stands (IsRegisterOf n F) (state S.Store conn.old) → IsTrue (state S.Store conn.old).is_open → OnOk result (IsTrue (state S.Store conn.new).is_open) }
     ensures mode { conn.old.in_transaction ≡ false → conn.new.in_transaction ≡ false }
     ensures survives { Survives (state S.Store conn.old) (state S.Store conn.new) (λ _. ⊥) }
 {
     let Found { seq, body, number } = found;
+    let style = style_at(early, seq);
     match number {
         Some(number) => Ok(KeptRow {
             body,
             outcome: Outcome::Registered(number),
+            style,
         }),
         None => match findings_at(conn, alloc, seq) {
             Ok(findings) => Ok(KeptRow {
                 body,
                 outcome: Outcome::Refused(findings),
+                style,
             }),
             Err(fault) => Err(fault),
         },
     }
 }
 
-/// What is kept of a filer and key, or `None` where they are new.
+/// What is kept of a filer and key, or `None` where they are new. The first `early` requests are answered as before.
 pub fn find_kept<S: Alter>(
     conn: &mut Connection<S>,
     alloc: Global,
+    early: u64,
     filer: &str,
     key: &str,
 ) -> Result<Option<KeptRow>, StoreFault>
-    ensures found { HasCleanDisk (state S.Store conn.new) → (F : List Request) → Stands (IsRegisterOf F) (state S.Store conn.old)
+    ensures found { HasCleanDisk (state S.Store conn.new) → (n : ℕ) (F : List Request) → Stands (IsRegisterOf n F) (state S.Store conn.old)
         → (body : List ℕ) → IfOk result (λ row. option_map (kept_as filer.now key.now) row ≡ kept_for (kept F) (the_request filer.now key.now body)) }
-    ensures same { HasCleanDisk (state S.Store conn.new) → (F : List Request) → Stands (IsRegisterOf F) (state S.Store conn.old) → Stands (IsRegisterOf F) (state S.Store conn.new) }
-    ensures open { HasCleanDisk (state S.Store conn.new) → (F : List Request) → Stands (IsRegisterOf F) (state S.Store conn.old) → OnOk result (IsTrue (state S.Store conn.new).is_open) }
+    ensures style { HasCleanDisk (state S.Store conn.new) → (F : List Request) → Stands (IsRegisterOf early F) (state S.Store conn.old)
+        → (body : List ℕ) → IfOk result (λ row. IfSome row (λ r. r.style ≡ style_of (take early F) (the_request filer.now key.now body))) }
+    ensures same { HasCleanDisk (state S.Store conn.new) → (n : ℕ) (F : List Request) → Stands (IsRegisterOf n F) (state S.Store conn.old) → Stands (IsRegisterOf n F) (state S.Store conn.new) }
+    ensures open { HasCleanDisk (state S.Store conn.new) → (n : ℕ) (F : List Request) → Stands (IsRegisterOf n F) (state S.Store conn.old) → OnOk result (IsTrue (state S.Store conn.new).is_open) }
     ensures mode { conn.old.in_transaction ≡ false → conn.new.in_transaction ≡ false }
     ensures crash { Survives (state S.Store conn.old) (state S.Store conn.new) (λ _. ⊥) }
 {
     match look_up(conn, filer, key) {
-        Ok(Some(found)) => match complete(conn, alloc, found) {
+        Ok(Some(found)) => match complete(conn, alloc, early, found) {
             Ok(row) => Ok(Some(row)),
             Err(fault) => Err(fault),
         },

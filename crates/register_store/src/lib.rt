@@ -10,11 +10,13 @@ mod content;
 mod counts;
 mod create;
 mod damage;
+mod earlier;
 mod facts;
 mod fault;
 mod files;
 mod found;
 mod lists;
+mod migrate;
 mod names;
 mod opening;
 mod outcome;
@@ -28,9 +30,13 @@ mod walk;
 mod write;
 
 pub use completed::{Completed, Registered};
-pub use content::findings_value;
+pub use content::{
+    findings_value, problem_value, refusal_value, refused_status, refused_value, registered_value,
+};
 pub use create::make_register;
+pub use earlier::Earlier;
 pub use fault::{CreateFault, OpenFault, StoreFault};
+pub use migrate::migrate_register;
 pub use opening::{Counts, read_register};
 pub use outcome::{KeptRow, NewRow, Outcome};
 pub use store::Store;

@@ -27,9 +27,10 @@ impl<S: Alter> Store<S> {
         ensures rows { HasCleanDisk (shows S.Store self.new) → (F : List Request) → HasRequests S.Store self.old F → IfOk result (λ rows. rows.items ≡ F) }
         ensures same { HasCleanDisk (shows S.Store self.new) → (F : List Request) → HasRequests S.Store self.old F → HasRequests S.Store self.new F }
         ensures counts { (self.new.kept ≡ self.old.kept) × (self.new.filings ≡ self.old.filings) }
+        ensures early { self.new.early ≡ self.old.early }
         ensures crash { Survives (shows S.Store self.old) (shows S.Store self.new) (λ _. ⊥) }
         ensures durable { HasCleanDisk (shows S.Store self.new) → (F : List Request) → HasRequests S.Store self.old F
-            → OnOk result (IsTrue (shows S.Store self.new).is_open × ((trees : Trees) → (shows S.Store self.new).may_leave trees → Leaves F trees)) }
+            → OnOk result (IsTrue (shows S.Store self.new).is_open × ((trees : Trees) → (shows S.Store self.new).may_leave trees → Leaves self.old.early F trees)) }
     {
         match reads::kept_rows(&mut self.conn) {
             Ok(rows) => read_requests(self.alloc, &rows),
@@ -42,9 +43,10 @@ impl<S: Alter> Store<S> {
         ensures rows { HasCleanDisk (shows S.Store self.new) → (F : List Request) → HasRequests S.Store self.old F → IfOk result (λ rows. rows.items ≡ register F) }
         ensures same { HasCleanDisk (shows S.Store self.new) → (F : List Request) → HasRequests S.Store self.old F → HasRequests S.Store self.new F }
         ensures counts { (self.new.kept ≡ self.old.kept) × (self.new.filings ≡ self.old.filings) }
+        ensures early { self.new.early ≡ self.old.early }
         ensures crash { Survives (shows S.Store self.old) (shows S.Store self.new) (λ _. ⊥) }
         ensures durable { HasCleanDisk (shows S.Store self.new) → (F : List Request) → HasRequests S.Store self.old F
-            → OnOk result (IsTrue (shows S.Store self.new).is_open × ((trees : Trees) → (shows S.Store self.new).may_leave trees → Leaves F trees)) }
+            → OnOk result (IsTrue (shows S.Store self.new).is_open × ((trees : Trees) → (shows S.Store self.new).may_leave trees → Leaves self.old.early F trees)) }
     {
         match reads::kept_rows(&mut self.conn) {
             Ok(rows) => read_filings(self.alloc, &rows),
@@ -57,9 +59,10 @@ impl<S: Alter> Store<S> {
         ensures rows { HasCleanDisk (shows S.Store self.new) → (F : List Request) → HasRequests S.Store self.old F → IfOk result (λ rows. map view_row rows.items ≡ listings filer.now (register F)) }
         ensures same { HasCleanDisk (shows S.Store self.new) → (F : List Request) → HasRequests S.Store self.old F → HasRequests S.Store self.new F }
         ensures counts { (self.new.kept ≡ self.old.kept) × (self.new.filings ≡ self.old.filings) }
+        ensures early { self.new.early ≡ self.old.early }
         ensures crash { Survives (shows S.Store self.old) (shows S.Store self.new) (λ _. ⊥) }
         ensures durable { HasCleanDisk (shows S.Store self.new) → (F : List Request) → HasRequests S.Store self.old F
-            → OnOk result (IsTrue (shows S.Store self.new).is_open × ((trees : Trees) → (shows S.Store self.new).may_leave trees → Leaves F trees)) }
+            → OnOk result (IsTrue (shows S.Store self.new).is_open × ((trees : Trees) → (shows S.Store self.new).may_leave trees → Leaves self.old.early F trees)) }
     {
         filings_of(&mut self.conn, self.alloc, filer)
     }
@@ -70,9 +73,10 @@ impl<S: Alter> Store<S> {
         ensures facts { HasCleanDisk (shows S.Store self.new) → (F : List Request) → HasRequests S.Store self.old F → IfOk result (λ facts. option_map (λ list. list.items) facts ≡ facts_numbered number (register F)) }
         ensures same { HasCleanDisk (shows S.Store self.new) → (F : List Request) → HasRequests S.Store self.old F → HasRequests S.Store self.new F }
         ensures counts { (self.new.kept ≡ self.old.kept) × (self.new.filings ≡ self.old.filings) }
+        ensures early { self.new.early ≡ self.old.early }
         ensures crash { Survives (shows S.Store self.old) (shows S.Store self.new) (λ _. ⊥) }
         ensures durable { HasCleanDisk (shows S.Store self.new) → (F : List Request) → HasRequests S.Store self.old F → IsTrue (shows S.Store self.new).is_open
-            → (trees : Trees) → (shows S.Store self.new).may_leave trees → Leaves F trees }
+            → (trees : Trees) → (shows S.Store self.new).may_leave trees → Leaves self.old.early F trees }
     {
         if number == 0 || self.filings < number {
             return Ok(None);

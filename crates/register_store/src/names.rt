@@ -3,8 +3,10 @@
 ghost use Rattle.std.specs.Prelude.{◌≡◌};
 ghost use Rattle.std.specs.List.{list_any};
 ghost use Rattle.sqlite_schema.specs.Names.{same_name};
+ghost use Rattle.register_store.specs.Earlier.{is_blocked};
 ghost use Rattle.register_store.specs.Schema.{has_name, is_taken};
 
+use crate::earlier::Earlier;
 use sqlite_schema::names::same_name;
 use sqlite_schema::schema::{Index, Schema, Table, View};
 
@@ -17,6 +19,18 @@ pub fn is_taken(schema: &Schema) -> bool
         || has_name(schema, b"finding")
         || has_name(schema, b"filing")
         || has_name(schema, b"fact")
+        || has_name(schema, b"migrated")
+        || has_name(schema, b"amends")
+}
+
+/// Whether one has the name of a table that a register in this form has not, and a register has.
+pub fn is_blocked(schema: &Schema, form: Earlier) -> bool
+    ensures { result ≡ is_blocked schema.now form }
+{
+    match form {
+        Earlier::Second => has_name(schema, b"migrated") || has_name(schema, b"amends"),
+        Earlier::Third => has_name(schema, b"amends"),
+    }
 }
 
 /// Whether a table, an index or a view has the name. Names are compared as SQLite does, without case.

@@ -1,30 +1,33 @@
 //! What an opening finds in a database.
 
-ghost use Rattle.std.specs.Prelude.{◌≡◌, ◌≢◌, ◌≤◌, ◌^◌, ◌⊎◌, ◌↔◌, ◌∷◌, [], ℕ, List, length, false, not, Err, IsTrue, IfOk, IfErr, IfSome, OnOk, OnErr, None};
+ghost use Rattle.std.specs.Prelude.{◌≡◌, ◌≤◌, ◌<◌, ◌^◌, ◌⊎◌, ◌↔◌, ◌∷◌, [], ℕ, pos, List, length, false, not, Err, IsTrue, IfOk, IfErr, IfSome, OnOk, OnErr, None, Option};
 ghost use Rattle.filing_model.specs.Register.{register};
 ghost use Rattle.filing_model.specs.Request.{Request};
 ghost use Rattle.sqlite.specs.Held.{state};
+ghost use Rattle.sqlite.specs.Order.{column};
+ghost use Rattle.sqlite.specs.declared.types.Value.TheVariants.{Int};
 ghost use Rattle.sqlite.specs.State.{HasCleanDisk, IsLive, IsUnchanged, KeepsCommit, Survives};
 ghost use Rattle.table_rows.specs.Causes.{cause_of};
 ghost use Rattle.table_rows.specs.Standing.{Stands};
 ghost use Rattle.register_store.specs.Audit.{IsVerdict};
 ghost use Rattle.register_store.specs.Faults.{meta_fault, table_fault};
-ghost use Rattle.register_store.specs.Opening.{all_meta, table_texts, IsRead, AreRead, StopsFor, IsRefused};
-ghost use Rattle.register_store.specs.Register.{meta_row};
-ghost use Rattle.register_store.specs.Schema.{IsDeclared};
+ghost use Rattle.register_store.specs.Opening.{all_meta, row_texts, new_texts, IsRead, AreRead, StopsFor, SaysEarly, SaysNothing, AreDamaged, IsRefused, IsRefusedAfter};
+ghost use Rattle.register_store.specs.Register.{meta_row, migrated_row};
+ghost use Rattle.register_store.specs.Schema.{IsDeclared, HasCommon};
 ghost use Rattle.register_store.specs.Store.{IsRegisterOf};
-ghost use Rattle.register_store.specs.Walk.{Amounts};
+ghost use Rattle.register_store.specs.Walk.{AreCounted};
 
 use crate::audit::{Verdict, audit};
 use crate::cells::{Cell, is_row};
 use crate::fault::OpenFault;
 use crate::reads;
-use crate::walk::count_by_walk;
+use crate::walk::{Totals, count_by_walk};
+use sqlite::types::ValueRef;
 use sqlite::{Alter, Connection, Error, Row};
 use std::alloc::Global;
 use table_rows::Cause;
 
-fn meta_fault(error: Error) -> OpenFault
+pub(crate) fn meta_fault(error: Error) -> OpenFault
     ensures { result ≡ meta_fault error }
 {
     match Cause::from(error) {
@@ -34,7 +37,7 @@ fn meta_fault(error: Error) -> OpenFault
     }
 }
 
-fn table_fault(error: Error) -> OpenFault
+pub(crate) fn table_fault(error: Error) -> OpenFault
     ensures { result ≡ table_fault error }
 {
     match Cause::from(error) {
@@ -54,7 +57,7 @@ fn is_register(rows: &[Row]) -> bool
             &[
                 Cell::Int(1),
                 Cell::Text(b"register".as_slice()),
-                Cell::Int(2),
+                Cell::Int(4),
             ],
         ),
         _ => false,
@@ -82,16 +85,16 @@ fn read_meta<S: Alter>(conn: &mut Connection<S>) -> Result<(), OpenFault>
 
 /// The rows of the four tables beside `intake_meta`, each in the order of its key.
 #[derive(Drop)]
-struct Tables {
-    kept: Vec<Row>,
-    findings: Vec<Row>,
-    filings: Vec<Row>,
-    facts: Vec<Row>,
+pub(crate) struct Tables {
+    pub(crate) kept: Vec<Row>,
+    pub(crate) findings: Vec<Row>,
+    pub(crate) filings: Vec<Row>,
+    pub(crate) facts: Vec<Row>,
 }
 
-fn read_tables<S: Alter>(conn: &mut Connection<S>) -> Result<Tables, Error>
-    ensures read { HasCleanDisk (state S.Store conn.new) → IfOk result (λ tables. AreRead S.Store table_texts conn.old conn.new (tables.kept.items ∷ tables.findings.items ∷ tables.filings.items ∷ tables.facts.items ∷ [])) }
-    ensures failed { HasCleanDisk (state S.Store conn.new) → IfErr result (λ error. StopsFor S.Store (cause_of error) table_texts conn.old conn.new) }
+pub(crate) fn read_tables<S: Alter>(conn: &mut Connection<S>) -> Result<Tables, Error>
+    ensures read { HasCleanDisk (state S.Store conn.new) → IfOk result (λ tables. AreRead S.Store row_texts conn.old conn.new (tables.kept.items ∷ tables.findings.items ∷ tables.filings.items ∷ tables.facts.items ∷ [])) }
+    ensures failed { HasCleanDisk (state S.Store conn.new) → IfErr result (λ error. StopsFor S.Store (cause_of error) row_texts conn.old conn.new) }
     ensures mode { conn.old.in_transaction ≡ false → conn.new.in_transaction ≡ false }
     ensures survives { Survives (state S.Store conn.old) (state S.Store conn.new) (λ _. ⊥) }
 {
@@ -115,11 +118,69 @@ fn read_tables<S: Alter>(conn: &mut Connection<S>) -> Result<Tables, Error>
     }
 }
 
-/// How much a register holds: how many requests are kept, and how many of them are registered.
+/// The rows of the tables that an earlier form did not have, each in the order of its key.
+#[derive(Drop)]
+pub(crate) struct Later {
+    migrated: Vec<Row>,
+    amends: Vec<Row>,
+}
+
+fn read_later<S: Alter>(conn: &mut Connection<S>) -> Result<Later, Error>
+    ensures read { HasCleanDisk (state S.Store conn.new) → IfOk result (λ later. AreRead S.Store new_texts conn.old conn.new (later.migrated.items ∷ later.amends.items ∷ [])) }
+    ensures failed { HasCleanDisk (state S.Store conn.new) → IfErr result (λ error. StopsFor S.Store (cause_of error) new_texts conn.old conn.new) }
+    ensures mode { conn.old.in_transaction ≡ false → conn.new.in_transaction ≡ false }
+    ensures survives { Survives (state S.Store conn.old) (state S.Store conn.new) (λ _. ⊥) }
+{
+    match reads::migrated_rows(conn) {
+        Ok(migrated) => match reads::amends_rows(conn) {
+            Ok(amends) => Ok(Later { migrated, amends }),
+            Err(error) => Err(error),
+        },
+        Err(error) => Err(error),
+    }
+}
+
+/// How much a register holds: how many requests are kept, how many of them are registered, and how many were kept before
+/// there were problem details.
 #[derive(Clone, Copy, Debug, PartialEq, Eq)]
 pub struct Counts {
     pub kept: u64,
     pub filings: u64,
+    pub early: u64,
+}
+
+/// The number in the second column of the row.
+fn last_in(row: &Row) -> Option<u64>
+    ensures some { IfSome result (λ last. (last < 2 ^ 63) × (column row.now 1 ≡ Int (pos last))) }
+    ensures none { result ≡ None → (last : ℕ) → 1 < length row.now → column row.now 1 ≡ Int (pos last) → ⊥ }
+{
+    match row.get_ref(1) {
+        Ok(ValueRef::Int(last)) => u64::try_from(last).ok(),
+        _ => None,
+    }
+}
+
+/// The number in the row, where it is the row of `migrated` and the number one of so many kept requests.
+pub(crate) fn number_of(row: &Row, kept: u64) -> Option<u64>
+    ensures some { IfSome result (λ early. (row.now ≡ migrated_row early) × (early ≤ kept)) }
+    ensures none { result ≡ None → (early : ℕ) → row.now ≡ migrated_row early → early ≤ kept → ⊥ }
+{
+    match last_in(row) {
+        Some(early) if early <= kept && is_row(row, &[Cell::Int(1), Cell::Int(early as i64)]) =>
+            Some(early),
+        _ => None,
+    }
+}
+
+/// The number in the row of `migrated`, where it is one of so many kept requests, and no request replaces a filing.
+fn early_in(kept: u64, later: &Later) -> Option<u64>
+    ensures some { IfSome result (λ early. SaysEarly kept early (record { migrated = later.now.migrated.items; amends = later.now.amends.items })) }
+    ensures none { result ≡ None → SaysNothing kept (record { migrated = later.now.migrated.items; amends = later.now.amends.items }) }
+{
+    match later.migrated.as_slice() {
+        [row] if later.amends.is_empty() => number_of(row, kept),
+        _ => None,
+    }
 }
 
 /// Counts what the rows stand for, where they stand for a list of requests.
@@ -129,19 +190,35 @@ fn count(
     findings: &[Row],
     filings: &[Row],
     facts: &[Row],
+    later: &Later,
 ) -> Result<Counts, OpenFault>
-    ensures counted { IfOk result (λ counts. (counts.kept ≡ length kept.now) × IsVerdict kept.now (record { finding = findings.now; filing = filings.now; fact = facts.now }) (Verdict.Sound counts.filings)) }
-    ensures few { IfOk result (λ counts. (counts.kept ≤ 2 ^ 62) × (counts.filings ≤ counts.kept)) }
-    ensures refused { IfErr result (λ fault. (fault ≡ OpenFault.Memory) ⊎ ((row : ℕ) × (fault ≡ OpenFault.Damaged row) × IsVerdict kept.now (record { finding = findings.now; filing = filings.now; fact = facts.now }) (Verdict.Damaged row))) }
+    ensures counted { IfOk result (λ counts. (counts.kept ≡ length kept.now) × SaysEarly counts.kept counts.early (record { migrated = later.now.migrated.items; amends = later.now.amends.items }) × IsVerdict kept.now (record { finding = findings.now; filing = filings.now; fact = facts.now }) (Verdict.Sound counts.filings)) }
+    ensures few { IfOk result (λ counts. (counts.kept ≤ 2 ^ 62) × (counts.filings ≤ counts.kept) × (counts.early ≤ counts.kept)) }
+    ensures refused { IfErr result (λ fault. (fault ≡ OpenFault.Memory) ⊎ ((row : ℕ) × (fault ≡ OpenFault.Damaged row) × AreDamaged kept.now (record { finding = findings.now; filing = filings.now; fact = facts.now }) (record { migrated = later.now.migrated.items; amends = later.now.amends.items }) row)) }
 {
     match audit(alloc, kept, findings, filings, facts) {
-        Ok(Verdict::Sound { filings }) => Ok(Counts {
-            kept: kept.len() as u64,
-            filings,
-        }),
+        Ok(Verdict::Sound { filings }) => match early_in(kept.len() as u64, later) {
+            Some(early) => Ok(Counts {
+                kept: kept.len() as u64,
+                filings,
+                early,
+            }),
+            None => Err(OpenFault::Damaged { row: 0 }),
+        },
         Ok(Verdict::Damaged { row }) => Err(OpenFault::Damaged { row }),
         Err(_) => Err(OpenFault::Memory),
     }
+}
+
+/// So much is held, where the rows of the later tables are those of so many kept requests.
+fn counts_of(totals: Totals, later: &Later) -> Option<Counts>
+    ensures { IfSome result (λ counts. (counts.kept ≡ totals.kept) × (counts.filings ≡ totals.filings) × SaysEarly counts.kept counts.early (record { migrated = later.now.migrated.items; amends = later.now.amends.items })) }
+{
+    Some(Counts {
+        kept: totals.kept,
+        filings: totals.filings,
+        early: early_in(totals.kept, later)?,
+    })
 }
 
 /// Counts what the rows stand for with one kept request in memory at a time. `None` says nothing of the rows: the tables are
@@ -149,18 +226,20 @@ fn count(
 fn count_one_by_one<S: Alter>(
     alloc: Global,
     conn: &mut Connection<S>,
+    later: &Later,
 ) -> Result<Option<Counts>, OpenFault>
-    ensures found { HasCleanDisk (state S.Store conn.new) → IsDeclared (state S.Store conn.old).now.schema
-        → IfOk result (λ found. IfSome found (λ counts. Amounts counts (state S.Store conn.old).now)) }
-    ensures few { IfOk result (λ found. IfSome found (λ counts. (counts.kept ≤ 2 ^ 62) × (counts.filings ≤ counts.kept))) }
+    ensures found { HasCleanDisk (state S.Store conn.new) → HasCommon (state S.Store conn.old).now.schema
+        → IfOk result (λ found. IfSome found (λ counts. AreCounted counts (record { migrated = later.now.migrated.items; amends = later.now.amends.items }) (state S.Store conn.old).now)) }
+    ensures few { IfOk result (λ found. IfSome found (λ counts. (counts.kept ≤ 2 ^ 62) × (counts.filings ≤ counts.kept) × (counts.early ≤ counts.kept))) }
     ensures failed { HasCleanDisk (state S.Store conn.new)
-        → IfErr result (λ fault. (error : Error) × (fault ≡ table_fault error) × StopsFor S.Store (cause_of error) table_texts conn.old conn.new) }
+        → IfErr result (λ fault. (error : Error) × (fault ≡ table_fault error) × StopsFor S.Store (cause_of error) row_texts conn.old conn.new) }
     ensures same { HasCleanDisk (state S.Store conn.new) → OnOk result (IsUnchanged (state S.Store conn.old) (state S.Store conn.new)) }
     ensures mode { conn.old.in_transaction ≡ false → conn.new.in_transaction ≡ false }
     ensures survives { Survives (state S.Store conn.old) (state S.Store conn.new) (λ _. ⊥) }
 {
     match count_by_walk(alloc, conn) {
-        Ok(found) => Ok(found),
+        Ok(Some(totals)) => Ok(counts_of(totals, later)),
+        Ok(None) => Ok(None),
         Err(error) => match Cause::from(error) {
             Cause::Memory => Err(OpenFault::Memory),
             Cause::Disk => Err(OpenFault::Disk),
@@ -179,6 +258,36 @@ pub(crate) fn is_settled<S: Alter>(conn: &Connection<S>) -> bool
     conn.is_autocommit()
 }
 
+/// Counts what the rows stand for beside those of the later tables.
+fn count_all<S: Alter>(
+    alloc: Global,
+    conn: &mut Connection<S>,
+    later: &Later,
+) -> Result<Counts, OpenFault>
+    ensures counted { HasCleanDisk (state S.Store conn.new) → IfOk result (λ counts. IsUnchanged (state S.Store conn.old) (state S.Store conn.new)
+        × (HasCommon (state S.Store conn.old).now.schema → AreCounted counts (record { migrated = later.now.migrated.items; amends = later.now.amends.items }) (state S.Store conn.old).now)) }
+    ensures few { IfOk result (λ counts. (counts.kept ≤ 2 ^ 62) × (counts.filings ≤ counts.kept) × (counts.early ≤ counts.kept)) }
+    ensures refused { HasCleanDisk (state S.Store conn.new) → IfErr result (λ fault. IsRefusedAfter S.Store (record { migrated = later.now.migrated.items; amends = later.now.amends.items }) fault conn.old conn.new) }
+    ensures mode { conn.old.in_transaction ≡ false → conn.new.in_transaction ≡ false }
+    ensures survives { Survives (state S.Store conn.old) (state S.Store conn.new) (λ _. ⊥) }
+{
+    match count_one_by_one(alloc, conn, later) {
+        Ok(Some(counts)) => Ok(counts),
+        Ok(None) => match read_tables(conn) {
+            Ok(tables) => count(
+                alloc,
+                &tables.kept,
+                &tables.findings,
+                &tables.filings,
+                &tables.facts,
+                later,
+            ),
+            Err(error) => Err(table_fault(error)),
+        },
+        Err(fault) => Err(fault),
+    }
+}
+
 /// Reads how much the register holds that the database is: nothing is written, whatever the answer is. How the tables
 /// are declared is not tested.
 pub fn read_register<S: Alter>(alloc: Global, conn: &mut Connection<S>) -> Result<Counts, OpenFault>
@@ -187,15 +296,15 @@ pub fn read_register<S: Alter>(alloc: Global, conn: &mut Connection<S>) -> Resul
 
     // The rows stand for requests, and these are counted. Others than those that are counted they don't stand for.
     ensures found { HasCleanDisk (state S.Store conn.new) → IsDeclared (state S.Store conn.old).now.schema
-        → IfOk result (λ counts. (F : List Request) × IsRegisterOf F (state S.Store conn.old).now × Stands (IsRegisterOf F) (state S.Store conn.new)
+        → IfOk result (λ counts. (F : List Request) × IsRegisterOf counts.early F (state S.Store conn.old).now × Stands (IsRegisterOf counts.early F) (state S.Store conn.new)
         × (counts.kept ≡ length F) × (counts.filings ≡ length (register F))) }
-    ensures only { HasCleanDisk (state S.Store conn.new) → IfOk result (λ counts. (F : List Request) → IsRegisterOf F (state S.Store conn.old).now
-        → Stands (IsRegisterOf F) (state S.Store conn.new) × (counts.kept ≡ length F) × (counts.filings ≡ length (register F))) }
-    ensures few { IfOk result (λ counts. (counts.kept ≤ 2 ^ 62) × (counts.filings ≤ counts.kept)) }
+    ensures only { HasCleanDisk (state S.Store conn.new) → IfOk result (λ counts. (early : ℕ) (F : List Request) → IsRegisterOf early F (state S.Store conn.old).now
+        → (counts.early ≡ early) × Stands (IsRegisterOf early F) (state S.Store conn.new) × (counts.kept ≡ length F) × (counts.filings ≡ length (register F))) }
+    ensures few { IfOk result (λ counts. (counts.kept ≤ 2 ^ 62) × (counts.filings ≤ counts.kept) × (counts.early ≤ counts.kept)) }
 
     // A refusal says why; where the rows stand for requests, it is by memory or disk.
     ensures refused { HasCleanDisk (state S.Store conn.new) → IfErr result (λ fault. IsRefused S.Store fault conn.old conn.new) }
-    ensures sound { HasCleanDisk (state S.Store conn.new) → IfErr result (λ fault. (F : List Request) → IsRegisterOf F (state S.Store conn.old).now
+    ensures sound { HasCleanDisk (state S.Store conn.new) → IfErr result (λ fault. (early : ℕ) (F : List Request) → IsRegisterOf early F (state S.Store conn.old).now
         → (fault ≡ OpenFault.Memory) ⊎ (fault ≡ OpenFault.Disk)) }
 
     // The connection is as it was, and after a refusal at least what is committed. A crash leaves what it could leave before.
@@ -206,19 +315,9 @@ pub fn read_register<S: Alter>(alloc: Global, conn: &mut Connection<S>) -> Resul
 {
     prove!(is_settled(conn));
     match read_meta(conn) {
-        Ok(()) => match count_one_by_one(alloc, conn) {
-            Ok(Some(counts)) => Ok(counts),
-            Ok(None) => match read_tables(conn) {
-                Ok(tables) => count(
-                    alloc,
-                    &tables.kept,
-                    &tables.findings,
-                    &tables.filings,
-                    &tables.facts,
-                ),
-                Err(error) => Err(table_fault(error)),
-            },
-            Err(fault) => Err(fault),
+        Ok(()) => match read_later(conn) {
+            Ok(later) => count_all(alloc, conn, &later),
+            Err(error) => Err(table_fault(error)),
         },
         Err(fault) => Err(fault),
     }

@@ -3,6 +3,7 @@
 ghost use Rattle.std.specs.Prelude.{◌≡◌, IfOk};
 ghost use Rattle.register_store.specs.Outcomes.{view_outcome, outcome_of, filings_by};
 
+use filing_model::Style;
 use key_string::KeyText;
 use std::alloc::{AllocError, Global};
 use xbrl_report::{Findings, Judged};
@@ -16,11 +17,12 @@ pub enum Outcome {
     Refused(Findings),
 }
 
-/// What is kept of a filer and key: the body's bytes, and what became of them.
+/// What is kept of a filer and key: the body's bytes, what became of them, and the style in which these requests are answered.
 #[derive(Drop)]
 pub struct KeptRow {
     pub body: Vec<u8>,
     pub outcome: Outcome,
+    pub style: Style,
 }
 
 /// A request that is to be kept: a filer code, a key that the filer has not used, and a body of at most 1,048,576

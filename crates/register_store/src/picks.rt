@@ -1,12 +1,12 @@
 //! The SELECTs of a walk over a register's tables: the rows of one table with a key, by what is left of its key, or how many rows it has.
 
-ghost use Rattle.std.specs.Prelude.{◌≡◌, ◌<◌, ◌^◌, ◌-◌, ℕ, pos, false, length, filter, map, [], ◌∷◌, IsTrue, IfOk, IfErr, IfSome, OnOk};
+ghost use Rattle.std.specs.Prelude.{◌≡◌, ◌<◌, ◌^◌, ◌-◌, pos, false, length, filter, [], ◌∷◌, IfOk, IfErr, IfSome, OnOk};
 ghost use Rattle.sqlite.specs.Held.{state};
 ghost use Rattle.sqlite.specs.State.{HasCleanDisk, IsUnchanged, Survives};
 ghost use Rattle.sqlite.specs.declared.types.Value.TheVariants.{Int};
 ghost use Rattle.register_store.specs.Found.{has_texts};
 ghost use Rattle.register_store.specs.Reads.{has_number};
-ghost use Rattle.register_store.specs.Schema.{IsDeclared, kept_table, finding_table, filing_table, fact_table};
+ghost use Rattle.register_store.specs.Schema.{HasCommon, kept_table, finding_table, filing_table, fact_table};
 ghost use Rattle.register_store.specs.Walk.{CountsTo, IsStopped, Picks, rows_in};
 
 use sqlite::types::ValueRef;
@@ -18,7 +18,7 @@ const MAX_COUNT: i64 = i64::MAX;
 /// The kept rows with this place.
 pub(crate) fn kept_at<S: Alter>(conn: &mut Connection<S>, seq: u64) -> Result<Vec<Row>, Error>
     requires { seq < 2 ^ 63 }
-    ensures picks { HasCleanDisk (state S.Store conn.new) → IsDeclared (state S.Store conn.old).now.schema
+    ensures picks { HasCleanDisk (state S.Store conn.new) → HasCommon (state S.Store conn.old).now.schema
         → IfOk result (λ rows. Picks kept_table (has_number seq) rows.items (state S.Store conn.old).now) }
     ensures same { HasCleanDisk (state S.Store conn.new) → OnOk result (IsUnchanged (state S.Store conn.old) (state S.Store conn.new)) }
     ensures stopped { HasCleanDisk (state S.Store conn.new) → IfErr result (IsStopped (state S.Store conn.old) (state S.Store conn.new)) }
@@ -34,7 +34,7 @@ pub(crate) fn kept_at<S: Alter>(conn: &mut Connection<S>, seq: u64) -> Result<Ve
 /// The findings of the request at this place, by `pos`.
 pub(crate) fn findings_at<S: Alter>(conn: &mut Connection<S>, seq: u64) -> Result<Vec<Row>, Error>
     requires { seq < 2 ^ 63 }
-    ensures picks { HasCleanDisk (state S.Store conn.new) → IsDeclared (state S.Store conn.old).now.schema
+    ensures picks { HasCleanDisk (state S.Store conn.new) → HasCommon (state S.Store conn.old).now.schema
         → IfOk result (λ rows. Picks finding_table (has_number seq) rows.items (state S.Store conn.old).now) }
     ensures same { HasCleanDisk (state S.Store conn.new) → OnOk result (IsUnchanged (state S.Store conn.old) (state S.Store conn.new)) }
     ensures stopped { HasCleanDisk (state S.Store conn.new) → IfErr result (IsStopped (state S.Store conn.old) (state S.Store conn.new)) }
@@ -53,7 +53,7 @@ pub(crate) fn filings_numbered<S: Alter>(
     number: u64,
 ) -> Result<Vec<Row>, Error>
     requires { number < 2 ^ 63 }
-    ensures picks { HasCleanDisk (state S.Store conn.new) → IsDeclared (state S.Store conn.old).now.schema
+    ensures picks { HasCleanDisk (state S.Store conn.new) → HasCommon (state S.Store conn.old).now.schema
         → IfOk result (λ rows. Picks filing_table (has_number number) rows.items (state S.Store conn.old).now) }
     ensures same { HasCleanDisk (state S.Store conn.new) → OnOk result (IsUnchanged (state S.Store conn.old) (state S.Store conn.new)) }
     ensures stopped { HasCleanDisk (state S.Store conn.new) → IfErr result (IsStopped (state S.Store conn.old) (state S.Store conn.new)) }
@@ -72,7 +72,7 @@ pub(crate) fn facts_numbered<S: Alter>(
     number: u64,
 ) -> Result<Vec<Row>, Error>
     requires { number < 2 ^ 63 }
-    ensures picks { HasCleanDisk (state S.Store conn.new) → IsDeclared (state S.Store conn.old).now.schema
+    ensures picks { HasCleanDisk (state S.Store conn.new) → HasCommon (state S.Store conn.old).now.schema
         → IfOk result (λ rows. Picks fact_table (has_number number) rows.items (state S.Store conn.old).now) }
     ensures same { HasCleanDisk (state S.Store conn.new) → OnOk result (IsUnchanged (state S.Store conn.old) (state S.Store conn.new)) }
     ensures stopped { HasCleanDisk (state S.Store conn.new) → IfErr result (IsStopped (state S.Store conn.old) (state S.Store conn.new)) }
@@ -91,7 +91,7 @@ pub(crate) fn count_with_key<S: Alter>(
     filer: &[u8],
     key: &[u8],
 ) -> Result<usize, Error>
-    ensures counted { HasCleanDisk (state S.Store conn.new) → IsDeclared (state S.Store conn.old).now.schema
+    ensures counted { HasCleanDisk (state S.Store conn.new) → HasCommon (state S.Store conn.old).now.schema
         → IfOk result (λ count. count ≡ length (filter (has_texts filer.now key.now) (rows_in (state S.Store conn.old).now kept_table))) }
     ensures same { HasCleanDisk (state S.Store conn.new) → OnOk result (IsUnchanged (state S.Store conn.old) (state S.Store conn.new)) }
     ensures stopped { HasCleanDisk (state S.Store conn.new) → IfErr result (IsStopped (state S.Store conn.old) (state S.Store conn.new)) }
@@ -128,7 +128,7 @@ fn read_count(rows: &[Row]) -> Option<u64>
 
 /// How many rows `kept` has, or `None` where it has more than are counted.
 pub(crate) fn count_kept<S: Alter>(conn: &mut Connection<S>) -> Result<Option<u64>, Error>
-    ensures counted { HasCleanDisk (state S.Store conn.new) → IsDeclared (state S.Store conn.old).now.schema
+    ensures counted { HasCleanDisk (state S.Store conn.new) → HasCommon (state S.Store conn.old).now.schema
         → IfOk result (λ found. IfSome found (λ count. CountsTo kept_table count (state S.Store conn.old).now)) }
     ensures same { HasCleanDisk (state S.Store conn.new) → OnOk result (IsUnchanged (state S.Store conn.old) (state S.Store conn.new)) }
     ensures stopped { HasCleanDisk (state S.Store conn.new) → IfErr result (IsStopped (state S.Store conn.old) (state S.Store conn.new)) }
@@ -143,7 +143,7 @@ pub(crate) fn count_kept<S: Alter>(conn: &mut Connection<S>) -> Result<Option<u6
 
 /// How many rows `finding` has, or `None` where it has more than are counted.
 pub(crate) fn count_findings<S: Alter>(conn: &mut Connection<S>) -> Result<Option<u64>, Error>
-    ensures counted { HasCleanDisk (state S.Store conn.new) → IsDeclared (state S.Store conn.old).now.schema
+    ensures counted { HasCleanDisk (state S.Store conn.new) → HasCommon (state S.Store conn.old).now.schema
         → IfOk result (λ found. IfSome found (λ count. CountsTo finding_table count (state S.Store conn.old).now)) }
     ensures same { HasCleanDisk (state S.Store conn.new) → OnOk result (IsUnchanged (state S.Store conn.old) (state S.Store conn.new)) }
     ensures stopped { HasCleanDisk (state S.Store conn.new) → IfErr result (IsStopped (state S.Store conn.old) (state S.Store conn.new)) }
@@ -158,7 +158,7 @@ pub(crate) fn count_findings<S: Alter>(conn: &mut Connection<S>) -> Result<Optio
 
 /// How many rows `filing` has, or `None` where it has more than are counted.
 pub(crate) fn count_filings<S: Alter>(conn: &mut Connection<S>) -> Result<Option<u64>, Error>
-    ensures counted { HasCleanDisk (state S.Store conn.new) → IsDeclared (state S.Store conn.old).now.schema
+    ensures counted { HasCleanDisk (state S.Store conn.new) → HasCommon (state S.Store conn.old).now.schema
         → IfOk result (λ found. IfSome found (λ count. CountsTo filing_table count (state S.Store conn.old).now)) }
     ensures same { HasCleanDisk (state S.Store conn.new) → OnOk result (IsUnchanged (state S.Store conn.old) (state S.Store conn.new)) }
     ensures stopped { HasCleanDisk (state S.Store conn.new) → IfErr result (IsStopped (state S.Store conn.old) (state S.Store conn.new)) }
@@ -173,7 +173,7 @@ pub(crate) fn count_filings<S: Alter>(conn: &mut Connection<S>) -> Result<Option
 
 /// How many rows `fact` has, or `None` where it has more than are counted.
 pub(crate) fn count_facts<S: Alter>(conn: &mut Connection<S>) -> Result<Option<u64>, Error>
-    ensures counted { HasCleanDisk (state S.Store conn.new) → IsDeclared (state S.Store conn.old).now.schema
+    ensures counted { HasCleanDisk (state S.Store conn.new) → HasCommon (state S.Store conn.old).now.schema
         → IfOk result (λ found. IfSome found (λ count. CountsTo fact_table count (state S.Store conn.old).now)) }
     ensures same { HasCleanDisk (state S.Store conn.new) → OnOk result (IsUnchanged (state S.Store conn.old) (state S.Store conn.new)) }
     ensures stopped { HasCleanDisk (state S.Store conn.new) → IfErr result (IsStopped (state S.Store conn.old) (state S.Store conn.new)) }

@@ -6,7 +6,7 @@ ghost use Rattle.sqlite.specs.State.{HasCleanDisk, FailsToQuery, Shown, Survives
 ghost use Rattle.table_rows.specs.Reading.{ReadsRows};
 ghost use Rattle.table_rows.specs.Standing.{Keeps};
 ghost use Rattle.register_store.specs.Schema.{kept_table, fact_table};
-ghost use Rattle.register_store.specs.Opening.{all_meta, all_kept, all_findings, all_filings, all_facts};
+ghost use Rattle.register_store.specs.Opening.{all_meta, all_kept, all_findings, all_filings, all_facts, all_migrated, all_amends};
 ghost use Rattle.register_store.specs.Reads.{Knows, every, whole, by_first, by_second, has_filer, has_number, number_alone, place_alone, said};
 
 use sqlite::{Alter, Connection, Error, Row, params};
@@ -120,4 +120,24 @@ pub(crate) fn fact_rows<S: Alter>(conn: &mut Connection<S>) -> Result<Vec<Row>, 
         "SELECT number, pos, id, concept, dimensions, value, decimals FROM fact ORDER BY number, pos",
         &[],
     )
+}
+
+/// The rows of `migrated`, by `id`.
+pub(crate) fn migrated_rows<S: Alter>(conn: &mut Connection<S>) -> Result<Vec<Row>, Error>
+    ensures shown { HasCleanDisk (state S.Store conn.new) → IfOk result (λ rows. Shown all_migrated [] (state S.Store conn.old) (state S.Store conn.new) rows.items) }
+    ensures failed { HasCleanDisk (state S.Store conn.new) → IfErr result (FailsToQuery all_migrated [] (state S.Store conn.old) (state S.Store conn.new)) }
+    ensures mode { conn.old.in_transaction ≡ false → conn.new.in_transaction ≡ false }
+    ensures survives { Survives (state S.Store conn.old) (state S.Store conn.new) (λ _. ⊥) }
+{
+    conn.query_all("SELECT id, last FROM migrated ORDER BY id", &[])
+}
+
+/// The rows of `amends`, by `seq`.
+pub(crate) fn amends_rows<S: Alter>(conn: &mut Connection<S>) -> Result<Vec<Row>, Error>
+    ensures shown { HasCleanDisk (state S.Store conn.new) → IfOk result (λ rows. Shown all_amends [] (state S.Store conn.old) (state S.Store conn.new) rows.items) }
+    ensures failed { HasCleanDisk (state S.Store conn.new) → IfErr result (FailsToQuery all_amends [] (state S.Store conn.old) (state S.Store conn.new)) }
+    ensures mode { conn.old.in_transaction ≡ false → conn.new.in_transaction ≡ false }
+    ensures survives { Survives (state S.Store conn.old) (state S.Store conn.new) (λ _. ⊥) }
+{
+    conn.query_all("SELECT seq, target FROM amends ORDER BY seq", &[])
 }

@@ -1,12 +1,13 @@
 //! The store of a register: its connection, and how much it holds.
 
-ghost use Rattle.std.specs.Prelude.{◌≡◌, ◌≢◌, ◌≤◌, ◌<◌, ◌^◌, ◌+◌, ◌↔◌, ◌⊎◌, ℕ, true, false, List, [], ◌∷◌, ◌++◌, length, option_map, None, Ok, Err, IsTrue, IfOk, IfErr, OnOk, OnErr};
+ghost use Rattle.std.specs.Prelude.{◌≡◌, ◌≢◌, ◌≤◌, ◌<◌, ◌^◌, ◌+◌, ◌↔◌, ◌⊎◌, ℕ, true, false, List, [], ◌∷◌, ◌++◌, length, option_map, take, None, Ok, Err, IsTrue, IfOk, IfErr, IfSome, OnOk, OnErr};
 ghost use Rattle.key_string.specs.Filer.{is_filer};
 ghost use Rattle.http_wire.specs.Head.{max_body_len};
 ghost use Rattle.xbrl_report.specs.Judgement.{IsJudgement, HasFacts};
 ghost use Rattle.filing_model.specs.Request.{Request, has_key};
 ghost use Rattle.filing_model.specs.Register.{kept, judged};
 ghost use Rattle.filing_model.specs.Answer.{kept_for};
+ghost use Rattle.filing_model.specs.Style.{style_of};
 ghost use Rattle.filing_model.specs.Views.{the_request};
 ghost use Rattle.sqlite.specs.Held.{state};
 ghost use Rattle.sqlite.specs.Tree.{Trees};
@@ -17,6 +18,7 @@ ghost use Rattle.register_store.specs.Schema.{is_taken};
 use crate::create::make_register;
 use crate::fault::{CreateFault, OpenFault, StoreFault};
 use crate::found::find_kept;
+use crate::migrate::migrate_register;
 use crate::opening::{Counts, read_register};
 use crate::outcome::{KeptRow, NewRow, Outcome};
 use crate::write::keep;
@@ -33,6 +35,7 @@ pub struct Store<S: Alter> {
     pub(crate) conn: Connection<S>,
     pub(crate) kept: u64,
     pub(crate) filings: u64,
+    pub(crate) early: u64,
 }
 
 impl<S: Alter> Model for Store<S> {
@@ -42,9 +45,9 @@ impl<S: Alter> Model for Store<S> {
 
     ghost coded = { parts_code S.code };
 
-    ghost view = { λ s. record { conn = s.conn; kept = s.kept; filings = s.filings } };
+    ghost view = { λ s. record { conn = s.conn; kept = s.kept; filings = s.filings; early = s.early } };
 
-    ghost invariant = { λ s. IsIdle s.conn s.kept s.filings };
+    ghost invariant = { λ s. IsIdle s.conn s.kept s.filings s.early };
 }
 
 impl<S: Alter + Drop> Drop for Store<S> {
@@ -54,6 +57,7 @@ impl<S: Alter + Drop> Drop for Store<S> {
             conn: _,
             kept: _,
             filings: _,
+            early: _,
         } = self;
     }
 }
@@ -73,7 +77,7 @@ impl<S: Alter + Drop> Store<S> {
         requires unlimited { conn.step_limit ≡ None }
         ensures made { IfOk result (λ store. HasCleanDisk (shows S.Store store) → (state S.Store conn).now.schema ≡ no_schema → HasRequests S.Store store []) }
 
-        ensures counts { IfOk result (λ store. (store.kept ≡ 0) × (store.filings ≡ 0)) }
+        ensures counts { IfOk result (λ store. (store.kept ≡ 0) × (store.filings ≡ 0) × (store.early ≡ 0)) }
 
         // Taken comes where one of the names is in use, and always there.
         ensures taken { (result ≡ Err CreateFault.Taken) ↔ IsTrue (is_taken (state S.Store conn).now.schema) }
@@ -85,9 +89,9 @@ impl<S: Alter + Drop> Store<S> {
             × (HasCleanDisk (state S.Store last) → fault ≢ CreateFault.Taken → (error : Error) × (fault ≡ create_fault error) × FailsToMake S.Store error conn last)) }
 
         // A crash leaves what one before the call could leave, or the empty register, and after the call that alone.
-        ensures crash { IfOk result (λ store. Survives (state S.Store conn) (shows S.Store store) (λ trees. (state S.Store conn).now.schema ≡ no_schema → Leaves [] trees)) }
+        ensures crash { IfOk result (λ store. Survives (state S.Store conn) (shows S.Store store) (λ trees. (state S.Store conn).now.schema ≡ no_schema → Leaves 0 [] trees)) }
         ensures durable { IfOk result (λ store. HasCleanDisk (shows S.Store store) → (state S.Store conn).now.schema ≡ no_schema
-            → IsTrue (shows S.Store store).is_open × ((trees : Trees) → (shows S.Store store).may_leave trees → Leaves [] trees)) }
+            → IsTrue (shows S.Store store).is_open × ((trees : Trees) → (shows S.Store store).may_leave trees → Leaves 0 [] trees)) }
     {
         match make_register(&mut conn) {
             Ok(()) => Ok(Store {
@@ -95,6 +99,7 @@ impl<S: Alter + Drop> Store<S> {
                 conn,
                 kept: 0,
                 filings: 0,
+                early: 0,
             }),
             Err(fault) => Err(fault),
         }
@@ -115,28 +120,35 @@ impl<S: Alter + Drop> Store<S> {
 
         // The store has the requests that the rows stand for, and there is one such list at most.
         ensures opened { IfOk result (λ store. HasCleanDisk (shows S.Store store) → IsDeclared (state S.Store conn).now.schema
-            → (F : List Request) × IsRegisterOf F (state S.Store conn).now × HasRequests S.Store store F) }
-        ensures only { IfOk result (λ store. HasCleanDisk (shows S.Store store) → (F : List Request) → IsRegisterOf F (state S.Store conn).now → HasRequests S.Store store F) }
+            → (F : List Request) × IsRegisterOf store.early F (state S.Store conn).now × HasRequests S.Store store F) }
+        ensures only { IfOk result (λ store. HasCleanDisk (shows S.Store store) → (early : ℕ) (F : List Request) → IsRegisterOf early F (state S.Store conn).now → (store.early ≡ early) × HasRequests S.Store store F) }
         ensures same { IfOk result (λ store. HasCleanDisk (shows S.Store store) → IsUnchanged (state S.Store conn) (shows S.Store store)) }
 
         // A refusal says why, of the connection as it was given up (`read_register` names it); where the rows stand for requests,
         // it is by memory or disk.
         ensures refused { IfErr result (λ fault. (last : Held S) × Survives (state S.Store conn) (state S.Store last) (λ _. ⊥)
             × (HasCleanDisk (state S.Store last) → KeepsCommit (state S.Store conn) (state S.Store last) × IsRefused S.Store fault conn last)
-            × (HasCleanDisk (state S.Store last) → (F : List Request) → IsRegisterOf F (state S.Store conn).now → (fault ≡ OpenFault.Memory) ⊎ (fault ≡ OpenFault.Disk))) }
+            × (HasCleanDisk (state S.Store last) → (early : ℕ) (F : List Request) → IsRegisterOf early F (state S.Store conn).now → (fault ≡ OpenFault.Memory) ⊎ (fault ≡ OpenFault.Disk))) }
 
         // A crash leaves what it could leave before, and after the call these requests alone.
         ensures crash { IfOk result (λ store. Survives (state S.Store conn) (shows S.Store store) (λ _. ⊥)) }
-        ensures durable { IfOk result (λ store. HasCleanDisk (shows S.Store store) → (F : List Request) → IsRegisterOf F (state S.Store conn).now
-            → IsTrue (shows S.Store store).is_open × ((trees : Trees) → (shows S.Store store).may_leave trees → Leaves F trees)) }
+        ensures durable { IfOk result (λ store. HasCleanDisk (shows S.Store store) → (early : ℕ) (F : List Request) → IsRegisterOf early F (state S.Store conn).now
+            → IsTrue (shows S.Store store).is_open × ((trees : Trees) → (shows S.Store store).may_leave trees → Leaves early F trees)) }
     {
         let mut conn = conn;
         match read_register(alloc, &mut conn) {
-            Ok(Counts { kept, filings }) => Ok(Store {
+            Ok(
+                Counts {
+                    kept,
+                    filings,
+                    early,
+                },
+            ) => Ok(Store {
                 alloc,
                 conn,
                 kept,
                 filings,
+                early,
             }),
             Err(fault) => Err(fault),
         }
@@ -152,14 +164,19 @@ impl<S: Alter> Store<S> {
         ensures found { HasCleanDisk (shows S.Store self.new) → (F : List Request) → HasRequests S.Store self.old F
             → (body : List ℕ) → IfOk result (λ row. option_map (kept_as filer.now key.now) row ≡ kept_for (kept F) (the_request filer.now key.now body)) }
 
+        // It is answered in the style of before where it is among the first that were kept then.
+        ensures style { HasCleanDisk (shows S.Store self.new) → (F : List Request) → HasRequests S.Store self.old F
+            → (body : List ℕ) → IfOk result (λ row. IfSome row (λ r. r.style ≡ style_of (take self.old.early F) (the_request filer.now key.now body))) }
+
         // The rows are those of before, whatever the answer is, and a crash leaves what it could leave before.
         ensures same { HasCleanDisk (shows S.Store self.new) → (F : List Request) → HasRequests S.Store self.old F → HasRequests S.Store self.new F }
         ensures counts { (self.new.kept ≡ self.old.kept) × (self.new.filings ≡ self.old.filings) }
+        ensures early { self.new.early ≡ self.old.early }
         ensures crash { Survives (shows S.Store self.old) (shows S.Store self.new) (λ _. ⊥) }
         ensures durable { HasCleanDisk (shows S.Store self.new) → (F : List Request) → HasRequests S.Store self.old F
-            → OnOk result (IsTrue (shows S.Store self.new).is_open × ((trees : Trees) → (shows S.Store self.new).may_leave trees → Leaves F trees)) }
+            → OnOk result (IsTrue (shows S.Store self.new).is_open × ((trees : Trees) → (shows S.Store self.new).may_leave trees → Leaves self.old.early F trees)) }
     {
-        find_kept(&mut self.conn, self.alloc, filer, key.as_str())
+        find_kept(&mut self.conn, self.alloc, self.early, filer, key.as_str())
     }
 
     /// Keeps a request, in one transaction, and answers its outcome: a valid report takes the next number, and another
@@ -179,15 +196,16 @@ impl<S: Alter> Store<S> {
         ensures same { HasCleanDisk (shows S.Store self.new) → (F : List Request) → HasRequests S.Store self.old F → OnErr result (HasRequests S.Store self.new F) }
         ensures count { OnOk result (self.new.kept ≡ self.old.kept + 1) }
         ensures counts { OnErr result ((self.new.kept ≡ self.old.kept) × (self.new.filings ≡ self.old.filings)) }
+        ensures early { self.new.early ≡ self.old.early }
 
         // A crash leaves what one before the call could leave, or the rows with this request, and after Ok these alone.
         ensures crash { Survives (shows S.Store self.old) (shows S.Store self.new) (λ trees. (F : List Request) → HasRequests S.Store self.old F → IsTrue (shows S.Store self.old).is_open
             → has_key F (the_request row.now.filer.now row.now.key.now row.now.body.now) ≡ false
-            → Leaves (F ++ the_request row.now.filer.now row.now.key.now row.now.body.now ∷ []) trees) }
+            → Leaves self.old.early (F ++ the_request row.now.filer.now row.now.key.now row.now.body.now ∷ []) trees) }
         ensures durable { HasCleanDisk (shows S.Store self.new) → (F : List Request) → HasRequests S.Store self.old F
             → has_key F (the_request row.now.filer.now row.now.key.now row.now.body.now) ≡ false
             → OnOk result (IsTrue (shows S.Store self.new).is_open × ((trees : Trees) → (shows S.Store self.new).may_leave trees
-            → Leaves (F ++ the_request row.now.filer.now row.now.key.now row.now.body.now ∷ []) trees)) }
+            → Leaves self.old.early (F ++ the_request row.now.filer.now row.now.key.now row.now.body.now ∷ []) trees)) }
     {
         let number = self.filings + 1;
         let outcome = Outcome::of(self.alloc, row.judged, number)?;
@@ -215,6 +233,13 @@ impl<S: Alter> Store<S> {
         Ok(self.filings)
     }
 
+    /// How many of the first kept requests are told what they were told before there were problem details.
+    pub fn early_count(&self) -> Result<u64, StoreFault>
+        ensures { result ≡ Ok self.now.early }
+    {
+        Ok(self.early)
+    }
+
     /// The connection.
     pub fn into_conn(self) -> Connection<S>
         ensures { result ≡ self.conn }
@@ -224,7 +249,63 @@ impl<S: Alter> Store<S> {
             conn,
             kept: _,
             filings: _,
+            early: _,
         } = self;
         conn
+    }
+}
+
+impl<S: Alter + Drop> Store<S> {
+    ghost use Rattle.sqlite.specs.Held.{Held};
+    ghost use Rattle.register_store.specs.declared.earlier.Earlier.{Earlier};
+    ghost use Rattle.register_store.specs.Changes.{AddsNothing};
+    ghost use Rattle.register_store.specs.Earlier.{IsAlone, IsEarlierOf, is_blocked};
+    ghost use Rattle.register_store.specs.Migrating.{IsNotMigrated, MigratesTo};
+    ghost use Rattle.register_store.specs.Store.{shows, HasRequests, Leaves};
+
+    /// Brings the register that the database holds from an earlier form into the present one, in one transaction, and opens
+    /// it. A refusal gives the connection up, and leaves the rows as they were. What is said of the new rows holds where the
+    /// database has no other tables.
+    pub fn migrate(alloc: Global, conn: Connection<S>) -> Result<Store<S>, OpenFault>
+        requires autocommit { conn.in_transaction ≡ false }
+        requires unlimited { conn.step_limit ≡ None }
+
+        // The store has the requests that the rows stood for, and there is one such list at most.
+        ensures migrated { IfOk result (λ store. HasCleanDisk (shows S.Store store) → (form : Earlier) → IsAlone form (state S.Store conn).now.schema
+            → (F : List Request) × IsEarlierOf form store.early F (state S.Store conn).now × HasRequests S.Store store F) }
+        ensures only { IfOk result (λ store. HasCleanDisk (shows S.Store store) → (form : Earlier) (early : ℕ) (F : List Request) → IsAlone form (state S.Store conn).now.schema
+            → IsEarlierOf form early F (state S.Store conn).now → (store.early ≡ early) × HasRequests S.Store store F) }
+
+        // A refusal says why, of the connection as it was given up (`migrate_register` names it); where the rows stand for requests
+        // and no name is in the way, it is by memory, or by the disk or another failure of a statement that writes.
+        ensures refused { IfErr result (λ fault. (last : Held S) × Survives (state S.Store conn) (state S.Store last) (MigratesTo S.Store conn)
+            × (HasCleanDisk (state S.Store last) → AddsNothing (state S.Store conn) (state S.Store last) × IsNotMigrated S.Store fault conn last)
+            × (HasCleanDisk (state S.Store last) → (form : Earlier) (early : ℕ) (F : List Request) → IsEarlierOf form early F (state S.Store conn).now
+            → is_blocked (state S.Store conn).now.schema form ≡ false → (fault ≡ OpenFault.Memory) ⊎ (fault ≡ OpenFault.Disk))) }
+
+        // A crash leaves what it could leave before, or the migrated rows, and after the call these alone.
+        ensures crash { IfOk result (λ store. Survives (state S.Store conn) (shows S.Store store) (λ trees. (form : Earlier) (early : ℕ) (F : List Request) → IsAlone form (state S.Store conn).now.schema
+            → IsEarlierOf form early F (state S.Store conn).now → Leaves early F trees)) }
+        ensures durable { IfOk result (λ store. HasCleanDisk (shows S.Store store) → (form : Earlier) (early : ℕ) (F : List Request) → IsAlone form (state S.Store conn).now.schema
+            → IsEarlierOf form early F (state S.Store conn).now
+            → IsTrue (shows S.Store store).is_open × ((trees : Trees) → (shows S.Store store).may_leave trees → Leaves early F trees)) }
+    {
+        let mut conn = conn;
+        match migrate_register(alloc, &mut conn) {
+            Ok(
+                Counts {
+                    kept,
+                    filings,
+                    early,
+                },
+            ) => Ok(Store {
+                alloc,
+                conn,
+                kept,
+                filings,
+                early,
+            }),
+            Err(fault) => Err(fault),
+        }
     }
 }

@@ -1,6 +1,6 @@
 //! Whether the rows of a register's tables stand for requests, found with one kept request in memory at a time.
 
-ghost use Rattle.std.specs.Prelude.{◌≡◌, ◌<◌, ◌≤◌, ◌^◌, ◌+◌, ℕ, pos, false, length, filter, [], ◌∷◌, Some, IsTrue, IfOk, IfErr, IfSome, OnOk};
+ghost use Rattle.std.specs.Prelude.{◌≡◌, ◌<◌, ◌≤◌, ◌^◌, ◌+◌, pos, false, length, filter, [], ◌∷◌, Some, IsTrue, IfOk, IfErr, IfSome, OnOk};
 ghost use Rattle.sqlite.specs.Held.{state};
 ghost use Rattle.sqlite.specs.State.{HasCleanDisk, IsUnchanged, Survives};
 ghost use Rattle.sqlite.specs.declared.types.Value.TheVariants.{Int};
@@ -14,11 +14,10 @@ ghost use Rattle.register_store.specs.Found.{has_texts};
 ghost use Rattle.register_store.specs.Outcomes.{outcome_of};
 ghost use Rattle.register_store.specs.Reads.{has_number};
 ghost use Rattle.register_store.specs.Register.{IsCompleted, kept_row, finding_row, fact_row};
-ghost use Rattle.register_store.specs.Schema.{IsDeclared, kept_table, finding_table, filing_table, fact_table};
+ghost use Rattle.register_store.specs.Schema.{HasCommon, kept_table, finding_table, filing_table, fact_table};
 ghost use Rattle.register_store.specs.Walk.{Amounts, Beyond, IsStopped, Passes, Picks, Walked, judged_as, rows_in};
 
 use crate::audit::{MAX_KEPT, bytes_at, filer_of, is_kept_row, text_at};
-use crate::opening::Counts;
 use crate::picks;
 use crate::segments::{after_facts, after_filing, after_findings};
 use sqlite::{Alter, Connection, Error, Row};
@@ -73,7 +72,7 @@ fn has_findings<S: Alter>(
     findings: &[Finding],
 ) -> Result<bool, Error>
     requires { seq < 2 ^ 63 }
-    ensures found { HasCleanDisk (state S.Store conn.new) → IsDeclared (state S.Store conn.old).now.schema
+    ensures found { HasCleanDisk (state S.Store conn.new) → HasCommon (state S.Store conn.old).now.schema
         → IfOk result (λ found. IsTrue found → Picks finding_table (has_number seq) (counted_from (finding_row seq) 1 findings.now) (state S.Store conn.old).now) }
     ensures same { HasCleanDisk (state S.Store conn.new) → OnOk result (IsUnchanged (state S.Store conn.old) (state S.Store conn.new)) }
     ensures stopped { HasCleanDisk (state S.Store conn.new) → IfErr result (IsStopped (state S.Store conn.old) (state S.Store conn.new)) }
@@ -90,7 +89,7 @@ fn has_findings<S: Alter>(
 fn has_filing<S: Alter>(conn: &mut Connection<S>, number: u64, seq: u64) -> Result<bool, Error>
     requires number { number < 2 ^ 63 }
     requires seq { seq < 2 ^ 63 }
-    ensures found { HasCleanDisk (state S.Store conn.new) → IsDeclared (state S.Store conn.old).now.schema
+    ensures found { HasCleanDisk (state S.Store conn.new) → HasCommon (state S.Store conn.old).now.schema
         → IfOk result (λ found. IsTrue found → Picks filing_table (has_number number) ((Int (pos number) ∷ Int (pos seq) ∷ []) ∷ []) (state S.Store conn.old).now) }
     ensures same { HasCleanDisk (state S.Store conn.new) → OnOk result (IsUnchanged (state S.Store conn.old) (state S.Store conn.new)) }
     ensures stopped { HasCleanDisk (state S.Store conn.new) → IfErr result (IsStopped (state S.Store conn.old) (state S.Store conn.new)) }
@@ -106,7 +105,7 @@ fn has_filing<S: Alter>(conn: &mut Connection<S>, number: u64, seq: u64) -> Resu
 /// Whether the filing with this number has these facts.
 fn has_facts<S: Alter>(conn: &mut Connection<S>, number: u64, facts: &[Fact]) -> Result<bool, Error>
     requires { number < 2 ^ 63 }
-    ensures found { HasCleanDisk (state S.Store conn.new) → IsDeclared (state S.Store conn.old).now.schema
+    ensures found { HasCleanDisk (state S.Store conn.new) → HasCommon (state S.Store conn.old).now.schema
         → IfOk result (λ found. IsTrue found → Picks fact_table (has_number number) (counted_from (fact_row number) 1 facts.now) (state S.Store conn.old).now) }
     ensures same { HasCleanDisk (state S.Store conn.new) → OnOk result (IsUnchanged (state S.Store conn.old) (state S.Store conn.new)) }
     ensures stopped { HasCleanDisk (state S.Store conn.new) → IfErr result (IsStopped (state S.Store conn.old) (state S.Store conn.new)) }
@@ -121,7 +120,7 @@ fn has_facts<S: Alter>(conn: &mut Connection<S>, number: u64, facts: &[Fact]) ->
 
 /// Whether no other kept row has the filer and key of this one.
 fn is_alone<S: Alter>(conn: &mut Connection<S>, row: &Row) -> Result<bool, Error>
-    ensures found { HasCleanDisk (state S.Store conn.new) → IsDeclared (state S.Store conn.old).now.schema
+    ensures found { HasCleanDisk (state S.Store conn.new) → HasCommon (state S.Store conn.old).now.schema
         → IfOk result (λ alone. IsTrue alone → length (filter (has_texts (request_in row.now).filer (request_in row.now).key) (rows_in (state S.Store conn.old).now kept_table)) ≡ 1) }
     ensures same { HasCleanDisk (state S.Store conn.new) → OnOk result (IsUnchanged (state S.Store conn.old) (state S.Store conn.new)) }
     ensures stopped { HasCleanDisk (state S.Store conn.new) → IfErr result (IsStopped (state S.Store conn.old) (state S.Store conn.new)) }
@@ -167,7 +166,7 @@ fn pass_refused<S: Alter>(
     left: Left,
 ) -> Result<Option<Left>, Error>
     requires { seq < 2 ^ 63 }
-    ensures beyond { HasCleanDisk (state S.Store conn.new) → IsDeclared (state S.Store conn.old).now.schema
+    ensures beyond { HasCleanDisk (state S.Store conn.new) → HasCommon (state S.Store conn.old).now.schema
         → IfOk result (λ passed. IfSome passed (λ tail. (k : Kept) → k.outcome ≡ Outcome.Refused findings.now → Beyond seq k left tail (state S.Store conn.old).now)) }
     ensures number { IfOk result (λ passed. IfSome passed (λ tail. tail.number ≤ left.number + 1)) }
     ensures same { HasCleanDisk (state S.Store conn.new) → OnOk result (IsUnchanged (state S.Store conn.old) (state S.Store conn.new)) }
@@ -191,7 +190,7 @@ fn pass_registered<S: Alter>(
 ) -> Result<Option<Left>, Error>
     requires seq { seq < 2 ^ 63 }
     requires number { left.number < 2 ^ 63 }
-    ensures beyond { HasCleanDisk (state S.Store conn.new) → IsDeclared (state S.Store conn.old).now.schema
+    ensures beyond { HasCleanDisk (state S.Store conn.new) → HasCommon (state S.Store conn.old).now.schema
         → IfOk result (λ passed. IfSome passed (λ tail. (k : Kept) → k.outcome ≡ Outcome.Registered left.number → facts.now ≡ facts_of k.request.body → Beyond seq k left tail (state S.Store conn.old).now)) }
     ensures number { IfOk result (λ passed. IfSome passed (λ tail. tail.number ≤ left.number + 1)) }
     ensures same { HasCleanDisk (state S.Store conn.new) → OnOk result (IsUnchanged (state S.Store conn.old) (state S.Store conn.new)) }
@@ -222,7 +221,7 @@ fn pass_as<S: Alter>(
     requires number { left.number < 2 ^ 63 }
     requires facts { HasFacts (request_in row.now).body judged.now }
     ensures row { IfOk result (λ passed. IfSome passed (λ tail. row.now ≡ kept_row seq (request_outcome row.now (outcome_of left.number judged.now)))) }
-    ensures beyond { HasCleanDisk (state S.Store conn.new) → IsDeclared (state S.Store conn.old).now.schema
+    ensures beyond { HasCleanDisk (state S.Store conn.new) → HasCommon (state S.Store conn.old).now.schema
         → IfOk result (λ passed. IfSome passed (λ tail. Beyond seq (request_outcome row.now (outcome_of left.number judged.now)) left tail (state S.Store conn.old).now)) }
     ensures number { IfOk result (λ passed. IfSome passed (λ tail. tail.number ≤ left.number + 1)) }
     ensures same { HasCleanDisk (state S.Store conn.new) → IsTrue (state S.Store conn.old).is_open
@@ -261,7 +260,7 @@ fn pass_judged<S: Alter>(
     requires number { left.number < 2 ^ 63 }
     ensures row { IfOk result (λ passed. IfSome passed (λ tail. IsCompleted (request_in row.now)
         × (row.now ≡ kept_row seq (judged_as (request_in row.now) left.number)))) }
-    ensures beyond { HasCleanDisk (state S.Store conn.new) → IsDeclared (state S.Store conn.old).now.schema
+    ensures beyond { HasCleanDisk (state S.Store conn.new) → HasCommon (state S.Store conn.old).now.schema
         → IfOk result (λ passed. IfSome passed (λ tail. Beyond seq (judged_as (request_in row.now) left.number) left tail (state S.Store conn.old).now)) }
     ensures number { IfOk result (λ passed. IfSome passed (λ tail. tail.number ≤ left.number + 1)) }
     ensures same { HasCleanDisk (state S.Store conn.new) → IsTrue (state S.Store conn.old).is_open
@@ -288,7 +287,7 @@ fn pass<S: Alter>(
 ) -> Result<Option<Left>, Error>
     requires seq { seq < 2 ^ 63 }
     requires number { left.number < 2 ^ 63 }
-    ensures passes { HasCleanDisk (state S.Store conn.new) → IsDeclared (state S.Store conn.old).now.schema
+    ensures passes { HasCleanDisk (state S.Store conn.new) → HasCommon (state S.Store conn.old).now.schema
         → IfOk result (λ passed. IfSome passed (λ tail. Passes seq left tail (state S.Store conn.old).now)) }
     ensures number { IfOk result (λ passed. IfSome passed (λ tail. tail.number ≤ left.number + 1)) }
     ensures same { HasCleanDisk (state S.Store conn.new) → OnOk result (IsUnchanged (state S.Store conn.old) (state S.Store conn.new)) }
@@ -318,7 +317,7 @@ fn walk<S: Alter>(
 ) -> Result<Option<Left>, Error>
     requires total { total ≤ 2 ^ 62 }
     requires first { start.number ≡ 1 }
-    ensures walked { HasCleanDisk (state S.Store conn.new) → IsDeclared (state S.Store conn.old).now.schema
+    ensures walked { HasCleanDisk (state S.Store conn.new) → HasCommon (state S.Store conn.old).now.schema
         → IsTrue (state S.Store conn.old).is_open → Walked total 0 start (state S.Store conn.old).now
         → IfOk result (λ passed. IfSome passed (λ tail. Walked total total tail (state S.Store conn.old).now)) }
     ensures number { IfOk result (λ passed. IfSome passed (λ tail. tail.number ≤ total + 1)) }
@@ -348,7 +347,7 @@ struct Sizes {
 }
 
 fn count_tables<S: Alter>(conn: &mut Connection<S>) -> Result<Option<Sizes>, Error>
-    ensures start { HasCleanDisk (state S.Store conn.new) → IsDeclared (state S.Store conn.old).now.schema
+    ensures start { HasCleanDisk (state S.Store conn.new) → HasCommon (state S.Store conn.old).now.schema
         → IfOk result (λ sizes. IfSome sizes (λ s. Walked s.kept 0 s.others (state S.Store conn.old).now)) }
     ensures first { IfOk result (λ sizes. IfSome sizes (λ s. s.others.number ≡ 1)) }
     ensures same { HasCleanDisk (state S.Store conn.new) → OnOk result (IsUnchanged (state S.Store conn.old) (state S.Store conn.new)) }
@@ -391,13 +390,20 @@ fn sizes_of(
     })
 }
 
+/// How many requests are kept, and how many of them are registered.
+#[derive(Clone, Copy)]
+pub(crate) struct Totals {
+    pub(crate) kept: u64,
+    pub(crate) filings: u64,
+}
+
 /// How much was walked past, if nothing is left.
-fn counts_of(kept: u64, left: Left) -> Option<Counts>
+fn counts_of(kept: u64, left: Left) -> Option<Totals>
     ensures { IfSome result (λ counts. (counts.kept ≡ kept) × (left.findings ≡ 0) × (left.filings ≡ 0) × (left.facts ≡ 0)
         × (left.number ≡ counts.filings + 1)) }
 {
     if left.findings == 0 && left.filings == 0 && left.facts == 0 && left.number > 0 {
-        Some(Counts {
+        Some(Totals {
             kept,
             filings: left.number - 1,
         })
@@ -410,8 +416,8 @@ fn counts_of(kept: u64, left: Left) -> Option<Counts>
 pub(crate) fn count_by_walk<S: Alter>(
     alloc: Global,
     conn: &mut Connection<S>,
-) -> Result<Option<Counts>, Error>
-    ensures found { HasCleanDisk (state S.Store conn.new) → IsDeclared (state S.Store conn.old).now.schema
+) -> Result<Option<Totals>, Error>
+    ensures found { HasCleanDisk (state S.Store conn.new) → HasCommon (state S.Store conn.old).now.schema
         → IfOk result (λ found. IfSome found (λ counts. Amounts counts (state S.Store conn.old).now)) }
     ensures few { IfOk result (λ found. IfSome found (λ counts. (counts.kept ≤ 2 ^ 62) × (counts.filings ≤ counts.kept))) }
     ensures same { HasCleanDisk (state S.Store conn.new) → OnOk result (IsUnchanged (state S.Store conn.old) (state S.Store conn.new)) }

@@ -1,3 +1,4 @@
+pub mod Early
 pub mod Ending
 pub mod Entries
 pub mod GoingThrough

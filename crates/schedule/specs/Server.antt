@@ -1,10 +1,12 @@
 -- What the intake's end keeps.
-use Rattle.std.specs.Prelude.{◌≡◌, ℕ, Bool, true, false, List}
+use Rattle.std.specs.Prelude.{◌≡◌, ℕ, Bool, true, false, List, []}
+use Rattle.sqlite.specs.Store as database
 use Rattle.sqlite_disk.specs.declared.Disk.{Ghosts}
 use Rattle.sqlite.specs.Files.{over_files}
 use Rattle.filing_model.specs.Request.{Request}
 use Rattle.register_store.specs.Files.{HoldRegister}
-use Rattle.intake_core.specs.Held.{Holds, limit_of}
+use Rattle.intake_core.specs.declared.intake.Intake.{Intake}
+use Rattle.intake_core.specs.Held.{Holds, limit_of, early_in}
 use Rattle.schedule.specs.declared.server.Place.{Place}
 use Rattle.schedule.specs.declared.server.Place.TheVariants.{Up, Down, Gone}
 
@@ -14,8 +16,12 @@ is_up (Up intake) = true
 is_up (Down files) = false
 is_up Gone = false
 
+-- It holds these requests, and none of them was kept before there were problem details.
+abbrev pub HoldsNew : {S : Type 0} → database.Ghosts S → Intake S → List Request → Type 0
+HoldsNew g intake F = Holds g intake F × (early_in intake F ≡ [])
+
 -- The register has these requests and the intake this limit, or the files hold the register. What a fault took says nothing.
 abbrev pub Keeps : {D : Type 0} {g : Ghosts D} → Place D g → ℕ → List Request → Type 0
-Keeps (Up intake) limit F = Holds over_files intake F × (limit_of intake ≡ limit)
-Keeps {D} {g} (Down files) limit F = HoldRegister g files F
+Keeps (Up intake) limit F = HoldsNew over_files intake F × (limit_of intake ≡ limit)
+Keeps {D} {g} (Down files) limit F = HoldRegister g files 0 F
 Keeps Gone limit F = Unit {0}

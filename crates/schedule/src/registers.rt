@@ -12,8 +12,9 @@ ghost use Rattle.sqlite.specs.Files.{over_files};
 ghost use Rattle.sqlite.specs.Held.{state};
 ghost use Rattle.register_store.specs.Store.{IsRegisterOf};
 ghost use Rattle.register_store.specs.Files.{HoldRegister};
-ghost use Rattle.intake_core.specs.Held.{Holds, limit_of};
+ghost use Rattle.intake_core.specs.Held.{limit_of, early_of};
 ghost use Rattle.gateway_server.specs.Stopping.{view_stop};
+ghost use Rattle.schedule.specs.Server.{HoldsNew};
 
 use crate::bytes::{Given, Kept};
 use crate::faithful::Faithful;
@@ -37,7 +38,7 @@ pub(crate) fn make_intake<S: Faithful>(
 ) -> Result<Intake<S>, Cause>
     requires limit { limit ≤ 2 ^ 62 }
     requires idle { (conn.in_transaction ≡ false) × (conn.step_limit ≡ None) }
-    ensures made { IfOk result (λ intake. Holds S.Store intake (firsts []) × (limit_of intake ≡ limit)) }
+    ensures made { IfOk result (λ intake. HoldsNew S.Store intake (firsts []) × (limit_of intake ≡ limit)) }
     ensures other { result ≢ Err Cause.NoSuch }
 {
     match Store::create(alloc, without_tables(conn)?) {
@@ -47,7 +48,8 @@ pub(crate) fn make_intake<S: Faithful>(
     }
 }
 
-/// An intake over the register that lies in this database, which keeps at most `limit` keys.
+/// An intake over the register that lies in this database, which keeps at most `limit` keys. `Reopen` comes also where a request
+/// was kept before there were problem details: no such register is played on.
 pub(crate) fn open_intake<S: Faithful>(
     alloc: Global,
     conn: Connection<S>,
@@ -55,13 +57,17 @@ pub(crate) fn open_intake<S: Faithful>(
 ) -> Result<Intake<S>, Cause>
     requires limit { limit ≤ 2 ^ 62 }
     requires idle { (conn.in_transaction ≡ false) × (conn.step_limit ≡ None) }
-    ensures opened { (F : List Request) → firsts F ≡ F → IsRegisterOf F (state S.Store conn).now
-        → IfOk result (λ intake. Holds S.Store intake F) }
+    ensures opened { (F : List Request) → firsts F ≡ F → IsRegisterOf 0 F (state S.Store conn).now
+        → IfOk result (λ intake. HoldsNew S.Store intake F) }
     ensures limit { IfOk result (λ intake. limit_of intake ≡ limit) }
+    ensures problem { IfOk result (λ intake. early_of intake ≡ 0) }
     ensures other { result ≢ Err Cause.NoSuch }
 {
     match Store::open(alloc, conn) {
-        Ok(store) => Ok(Intake::new(alloc, store, limit)),
+        Ok(store) => match store.early_count() {
+            Ok(0) => Ok(Intake::new(alloc, store, limit)),
+            Ok(_) | Err(_) => Err(Cause::Reopen),
+        },
         Err(OpenFault::Memory) => Err(Cause::Memory),
         Err(_fault) => Err(Cause::Reopen),
     }
@@ -69,8 +75,8 @@ pub(crate) fn open_intake<S: Faithful>(
 
 /// The files of an intake's register.
 pub(crate) fn files_of_intake<D: Honest>(intake: Intake<FileStore<D>>) -> Result<Files<D>, Cause>
-    ensures held { (F : List Request) → Holds over_files intake F
-        → IfOk result (λ files. HoldRegister D.Disk files F) }
+    ensures held { (F : List Request) → HoldsNew over_files intake F
+        → IfOk result (λ files. HoldRegister D.Disk files 0 F) }
     ensures other { result ≢ Err Cause.NoSuch }
 {
     match intake.into_store().into_files() {
@@ -87,9 +93,10 @@ pub(crate) fn intake_in<D: Honest>(
     limit: u64,
 ) -> Result<Intake<FileStore<D>>, Cause>
     requires { limit ≤ 2 ^ 62 }
-    ensures opened { (F : List Request) → firsts F ≡ F → HoldRegister D.Disk files F
-        → IfOk result (λ intake. Holds over_files intake F) }
+    ensures opened { (F : List Request) → firsts F ≡ F → HoldRegister D.Disk files 0 F
+        → IfOk result (λ intake. HoldsNew over_files intake F) }
     ensures limit { IfOk result (λ intake. limit_of intake ≡ limit) }
+    ensures problem { IfOk result (λ intake. early_of intake ≡ 0) }
     ensures other { result ≢ Err Cause.NoSuch }
 {
     if !files.may_be_used() {
@@ -120,10 +127,10 @@ pub(crate) fn serve_on<S: Faithful>(
     bytes: &[u8],
     stop: Stop,
 ) -> Result<Answered, Cause>
-    ensures serves { (done : List Request) → Holds S.Store intake.old (firsts done)
+    ensures serves { (done : List Request) → HoldsNew S.Store intake.old (firsts done)
         → IfOk result (λ a. (places : List Spot)
         × ServesUntil (limit_of intake.old) done bytes.now (view_stop stop) places a.marks.items a.ended a.text.items
-        × Holds S.Store intake.new (firsts (done ++ completed places a.marks.items))) }
+        × HoldsNew S.Store intake.new (firsts (done ++ completed places a.marks.items))) }
     ensures limit { limit_of intake.new ≡ limit_of intake.old }
     ensures other { result ≢ Err Cause.NoSuch }
 {
@@ -144,9 +151,9 @@ pub(crate) fn serve_on<S: Faithful>(
 pub(crate) fn register_of<S: Faithful>(
     intake: &mut Intake<S>,
 ) -> Result<Vec<Registered>, Unavailable>
-    ensures list { (F : List Request) → Holds S.Store intake.old F
+    ensures list { (F : List Request) → HoldsNew S.Store intake.old F
         → IfOk result (λ rows. rows.items ≡ register F) }
-    ensures kept { (F : List Request) → Holds S.Store intake.old F → Holds S.Store intake.new F }
+    ensures kept { (F : List Request) → HoldsNew S.Store intake.old F → HoldsNew S.Store intake.new F }
     ensures limit { limit_of intake.new ≡ limit_of intake.old }
 {
     intake.register()

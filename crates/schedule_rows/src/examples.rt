@@ -14,4 +14,4 @@ pub(crate) const REGISTERED: &str =
 
 /// The reply where the key was used for another body, and the connection closes.
 pub(crate) const KEY_REUSED: &str =
-    "HTTP/1.1 422 Unprocessable Content\r\nContent-Type: application/json\r\nContent-Length: 23\r\nConnection: close\r\n\r\n{\"status\":\"key-reused\"}";
+    "HTTP/1.1 422 Unprocessable Content\r\nContent-Type: application/problem+json\r\nContent-Length: 89\r\nConnection: close\r\n\r\n{\"reason\":\"key-reused\",\"status\":422,\"title\":\"Unprocessable Content\",\"type\":\"about:blank\"}";

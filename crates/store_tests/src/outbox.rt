@@ -1,7 +1,7 @@
 //! Outboxes, from outside.
 
 use crate::databases::{Fresh, run};
-use http_wire::Reply;
+use http_wire::{Kind, Reply};
 use key_string::KeyText;
 use outbox_core::{Outbox, OutboxFault, PutFault, State, TakeFault};
 use sqlite::{Alter, Connection, MemStore};
@@ -39,7 +39,16 @@ fn take<S: Alter>(
     content: &[u8],
 ) -> Result<Result<State, TakeFault>, Fail> {
     let content = content.to_vec(alloc)?;
-    Ok(calls::take(outbox, 1, &Reply { status, content }))
+    let kind = Kind::Json;
+    Ok(calls::take(
+        outbox,
+        1,
+        &Reply {
+            status,
+            content,
+            kind,
+        },
+    ))
 }
 
 /// What an opening answers after a statement on the tables of an outbox with one entry.

@@ -10,6 +10,7 @@ use std::test::Fail;
 mod calls;
 mod damage;
 mod memory;
+mod migration;
 mod stops;
 
 /// The smallest report.

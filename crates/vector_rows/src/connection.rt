@@ -118,7 +118,7 @@ pub(crate) fn refused(alloc: Global) -> Result<bool, Stop> {
     let other_key = filing(alloc, "ACME", "k-2", REPORT)?;
     let given = format!(in alloc; "{refused}{refused}{REQUEST}{other_key}")?;
     let findings =
-        "HTTP/1.1 422 Unprocessable Content\r\nContent-Type: application/json\r\nContent-Length: 151\r\n\r\n{\"findings\":[{\"code\":\"period\",\"place\":\"/facts/f1/dimensions/period\"},{\"code\":\"unbound-prefix\",\"place\":\"/facts/f1/dimensions/unit\"}],\"status\":\"refused\"}";
+        "HTTP/1.1 422 Unprocessable Content\r\nContent-Type: application/problem+json\r\nContent-Length: 217\r\n\r\n{\"findings\":[{\"code\":\"period\",\"place\":\"/facts/f1/dimensions/period\"},{\"code\":\"unbound-prefix\",\"place\":\"/facts/f1/dimensions/unit\"}],\"reason\":\"refused\",\"status\":422,\"title\":\"Unprocessable Content\",\"type\":\"about:blank\"}";
     let written = format!(in alloc; "{findings}{findings}{KEY_REUSED}{REGISTERED}")?;
     History::of(&[answered(&given, &written, &[Mark::Done; 4])], 2, 1).holds(alloc)
 }
@@ -135,7 +135,7 @@ pub(crate) fn escaped_place(alloc: Global) -> Result<bool, Stop> {
     )?;
     let given = filing(alloc, "ACME", "k-1", &body)?;
     let written =
-        "HTTP/1.1 422 Unprocessable Content\r\nContent-Type: application/json\r\nContent-Length: 82\r\n\r\n{\"findings\":[{\"code\":\"number\",\"place\":\"/facts/a~1b~0c/value\"}],\"status\":\"refused\"}";
+        "HTTP/1.1 422 Unprocessable Content\r\nContent-Type: application/problem+json\r\nContent-Length: 148\r\n\r\n{\"findings\":[{\"code\":\"number\",\"place\":\"/facts/a~1b~0c/value\"}],\"reason\":\"refused\",\"status\":422,\"title\":\"Unprocessable Content\",\"type\":\"about:blank\"}";
     History::of(&[answered(&given, written, &[Mark::Done])], 1, 0).holds(alloc)
 }
 
@@ -147,7 +147,7 @@ pub(crate) fn empty_body(alloc: Global) -> Result<bool, Stop> {
     let kept = History::of(&[answered(&given, &written, &[Mark::Done; 2])], 1, 0).holds(alloc)?;
     let no_length = closed(
         "POST /filings/ACME HTTP/1.1\r\nHost: localhost\r\nIdempotency-Key: \"k-1\"\r\n\r\n",
-        "HTTP/1.1 411 Length Required\r\nContent-Type: application/json\r\nContent-Length: 27\r\nConnection: close\r\n\r\n{\"status\":\"length-missing\"}",
+        "HTTP/1.1 411 Length Required\r\nContent-Type: application/problem+json\r\nContent-Length: 87\r\nConnection: close\r\n\r\n{\"reason\":\"length-missing\",\"status\":411,\"title\":\"Length Required\",\"type\":\"about:blank\"}",
         &[Mark::NotFiled],
     );
     Ok(kept && History::of(&[no_length], 0, 0).holds(alloc)?)
@@ -203,7 +203,7 @@ fn longest_body(alloc: Global) -> Result<bool, Stop> {
 fn longer_body(alloc: Global) -> Result<bool, Stop> {
     let refused = closed(
         "POST /filings/ACME HTTP/1.1\r\nHost: localhost\r\nIdempotency-Key: \"k-1\"\r\nExpect: 100-continue\r\nContent-Length: 1048577\r\n\r\n",
-        "HTTP/1.1 413 Content Too Large\r\nContent-Type: application/json\r\nContent-Length: 22\r\nConnection: close\r\n\r\n{\"status\":\"too-large\"}",
+        "HTTP/1.1 413 Content Too Large\r\nContent-Type: application/problem+json\r\nContent-Length: 84\r\nConnection: close\r\n\r\n{\"reason\":\"too-large\",\"status\":413,\"title\":\"Content Too Large\",\"type\":\"about:blank\"}",
         &[Mark::NotFiled],
     );
     History::of(&[refused], 0, 0).holds(alloc)
@@ -221,7 +221,7 @@ fn awaited_body(alloc: Global) -> Result<bool, Stop> {
 
 /// The reply to a head that is too long.
 const HEAD_TOO_LARGE: &str =
-    "HTTP/1.1 431 Request Header Fields Too Large\r\nContent-Type: application/json\r\nContent-Length: 27\r\nConnection: close\r\n\r\n{\"status\":\"head-too-large\"}";
+    "HTTP/1.1 431 Request Header Fields Too Large\r\nContent-Type: application/problem+json\r\nContent-Length: 103\r\nConnection: close\r\n\r\n{\"reason\":\"head-too-large\",\"status\":431,\"title\":\"Request Header Fields Too Large\",\"type\":\"about:blank\"}";
 
 /// Vector 11: heads at the limit of their length.
 pub(crate) fn long_heads(alloc: Global) -> Result<bool, Stop> {
@@ -317,7 +317,7 @@ fn refused_heads(alloc: Global) -> Result<bool, Stop> {
         ),
         (
             "POST /filings/ACME HTTP/1.1\r\nHost: localhost\r\nTransfer-Encoding: chunked\r\nContent-Length: x\r\n\r\n",
-            "HTTP/1.1 501 Not Implemented\r\nContent-Type: application/json\r\nContent-Length: 19\r\nConnection: close\r\n\r\n{\"status\":\"coding\"}",
+            "HTTP/1.1 501 Not Implemented\r\nContent-Type: application/problem+json\r\nContent-Length: 79\r\nConnection: close\r\n\r\n{\"reason\":\"coding\",\"status\":501,\"title\":\"Not Implemented\",\"type\":\"about:blank\"}",
         ),
     ] {
         if !History::of(&[closed(given, written, &[Mark::NotFiled])], 0, 0).holds(alloc)? {
@@ -332,15 +332,15 @@ fn told(alloc: Global) -> Result<bool, Stop> {
     for (given, written) in [
         (
             "GET /other HTTP/1.1\r\nHost: localhost\r\n\r\n",
-            "HTTP/1.1 404 Not Found\r\nContent-Type: application/json\r\nContent-Length: 20\r\n\r\n{\"status\":\"no-path\"}",
+            "HTTP/1.1 404 Not Found\r\nContent-Type: application/problem+json\r\nContent-Length: 74\r\n\r\n{\"reason\":\"no-path\",\"status\":404,\"title\":\"Not Found\",\"type\":\"about:blank\"}",
         ),
         (
             "PUT /filings/ACME HTTP/1.1\r\nHost: localhost\r\n\r\n",
-            "HTTP/1.1 405 Method Not Allowed\r\nContent-Type: application/json\r\nContent-Length: 22\r\nAllow: GET, POST\r\n\r\n{\"status\":\"no-method\"}",
+            "HTTP/1.1 405 Method Not Allowed\r\nContent-Type: application/problem+json\r\nContent-Length: 85\r\nAllow: GET, POST\r\n\r\n{\"reason\":\"no-method\",\"status\":405,\"title\":\"Method Not Allowed\",\"type\":\"about:blank\"}",
         ),
         (
             "HEAD /filings/ACME HTTP/1.1\r\nHost: localhost\r\n\r\n",
-            "HTTP/1.1 405 Method Not Allowed\r\nContent-Type: application/json\r\nAllow: GET, POST\r\n\r\n",
+            "HTTP/1.1 405 Method Not Allowed\r\nContent-Type: application/problem+json\r\nAllow: GET, POST\r\n\r\n",
         ),
     ] {
         if !History::of(&[answered(given, written, &[Mark::NotFiled])], 0, 0).holds(alloc)? {
@@ -355,15 +355,15 @@ fn posts_told(alloc: Global) -> Result<bool, Stop> {
     for (lines, written) in [
         (
             "Host: localhost\r\nIdempotency-Key: \"k-1\"\r\nContent-Encoding: gzip\r\n",
-            "HTTP/1.1 415 Unsupported Media Type\r\nContent-Type: application/json\r\nContent-Length: 27\r\n\r\n{\"status\":\"content-coding\"}",
+            "HTTP/1.1 415 Unsupported Media Type\r\nContent-Type: application/problem+json\r\nContent-Length: 94\r\n\r\n{\"reason\":\"content-coding\",\"status\":415,\"title\":\"Unsupported Media Type\",\"type\":\"about:blank\"}",
         ),
         (
             "Host: localhost\r\n",
-            "HTTP/1.1 400 Bad Request\r\nContent-Type: application/json\r\nContent-Length: 24\r\n\r\n{\"status\":\"key-missing\"}",
+            "HTTP/1.1 400 Bad Request\r\nContent-Type: application/problem+json\r\nContent-Length: 80\r\n\r\n{\"reason\":\"key-missing\",\"status\":400,\"title\":\"Bad Request\",\"type\":\"about:blank\"}",
         ),
         (
             "Host: localhost\r\nIdempotency-Key: k-1\r\n",
-            "HTTP/1.1 400 Bad Request\r\nContent-Type: application/json\r\nContent-Length: 20\r\n\r\n{\"status\":\"key-bad\"}",
+            "HTTP/1.1 400 Bad Request\r\nContent-Type: application/problem+json\r\nContent-Length: 76\r\n\r\n{\"reason\":\"key-bad\",\"status\":400,\"title\":\"Bad Request\",\"type\":\"about:blank\"}",
         ),
     ] {
         let given = posted(alloc, "POST /filings/ACME HTTP/1.1", lines)?;

@@ -7,6 +7,7 @@ mod examples;
 mod files;
 mod history;
 mod keys;
+mod migration;
 mod outbox;
 mod register;
 mod replies;

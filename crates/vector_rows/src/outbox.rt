@@ -6,7 +6,7 @@ use crate::examples::{REGISTERED_CLOSED, REPORT, SMALLEST, front, repeated};
 use crate::files::{connect, connect_new};
 use crate::stop::{Stop, refusal};
 use filer_client::{ExchangeFault, exchange};
-use http_wire::{Device, MAX_BODY_LEN, Reply, ReplyFault, append_request};
+use http_wire::{Device, Kind, MAX_BODY_LEN, Reply, ReplyFault, append_request};
 use key_string::{KeyText, is_filer};
 use outbox_core::{Entry, Outbox, OutboxFault, PutFault, State, TakeFault, key_of};
 use sqlite::{Alter, Connection, FileStore, Files, MemStore};
@@ -151,6 +151,7 @@ fn reply(alloc: Global, status: u16, content: &str) -> Result<Reply, Stop> {
     Ok(Reply {
         status,
         content: content.as_bytes().to_vec(alloc)?,
+        kind: Kind::Json,
     })
 }
 
@@ -210,7 +211,7 @@ fn request_length(alloc: Global, key: &KeyText, body: &[u8]) -> Result<Option<us
         return Ok(None);
     }
     let mut request = Vec::new(alloc);
-    append_request(filer, key, body, &mut request)?;
+    append_request(filer, None, key, body, &mut request)?;
     Ok(Some(request.len()))
 }
 

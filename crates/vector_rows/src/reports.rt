@@ -55,12 +55,12 @@ pub(crate) fn many_findings(alloc: Global) -> Result<bool, Stop> {
             && is_refused_with(
                 alloc,
                 "[]",
-                "HTTP/1.1 422 Unprocessable Content\r\nContent-Type: application/json\r\nContent-Length: 66\r\n\r\n{\"findings\":[{\"code\":\"not-object\",\"place\":\"\"}],\"status\":\"refused\"}",
+                "HTTP/1.1 422 Unprocessable Content\r\nContent-Type: application/problem+json\r\nContent-Length: 132\r\n\r\n{\"findings\":[{\"code\":\"not-object\",\"place\":\"\"}],\"reason\":\"refused\",\"status\":422,\"title\":\"Unprocessable Content\",\"type\":\"about:blank\"}",
             )?
             && is_refused_with(
                 alloc,
                 &too_many,
-                "HTTP/1.1 422 Unprocessable Content\r\nContent-Type: application/json\r\nContent-Length: 64\r\n\r\n{\"findings\":[{\"code\":\"too-many\",\"place\":\"\"}],\"status\":\"refused\"}",
+                "HTTP/1.1 422 Unprocessable Content\r\nContent-Type: application/problem+json\r\nContent-Length: 130\r\n\r\n{\"findings\":[{\"code\":\"too-many\",\"place\":\"\"}],\"reason\":\"refused\",\"status\":422,\"title\":\"Unprocessable Content\",\"type\":\"about:blank\"}",
             )?,
     )
 }

@@ -1,7 +1,7 @@
 //! The vectors by their numbers.
 
 use crate::stop::Stop;
-use crate::{connection, history, keys, outbox, register, replies, reports};
+use crate::{connection, history, keys, migration, outbox, register, replies, reports};
 use std::alloc::{AllocError, Global};
 
 /// Runs the vector of this number over databases of its own in memory, and tells whether it passed. A number that is
@@ -39,6 +39,7 @@ fn run_row(alloc: Global, number: u32) -> Result<bool, Stop> {
         22 => outbox::entries(alloc),
         23 => register::reopened(alloc),
         24 => outbox::exchanges(alloc),
+        25 => migration::migrated(alloc),
         _ => Ok(false),
     }
 }

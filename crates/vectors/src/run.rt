@@ -15,8 +15,8 @@ pub struct VectorReport {
 }
 
 /// The numbers of the vectors.
-pub const NUMBERS: [u32; 24] = [
-    1, 2, 3, 4, 5, 6, 7, 8, 9, 10, 11, 12, 13, 14, 15, 16, 17, 18, 19, 20, 21, 22, 23, 24,
+pub const NUMBERS: [u32; 25] = [
+    1, 2, 3, 4, 5, 6, 7, 8, 9, 10, 11, 12, 13, 14, 15, 16, 17, 18, 19, 20, 21, 22, 23, 24, 25,
 ];
 
 /// Runs all vectors, each over databases of its own in memory. Want of memory is answered where memory was refused.

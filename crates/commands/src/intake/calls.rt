@@ -4,7 +4,7 @@
 ghost use Rattle.std.specs.Prelude.{◌≡◌, ◌≤◌, ◌^◌, None, false};
 
 use gateway_server::{Ended, Mark, Served, completed as completed_of, serve as serve_connection};
-use http_wire::{ConnFault, Inbox, Next, Reply, Sink, Source, write_reply};
+use http_wire::{ConnFault, Inbox, Kind, Next, Reply, Sink, Source, write_reply};
 use intake_core::{FilingRow, Intake, Unavailable, word_reply};
 use register_store::{Completed, CreateFault, OpenFault, Store, StoreFault};
 use sqlite::{Alter, Connection, FileStore, MemStore};
@@ -26,6 +26,14 @@ pub fn open<S: Alter + Drop>(alloc: Global, conn: Connection<S>) -> Result<Store
     requires unlimited { conn.step_limit ≡ None }
 {
     Store::open(alloc, conn)
+}
+
+/// Makes the register of an earlier version one of this version.
+pub fn migrate<S: Alter + Drop>(alloc: Global, conn: Connection<S>) -> Result<Store<S>, OpenFault>
+    requires autocommit { conn.in_transaction ≡ false }
+    requires unlimited { conn.step_limit ≡ None }
+{
+    Store::migrate(alloc, conn)
 }
 
 /// Gives up the files of a register, with all that was committed in the database file.
@@ -99,6 +107,7 @@ fn write_unavailable<W: Sink>(alloc: Global, writer: &mut W, is_head: bool) -> E
     let reply = Reply {
         status: 503,
         content,
+        kind: Kind::Problem,
     };
     match write_reply(alloc, writer, &reply, true) {
         Ok(()) => Ended::Closed,

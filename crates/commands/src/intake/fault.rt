@@ -21,8 +21,10 @@ pub enum Fault<'a> {
     InMemory(CreateFault),
     #[error("{name}: {fault}")]
     Create { name: &'a str, fault: CreateFault },
-    #[error("{name}: {fault}")]
+    #[error("{name}: {fault}{}", hint(*fault))]
     Open { name: &'a str, fault: OpenFault },
+    #[error("{name}: {fault}")]
+    NotMigrated { name: &'a str, fault: OpenFault },
     #[error("{name}: {fault}")]
     Store { name: &'a str, fault: StoreFault },
     #[error("{name}: {fault} when it was closed; what was answered is kept, in the log beside it")]
@@ -39,6 +41,14 @@ pub enum Fault<'a> {
     Served { connection: u32, fault: ConnFault },
     #[error("127.0.0.1:{port}: {error}")]
     Network { port: u16, error: io::Error },
+}
+
+/// What can be done where a database is no register of this version.
+fn hint(fault: OpenFault) -> &'static str {
+    match fault {
+        OpenFault::NotOurs => " of this version (intake migrate takes one of an earlier version)",
+        _ => "",
+    }
 }
 
 impl<'a> From<CommandFault<'a>> for Fault<'a> {
@@ -75,6 +85,10 @@ impl Fault<'_> {
                 fault: OpenFault::NotOurs | OpenFault::Damaged { .. },
                 ..
             } => 1,
+            Fault::NotMigrated {
+                fault: OpenFault::NotOurs | OpenFault::Damaged { .. },
+                ..
+            } => 1,
             Fault::Limit => 2,
             Fault::NoFiling { .. } => 4,
             _ => 3,
@@ -84,14 +98,11 @@ impl Fault<'_> {
     /// What the fault says of the register, where it says something: that it is none, or damaged.
     pub fn verdict(&self) -> Option<OpenFault> {
         match self {
-            Fault::Open {
-                fault: OpenFault::NotOurs,
-                ..
-            } => Some(OpenFault::NotOurs),
-            Fault::Open {
-                fault: OpenFault::Damaged { row },
-                ..
-            } => Some(OpenFault::Damaged { row: *row }),
+            Fault::Open { fault, .. } | Fault::NotMigrated { fault, .. } => match fault {
+                OpenFault::NotOurs => Some(OpenFault::NotOurs),
+                OpenFault::Damaged { row } => Some(OpenFault::Damaged { row: *row }),
+                OpenFault::Memory | OpenFault::Disk => None,
+            },
             Fault::Command(
                 CommandFault::Database {
                     fault: DatabaseFault::Missing | DatabaseFault::NotADatabase,

@@ -23,6 +23,8 @@ pub enum Task<'a> {
     Show { database: &'a str, number: u64 },
     /// Say whether the register is sound.
     Check { database: &'a str },
+    /// Make a register of an earlier version one of this version.
+    Migrate { database: &'a str },
     /// Show the findings of a filer's reports.
     Lint { filer: &'a str, files: Vec<&'a str> },
 }
@@ -125,6 +127,15 @@ fn check<'a>(alloc: Global) -> Result<Command<'a>, AllocError> {
         .arg(database(alloc))
 }
 
+fn migrate<'a>(alloc: Global) -> Result<Command<'a>, AllocError> {
+    Command::new(alloc, "migrate")
+        .about(
+            "Makes a register of an earlier version one of this version; what was answered stays as it was",
+        )
+        .after_help("Example: intake migrate --db register.db")
+        .arg(database(alloc))
+}
+
 fn files<'a>(alloc: Global) -> Arg<'a> {
     Arg::new(alloc, "FILE")
         .help("The reports' files, each of at most 1048576 bytes")
@@ -149,6 +160,7 @@ fn tasks<'a>(alloc: Global) -> Result<Vec<Command<'a>>, AllocError> {
         list(alloc)?,
         show(alloc)?,
         check(alloc)?,
+        migrate(alloc)?,
         lint(alloc)?,
     ]?;
     Ok(tasks)
@@ -201,6 +213,7 @@ fn task_of<'a>(name: &str, values: &ArgMatches<'a>) -> Option<Task<'a>> {
             number: values.get_one("number")?,
         }),
         "check" => Some(Task::Check { database }),
+        "migrate" => Some(Task::Migrate { database }),
         _ => None,
     }
 }

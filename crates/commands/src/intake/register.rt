@@ -1,4 +1,4 @@
-//! The register of a file: made, opened, closed.
+//! The register of a file: made, opened, migrated, closed.
 
 use crate::database::{Place, make_database, open_database, remove_new_log};
 use crate::intake::calls;
@@ -25,6 +25,39 @@ pub fn create<'a, D: Disk + Drop, P: Place<D>>(
     }
 }
 
+/// Beside a file that is none of ours nothing is left.
+fn leave<D: Disk + Drop, P: Place<D>>(
+    rt: &HostRuntime,
+    place: &P,
+    name: &str,
+    had_log: bool,
+    fault: OpenFault,
+) {
+    if fault == OpenFault::NotOurs {
+        remove_new_log(rt, place, name, had_log);
+    }
+}
+
+/// Makes the register of the file, which is one of an earlier version, one of this version.
+pub fn migrate<'a, D: Disk + Drop, P: Place<D>>(
+    rt: &HostRuntime,
+    place: &P,
+    name: &'a str,
+) -> Result<Store<FileStore<D>>, Fault<'a>> {
+    let had_log = place.has_log(rt, name);
+    let conn = match open_database(rt, place, name) {
+        Ok(conn) => conn,
+        Err(fault) => return Err(CommandFault::Database { name, fault }.into()),
+    };
+    match calls::migrate(rt.alloc(), conn) {
+        Ok(register) => Ok(register),
+        Err(fault) => {
+            leave(rt, place, name, had_log, fault);
+            Err(Fault::NotMigrated { name, fault })
+        }
+    }
+}
+
 /// Opens the register of the file. Beside a file that is none of ours nothing is left.
 pub fn open<'a, D: Disk + Drop, P: Place<D>>(
     rt: &HostRuntime,
@@ -39,9 +72,7 @@ pub fn open<'a, D: Disk + Drop, P: Place<D>>(
     match calls::open(rt.alloc(), conn) {
         Ok(register) => Ok(register),
         Err(fault) => {
-            if fault == OpenFault::NotOurs {
-                remove_new_log(rt, place, name, had_log);
-            }
+            leave(rt, place, name, had_log, fault);
             Err(Fault::Open { name, fault })
         }
     }

@@ -3,7 +3,7 @@
 use crate::database::{Place, SystemFiles};
 use crate::intake::fault::Fault;
 use crate::intake::options::{DEFAULT_LIMIT, Task};
-use crate::intake::register::{close, open};
+use crate::intake::register::{close, migrate, open};
 use crate::intake::serving::{limit_within, serve_file};
 use crate::intake::{calls, finding, options};
 use crate::report::report;
@@ -172,12 +172,38 @@ fn check<'a, D: Disk + Drop, P: Place<D>, O: Write, E: Write>(
             close(register, name, errors);
             checked
         }
-        Err(fault) => {
-            if let Some(verdict) = fault.verdict() {
-                show_verdict(rt.alloc(), verdict, output)?;
-            }
-            Err(fault)
+        Err(fault) => show_fault(rt.alloc(), fault, output),
+    }
+}
+
+/// Prints what the fault says of the register, where it says something, and gives it back.
+fn show_fault<'a, O: Write>(
+    alloc: Global,
+    fault: Fault<'a>,
+    output: &mut O,
+) -> Result<u8, Fault<'a>> {
+    if let Some(verdict) = fault.verdict() {
+        show_verdict(alloc, verdict, output)?;
+    }
+    Err(fault)
+}
+
+/// Makes a register of an earlier version one of this version, and prints that it is. Where it is not, all is told as `check` does.
+fn migrate_file<'a, D: Disk + Drop, P: Place<D>, O: Write, E: Write>(
+    rt: &HostRuntime,
+    place: &P,
+    name: &'a str,
+    output: &mut O,
+    errors: &mut E,
+) -> Result<u8, Fault<'a>> {
+    match migrate(rt, place, name) {
+        Ok(register) => {
+            let shown = show(output, b"migrated\n");
+            close(register, name, errors);
+            shown?;
+            Ok(DONE)
         }
+        Err(fault) => show_fault(rt.alloc(), fault, output),
     }
 }
 
@@ -242,6 +268,7 @@ fn perform_task<'a, D: Disk + Drop, P: Place<D>, R: Read, O: Write, E: Write>(
             show_filing(rt, place, database, *number, output, errors)?
         }
         Task::Check { database } => return check(rt, place, database, output, errors),
+        Task::Migrate { database } => return migrate_file(rt, place, database, output, errors),
         Task::Lint { filer, files } => return lint(rt, filer, files, output),
     }
     Ok(DONE)

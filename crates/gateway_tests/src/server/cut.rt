@@ -121,7 +121,7 @@ static EXAMPLES: [Conversation; 21] = [
             (REPORT, 1),
         ],
         &[(
-            "HTTP/1.1 415 Unsupported Media Type\r\nContent-Type: application/json\r\nContent-Length: 27\r\n\r\n{\"status\":\"content-coding\"}",
+            "HTTP/1.1 415 Unsupported Media Type\r\nContent-Type: application/problem+json\r\nContent-Length: 94\r\n\r\n{\"reason\":\"content-coding\",\"status\":415,\"title\":\"Unsupported Media Type\",\"type\":\"about:blank\"}",
             1,
         )],
         Ended::InputEnded,
@@ -138,7 +138,7 @@ static EXAMPLES: [Conversation; 21] = [
     (
         &[("GET /other HTTP/1.1\r\nHost: h\r\n\r\n", 1)],
         &[(
-            "HTTP/1.1 404 Not Found\r\nContent-Type: application/json\r\nContent-Length: 20\r\n\r\n{\"status\":\"no-path\"}",
+            "HTTP/1.1 404 Not Found\r\nContent-Type: application/problem+json\r\nContent-Length: 74\r\n\r\n{\"reason\":\"no-path\",\"status\":404,\"title\":\"Not Found\",\"type\":\"about:blank\"}",
             1,
         )],
         Ended::InputEnded,
@@ -146,7 +146,7 @@ static EXAMPLES: [Conversation; 21] = [
     (
         &[("PUT /filings/ACME HTTP/1.1\r\nHost: h\r\n\r\n", 1)],
         &[(
-            "HTTP/1.1 405 Method Not Allowed\r\nContent-Type: application/json\r\nContent-Length: 22\r\nAllow: GET, POST\r\n\r\n{\"status\":\"no-method\"}",
+            "HTTP/1.1 405 Method Not Allowed\r\nContent-Type: application/problem+json\r\nContent-Length: 85\r\nAllow: GET, POST\r\n\r\n{\"reason\":\"no-method\",\"status\":405,\"title\":\"Method Not Allowed\",\"type\":\"about:blank\"}",
             1,
         )],
         Ended::InputEnded,
@@ -154,7 +154,7 @@ static EXAMPLES: [Conversation; 21] = [
     (
         &[("HEAD /filings/ACME HTTP/1.1\r\nHost: h\r\n\r\n", 1)],
         &[(
-            "HTTP/1.1 405 Method Not Allowed\r\nContent-Type: application/json\r\nAllow: GET, POST\r\n\r\n",
+            "HTTP/1.1 405 Method Not Allowed\r\nContent-Type: application/problem+json\r\nAllow: GET, POST\r\n\r\n",
             1,
         )],
         Ended::InputEnded,
@@ -165,7 +165,7 @@ static EXAMPLES: [Conversation; 21] = [
             1,
         )],
         &[(
-            "HTTP/1.1 501 Not Implemented\r\nContent-Type: application/json\r\nContent-Length: 19\r\nConnection: close\r\n\r\n{\"status\":\"coding\"}",
+            "HTTP/1.1 501 Not Implemented\r\nContent-Type: application/problem+json\r\nContent-Length: 79\r\nConnection: close\r\n\r\n{\"reason\":\"coding\",\"status\":501,\"title\":\"Not Implemented\",\"type\":\"about:blank\"}",
             1,
         )],
         Ended::Closed,
@@ -176,7 +176,7 @@ static EXAMPLES: [Conversation; 21] = [
             1,
         )],
         &[(
-            "HTTP/1.1 413 Content Too Large\r\nContent-Type: application/json\r\nContent-Length: 22\r\nConnection: close\r\n\r\n{\"status\":\"too-large\"}",
+            "HTTP/1.1 413 Content Too Large\r\nContent-Type: application/problem+json\r\nContent-Length: 84\r\nConnection: close\r\n\r\n{\"reason\":\"too-large\",\"status\":413,\"title\":\"Content Too Large\",\"type\":\"about:blank\"}",
             1,
         )],
         Ended::Closed,
@@ -187,7 +187,7 @@ static EXAMPLES: [Conversation; 21] = [
             1,
         )],
         &[(
-            "HTTP/1.1 400 Bad Request\r\nContent-Type: application/json\r\nContent-Length: 24\r\n\r\n{\"status\":\"key-missing\"}",
+            "HTTP/1.1 400 Bad Request\r\nContent-Type: application/problem+json\r\nContent-Length: 80\r\n\r\n{\"reason\":\"key-missing\",\"status\":400,\"title\":\"Bad Request\",\"type\":\"about:blank\"}",
             1,
         )],
         Ended::InputEnded,
@@ -198,7 +198,7 @@ static EXAMPLES: [Conversation; 21] = [
             1,
         )],
         &[(
-            "HTTP/1.1 400 Bad Request\r\nContent-Type: application/json\r\nContent-Length: 20\r\n\r\n{\"status\":\"key-bad\"}",
+            "HTTP/1.1 400 Bad Request\r\nContent-Type: application/problem+json\r\nContent-Length: 76\r\n\r\n{\"reason\":\"key-bad\",\"status\":400,\"title\":\"Bad Request\",\"type\":\"about:blank\"}",
             1,
         )],
         Ended::InputEnded,

@@ -23,7 +23,7 @@ const AWAITING: &str =
 /// What a client sends in turn, and what is written for all of it.
 type Exchange = (&'static [Turn], Text);
 
-/// The replies to the reports have 110 bytes; the interim response has 25, and the reply after it 144.
+/// The replies to the reports have 110 bytes; the interim response has 25, and the reply after it 209.
 static EXCHANGES: [Exchange; 3] = [
     (
         &[(SMALL, 0), (SECOND_SMALL, 110), ("", 220)],
@@ -40,7 +40,7 @@ static EXCHANGES: [Exchange; 3] = [
         &[(REGISTERED, 1), (REGISTERED_SECOND, 1)],
     ),
     (
-        &[(AWAITING, 0), ("hello", 25), ("", 169)],
+        &[(AWAITING, 0), ("hello", 25), ("", 234)],
         &[("HTTP/1.1 100 Continue\r\n\r\n", 1), (NOT_JSON, 1)],
     ),
 ];

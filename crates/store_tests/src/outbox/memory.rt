@@ -3,7 +3,7 @@
 
 use super::{BODY, calls};
 use crate::databases::Fresh;
-use http_wire::Reply;
+use http_wire::{Kind, Reply};
 use key_string::{KeyFault, KeyText};
 use outbox_core::{Entry, Outbox, OutboxFault, PutFault, State, StoreFault, TakeFault, key_of};
 use sqlite::{Alter, Connection, MemStore};
@@ -148,7 +148,7 @@ static MOVES: [Move; 4] = [
     (
         1,
         503,
-        b"{\"status\":\"unavailable\"}",
+        b"{\"reason\":\"unavailable\",\"status\":503,\"title\":\"Service Unavailable\",\"type\":\"about:blank\"}",
         State::Open,
         Ok(State::Open),
     ),
@@ -162,7 +162,7 @@ static MOVES: [Move; 4] = [
     (
         1,
         422,
-        b"{\"status\":\"key-reused\"}",
+        b"{\"reason\":\"key-reused\",\"status\":422,\"title\":\"Unprocessable Content\",\"type\":\"about:blank\"}",
         State::Confirmed(1),
         Ok(State::Confirmed(1)),
     ),
@@ -179,7 +179,13 @@ static MOVES: [Move; 4] = [
 fn moves<S: Alter>(alloc: Global, outbox: &mut Outbox<S>, row: &Move) -> Result<bool, Fail> {
     let (id, status, content, before, answer) = *row;
     let content = bytes(alloc, content)?;
-    Ok(take(outbox, id, &Reply { status, content }, before)? == answer)
+    let kind = Kind::Json;
+    let reply = Reply {
+        status,
+        content,
+        kind,
+    };
+    Ok(take(outbox, id, &reply, before)? == answer)
 }
 
 /// Whether the entry, which is open, is moved.

@@ -27,7 +27,10 @@ static CHANGES: [(Change, &[Expected]); 3] = [
         &[("k-1", BODY, State::Confirmed(1))],
     ),
     (
-        Some((422, b"{\"findings\":[],\"status\":\"refused\"}")),
+        Some((
+            422,
+            b"{\"findings\":[],\"reason\":\"refused\",\"status\":422,\"title\":\"Unprocessable Content\",\"type\":\"about:blank\"}",
+        )),
         &[("k-1", BODY, State::Refused)],
     ),
 ];

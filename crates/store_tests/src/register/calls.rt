@@ -5,6 +5,7 @@ use filing_model::FilingRow;
 use key_string::{KeyText, is_filer};
 use register_store::{
     Completed, CreateFault, KeptRow, NewRow, OpenFault, Outcome, Registered, Store, StoreFault,
+    migrate_register,
 };
 use sqlite::{Alter, Connection, FileStore, Files};
 use sqlite_disk::Disk;
@@ -26,6 +27,24 @@ pub fn open<S: Alter + Drop>(
     conn: Connection<S>,
 ) -> Result<Result<Store<S>, OpenFault>, Fail> {
     Ok(Store::open(alloc, ready(conn)?))
+}
+
+/// What `migrate` answers.
+pub fn migrate<S: Alter + Drop>(
+    alloc: Global,
+    conn: Connection<S>,
+) -> Result<Result<Store<S>, OpenFault>, Fail> {
+    Ok(Store::migrate(alloc, ready(conn)?))
+}
+
+/// The connection after a migration, and how it is refused, if it is.
+pub fn migrated<S: Alter + Drop>(
+    alloc: Global,
+    conn: Connection<S>,
+) -> Result<(Connection<S>, Option<OpenFault>), Fail> {
+    let mut conn = ready(conn)?;
+    let fault = migrate_register(alloc, &mut conn).err();
+    Ok((conn, fault))
 }
 
 /// The connection of a store.
@@ -61,6 +80,11 @@ pub fn add_short<S: Alter>(
     }
 }
 
+/// How many requests are told the contents of before.
+pub fn early_count<S: Alter>(store: &Store<S>) -> Result<u64, StoreFault> {
+    store.early_count()
+}
+
 /// What `find` answers.
 pub fn look_up<S: Alter>(
     store: &mut Store<S>,
@@ -93,6 +117,14 @@ pub fn facts<S: Alter>(store: &mut Store<S>, number: u64) -> Result<Option<Vec<F
 /// What `into_files` answers.
 pub fn into_files<D: Disk + Drop>(store: Store<FileStore<D>>) -> Result<Files<D>, StoreFault> {
     store.into_files()
+}
+
+/// The files of a connection, whatever its close answers.
+pub fn close_files<D: Disk + Drop>(conn: Connection<FileStore<D>>) -> Files<D> {
+    match conn.close_files() {
+        Ok(files) => files,
+        Err((_, store)) => store.close(),
+    }
 }
 
 /// The files, whatever `close` answers.

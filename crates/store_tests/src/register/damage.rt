@@ -8,8 +8,8 @@ use sqlite::{Connection, MemStore};
 use std::alloc::Global;
 use std::test::Fail;
 
-/// The requests of a register, a statement on its tables, and what an opening answers then.
-type Case = (&'static [Request], &'static str, OpenFault);
+/// A statement on the tables of a register, and what an opening answers then.
+type Case = (&'static str, OpenFault);
 
 /// A report with one fact, and a refused empty body, which is no JSON text.
 const TWO: &[Request] = &[("k-1", REPORT), ("k-2", b"")];
@@ -19,80 +19,100 @@ const THREE: &[Request] = &[("k-1", REPORT), ("k-2", b""), ("k-3", VALID)];
 
 /// Rows that judging does not give, rows of no request, more rows of a request than are its own, and other registers. The long body is
 /// the smallest report.
-static CASES: [Case; 17] = [
+static CASES: [Case; 27] = [
     (
-        TWO,
         "UPDATE finding SET code = 2 WHERE seq = 2",
         OpenFault::Damaged { row: 2 },
     ),
-    (TWO, "DELETE FROM fact", OpenFault::Damaged { row: 1 }),
+    ("DELETE FROM fact", OpenFault::Damaged { row: 1 }),
     (
-        TWO,
         "DELETE FROM kept WHERE seq = 1",
         OpenFault::Damaged { row: 1 },
     ),
     (
-        TWO,
         "UPDATE kept SET body = x'7b7d' WHERE seq = 1",
         OpenFault::Damaged { row: 1 },
     ),
     (
-        TWO,
         "UPDATE kept SET body = x'7b22646f63756d656e74496e666f223a7b22646f63756d656e7454797065223a2268747470733a2f2f7862726c2e6f72672f323032312f7862726c2d6a736f6e222c227461786f6e6f6d79223a5b2274225d7d7d' WHERE seq = 1",
         OpenFault::Damaged { row: 1 },
     ),
     (
-        TWO,
         "INSERT INTO filing VALUES (9, 9)",
         OpenFault::Damaged { row: 0 },
     ),
-    (TWO, "DROP TABLE finding", OpenFault::Damaged { row: 0 }),
+    ("DROP TABLE finding", OpenFault::Damaged { row: 0 }),
     (
-        TWO,
         "INSERT INTO finding VALUES (0, 1, 2, x'')",
         OpenFault::Damaged { row: 0 },
     ),
     (
-        TWO,
         "INSERT INTO fact VALUES (0, 1, x'61', x'61', x'7b7d', NULL, NULL)",
         OpenFault::Damaged { row: 0 },
     ),
     (
-        TWO,
         "INSERT INTO filing VALUES (0, 9)",
         OpenFault::Damaged { row: 0 },
     ),
     (
-        TWO,
         "INSERT INTO fact VALUES (1, 2, x'61', x'61', x'7b7d', NULL, NULL)",
         OpenFault::Damaged { row: 1 },
     ),
     (
-        TWO,
         "INSERT INTO finding VALUES (1, 1, 2, x'')",
         OpenFault::Damaged { row: 1 },
     ),
     (
-        TWO,
         "INSERT INTO filing VALUES (2, 2)",
         OpenFault::Damaged { row: 2 },
     ),
+    ("DROP TABLE migrated", OpenFault::Damaged { row: 0 }),
+    ("DELETE FROM migrated", OpenFault::Damaged { row: 0 }),
     (
-        THREE,
-        "INSERT INTO filing VALUES (3, 2)",
-        OpenFault::Damaged { row: 2 },
+        "INSERT INTO migrated VALUES (2, 0)",
+        OpenFault::Damaged { row: 0 },
     ),
-    (TWO, "UPDATE intake_meta SET form = 9", OpenFault::NotOurs),
-    (TWO, "UPDATE intake_meta SET form = 1", OpenFault::NotOurs),
-    (TWO, "DELETE FROM intake_meta", OpenFault::NotOurs),
+    ("UPDATE migrated SET id = 2", OpenFault::Damaged { row: 0 }),
+    (
+        "UPDATE migrated SET last = 3",
+        OpenFault::Damaged { row: 0 },
+    ),
+    (
+        "UPDATE migrated SET last = -1",
+        OpenFault::Damaged { row: 0 },
+    ),
+    ("DROP TABLE amends", OpenFault::Damaged { row: 0 }),
+    (
+        "INSERT INTO amends VALUES (1, 1)",
+        OpenFault::Damaged { row: 0 },
+    ),
+    (
+        "DELETE FROM fact; UPDATE migrated SET last = 3",
+        OpenFault::Damaged { row: 1 },
+    ),
+    ("UPDATE intake_meta SET form = 3", OpenFault::NotOurs),
+    ("UPDATE intake_meta SET form = 2", OpenFault::NotOurs),
+    ("UPDATE intake_meta SET form = 9", OpenFault::NotOurs),
+    ("UPDATE intake_meta SET form = 1", OpenFault::NotOurs),
+    ("DELETE FROM intake_meta", OpenFault::NotOurs),
 ];
 
+/// A third request whose filing takes a number in use.
+static THIRD: Case = (
+    "INSERT INTO filing VALUES (3, 2)",
+    OpenFault::Damaged { row: 2 },
+);
+
 /// Where there is no register.
-static NO_REGISTERS: [(&str, OpenFault); 2] = [
+static NO_REGISTERS: [Case; 3] = [
     ("", OpenFault::NotOurs),
     (
-        "CREATE TABLE intake_meta (id INTEGER PRIMARY KEY, kind TEXT NOT NULL, form INTEGER NOT NULL) STRICT; INSERT INTO intake_meta VALUES (1, 'register', 2)",
+        "CREATE TABLE intake_meta (id INTEGER PRIMARY KEY, kind TEXT NOT NULL, form INTEGER NOT NULL) STRICT; INSERT INTO intake_meta VALUES (1, 'register', 4)",
         OpenFault::Damaged { row: 0 },
+    ),
+    (
+        "CREATE TABLE intake_meta (id INTEGER PRIMARY KEY, kind TEXT NOT NULL, form INTEGER NOT NULL) STRICT; INSERT INTO intake_meta VALUES (1, 'register', 2)",
+        OpenFault::NotOurs,
     ),
 ];
 
@@ -125,10 +145,18 @@ fn fault_of_none<S: Fresh>(alloc: Global, sql: &str) -> Result<Option<OpenFault>
 
 #[test]
 fn damage_is_told(rt: HostRuntime) -> Result<(), Fail> {
-    for &(requests, sql, fault) in &CASES {
-        let given = fault_of::<MemStore>(rt.alloc(), requests, sql)?;
+    for &(sql, fault) in &CASES {
+        let given = fault_of::<MemStore>(rt.alloc(), TWO, sql)?;
         assert_eq!(rt; given, Some(fault), "{sql}");
     }
+    Ok(())
+}
+
+#[test]
+fn a_filing_too_many_is_told(rt: HostRuntime) -> Result<(), Fail> {
+    let (sql, fault) = THIRD;
+    let given = fault_of::<MemStore>(rt.alloc(), THREE, sql)?;
+    assert_eq!(rt; given, Some(fault), "{sql}");
     Ok(())
 }
 

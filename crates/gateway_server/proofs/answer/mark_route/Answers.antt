@@ -1,6 +1,6 @@
 use Rattle.std.proofs.Common.{sym, ap, ◌∙◌}
 use Rattle.filing_model.specs.Text.{Route, bare}
-use Rattle.intake_core.specs.Held.{limit_of}
+use Rattle.intake_core.specs.Held.{limit_of, early_in}
 use Rattle.gateway_server.specs.Route.{view_message, view_route}
 use Rattle.gateway_server.proofs.Answering.{IsDecided-message}
 use Rattle.gateway_server.proofs.answer.mark_route.Goals as goal
@@ -11,9 +11,10 @@ returns-clause-marked g c = λ clean before h.
     let asked : Route = view_route c.args.asked c.args.message.now.body.now in (
       decided.0,
       decided.1,
-      IsDecided-message (limit_of c.args.intake.now) before decided.0 (view_message c.args.message.now)
+      decided.2,
+      IsDecided-message (limit_of c.args.intake.now) (early_in c.args.intake.now before) before decided.0 (view_message c.args.message.now)
           (bare c.is_head.result asked) c.decide-decided.result c.args.marks.now.items c.push_reserved.new.self.items
           (c.requires.asked ∙ ap (λ b. bare b asked) (sym c.is_head.ensures))
-          decided.2
+          decided.3
           c.push_reserved.ensures.items,
     )

@@ -1,4 +1,4 @@
-use Rattle.std.proofs.Common.{◌≡◌, List, refl, ap, ◌∙◌, subst, IfOk}
+use Rattle.std.proofs.Common.{◌≡◌, List, take, refl, ap, ◌∙◌, subst, IfOk}
 use Rattle.std.specs.Prelude.{map}
 use Rattle.std.specs.declared.alloc.AllocError.{AllocError}
 use Rattle.http_wire.specs.Replies.{reply_parts}
@@ -6,7 +6,7 @@ use Rattle.filing_model.specs.Listing.{Listing, listings}
 use Rattle.filing_model.specs.Register.{register}
 use Rattle.filing_model.specs.Reply.{list_reply, unavailable}
 use Rattle.filing_model.specs.Views.{view_row}
-use Rattle.intake_core.specs.Held.{limit_of}
+use Rattle.intake_core.specs.Held.{limit_of, early_in}
 use Rattle.gateway_server.proofs.Statuses.{phrase-list_reply, phrase-parts, phrase-unavailable}
 use Rattle.gateway_server.proofs.Decisions.{Decides-listed_unavailable}
 use Rattle.gateway_server.proofs.decide.list.Goals as goal
@@ -17,6 +17,7 @@ returns-in-Ok-clause-decided g c = λ clean before h.
     let same : map view_row c.deref.result.now ≡ rows = ap (map view_row) c.deref.ensures.value ∙ c.in-Ok.ensures.rows clean before h in (
       before,
       c.in-Ok.ensures.kept clean before h,
+      ap (λ n. take n before) c.in-Ok.ensures.early,
       record {
         fit = tt;
         kept = refl;
@@ -29,7 +30,7 @@ returns-in-Ok-clause-phrase g c = phrase-parts AllocError c.list_reply.result (l
 
 pub returns-in-Err-clause-decided : goal.returns-in-Err-clause-decided
 returns-in-Err-clause-decided g c = λ clean before h.
-    (before, c.in-Err.ensures.kept clean before h, Decides-listed_unavailable (limit_of c.args.intake.now) before c.args.filer.now c.unavailable.result c.unavailable.ensures)
+    (before, c.in-Err.ensures.kept clean before h, ap (λ n. take n before) c.in-Err.ensures.early, Decides-listed_unavailable (limit_of c.args.intake.now) (early_in c.args.intake.now before) before c.args.filer.now c.unavailable.result c.unavailable.ensures)
 
 pub returns-in-Err-clause-phrase : goal.returns-in-Err-clause-phrase
 returns-in-Err-clause-phrase g c = phrase-parts AllocError c.unavailable.result.reply unavailable phrase-unavailable c.unavailable.ensures.reply

@@ -1,4 +1,4 @@
-use Rattle.std.proofs.Common.{◌≡◌, ◌+◌, ◌≤◌, ◌∙◌, length, ap, sym, subst, IfOk, Bool, vec_len, arith}
+use Rattle.std.proofs.Common.{refl, ◌≡◌, ◌+◌, ◌≤◌, ◌∙◌, length, ap, sym, subst, IfOk, Bool, vec_len, arith}
 use Rattle.http_wire.specs.Head.{closes, max_body_len}
 use Rattle.http_wire.specs.Inbox.{held, lent_len}
 use Rattle.http_wire.specs.Message.{Read}
@@ -6,8 +6,8 @@ use Rattle.http_wire.specs.Replies.{reply_parts}
 use Rattle.http_wire.specs.Reply.{render}
 use Rattle.http_wire.specs.Request.{Request as Message}
 use Rattle.filing_model.specs.Stopping.{ComeBefore}
-use Rattle.filing_model.specs.Text.{reply_text}
-use Rattle.intake_core.specs.Held.{limit_of}
+use Rattle.filing_model.specs.Text.{reply_text_with}
+use Rattle.intake_core.specs.Held.{limit_of, early_in}
 use Rattle.gateway_server.specs.Answered.{IsDecided}
 use Rattle.gateway_server.specs.Route.{view_message}
 use Rattle.gateway_server.specs.Stopping.{IsBefore, IsStoppedAfter, view_stop}
@@ -26,8 +26,9 @@ pub returns-then-is_before-clause-serves : goal.returns-then-is_before-clause-se
 returns-then-is_before-clause-serves g c = λ clean now kept. (
   now,
   kept,
+  refl,
   λ before left left' written h.
-      message_before (limit_of c.args.intake.now) before now left left' written (g.W.Sink.written c.args.writer.now) c.args.inbox.now c.args.marks.now.items h (view_stop c.args.stop)
+      message_before (limit_of c.args.intake.now) (early_in c.args.intake.now now) before now left left' written (g.W.Sink.written c.args.writer.now) c.args.inbox.now c.args.marks.now.items h (view_stop c.args.stop)
       (subst (λ n. IsBefore (view_stop c.args.stop) (n + 1)) (c.len-number.ensures ∙ c.args.marks.now.ok.0) c.if-is_before.ensures),
 )
 
@@ -36,17 +37,18 @@ returns-clause-serves g c = λ clean now kept.
     let decided = c.in-Ok.ensures.marked clean now kept in (
       decided.0,
       decided.1,
+      decided.2,
       λ before left left' written h.
           let m : Message = view_message c.message-message.result in
           let old = c.args.marks.now.items in
           let new = c.mark.new.marks.items in
           let same : m ≡ h.lends.request = sym (lent_is c.args.inbox.now h.lends m c.message-message.ensures) in
           let close : c.closes.result ≡ closes h.lends.request.head = c.closes.ensures ∙ ap (λ (r : Message). closes r.head) same in
-          let is = subst (λ (r : Message). IsDecided (limit_of c.args.intake.now) now decided.0 (Read r) old new c.in-Ok.decided) same decided.2 in
-          message_replied (limit_of c.args.intake.now) before now left left' written (g.W.Sink.written c.args.writer.now) c.args.inbox.now old h (view_stop c.args.stop)
+          let is = subst (λ (r : Message). IsDecided (limit_of c.args.intake.now) (early_in c.args.intake.now now) now decided.0 (Read r) old new c.in-Ok.decided) same decided.3 in
+          message_replied (limit_of c.args.intake.now) (early_in c.args.intake.now now) before now left left' written (g.W.Sink.written c.args.writer.now) c.args.inbox.now old h (view_stop c.args.stop)
           decided.0 new (g.W.Sink.written c.reply.new.writer) c.closes.result c.reply.result (g.W.Sink.write_failures c.args.writer.now) (g.W.Sink.write_failures c.reply.new.writer)
           close is.marked
-          (c.reply.ensures.written (reply_text now (Read h.lends.request) is.marked.mark) (subst (λ (b : Bool). IfOk c.in-Ok.decided.reply (λ r. render (reply_parts r) b ≡ reply_text now (Read h.lends.request) is.marked.mark)) (sym close) is.reply))
+          (c.reply.ensures.written (reply_text_with (early_in c.args.intake.now now) now (Read h.lends.request) is.marked.mark) (subst (λ (b : Bool). IfOk c.in-Ok.decided.reply (λ r. render (reply_parts r) b ≡ reply_text_with (early_in c.args.intake.now now) now (Read h.lends.request) is.marked.mark)) (sym close) is.reply))
           (subst (λ n. IsStoppedAfter (view_stop c.args.stop) (n + 1) c.reply.result) (c.len-number.ensures ∙ c.args.marks.now.ok.0) c.reply.ensures.stops) c.reply.ensures.fault,
     )
 
@@ -59,7 +61,8 @@ returns-in-Err-clause-serves g c = λ clean now kept.
     let decided = c.in-Err.ensures.marked clean now kept in (
       decided.0,
       decided.1,
+      decided.2,
       λ before left left' written h.
-          message_unmarked (limit_of c.args.intake.now) before now left left' written (g.W.Sink.written c.args.writer.now) c.args.inbox.now c.args.marks.now.items h (view_stop c.args.stop)
-          decided.0 c.mark.new.marks.items decided.2.0 decided.2.1,
+          message_unmarked (limit_of c.args.intake.now) (early_in c.args.intake.now now) before now left left' written (g.W.Sink.written c.args.writer.now) c.args.inbox.now c.args.marks.now.items h (view_stop c.args.stop)
+          decided.0 c.mark.new.marks.items decided.3.0 decided.3.1,
     )

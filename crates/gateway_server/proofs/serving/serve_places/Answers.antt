@@ -6,8 +6,8 @@ use Rattle.gateway_server.proofs.serving.serve_places.Goals as goal
 pub returns-in-Stopped-clause-serves : goal.returns-in-Stopped-clause-serves
 returns-in-Stopped-clause-serves g c = λ clean first h.
     let goes = c.places.invariant.goes (c.serve_place.ensures.clean clean) first h in
-    let served = rw c.places.invariant.limit at (c.in-Stopped.ensures.serves clean goes.0 goes.1) in
-    (served.0, served.1, λ before left written on. served.2 before left written (goes.2 before left written on))
+    let served = rw (c.places.invariant.limit, goes.2) at (c.in-Stopped.ensures.serves clean goes.0 goes.1) in
+    (served.0, served.1, served.2, λ before left written on. served.3 before left written (goes.3 before left written on))
 
 pub returns-in-Stopped-clause-read : goal.returns-in-Stopped-clause-read
 returns-in-Stopped-clause-read g c = ReadsSome-join _ _ _ c.args.inbox.now c.places.inbox c.serve_place.new.inbox c.places.invariant.read c.serve_place.ensures.read
@@ -16,8 +16,8 @@ returns-in-Stopped-clause-read g c = ReadsSome-join _ _ _ c.args.inbox.now c.pla
 pub returns-in-Ended-clause-serves : goal.returns-in-Ended-clause-serves
 returns-in-Ended-clause-serves g c = λ clean first h.
     let goes = c.places.invariant.goes (c.serve_place.ensures.clean clean) first h in
-    let served = rw c.places.invariant.limit at (c.in-Ended.ensures.serves clean goes.0 goes.1) in
-    (served.0, served.1, λ before left written on. served.2 before left written (goes.2 before left written on))
+    let served = rw (c.places.invariant.limit, goes.2) at (c.in-Ended.ensures.serves clean goes.0 goes.1) in
+    (served.0, served.1, served.2, λ before left written on. served.3 before left written (goes.3 before left written on))
 
 pub returns-in-Ended-clause-read : goal.returns-in-Ended-clause-read
 returns-in-Ended-clause-read g c = ReadsSome-join _ _ _ c.args.inbox.now c.places.inbox c.serve_place.new.inbox c.places.invariant.read c.serve_place.ensures.read
@@ -33,6 +33,6 @@ places-preserved g c = record {
   clean = search rules;
   goes = λ clean first h.
       let goes = c.places.invariant.goes (c.serve_place.ensures.clean clean) first h in
-      let served = rw c.places.invariant.limit at (c.in-On.ensures.serves clean goes.0 goes.1) in
-      (served.0, served.1, λ before left written on. served.2 before left written (goes.2 before left written on));
+      let served = rw (c.places.invariant.limit, goes.2) at (c.in-On.ensures.serves clean goes.0 goes.1) in
+      (served.0, served.1, served.2, λ before left written on. served.3 before left written (goes.3 before left written on));
 }

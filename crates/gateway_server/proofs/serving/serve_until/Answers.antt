@@ -1,8 +1,8 @@
 use Rattle.filing_model.specs.declared.served.Ended.TheVariants.{Fault}
 use Rattle.http_wire.specs.declared.refusal.ConnFault.TheVariants.{Memory}
-use Rattle.std.proofs.Common.{Some, length, sym, subst}
+use Rattle.std.proofs.Common.{Some, length, refl, sym, subst}
 use Rattle.filing_model.specs.Stopping.{ComeBefore}
-use Rattle.intake_core.specs.Held.{limit_of}
+use Rattle.intake_core.specs.Held.{limit_of, early_in}
 use Rattle.gateway_server.specs.Stopping.{IsCountUntil, view_stop}
 use Rattle.gateway_server.proofs.Continuing.{GoesOn-new, Serves-none}
 use Rattle.gateway_server.proofs.Stopping.{ComeBefore-none, ServesConnectionUntil-either}
@@ -13,10 +13,11 @@ returns-in-Ok-clause-serves g c = λ clean before h.
     let left = g.R.Source.left c.args.reader.now in
     let written = g.W.Sink.written c.args.writer.now in
     let served = c.serve_places-ended.ensures.serves clean before h in
-    let came = served.2 before left written (GoesOn-new (limit_of c.args.intake.now) before left written c.in-Ok.inbox c.new-marks.result.items c.in-Ok.ensures c.new-marks.ensures.items) in (
+    let came = served.3 before left written (GoesOn-new (limit_of c.args.intake.now) (early_in c.args.intake.now before) before left written c.in-Ok.inbox c.new-marks.result.items c.in-Ok.ensures c.new-marks.ensures.items) in (
       served.0,
       served.1,
-      ServesConnectionUntil-either (limit_of c.args.intake.now) before served.0 left (g.R.Source.left c.serve_places-ended.new.reader) written (g.W.Sink.written c.serve_places-ended.new.writer) (view_stop c.args.stop) c.serve_places-ended.new.marks.items c.serve_places-ended.result
+      served.2,
+      ServesConnectionUntil-either (limit_of c.args.intake.now) (early_in c.args.intake.now before) before served.0 left (g.R.Source.left c.serve_places-ended.new.reader) written (g.W.Sink.written c.serve_places-ended.new.writer) (view_stop c.args.stop) c.serve_places-ended.new.marks.items c.serve_places-ended.result
           (subst (λ n. IsCountUntil (view_stop c.args.stop) n c.serve_places-ended.result) c.serve_places-ended.new.marks.ok.0 c.serve_places-ended.ensures.counted) came,
     )
 
@@ -26,6 +27,7 @@ returns-in-Err-clause-serves g c = λ clean before h.
     let written = g.W.Sink.written c.args.writer.now in (
       before,
       h,
-      ServesConnectionUntil-either (limit_of c.args.intake.now) before before left left written written (view_stop c.args.stop) c.new-marks.result.items (Some (Fault Memory))
-          (subst (λ ms. ComeBefore (view_stop c.args.stop) (length ms)) (sym c.new-marks.ensures.items) (ComeBefore-none (view_stop c.args.stop))) (Serves-none (limit_of c.args.intake.now) before left written c.new-marks.result.items c.new-marks.ensures.items),
+      refl,
+      ServesConnectionUntil-either (limit_of c.args.intake.now) (early_in c.args.intake.now before) before before left left written written (view_stop c.args.stop) c.new-marks.result.items (Some (Fault Memory))
+          (subst (λ ms. ComeBefore (view_stop c.args.stop) (length ms)) (sym c.new-marks.ensures.items) (ComeBefore-none (view_stop c.args.stop))) (Serves-none (limit_of c.args.intake.now) (early_in c.args.intake.now before) before left written c.new-marks.result.items c.new-marks.ensures.items),
     )

@@ -1,6 +1,6 @@
 use Rattle.std.proofs.Common.{◌≡◌, ◌+◌, ◌-◌, ◌*◌, length}
 use Rattle.http_wire.specs.Received.{held_bytes, read_count, max_reads}
-use Rattle.http_wire.specs.ReplyReading.{HasSkipped}
+use Rattle.http_wire.proofs.ReplyLemmas.{HasSkipped}
 use Rattle.http_wire.proofs.reply_reader.read_reply.Given as goal
 
 abbrev pub invariant-loop-received : goal.invariant-loop-received

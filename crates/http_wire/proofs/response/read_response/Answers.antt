@@ -15,5 +15,5 @@ returns-in-Ok-Complete c =
     let whole : head.len ≡ length block = c.if-head-block.true in (
       response_parts block headers head,
       ReadsResponseHead-parsed block headers head room whole lines within read,
-      record { status = search rules; content_len = search rules },
+      record { status = search rules; kind = search rules; content_len = search rules },
     )

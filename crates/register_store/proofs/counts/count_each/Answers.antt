@@ -1,4 +1,5 @@
 use Rattle.std.proofs.Common.{◌++◌, ◌∷◌, [], map, take, get_or, ap, ap₂, sym, ◌∙◌, arith}
+use Rattle.std.proofs.lemmas.Grind.{common_steps}
 use Rattle.std.proofs.lemmas.List.{take_more, map-append}
 use Rattle.sqlite.specs.Held.{state}
 use Rattle.sqlite.specs.State.{HasCleanDisk}
@@ -9,18 +10,18 @@ use Rattle.register_store.specs.Numbered.{counted_under}
 use Rattle.register_store.proofs.counts.count_each.Goals as goal
 
 pub returns-in_err-facts-clause-same : goal.returns-in_err-facts-clause-same
-returns-in_err-facts-clause-same g c clean F was =
+returns-in_err-facts-clause-same g c clean e F was =
     let early : HasCleanDisk (state g.S.Store c.loop-number.conn) = omega (arith, c.count_facts.ensures.survives.clean) in
-    c.in_err-facts.ensures.same clean F (c.loop-number.invariant.same early F was)
+    c.in_err-facts.ensures.same clean e F (c.loop-number.invariant.same early e F was)
 
 pub returns-in_err-facts-clause-survives : goal.returns-in_err-facts-clause-survives
 returns-in_err-facts-clause-survives g c =
     nothing_left (state g.S.Store c.args.conn.now) (state g.S.Store c.loop-number.conn) (state g.S.Store c.count_facts.new.conn) c.loop-number.invariant.survives c.count_facts.ensures.survives
 
 pub returns-in_err-push-clause-same : goal.returns-in_err-push-clause-same
-returns-in_err-push-clause-same g c clean F was =
+returns-in_err-push-clause-same g c clean e F was =
     let early : HasCleanDisk (state g.S.Store c.loop-number.conn) = omega (arith, c.count_facts.ensures.survives.clean) in
-    c.in_ok-facts.ensures.same clean F (c.loop-number.invariant.same early F was)
+    c.in_ok-facts.ensures.same clean e F (c.loop-number.invariant.same early e F was)
 
 pub returns-in_err-push-clause-survives : goal.returns-in_err-push-clause-survives
 returns-in_err-push-clause-survives g c =
@@ -35,15 +36,18 @@ loop-number-preserved g c =
     let i = c.loop-number.number-index in
     let kept = c.loop-number.invariant in
     record {
-      rows = λ clean F was.
+      rows = λ clean e F was.
           let early : HasCleanDisk mid = omega (arith, c.count_facts.ensures.survives.clean) in
-          let count = c.in_ok-facts.ensures.counted clean F (kept.same early F was) in
+          let count = c.in_ok-facts.ensures.counted clean e F (kept.same early e F was) in
           let number = get_or numbers i 0 in
           ap (map view_row) c.in_ok-push.ensures.items ∙ map-append view_row c.loop-number.rows.items (record { number = number; facts = c.in_ok-facts.facts } ∷ [])
-          ∙ ap₂ ◌++◌ (kept.rows early F was) (ap (λ n. record { number = number; facts = n } ∷ []) count)
+          ∙ ap₂ ◌++◌ (kept.rows early e F was) (ap (λ n. record { number = number; facts = n } ∷ []) count)
           ∙ sym (map-append (counted_under (register F)) (take i numbers) (number ∷ [])) ∙ sym (ap (map (counted_under (register F))) (take_more numbers i 0 c.loop-number-test.true));
-      same = λ clean F was. let early : HasCleanDisk mid = omega (arith, c.count_facts.ensures.survives.clean) in c.in_ok-facts.ensures.same clean F (kept.same early F was);
-      alive = λ clean F was alive. let early : HasCleanDisk mid = omega (arith, c.count_facts.ensures.survives.clean) in c.in_ok-facts.ensures.open clean F (kept.same early F was);
+      same = λ clean e F was. let early : HasCleanDisk mid = omega (arith, c.count_facts.ensures.survives.clean) in c.in_ok-facts.ensures.same clean e F (kept.same early e F was);
+      alive = λ clean e F was alive. let early : HasCleanDisk mid = omega (arith, c.count_facts.ensures.survives.clean) in c.in_ok-facts.ensures.open clean e F (kept.same early e F was);
       mode = λ idle. c.count_facts.ensures.mode (kept.mode idle);
       survives = nothing_left old mid now kept.survives c.count_facts.ensures.survives;
     }
+
+pub returns-clause-rows : goal.returns-clause-rows
+returns-clause-rows g c clean e F was = let read = c.loop-number.invariant.rows clean e F was in grind (arith, common_steps, read)

@@ -12,7 +12,7 @@ use Rattle.register_store.proofs.Making.{makes_empty}
 use Rattle.register_store.proofs.create.make.Goals as goal
 
 abbrev IsMade : State → Type 0
-IsMade s = IsTrue s.is_open × IsRegisterOf [] s.now × (s.committed ≡ s.now)
+IsMade s = IsTrue s.is_open × IsRegisterOf 0 [] s.now × (s.committed ≡ s.now)
 
 pub returns-clause-made : goal.returns-clause-made
 returns-clause-made g c clean none =
@@ -24,7 +24,7 @@ returns-clause-made g c clean none =
     let ran : AreRun g.S.Store making_texts (begun c.args.conn.now) last = rw c.transaction-tx.ensures.begun at c.in_ok-make_tables.ensures.ran mid in
     let register = makes_empty g.S.Store c.args.conn.now last ran none in
     IfOk-weaker c.commit.result _ _ (λ _ done.
-    let there : IsMade (state g.S.Store end) = (done.1.is_open, subst (IsRegisterOf []) (sym done.1.now_is) register, done.1.committed_is ∙ sym done.1.now_is) in
+    let there : IsMade (state g.S.Store end) = (done.1.is_open, subst (IsRegisterOf 0 []) (sym done.1.now_is) register, done.1.committed_is ∙ sym done.1.now_is) in
     let here : IsMade (state g.S.Store c.conn-2-1.given.0) = subst (λ h. IsMade (state g.S.Store h)) same there in
     here) (c.commit.ensures.ok late)
 

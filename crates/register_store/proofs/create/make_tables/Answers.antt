@@ -1,66 +1,22 @@
-use Rattle.std.proofs.Common.{inl, inr, refl, arith}
+use Rattle.std.proofs.Common.{arith}
 use Rattle.std.proofs.lemmas.Result.{IfOk-weaker, IfErr-weaker, err_from_is_err_and}
 use Rattle.sqlite.specs.Held.{state}
 use Rattle.sqlite.specs.State.{HasCleanDisk}
+use Rattle.register_store.specs.Making.{common_texts, later_texts}
+use Rattle.register_store.proofs.Making.{run_then, stops_first, stops_later}
 use Rattle.register_store.proofs.create.make_tables.Goals as goal
 
 pub returns-clause-ran : goal.returns-clause-ran
 returns-clause-ran g c clean =
-    let five : HasCleanDisk (state g.S.Store c.run-5.new.tx.conn.now) = omega (arith, c.run-6.ensures.survives.clean) in
-    let four : HasCleanDisk (state g.S.Store c.run-4.new.tx.conn.now) = omega (arith, c.run-5.ensures.survives.clean) in
-    let three : HasCleanDisk (state g.S.Store c.run-3.new.tx.conn.now) = omega (arith, c.run-4.ensures.survives.clean) in
-    let two : HasCleanDisk (state g.S.Store c.run-2.new.tx.conn.now) = omega (arith, c.run-3.ensures.survives.clean) in
-    let one : HasCleanDisk (state g.S.Store c.run.new.tx.conn.now) = omega (arith, c.run-2.ensures.survives.clean) in
-    let p = c.in_ok-run.ensures.ran one in
-    let q = c.in_ok-run-2.ensures.ran two in
-    let r = c.in_ok-run-3.ensures.ran three in
-    let s = c.in_ok-run-4.ensures.ran four in
-    let t = c.in_ok-run-5.ensures.ran five in
-    IfOk-weaker c.run-6.result _ _ (λ _ u. (c.run.new.tx.conn.now, p, (c.run-2.new.tx.conn.now, q, (c.run-3.new.tx.conn.now, r, (c.run-4.new.tx.conn.now, s, (c.run-5.new.tx.conn.now, t, (c.run-6.new.tx.conn.now, u, refl))))))) (c.run-6.ensures.ran clean)
+    let mid : HasCleanDisk (state g.S.Store c.make_common.new.tx.conn.now) = omega (arith, c.make_later.ensures.survives.clean) in
+    IfOk-weaker c.make_later.result _ _ (λ _ more. run_then g.S.Store common_texts later_texts c.args.tx.now.conn.now c.make_common.new.tx.conn.now c.make_later.new.tx.conn.now (c.in_ok-make_common.ensures.ran mid) more) (c.make_later.ensures.ran clean)
 
-pub returns-clause-inside : goal.returns-clause-inside
-returns-clause-inside g c clean = IfOk-weaker c.run-6.result _ _ (λ _ u. u.1.1.mode) (c.run-6.ensures.ran clean)
-
-pub returns-in_err-run-clause-failed : goal.returns-in_err-run-clause-failed
-returns-in_err-run-clause-failed g c clean inside =
+pub returns-in_err-make_common-clause-failed : goal.returns-in_err-make_common-clause-failed
+returns-in_err-make_common-clause-failed g c clean inside =
     let p = err_from_is_err_and c.from_residual.result c.from_residual.ensures.1 in
-    rw (p.1, p.2) (inl (c.in_err-run.ensures.failed clean inside))
-
-pub returns-in_err-run-2-clause-failed : goal.returns-in_err-run-2-clause-failed
-returns-in_err-run-2-clause-failed g c clean inside =
-    let clean_1 : HasCleanDisk (state g.S.Store c.run.new.tx.conn.now) = omega (arith, c.run-2.ensures.survives.clean) in
-    let p = err_from_is_err_and c.from_residual-in_err-run-2.result c.from_residual-in_err-run-2.ensures.1 in
-    rw (p.1, p.2) (inr (c.run.new.tx.conn.now, c.in_ok-run.ensures.ran clean_1, inl (c.in_err-run-2.ensures.failed clean (c.in_ok-run.ensures.ran clean_1).1.1.mode)))
-
-pub returns-in_err-run-3-clause-failed : goal.returns-in_err-run-3-clause-failed
-returns-in_err-run-3-clause-failed g c clean inside =
-    let clean_2 : HasCleanDisk (state g.S.Store c.run-2.new.tx.conn.now) = omega (arith, c.run-3.ensures.survives.clean) in
-    let clean_1 : HasCleanDisk (state g.S.Store c.run.new.tx.conn.now) = omega (arith, c.run-2.ensures.survives.clean) in
-    let p = err_from_is_err_and c.from_residual-in_err-run-3.result c.from_residual-in_err-run-3.ensures.1 in
-    rw (p.1, p.2) (inr (c.run.new.tx.conn.now, c.in_ok-run.ensures.ran clean_1, inr (c.run-2.new.tx.conn.now, c.in_ok-run-2.ensures.ran clean_2, inl (c.in_err-run-3.ensures.failed clean (c.in_ok-run-2.ensures.ran clean_2).1.1.mode))))
-
-pub returns-in_err-run-4-clause-failed : goal.returns-in_err-run-4-clause-failed
-returns-in_err-run-4-clause-failed g c clean inside =
-    let clean_3 : HasCleanDisk (state g.S.Store c.run-3.new.tx.conn.now) = omega (arith, c.run-4.ensures.survives.clean) in
-    let clean_2 : HasCleanDisk (state g.S.Store c.run-2.new.tx.conn.now) = omega (arith, c.run-3.ensures.survives.clean) in
-    let clean_1 : HasCleanDisk (state g.S.Store c.run.new.tx.conn.now) = omega (arith, c.run-2.ensures.survives.clean) in
-    let p = err_from_is_err_and c.from_residual-in_err-run-4.result c.from_residual-in_err-run-4.ensures.1 in
-    rw (p.1, p.2) (inr (c.run.new.tx.conn.now, c.in_ok-run.ensures.ran clean_1, inr (c.run-2.new.tx.conn.now, c.in_ok-run-2.ensures.ran clean_2, inr (c.run-3.new.tx.conn.now, c.in_ok-run-3.ensures.ran clean_3, inl (c.in_err-run-4.ensures.failed clean (c.in_ok-run-3.ensures.ran clean_3).1.1.mode)))))
-
-pub returns-in_err-run-5-clause-failed : goal.returns-in_err-run-5-clause-failed
-returns-in_err-run-5-clause-failed g c clean inside =
-    let clean_4 : HasCleanDisk (state g.S.Store c.run-4.new.tx.conn.now) = omega (arith, c.run-5.ensures.survives.clean) in
-    let clean_3 : HasCleanDisk (state g.S.Store c.run-3.new.tx.conn.now) = omega (arith, c.run-4.ensures.survives.clean) in
-    let clean_2 : HasCleanDisk (state g.S.Store c.run-2.new.tx.conn.now) = omega (arith, c.run-3.ensures.survives.clean) in
-    let clean_1 : HasCleanDisk (state g.S.Store c.run.new.tx.conn.now) = omega (arith, c.run-2.ensures.survives.clean) in
-    let p = err_from_is_err_and c.from_residual-in_err-run-5.result c.from_residual-in_err-run-5.ensures.1 in
-    rw (p.1, p.2) (inr (c.run.new.tx.conn.now, c.in_ok-run.ensures.ran clean_1, inr (c.run-2.new.tx.conn.now, c.in_ok-run-2.ensures.ran clean_2, inr (c.run-3.new.tx.conn.now, c.in_ok-run-3.ensures.ran clean_3, inr (c.run-4.new.tx.conn.now, c.in_ok-run-4.ensures.ran clean_4, inl (c.in_err-run-5.ensures.failed clean (c.in_ok-run-4.ensures.ran clean_4).1.1.mode))))))
+    rw (p.1, p.2) (stops_first g.S.Store _ common_texts later_texts c.args.tx.now.conn.now c.make_common.new.tx.conn.now (c.in_err-make_common.ensures.failed clean inside))
 
 pub returns-clause-failed : goal.returns-clause-failed
 returns-clause-failed g c clean inside =
-    let clean_5 : HasCleanDisk (state g.S.Store c.run-5.new.tx.conn.now) = omega (arith, c.run-6.ensures.survives.clean) in
-    let clean_4 : HasCleanDisk (state g.S.Store c.run-4.new.tx.conn.now) = omega (arith, c.run-5.ensures.survives.clean) in
-    let clean_3 : HasCleanDisk (state g.S.Store c.run-3.new.tx.conn.now) = omega (arith, c.run-4.ensures.survives.clean) in
-    let clean_2 : HasCleanDisk (state g.S.Store c.run-2.new.tx.conn.now) = omega (arith, c.run-3.ensures.survives.clean) in
-    let clean_1 : HasCleanDisk (state g.S.Store c.run.new.tx.conn.now) = omega (arith, c.run-2.ensures.survives.clean) in
-    IfErr-weaker c.run-6.result _ _ (λ _ h. inr (c.run.new.tx.conn.now, c.in_ok-run.ensures.ran clean_1, inr (c.run-2.new.tx.conn.now, c.in_ok-run-2.ensures.ran clean_2, inr (c.run-3.new.tx.conn.now, c.in_ok-run-3.ensures.ran clean_3, inr (c.run-4.new.tx.conn.now, c.in_ok-run-4.ensures.ran clean_4, inr (c.run-5.new.tx.conn.now, c.in_ok-run-5.ensures.ran clean_5, inl h)))))) (c.run-6.ensures.failed clean (c.in_ok-run-5.ensures.ran clean_5).1.1.mode)
+    let mid : HasCleanDisk (state g.S.Store c.make_common.new.tx.conn.now) = omega (arith, c.make_later.ensures.survives.clean) in
+    IfErr-weaker c.make_later.result _ _ (λ error h. stops_later g.S.Store error common_texts later_texts c.args.tx.now.conn.now c.make_common.new.tx.conn.now c.make_later.new.tx.conn.now (c.in_ok-make_common.ensures.ran mid) h) (c.make_later.ensures.failed clean (c.in_ok-make_common.ensures.inside mid))

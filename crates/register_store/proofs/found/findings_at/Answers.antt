@@ -11,7 +11,7 @@ use Rattle.register_store.proofs.FindLemmas.{findings_read}
 use Rattle.register_store.proofs.found.findings_at.Goals as goal
 
 pub returns-in-Ok-clause-found : goal.returns-in-Ok-clause-found
-returns-in-Ok-clause-found g c clean F was n k seq placed =
+returns-in-Ok-clause-found g c clean e F was n k seq placed =
     let old = state g.S.Store c.args.conn.now in
     let new = state g.S.Store c.rows_of_findings.new.conn in
     let read : ReadsRows finding_table (has_seq (pos n)) by_second pair_in c.in-Ok.rows.items old new = subst (λ s. ReadsRows finding_table (has_seq s) by_second pair_in c.in-Ok.rows.items old new) (to_z-of_z w64 c.args.seq c.ranges.seq ∙ seq) (c.in-Ok.ensures.read clean (knows F old was)) in

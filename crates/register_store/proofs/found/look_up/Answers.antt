@@ -7,7 +7,7 @@ use Rattle.register_store.proofs.FindLemmas.{key_found}
 use Rattle.register_store.proofs.found.look_up.Goals as goal
 
 pub returns-in-Ok-clause-found : goal.returns-in-Ok-clause-found
-returns-in-Ok-clause-found g c clean F was =
+returns-in-Ok-clause-found g c clean e F was =
     let old = state g.S.Store c.args.conn.now in
     let new = state g.S.Store c.rows_with_key.new.conn in
     let read = c.in-Ok.ensures.read clean (knows F old was) in

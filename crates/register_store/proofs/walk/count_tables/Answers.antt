@@ -3,7 +3,7 @@ use Rattle.sqlite.specs.Held.{state}
 use Rattle.sqlite.specs.State.{HasCleanDisk, IsUnchanged}
 use Rattle.sqlite.specs.Effect.{Database}
 use Rattle.sqlite.proofs.Callers.{unchanged_then}
-use Rattle.register_store.specs.Schema.{IsDeclared, finding_table, filing_table, fact_table}
+use Rattle.register_store.specs.Schema.{HasCommon, finding_table, filing_table, fact_table}
 use Rattle.register_store.specs.Walk.{CountsTo}
 use Rattle.register_store.proofs.PickLemmas.{stopped_after}
 use Rattle.register_store.proofs.WalkLemmas.{start_of}
@@ -21,9 +21,9 @@ returns-in-Ok-count_facts-clause-start g c clean d =
     let u : IsUnchanged old one = c.in-Ok.ensures.same first in
     let v : IsUnchanged old two = unchanged_then old one two u (c.in-Ok-count_findings.ensures.same second) in
     let w : IsUnchanged old three = unchanged_then old two three v (c.in-Ok-count_filings.ensures.same third) in
-    let at_one : IsDeclared one.now.schema = subst (λ (db : Database). IsDeclared db.schema) (sym u.0.now_is) d in
-    let at_two : IsDeclared two.now.schema = subst (λ (db : Database). IsDeclared db.schema) (sym v.0.now_is) d in
-    let at_three : IsDeclared three.now.schema = subst (λ (db : Database). IsDeclared db.schema) (sym w.0.now_is) d in
+    let at_one : HasCommon one.now.schema = subst (λ (db : Database). HasCommon db.schema) (sym u.0.now_is) d in
+    let at_two : HasCommon two.now.schema = subst (λ (db : Database). HasCommon db.schema) (sym v.0.now_is) d in
+    let at_three : HasCommon three.now.schema = subst (λ (db : Database). HasCommon db.schema) (sym w.0.now_is) d in
     start_of c.in-Ok.kept c.in-Ok-count_findings.findings c.in-Ok-count_filings.filings c.in-Ok-count_facts.facts old.now
     (c.in-Ok.ensures.counted first d)
     (subst (λ (db : Database). IfSome c.in-Ok-count_findings.findings (λ count. CountsTo finding_table count db)) u.0.now_is (c.in-Ok-count_findings.ensures.counted second at_one))

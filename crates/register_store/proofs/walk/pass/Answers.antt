@@ -7,7 +7,7 @@ use Rattle.sqlite.proofs.Callers.{unchanged_then}
 use Rattle.register_store.specs.Columns.{request_in}
 use Rattle.register_store.specs.Found.{has_texts}
 use Rattle.register_store.specs.Reads.{has_number}
-use Rattle.register_store.specs.Schema.{IsDeclared, kept_table}
+use Rattle.register_store.specs.Schema.{HasCommon, kept_table}
 use Rattle.register_store.specs.Walk.{Beyond, Picks, judged_as, rows_in}
 use Rattle.register_store.proofs.PickLemmas.{stopped_after}
 use Rattle.register_store.proofs.WalkLemmas.{one_row, passes_all}
@@ -41,8 +41,8 @@ returns-in-Ok-true-clause-passes g c clean d =
     let first : HasCleanDisk one = omega (arith, c.is_alone.ensures.survives.clean, second) in
     let u : IsUnchanged old one = c.in-Ok.ensures.same first in
     let v : IsUnchanged old two = unchanged_then old one two u (c.in-Ok-true.ensures.same second) in
-    let there : IsDeclared one.now.schema = subst (λ (db : Database). IsDeclared db.schema) (sym u.0.now_is) d in
-    let later : IsDeclared two.now.schema = subst (λ (db : Database). IsDeclared db.schema) (sym v.0.now_is) d in
+    let there : HasCommon one.now.schema = subst (λ (db : Database). HasCommon db.schema) (sym u.0.now_is) d in
+    let later : HasCommon two.now.schema = subst (λ (db : Database). HasCommon db.schema) (sym v.0.now_is) d in
     let seq = c.args.seq in
     let left = c.args.left in
     let row = c.row-item.result in

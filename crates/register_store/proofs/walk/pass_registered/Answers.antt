@@ -5,7 +5,7 @@ use Rattle.sqlite.specs.Effect.{Database}
 use Rattle.table_rows.specs.Rows.{counted_from}
 use Rattle.register_store.specs.Reads.{has_number}
 use Rattle.register_store.specs.Register.{fact_row}
-use Rattle.register_store.specs.Schema.{IsDeclared, fact_table}
+use Rattle.register_store.specs.Schema.{HasCommon, fact_table}
 use Rattle.register_store.specs.Walk.{Picks}
 use Rattle.register_store.proofs.PickLemmas.{stopped_after}
 use Rattle.register_store.proofs.WalkLemmas.{beyond_registered}
@@ -17,7 +17,7 @@ returns-in-Ok-true-has_facts-clause-beyond g c clean d =
     let mid = state g.S.Store c.has_filing.new.conn in
     let early : HasCleanDisk mid = omega (arith, c.has_facts.ensures.survives.clean) in
     let unchanged : IsUnchanged old mid = c.in-Ok-true.ensures.same early in
-    let there : IsDeclared mid.now.schema = subst (λ (db : Database). IsDeclared db.schema) (sym unchanged.0.now_is) d in
+    let there : HasCommon mid.now.schema = subst (λ (db : Database). HasCommon db.schema) (sym unchanged.0.now_is) d in
     let so : IsTrue c.in-Ok-true.field-0 = search rules in
     let too : IsTrue c.in-Ok-true-has_facts.field-0 = search rules in
     beyond_registered c.args.seq c.args.left c.without_filing.result c.args.facts.now old.now (c.in-Ok-true.ensures.found early d so)

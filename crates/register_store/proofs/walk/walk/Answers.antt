@@ -4,7 +4,7 @@ use Rattle.sqlite.specs.State.{HasCleanDisk, IsUnchanged}
 use Rattle.sqlite.specs.Effect.{Database}
 use Rattle.sqlite.proofs.Callers.{unchanged_then}
 use Rattle.table_rows.proofs.StepLemmas.{nothing_left}
-use Rattle.register_store.specs.Schema.{IsDeclared}
+use Rattle.register_store.specs.Schema.{HasCommon}
 use Rattle.register_store.specs.Walk.{Passes}
 use Rattle.register_store.proofs.PickLemmas.{stopped_after}
 use Rattle.register_store.proofs.WalkLemmas.{walked_on}
@@ -20,7 +20,7 @@ loop-at-preserved g c =
       walked = λ clean d alive start.
           let early : HasCleanDisk mid = omega (arith, c.pass.ensures.survives.clean) in
           let unchanged : IsUnchanged old mid = was.same early alive in
-          let there : IsDeclared mid.now.schema = subst (λ (db : Database). IsDeclared db.schema) (sym unchanged.0.now_is) d in
+          let there : HasCommon mid.now.schema = subst (λ (db : Database). HasCommon db.schema) (sym unchanged.0.now_is) d in
           let passed = rw c.in-Ok-Some.field-0-is at c.in-Ok-Some.ensures.passes clean there in
           walked_on c.args.total c.loop-at.at c.loop-at.left c.in-Ok-Some.tail old.now (was.walked early d alive start)
           (subst (Passes (c.loop-at.at + 1) c.loop-at.left c.in-Ok-Some.tail) unchanged.0.now_is passed);

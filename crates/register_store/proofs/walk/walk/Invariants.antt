@@ -1,7 +1,7 @@
 use Rattle.std.proofs.Common.{◌≡◌, ◌≤◌, ◌+◌, false, IsTrue}
 use Rattle.sqlite.specs.Held.{state}
 use Rattle.sqlite.specs.State.{HasCleanDisk, IsUnchanged, Survives}
-use Rattle.register_store.specs.Schema.{IsDeclared}
+use Rattle.register_store.specs.Schema.{HasCommon}
 use Rattle.register_store.specs.Walk.{Walked}
 use Rattle.register_store.proofs.walk.walk.Given as goal
 
@@ -9,7 +9,7 @@ abbrev pub invariant-loop-at : goal.invariant-loop-at
 invariant-loop-at g l =
     let old = state g.S.Store l.fn.conn in
     let now = state g.S.Store l.conn in record {
-      walked : HasCleanDisk now → IsDeclared old.now.schema → IsTrue old.is_open → Walked l.total 0 l.fn.start old.now → Walked l.total l.at l.left old.now;
+      walked : HasCleanDisk now → HasCommon old.now.schema → IsTrue old.is_open → Walked l.total 0 l.fn.start old.now → Walked l.total l.at l.left old.now;
       same : HasCleanDisk now → IsTrue old.is_open → IsUnchanged old now;
       number : l.left.number ≤ l.at + 1;
       mode : l.fn.conn.in_transaction ≡ false → l.conn.in_transaction ≡ false;

@@ -1,8 +1,13 @@
-use Rattle.std.proofs.Common.{[], refl}
-use Rattle.filing_model.specs.Request.{firsts}
+use Rattle.std.proofs.Common.{◌≡◌, ℕ, zero, suc, [], take, refl}
+use Rattle.filing_model.specs.Request.{Request, firsts}
+use Rattle.intake_core.specs.Held.{early_of}
 use Rattle.schedule.proofs.registers.make_intake.Goals as goal
 
 pub returns-in-Ok-clause-made : goal.returns-in-Ok-clause-made
 unfolding firsts
 returns-in-Ok-clause-made g c =
-    (c.new.ensures.holds [] refl (c.in-Ok.ensures.made (g.met.S.Faithful.faithful c.in-Ok.store.conn) c.in_ok-without_tables.ensures.empty), c.new.ensures.limit)
+    ((c.new.ensures.holds [] refl (c.in-Ok.ensures.made (g.met.S.Faithful.faithful c.in-Ok.store.conn) c.in_ok-without_tables.ensures.empty), none_of (early_of c.new.result)), c.new.ensures.limit)
+  where
+    none_of : (n : ℕ) → take {A = Request} n [] ≡ []
+    none_of zero = refl
+    none_of (suc n) = refl

@@ -1,4 +1,4 @@
-use Rattle.std.proofs.Common.{refl}
+use Rattle.std.proofs.Common.{refl, arith}
 use Rattle.sqlite.specs.Held.{state}
 use Rattle.sqlite.proofs.StateLemmas.{survives_weaker}
 use Rattle.register_store.proofs.Making.{none_registered, leaves_empty}
@@ -11,6 +11,7 @@ returns-in-Ok-clause-made g c clean none =
       stands = record { autocommit = c.make_register.ensures.autocommit; now = λ _. made.1; committed = λ _. made.2 };
       kept_is = refl;
       filings_is = rw none_registered refl;
+      within = omega arith;
     }
 
 pub returns-in-Ok-clause-crash : goal.returns-in-Ok-clause-crash

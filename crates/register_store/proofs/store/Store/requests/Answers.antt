@@ -19,4 +19,4 @@ returns-clause-rows g c clean F has =
 pub returns-clause-same : goal.returns-clause-same
 returns-clause-same g c clean F has =
     let had = rw (← c.self.view_is) at has in
-    record { stands = stays F (state g.S.Store c.self.inside.conn) (state g.S.Store c.kept_rows.new.conn) had.stands (c.kept_rows.ensures.keeps clean); kept_is = had.kept_is; filings_is = had.filings_is }
+    record { stands = stays F (state g.S.Store c.self.inside.conn) (state g.S.Store c.kept_rows.new.conn) had.stands (c.kept_rows.ensures.keeps clean); kept_is = had.kept_is; filings_is = had.filings_is; within = had.within }

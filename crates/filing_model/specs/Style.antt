@@ -1,0 +1,17 @@
+-- Which replies tell what is refused as they did before there were problem details.
+use Rattle.std.specs.Prelude.{◌≡◌, List, if◌then◌else◌}
+use Rattle.filing_model.specs.declared.answer.Answer.{Answer}
+use Rattle.filing_model.specs.declared.answer.Answer.TheVariants.{Registered, Refused, KeyReused}
+use Rattle.filing_model.specs.declared.served.Style.{Style}
+use Rattle.filing_model.specs.declared.served.Style.TheVariants.{Old, Problem}
+use Rattle.filing_model.specs.Request.{Request, has_key}
+
+-- the style of a filer's key, where these were kept before: theirs stays as it was
+abbrev pub style_of : List Request → Request → Style
+style_of early r = if has_key early r then Old else Problem
+
+-- the answer is told in this style; how a number is told has none
+abbrev pub HasStyle : Style → Answer → Type 0
+HasStyle style (Registered number repeat) = Unit {0}
+HasStyle style (Refused findings repeat told) = told ≡ style
+HasStyle style (KeyReused told) = told ≡ style

@@ -1,0 +1,135 @@
+//! The vector of a register of an earlier version, which is migrated.
+
+ghost use Rattle.std.specs.Prelude.{◌≡◌, false, None, IfOk, IfSome, IsTrue};
+ghost use Rattle.sqlite_disk.specs.Memory.{memory_is_usable};
+
+use crate::examples::{NOT_JSON, REQUEST, filing};
+use crate::files::{close, connect, connect_new};
+use crate::history::{self, served};
+use crate::stop::{Stop, refusal};
+use gateway_server::{Ended, Mark};
+use intake_core::Intake;
+use register_store::{OpenFault, Store};
+use sqlite::{Alter, Connection, FileStore, Files, params};
+use sqlite_disk::{Disk, Memory};
+use std::alloc::Global;
+
+/// What an empty body was told before there were problem details.
+const NOT_JSON_BEFORE: &str =
+    "HTTP/1.1 400 Bad Request\r\nContent-Type: application/json\r\nContent-Length: 64\r\n\r\n{\"findings\":[{\"code\":\"not-json\",\"place\":\"\"}],\"status\":\"refused\"}";
+
+/// What another body under a used key was told then.
+const KEY_REUSED_BEFORE: &str =
+    "HTTP/1.1 422 Unprocessable Content\r\nContent-Type: application/json\r\nContent-Length: 23\r\n\r\n{\"status\":\"key-reused\"}";
+
+/// Vector 25: a register of before keeps what it told, and tells new keys problem details.
+pub(crate) fn migrated(alloc: Global) -> Result<bool, Stop> {
+    let conn = connect(alloc, earlier_files(alloc)?)?;
+    let intake = intake_on(alloc, migrate(alloc, conn)?);
+    let Some(files) = files_after(alloc, intake)? else {
+        return Ok(false);
+    };
+    let conn = connect(alloc, files)?;
+    let intake = intake_on(alloc, open(alloc, conn)?);
+    let Some(files) = files_after(alloc, intake)? else {
+        return Ok(false);
+    };
+    let conn = connect(alloc, files)?;
+    Ok(migrate_fault(alloc, conn)? == Some(OpenFault::NotOurs))
+}
+
+/// The files of a register of the second form, in which `ACME` has an empty body under `k-1`.
+fn earlier_files(alloc: Global) -> Result<Files<Memory>, Stop>
+    ensures { IfOk result (λ files. IsTrue (memory_is_usable files.log) × IsTrue (memory_is_usable files.db)) }
+{
+    let mut conn = connect_new(alloc)?;
+    for text in [
+        "CREATE TABLE intake_meta (id INTEGER PRIMARY KEY, kind TEXT NOT NULL, form INTEGER NOT NULL) STRICT",
+        "CREATE TABLE kept (seq INTEGER PRIMARY KEY, filer TEXT NOT NULL, idem TEXT NOT NULL, body BLOB NOT NULL, number INTEGER, UNIQUE (filer, idem)) STRICT",
+        "CREATE TABLE finding (seq INTEGER NOT NULL, pos INTEGER NOT NULL, code INTEGER NOT NULL, place BLOB NOT NULL, PRIMARY KEY (seq, pos)) STRICT",
+        "CREATE TABLE filing (number INTEGER PRIMARY KEY, seq INTEGER NOT NULL UNIQUE) STRICT",
+        "CREATE TABLE fact (number INTEGER NOT NULL, pos INTEGER NOT NULL, id BLOB NOT NULL, concept BLOB NOT NULL, dimensions BLOB NOT NULL, value BLOB, decimals INTEGER, PRIMARY KEY (number, pos)) STRICT",
+        "INSERT INTO intake_meta VALUES (1, 'register', 2)",
+    ] {
+        execute(&mut conn, text)?;
+    }
+    keep_empty_body(&mut conn)?;
+    close(conn)
+}
+
+fn execute<S: Alter>(conn: &mut Connection<S>, text: &str) -> Result<(), Stop> {
+    conn.execute(text, &[])?;
+    Ok(())
+}
+
+/// Puts in the rows of an empty body, which is no JSON text.
+fn keep_empty_body<S: Alter>(conn: &mut Connection<S>) -> Result<(), Stop> {
+    conn.execute(
+        "INSERT INTO kept VALUES (1, 'ACME', 'k-1', ?1, NULL)",
+        params![b"".as_slice()],
+    )?;
+    conn.execute(
+        "INSERT INTO finding VALUES (1, 1, 1, ?1)",
+        params![b"".as_slice()],
+    )?;
+    Ok(())
+}
+
+fn migrate<S: Alter + Drop>(alloc: Global, conn: Connection<S>) -> Result<Store<S>, Stop>
+    requires autocommit { conn.in_transaction ≡ false }
+    requires unlimited { conn.step_limit ≡ None }
+{
+    Ok(Store::migrate(alloc, conn)?)
+}
+
+fn open<S: Alter + Drop>(alloc: Global, conn: Connection<S>) -> Result<Store<S>, Stop>
+    requires autocommit { conn.in_transaction ≡ false }
+    requires unlimited { conn.step_limit ≡ None }
+{
+    Ok(Store::open(alloc, conn)?)
+}
+
+/// How a migration is refused, if it is.
+fn migrate_fault<S: Alter + Drop>(
+    alloc: Global,
+    conn: Connection<S>,
+) -> Result<Option<OpenFault>, Stop>
+    requires autocommit { conn.in_transaction ≡ false }
+    requires unlimited { conn.step_limit ≡ None }
+{
+    refusal(Store::migrate(alloc, conn))
+}
+
+fn intake_on<S: Alter + Drop>(alloc: Global, store: Store<S>) -> Intake<S> {
+    Intake::new(alloc, store, 1_000_000)
+}
+
+/// The files of the intake's register, where the old key is told what it was told before, and a new one problem details.
+fn files_after<D: Disk + Drop>(
+    alloc: Global,
+    mut intake: Intake<FileStore<D>>,
+) -> Result<Option<Files<D>>, Stop>
+    ensures { IfOk result (λ found. IfSome found (λ files. IsTrue (D.Disk.is_usable files.log) × IsTrue (D.Disk.is_usable files.db))) }
+{
+    if !tells_both(alloc, &mut intake)? {
+        return Ok(None);
+    }
+    Ok(Some(intake.into_store().into_files()?))
+}
+
+/// Whether the old key is told what it was told before, and a new one problem details.
+fn tells_both<S: Alter>(alloc: Global, intake: &mut Intake<S>) -> Result<bool, Stop> {
+    let old = filing(alloc, "ACME", "k-1", "")?;
+    let new = filing(alloc, "ACME", "k-2", "")?;
+    let given = format!(in alloc; "{old}{REQUEST}{new}")?;
+    let written = format!(in alloc; "{NOT_JSON_BEFORE}{KEY_REUSED_BEFORE}{NOT_JSON}")?;
+    let mut output = Vec::new(alloc);
+    let served = served(alloc, intake, given.as_bytes(), &mut output);
+    history::Connection {
+        given: given.as_bytes(),
+        written: &written,
+        marks: &[Mark::Done; 3],
+        ended: Ended::InputEnded,
+    }
+    .is_so(&served, &output)
+}
