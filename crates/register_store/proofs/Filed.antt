@@ -1,15 +1,14 @@
--- A register whose files are given back, and opened again.
-use Rattle.std.proofs.Common.{ℕ, List, subst, sym}
+-- A register whose files are given back.
+use Rattle.std.proofs.Common.{List}
 use Rattle.sqlite_disk.specs.declared.Disk.{Ghosts}
 use Rattle.sqlite_disk.specs.declared.Files.{Files}
 use Rattle.sqlite_store.specs.declared.store.FileStore.{FileStore}
 use Rattle.sqlite.specs.Closing.{IsCopied}
-use Rattle.sqlite.specs.Files.{over_files, file_state, Finds, IsOpened}
-use Rattle.sqlite.specs.Held.{Held}
+use Rattle.sqlite.specs.Files.{over_files, file_state}
 use Rattle.filing_model.specs.Request.{Request}
 use Rattle.table_rows.specs.Files.{AreUsable}
-use Rattle.table_rows.proofs.FileLemmas.{leaves, finds}
-use Rattle.register_store.specs.Store.{StoreParts, IsRegisterOf, HasRequests}
+use Rattle.table_rows.proofs.FileLemmas.{leaves}
+use Rattle.register_store.specs.Store.{StoreParts, HasRequests}
 use Rattle.register_store.specs.Files.{HoldRegister}
 
 module _ {D : Type 0} {g : Ghosts D} where
@@ -22,7 +21,3 @@ module _ {D : Type 0} {g : Ghosts D} where
         held = leaves store.conn files copied (file_state store.conn).now is.sound (has.stands.committed copied.was_open);
         usable = usable;
       }
-
-  -- an opening finds the register that the files hold
-  pub opened_register : (conn : Held (FileStore D g)) (early : ℕ) (F : List Request) (files : Files D) → HoldRegister g files early F → Finds files conn → IsOpened conn → IsRegisterOf early F (file_state conn).now
-  opened_register conn early F files holds found opened = subst (IsRegisterOf early F) (sym (finds files conn found opened holds.db holds.held)) holds.register

@@ -21,7 +21,6 @@ use Rattle.filing_model.proofs.Firsts.{firsts_new}
 use Rattle.filing_model.proofs.Keeping.{kept_new, requests_of_kept, register_numbered, all_push}
 use Rattle.table_rows.specs.Rows.{Holds, counted_from}
 use Rattle.table_rows.proofs.OrderLemmas.{same_number, and_true}
-use Rattle.register_store.specs.declared.walk.Totals.{Totals}
 use Rattle.register_store.specs.declared.walk.Left.{Left}
 use Rattle.register_store.specs.declared.walk.Sizes.{Sizes}
 use Rattle.sqlite.specs.declared.error.Error.{Error}
@@ -31,7 +30,7 @@ use Rattle.register_store.specs.Outcomes.{filings_by}
 use Rattle.register_store.specs.Reads.{has_number}
 use Rattle.register_store.specs.Register.{IsCompleted, kept_row, finding_row, finding_rows, findings_of, filing_rows, filing_rows_by, fact_row, fact_rows, fact_rows_by, joined_from}
 use Rattle.register_store.specs.Schema.{kept_table, finding_table, filing_table, fact_table}
-use Rattle.register_store.specs.Walk.{rows_in, Amounts, Beyond, Picks, CountsTo, Finds, Passes, HasLeft, Walked, judged_as}
+use Rattle.register_store.specs.Walk.{rows_in, Beyond, Picks, CountsTo, Finds, Passes, HasLeft, Walked, judged_as}
 use Rattle.register_store.proofs.AuditSteps.{joined_append, counted_append, one_filing}
 use Rattle.register_store.proofs.FindLemmas.{has_its}
 use Rattle.register_store.proofs.MoreRequests.{kept_length, registered_more}
@@ -357,26 +356,3 @@ start_of k f g a db one two three four None says = tt
 start_of k f g a db one two three four (Some s) says =
     none_walked s.kept s.others db says.4 (subst (λ o. IfSome o (λ n. CountsTo kept_table n db)) says.0 one) (subst (λ o. IfSome o (λ n. CountsTo finding_table n db)) says.1 two)
     (subst (λ o. IfSome o (λ n. CountsTo filing_table n db)) says.2 three) (subst (λ o. IfSome o (λ n. CountsTo fact_table n db)) says.3 four)
-
--- where nothing is left, these are the rows
-pub amounts_of : (total : ℕ) (left : Left) (db : Database) → Walked total total left db → (found : Option Totals)
-    → IfSome found (λ c. (c.kept ≡ total) × (left.findings ≡ 0) × (left.filings ≡ 0) × (left.facts ≡ 0) × (left.number ≡ c.filings + 1)) → IfSome found (λ c. Amounts c db)
-amounts_of total left db w None says = tt
-amounts_of total left db w (Some c) says =
-    let over = w.in_all in
-    let none : w.kept_left ≡ 0 = omega (arith, over) in
-    let first = w.number_is in
-    let next = says.4 in
-    record {
-      requests = w.requests;
-      are = record {
-        distinct = w.distinct;
-        completed = w.completed;
-        kept_is = all_taken kept_table db _ (subst (λ n. HasLeft kept_table (counted_from kept_row 1 (kept w.requests)) n db) none w.kept_is);
-        finding_is = all_taken finding_table db _ (subst (λ n. HasLeft finding_table (joined_from finding_rows 1 (kept w.requests)) n db) says.1 w.finding_is);
-        filing_is = all_taken filing_table db _ (subst (λ n. HasLeft filing_table (joined_from filing_rows 1 (kept w.requests)) n db) says.2 w.filing_is);
-        fact_is = all_taken fact_table db _ (subst (λ n. HasLeft fact_table (joined_from fact_rows 1 (kept w.requests)) n db) says.3 w.fact_is);
-      };
-      kept_is = says.0 ∙ sym w.many;
-      filings_is = omega (arith, first, next);
-    }

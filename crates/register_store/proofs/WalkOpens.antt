@@ -9,14 +9,12 @@ use Rattle.sqlite.specs.Store.{Ghosts}
 use Rattle.sqlite.specs.Held.{Held, state}
 use Rattle.sqlite.specs.Clock.{timed}
 use Rattle.sqlite.specs.Listing.{understood, reads_listing, IsSourceOf}
-use Rattle.sqlite.specs.State.{State, IsStatement, IsNoStatement, IsNotRun, IsUnchanged, Shown, ShowsRows, Fails, FailsToQuery, FailsToShow, store_error}
+use Rattle.sqlite.specs.State.{State, IsStatement, IsNoStatement, IsNotRun, IsUnchanged, Shown, ShowsRows, Fails, FailsToQuery, FailsToShow}
 use Rattle.sqlite.specs.declared.error.Error.{Error}
 use Rattle.sqlite.proofs.Callers.{unchanged_then, one_permutation}
 use Rattle.sqlite_keyed.proofs.ListLemmas.{all_weaker, filter_all, filter_none, IsPermutation-filter}
 use Rattle.sqlite_resolve.specs.declared.compiled.Compiled.{Compiled}
 use Rattle.sqlite_schema.specs.declared.command.Returning.{Returning}
-use Rattle.sqlite_trees.specs.declared.error.StoreError.{StoreError}
-use Rattle.sqlite_trees.specs.declared.error.StoreError.TheVariants.{OutOfMemory, Io, Corrupt, Full, Broken, Unstorable}
 use Rattle.filing_model.specs.Request.{Request, firsts}
 use Rattle.filing_model.specs.Register.{Kept, kept}
 use Rattle.table_rows.specs.Causes.{cause_of}
@@ -43,23 +41,7 @@ use Rattle.register_store.proofs.ReadTexts.{query_kept}
 
 -- ---- why the walk stopped
 
-other_fault : (kind : StoreError) → cause_of (store_error kind) ≡ cause.Other → kind ≡ Unstorable
-other_fault OutOfMemory is = absurd cc
-other_fault Io is = absurd cc
-other_fault Corrupt is = absurd cc
-other_fault Full is = absurd cc
-other_fault Broken is = absurd cc
-other_fault Unstorable is = refl
-
 module _ (old new : State) (e : Error) where
-  -- for another cause than memory or disk, then nothing was written
-  pub other_unchanged : IsStopped old new e → cause_of e ≡ cause.Other → IsUnchanged old new
-  other_unchanged (inl not_run) is = not_run.0
-  other_unchanged (inr failed) is = absurd (none failed.0 failed.2 (sym (ap cause_of failed.1) ∙ is))
-    where
-      none : (kind : StoreError) → Rattle.sqlite.specs.State.HasCause old new ⊥ kind → cause_of (store_error kind) ≡ cause.Other → ⊥
-      none kind has other = subst (Rattle.sqlite.specs.State.HasCause old new ⊥) (other_fault kind other) has
-
   failed_by : (why : Cause) → why ≢ cause.Other → cause_of e ≡ why → IsStopped old new e → Fails old new ⊥ e
   failed_by why other is (inl not_run) = absurd (other (sym is ∙ not_run.1))
   failed_by why other is (inr failed) = failed
