@@ -3,6 +3,8 @@
 -- character; the views show them as text. Where a file has none of the tables, the views of it give an error when they are asked.
 CREATE TEMP VIEW filings AS
     SELECT number, seq, filer, idem AS key, length(body) AS bytes FROM kept WHERE number IS NOT NULL;
+CREATE TEMP VIEW replaced AS
+    SELECT target AS number, filer, number AS replaced_by FROM kept JOIN amends USING (seq) WHERE kept.number IS NOT NULL;
 CREATE TEMP VIEW refused AS
     SELECT kept.seq, filer, idem AS key, pos, code, CAST(place AS TEXT) AS place FROM kept JOIN finding USING (seq);
 CREATE TEMP VIEW facts AS

@@ -8,14 +8,8 @@ It takes the programs that `rt run` builds in their folders, as crates/intake/ou
 import sqlite3
 import subprocess
 
-from trials import INTAKE, OF_THIS_VERSION, OUTBOX, Serving, exchange, hold, make_earlier, run, said, try_all
+from trials import INTAKE, OF_THIS_VERSION, OUTBOX, REPORT, Serving, exchange, hold, make_earlier, make_earlier_outbox, run, said, try_all
 
-REPORT = (
-    b'{"documentInfo":{"documentType":"https://xbrl.org/2021/xbrl-json","namespaces":{"eg":"http://example.com/eg",'
-    b'"iso4217":"http://www.xbrl.org/2003/iso4217","lei":"http://standards.iso.org/iso/17442"},'
-    b'"taxonomy":["http://example.com/eg.xsd"]},"facts":{"f1":{"value":"100","decimals":0,"dimensions":'
-    b'{"concept":"eg:Assets","entity":"lei:ACME","period":"2024-12-31T00:00:00","unit":"iso4217:EUR"}}}}'
-)
 FACT = (
     '{"concept":"eg:Assets","decimals":0,"dimensions":{"concept":"eg:Assets","entity":"lei:ACME",'
     '"period":"2024-12-31T00:00:00","unit":"iso4217:EUR"},"id":"f1","value":"100"}\n'
@@ -68,9 +62,27 @@ ENTRIES = [
     ("show --db @box.db --entry 1", 0, "entry 1 open, 2 bytes, key k-1\n", ""),
     ("show --db @box.db --entry 3", 4, "", "box.db: there is no entry 3"),
     ("status --db @small", 1, "", "small: not a database"),
+    ("migrate --db @box.db", 1, "not an outbox\n", "box.db: the database is no outbox"),
+    ("put --db @box.db --body @small --key k-3 --amend 1", 0, "entry 3\n", ""),
+    ("put --db @box.db --body @small --key k-4 --amend 9223372036854775807", 0, "entry 4\n", ""),
+    ("put --db @box.db --body @small --key k-1 --amend 1", 2, "", "box.db: the key is that of entry 1"),
+    ("show --db @box.db --entry 3", 0, "entry 3 open, 2 bytes, key k-3\n", ""),
+]
+MIGRATED_OUTBOXES = [
+    ("migrate --db @none.db", 1, "not an outbox\n", "none.db: there is no such file"),
+    ("migrate --db @text", 1, "not an outbox\n", "text: not a database"),
+    ("migrate --db @damaged.db", 1, "damaged at row 2\n", "damaged.db: row 2 of the outbox is damaged"),
+    ("migrate --db @used.db", 1, "not an outbox\n", "used.db: the database is no outbox"),
+    ("status --db @old.db", 1, "", "old.db: the database is no outbox"),
+    ("put --db @old.db --body @small --key k-3", 1, "", "old.db: the database is no outbox"),
+    ("migrate --db @old.db", 0, "migrated\n", ""),
+    ("status --db @old.db", 0, "entry 1 confirmed 1\nentry 2 open\n", ""),
+    ("show --db @old.db", 0, "entry 1 confirmed 1, 2 bytes, key k-1\nentry 2 open, 2 bytes, key k-2\n", ""),
+    ("migrate --db @old.db", 1, "not an outbox\n", "old.db: the database is no outbox"),
+    ("put --db @old.db --body @small --key k-3 --amend 1", 0, "entry 3\n", ""),
 ]
 
-# Ports are 1 to 65535; limits, numbers and ids begin with 0.
+# Ports are 1 to 65535, and the numbers that `--amend` takes 1 to 9223372036854775807; limits, other numbers and ids begin with 0.
 OUT_OF_RANGE = [
     (INTAKE, "serve --db @r.db --port 0 --connections 1"),
     (INTAKE, "serve --db @r.db --port 65536 --connections 1"),
@@ -79,6 +91,10 @@ OUT_OF_RANGE = [
     (OUTBOX, "send --db @box.db --port 0"),
     (OUTBOX, "send --db @box.db --port 65536"),
     (OUTBOX, "send --db @box.db --port 1 --entry -1"),
+    (OUTBOX, "put --db @box.db --body @small --amend 0"),
+    (OUTBOX, "put --db @box.db --body @small --amend -1"),
+    (OUTBOX, "put --db @box.db --body @small --amend 9223372036854775808"),
+    (OUTBOX, "put --db @box.db --body @small --amend x"),
 ]
 
 
@@ -136,6 +152,15 @@ def check_outbox(folder):
     hold_each(OUTBOX, ENTRIES, folder)
 
 
+def check_outbox_migration(folder):
+    (folder / "small").write_bytes(b"{}")
+    (folder / "text").write_text("no database, and long enough to be read as one " * 20)
+    make_earlier_outbox(folder / "old.db")
+    make_earlier_outbox(folder / "damaged.db", "UPDATE entry SET state = 7 WHERE id = 2;")
+    make_earlier_outbox(folder / "used.db", "CREATE TABLE Target (id INTEGER PRIMARY KEY) STRICT;")
+    hold_each(OUTBOX, MIGRATED_OUTBOXES, folder)
+
+
 def check_ranges(folder):
     for program, line in OUT_OF_RANGE:
         status, output, errors = perform(program, line, folder)
@@ -157,4 +182,7 @@ def check_closed_output(folder):
 
 
 if __name__ == "__main__":
-    try_all((INTAKE, OUTBOX), (check_intake, check_migration, check_outbox, check_ranges, check_name_of_a_uri, check_closed_output))
+    try_all(
+        (INTAKE, OUTBOX),
+        (check_intake, check_migration, check_outbox, check_outbox_migration, check_ranges, check_name_of_a_uri, check_closed_output),
+    )

@@ -162,31 +162,36 @@ def try_views():
     if not (sqlite := find("sqlite3")):
         return
     tables = tables_of_protocol()
-    hold("the tables of docs/PROTOCOL.md", len(tables), 9)
+    hold("the tables of docs/PROTOCOL.md", len(tables), 10)
     dimensions = '{"concept":"eg:A","entity":"lei:ACME","period":"2024-12-31T00:00:00","unit":"iso4217:EUR"}'
     script = "\n".join(tables) + f"""
-INSERT INTO kept VALUES (1, 'ACME', 'k-1', CAST('body' AS BLOB), 1), (2, 'ACME', 'k-2', CAST('x' AS BLOB), NULL);
+INSERT INTO kept VALUES (1, 'ACME', 'k-1', CAST('body' AS BLOB), 1), (2, 'ACME', 'k-2', CAST('x' AS BLOB), NULL),
+    (3, 'ACME', 'k-3', CAST('body' AS BLOB), 2);
+INSERT INTO amends VALUES (2, 1), (3, 1);
 INSERT INTO filing VALUES (1, 1);
 INSERT INTO fact VALUES (1, 1, CAST('f1' AS BLOB), CAST('eg:A' AS BLOB), CAST('{dimensions}' AS BLOB), CAST('100' AS BLOB), 0);
 INSERT INTO finding VALUES (2, 1, 1, CAST('' AS BLOB));
 INSERT INTO entry VALUES (1, 'k-1', CAST('body' AS BLOB), 1, 1);
 .read {DEPLOY / "reading.sql"}
-SELECT * FROM filings; SELECT * FROM refused; SELECT * FROM facts; SELECT * FROM entries;
+SELECT * FROM filings; SELECT * FROM replaced; SELECT * FROM refused; SELECT * FROM facts; SELECT * FROM entries;
 """
     done = run(sqlite, "-batch", ":memory:", input=script)
-    wanted = f"1|1|ACME|k-1|4\n2|ACME|k-2|1|1|\n1|ACME|1|f1|eg:A|2024-12-31T00:00:00|iso4217:EUR|100|0|{dimensions}\n1|k-1|4|confirmed|1\n"
+    wanted = "1|1|ACME|k-1|4\n2|3|ACME|k-3|4\n1|ACME|2\n2|ACME|k-2|1|1|\n"
+    wanted += f"1|ACME|1|f1|eg:A|2024-12-31T00:00:00|iso4217:EUR|100|0|{dimensions}\n1|k-1|4|confirmed|1\n"
     hold("the views of reading.sql", done.stdout + done.stderr, wanted)
 
 
 def try_log(folder):
-    """A log of three answers 201, of which the register has two."""
+    """A log of four reports that were answered 201, of which the register has three, one that replaces another among them."""
     copy = folder / "copy.db"
     database = sqlite3.connect(copy)
     database.executescript("\n".join(tables_of_protocol()))
     database.execute("INSERT INTO kept VALUES (1, 'ACME', 'a\"b', x'', 1), (2, 'ACME', 'k-2', x'', 2), (3, 'ACME', 'k-3', x'', NULL)")
+    database.execute("INSERT INTO kept VALUES (4, 'ACME', 'k-4', x'', 3)")
     database.commit()
     database.close()
-    lines = [("ACME", '"a\\"b"', "201"), ("ACME", '"k-2"', "201"), ("ACME", '"k-3"', "422")] + [("BETA", '"k-2"', "201")] * 2
+    lines = [("ACME", '"a\\"b"', "201"), ("ACME", '"k-2"', "201"), ("ACME", '"k-3"', "422"), ("ACME/1", '"k-4"', "201")]
+    lines += [("BETA", '"k-2"', "201")] * 2
     log = folder / "filings.log"
     log.write_text(
         "".join(json.dumps({"time": "T", "uri": f"/filings/{f}", "key": k, "intake_status": s}) + "\n" for f, k, s in lines)
@@ -317,9 +322,14 @@ def try_requests(folder, intake, port, outbox_port):
     hold("it comes whole, with its length, and closes", whole, True)
     status, _ = ask(folder, port, "acme", "ACME", body=iter([b"{", b"}"]), **{"Transfer-Encoding": "chunked"})
     hold("a chunked report gets its length", (status, b"Content-Length: 2" in intake.requests[-1]), (201, True))
+    hold("a report that replaces a filing", ask(folder, port, "acme", "ACME/17"), (201, own))
+    hold("its number comes along", intake.requests[-1].startswith(b"POST /filings/ACME/17 HTTP/1.1\r\n"), True)
     before = len(intake.requests)
     refusals = [
         ("another's filer code", ("acme", "BETA"), NOT_YOURS),
+        ("another's filing", ("acme", "BETA/17"), NOT_YOURS),
+        ("a number that is none", ("acme", "ACME/0"), problem(404, "no-path", "Not Found")),
+        ("a number with a leading zero", ("acme", "ACME/01"), problem(404, "no-path", "Not Found")),
         ("the same code in lower case", ("acme", "acme"), NOT_YOURS),
         ("a subject that has another's inside", ("other", "ACME"), NOT_YOURS),
         ("no certificate", (None, "ACME"), problem(403, "no-certificate", "Forbidden")),

@@ -27,7 +27,8 @@ except ImportError:
 
 ROOT = pathlib.Path(__file__).resolve().parent.parent
 FILE, PROTOCOL = ROOT / "docs" / "openapi.yaml", ROOT / "docs" / "PROTOCOL.md"
-PATH = "/filings/{filer}"
+# The filings of a filer, and one of them.
+PATH, NUMBERED = "/filings/{filer}", "/filings/{filer}/{number}"
 # What the server in front answers alone, and the one answer to a method that the file has not.
 IN_FRONT, OTHER_METHODS = {"no-certificate", "not-yours"}, {"no-method"}
 failures = []
@@ -126,10 +127,11 @@ def media_type(status):
 
 
 def responses(document):
-    """Each method with each status and its response."""
-    for method in ("get", "post"):
-        for status, response in document["paths"][PATH][method]["responses"].items():
-            yield method, int(status), resolved(document, response)["content"][media_type(int(status))]
+    """Each path and method with each status and its response."""
+    for path in (PATH, NUMBERED):
+        for method in ("get", "post"):
+            for status, response in document["paths"][path][method]["responses"].items():
+                yield f"{method} {path}", int(status), resolved(document, response)["content"][media_type(int(status))]
 
 
 def words_of(document, schema):
@@ -156,8 +158,11 @@ def check_references(document, it, at="#"):
 
 
 def check_examples(document):
-    shown = [("a report", document["paths"][PATH]["post"]["requestBody"]["content"]["application/json"])]
-    shown += [(f"{method} {status}", content) for method, status, content in responses(document)]
+    shown = []
+    for path in (PATH, NUMBERED):
+        body = resolved(document, document["paths"][path]["post"]["requestBody"])
+        shown.append((f"a report to {path}", body["content"]["application/json"]))
+    shown += [(f"{asked} {status}", content) for asked, status, content in responses(document)]
     for what, content in shown:
         for name, example in content.get("examples", {}).items():
             tell(f"example {name} of {what}", fault_of(document, content["schema"], example["value"]))
@@ -177,6 +182,15 @@ def word_of(shown):
     """The word of a row: the reason, or what the content of a reply says that refuses nothing."""
     status = re.search(r'"status":"([\w-]+)"', shown)
     return status[1] if status else "filings" if shown.startswith("{") else shown
+
+
+def check_paths(document):
+    """The paths are the two that the intake knows, and each method is answered alike on both."""
+    paths = document["paths"]
+    tell("the paths", None if set(paths) == {PATH, NUMBERED} else f"{sorted(paths)}")
+    for method in ("get", "post"):
+        same = paths[PATH][method]["responses"] == paths[NUMBERED][method]["responses"]
+        tell(f"the answers to {method} on both paths", None if same else "they differ")
 
 
 def check_protocol(document):
@@ -211,9 +225,14 @@ def split_reply(data):
         data = rest
 
 
-def fault_of_reply(document, method, status, kind, content):
-    """Why the file does not foresee this reply to this method, or None."""
-    response = resolved(document, document["paths"][PATH][method.lower()]["responses"].get(str(status)))
+def path_of(data):
+    """The path of the file that the request's line is of: that of one filing only where the line names one."""
+    return NUMBERED if re.match(rb"[A-Z]+ /filings/[^/ ]+/[1-9][0-9]* ", data) else PATH
+
+
+def fault_of_reply(document, path, method, status, kind, content):
+    """Why the file does not foresee this reply to this method on this path, or None."""
+    response = resolved(document, document["paths"][path][method.lower()]["responses"].get(str(status)))
     if response is None:
         return f"the file has no status {status} there"
     if kind not in response["content"]:
@@ -254,6 +273,16 @@ REQUESTS = [
     ("a report", "POST", message("POST", REPORT), 201),
     ("its repeat", "POST", message("POST", REPORT), 201),
     ("a list", "GET", message("GET"), 200),
+    ("a report that replaces it", "POST", message("POST", REPORT, key='"k-6"', path="/filings/ACME/1"), 201),
+    ("its repeat", "POST", message("POST", REPORT, key='"k-6"', path="/filings/ACME/1"), 201),
+    ("a list of both", "GET", message("GET"), 200),
+    ("a list of the first", "GET", message("GET", path="/filings/ACME/1"), 200),
+    ("a list of a filing that is not there", "GET", message("GET", path="/filings/ACME/3"), 200),
+    ("a second report to replace it", "POST", message("POST", REPORT, key='"k-7"', path="/filings/ACME/1"), 422),
+    ("its key for another number", "POST", message("POST", REPORT, key='"k-6"', path="/filings/ACME/2"), 422),
+    ("the number 0", "POST", message("POST", REPORT, key='"k-8"', path="/filings/ACME/0"), 404),
+    ("a number with a leading zero", "GET", message("GET", path="/filings/ACME/01"), 404),
+    ("a path that ends with a slash", "GET", message("GET", path="/filings/ACME/"), 404),
     ("another body under its key", "POST", message("POST", REPORT + b" "), 422),
     ("a report with findings", "POST", message("POST", REPORT.replace(b"12-31", b"02-30"), key='"k-2"'), 422),
     ("its repeat", "POST", message("POST", REPORT.replace(b"12-31", b"02-30"), key='"k-2"'), 422),
@@ -270,7 +299,10 @@ REQUESTS = [
     ("a head that is too large", "GET", b"a" * 16384, 431),
     ("a transfer coding", "POST", message("POST", fields=("Host: h", "Transfer-Encoding: chunked"), length=False), 501),
 ]
-FULL = [("a report where no key may be kept", "POST", message("POST", REPORT), 503)]
+FULL = [
+    ("a report where no key may be kept", "POST", message("POST", REPORT), 503),
+    ("a report to replace one, where no key may be kept", "POST", message("POST", REPORT, path="/filings/ACME/1"), 503),
+]
 
 
 def ask(port, data):
@@ -302,7 +334,7 @@ def check_program(document, program, requests, *options):
             try:
                 for what, method, data, wanted in requests:
                     status, kind, content, rest = split_reply(ask(port, data))
-                    fault = fault_of_reply(document, method, status, kind, content)
+                    fault = fault_of_reply(document, path_of(data), method, status, kind, content)
                     if status != wanted:
                         fault = f"status {status} in place of {wanted}"
                     tell(f"{what}: {status}", fault or (f"{rest!r} behind the reply" if rest else None))
@@ -319,6 +351,7 @@ def main(words):
     document = yaml.safe_load(FILE.read_text())
     check_references(document, document)
     check_examples(document)
+    check_paths(document)
     check_protocol(document)
     if words:
         program = str(pathlib.Path(words[0]).resolve())

@@ -16,7 +16,8 @@ import signal
 import sqlite3
 import subprocess
 
-from trials import INTAKE, OUTBOX, OF_THIS_VERSION, SMALLEST, Serving, exchange, free_port, hold, make_register, request, run, said, statuses, tell, try_all
+from trials import INTAKE, OF_THIS_VERSION, OUTBOX, REPORT, SMALLEST, Serving, exchange, free_port, hold, make_register, request, run, said
+from trials import statuses, tell, try_all
 
 
 # ---- what serve says
@@ -43,6 +44,69 @@ def check_serving(folder):
         ],
     )
     hold("serve says when it ends", (status, errors), (0, "intake: ended after 3 connections\n"))
+
+
+# ---- reports that replace filings
+
+REGISTERED = '{"number":%d,"status":"registered"}'
+BOTH = '{"filings":[{"facts":1,"number":1,"replaced_by":2},{"facts":1,"number":2,"replaces":1}]}'
+NOT_REPLACEABLE = (
+    '{"findings":[{"code":"not-replaceable","place":""}],"reason":"refused","status":422,"title":"Unprocessable Content","type":"about:blank"}'
+)
+KEY_REUSED = '{"reason":"key-reused","status":422,"title":"Unprocessable Content","type":"about:blank"}'
+NO_PATH = '{"reason":"no-path","status":404,"title":"Not Found","type":"about:blank"}'
+
+
+def listing(path):
+    """A GET of this path below that of all filings."""
+    return f"GET /filings/{path} HTTP/1.1\r\nHost: h\r\nConnection: close\r\n\r\n".encode()
+
+
+# What is asked for, the request, the status and the content.
+AMENDMENTS = [
+    ("a report", request("k-1", REPORT), 201, REGISTERED % 1),
+    ("one that replaces it", request("k-2", REPORT, "ACME/1"), 201, REGISTERED % 2),
+    ("the list of both", listing("ACME"), 200, BOTH),
+    ("its repeat", request("k-2", REPORT, "ACME/1"), 201, REGISTERED % 2),
+    ("another that is to replace it", request("k-3", REPORT, "ACME/1"), 422, NOT_REPLACEABLE),
+    ("its repeat", request("k-3", REPORT, "ACME/1"), 422, NOT_REPLACEABLE),
+    ("another number under a used key", request("k-2", REPORT, "ACME/2"), 422, KEY_REUSED),
+    ("no number under a key that had one", request("k-2", REPORT), 422, KEY_REUSED),
+    ("a number under a key that had none", request("k-1", REPORT, "ACME/1"), 422, KEY_REUSED),
+    ("another filer's report", request("k-1", REPORT.replace(b"lei:ACME", b"lei:BETA"), "BETA/1"), 422, NOT_REPLACEABLE),
+    ("the number 0", request("k-4", REPORT, "ACME/0"), 404, NO_PATH),
+    ("a number with a leading zero", request("k-4", REPORT, "ACME/01"), 404, NO_PATH),
+    ("the list of the first alone", listing("ACME/1"), 200, '{"filings":[{"facts":1,"number":1,"replaced_by":2}]}'),
+    ("the list of a filing that is another's", listing("BETA/1"), 200, '{"filings":[]}'),
+    ("the list of the number 01", listing("ACME/01"), 404, NO_PATH),
+]
+
+
+def check_amendments(folder):
+    hold("the lengths of these contents", (len(BOTH), len(NOT_REPLACEABLE), len(KEY_REUSED)), (88, 137, 89))
+    database = folder / "register.db"
+    serving = Serving(database, len(AMENDMENTS), "--new")
+    for what, given, status, content in AMENDMENTS:
+        reply = exchange(serving.port, given)
+        hold(what, (statuses(reply), reply.partition(b"\r\n\r\n")[2].decode()), ([status], content))
+    hold("serve ends", serving.end()[0], 0)
+    hold("check afterwards", said(run(INTAKE, "check", "--db", database), folder), (0, "sound: 4 kept, 2 filings\n", ""))
+    hold("list of both", said(run(INTAKE, "list", "--db", database, "--filer", "ACME"), folder), (0, f"{BOTH}\n", ""))
+
+
+def check_sent_amendments(folder):
+    outbox, report = folder / "outbox.db", folder / "report.json"
+    report.write_bytes(REPORT)
+    run(OUTBOX, "init", "--db", outbox, "--filer", "ACME")
+    serving = Serving(folder / "register.db", 3, "--new")
+    for entry, words, state in ((1, (), "confirmed 1"), (2, ("--amend", 1), "confirmed 2"), (3, ("--amend", 1), "refused")):
+        put = run(OUTBOX, "put", "--db", outbox, "--body", report, "--key", f"k-{entry}", *words)
+        hold(f"put of entry {entry}", said(put, folder), (0, f"entry {entry}\n", ""))
+        sent = run(OUTBOX, "send", "--db", outbox, "--port", serving.port)
+        hold(f"send of entry {entry}", said(sent, folder), (0, f"entry {entry} {state}\n", ""))
+    serving.end()
+    listed = run(INTAKE, "list", "--db", folder / "register.db", "--filer", "ACME")
+    hold("list of what was sent", said(listed, folder), (0, f"{BOTH}\n", ""))
 
 
 # ---- full disks
@@ -255,6 +319,6 @@ def check_closed_output(folder):
 if __name__ == "__main__":
     try_all(
         (INTAKE, OUTBOX),
-        (check_serving, check_full_register, check_full_outbox, check_files, check_rights, check_changed_byte,
-         check_lint, check_entries, check_closed_output),
+        (check_serving, check_amendments, check_sent_amendments, check_full_register, check_full_outbox, check_files, check_rights,
+         check_changed_byte, check_lint, check_entries, check_closed_output),
     )

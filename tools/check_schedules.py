@@ -62,12 +62,38 @@ CUT_LOST_OR_REPEATED = [
     ("deliver 1 all, send 1 1, deliver 2 all, hand 2 all, hand 1 all", HEARD_AND_REPEATED),
     ("restart server, restart outbox 1, deliver 1 all, restart server, hand 1 all, restart outbox 1, deliver 1 all", HEARD_AND_REPEATED),
 ]
+# A report and one that is to replace the filing that it will be, both sent.
+AMENDED = f'outbox ACME\nput 1 "k-1" {REPORT}\namend 1 1 "k-2" {REPORT}\nsend 1 1\nsend 1 2\n'
+REPLACED = 'filing 1 ACME "k-1"\nfiling 2 ACME "k-2" replaces 1\n'
+AMENDMENTS = [
+    ("deliver 1 all, deliver 2 all, hand 1 all, hand 2 all", f"{REPLACED}entry 1 1 confirmed 1\nentry 1 2 confirmed 2\ndone 2\n"),
+    (
+        "deliver 1 all, deliver 2 all after 1, restart server, deliver 2 all, hand 3 all",
+        f"{REPLACED}entry 1 1 open\nentry 1 2 confirmed 2\ndone 3\n",
+    ),
+    # What comes first finds no filing to replace, and is not judged again.
+    (
+        "deliver 2 all, deliver 1 all, deliver 2 all, hand 2 all, hand 3 all",
+        'filing 1 ACME "k-1"\nentry 1 1 confirmed 1\nentry 1 2 refused\ndone 3\n',
+    ),
+    # A filing is replaced once.
+    (
+        f'deliver 1 all, deliver 2 all, amend 1 1 "k-3" {REPORT}, send 1 3, deliver 3 all, hand 3 all',
+        f"{REPLACED}entry 1 1 open\nentry 1 2 open\nentry 1 3 refused\ndone 3\n",
+    ),
+    # The one that replaced it is replaced.
+    (
+        f'deliver 1 all, deliver 2 all, amend 1 2 "k-3" {REPORT}, send 1 3, deliver 3 all, hand 3 all',
+        f'{REPLACED}filing 3 ACME "k-3" replaces 2\nentry 1 1 open\nentry 1 2 open\nentry 1 3 confirmed 3\ndone 3\n',
+    ),
+]
 # The event that names nothing, counted from 1.
 NO_SUCH = [
     # There is no such outbox.
     ('put 0 "k-2" x', 3),
     ('put 2 "k-2" x', 3),
     ('put 9223372036854775807 "k-2" x', 3),
+    ('amend 2 1 "k-2" x', 3),
     ("send 0 1", 3),
     ("send 2 1", 3),
     ("restart outbox 0", 3),
@@ -128,6 +154,10 @@ def check_cut_lost_or_repeated(_):
     hold_each(SENT, CUT_LOST_OR_REPEATED)
 
 
+def check_reports_that_replace_filings(_):
+    hold_each(AMENDED, AMENDMENTS)
+
+
 def check_refused_and_unavailable(_):
     hold_each('outbox ACME\nput 1 "k-1" \nsend 1 1\n', [("deliver 1 all, hand 1 all", "entry 1 1 refused\ndone 1\n")])
     hold_each(f"limit 0\n{SENT}", [("deliver 1 all, hand 1 all", NOTHING_DONE)])
@@ -156,5 +186,5 @@ if __name__ == "__main__":
     try_all(
         (DRILL,),
         (check_stops_of_the_intake, check_stops_within_a_connection, check_stops_of_an_outbox, check_cut_lost_or_repeated,
-         check_refused_and_unavailable, check_events_that_name_nothing, check_long_script),
+         check_reports_that_replace_filings, check_refused_and_unavailable, check_events_that_name_nothing, check_long_script),
     )

@@ -16,7 +16,7 @@ import sys
 import tempfile
 
 from allocations import count, library, run
-from trials import make_earlier
+from trials import make_earlier, make_earlier_outbox
 
 ROOT = pathlib.Path(__file__).resolve().parent.parent
 INTAKE, OUTBOX, DRILL = (ROOT / "crates" / name / "out" / name for name in ("intake", "outbox", "drill"))
@@ -199,6 +199,15 @@ def try_outbox(counts, folder):
     subprocess.run(put, check=True, stdout=subprocess.DEVNULL)
     try_command(counts, folder, "outbox status", status, status, stands_as(b"entry 1 open\n"))
     try_command(counts, folder, "outbox show", words_of(OUTBOX, "show", "--db", database), status, stands_as(b"entry 1 open\n"))
+    amend = words_of(OUTBOX, "put", "--db", database, "--body", report, "--key", "k-2", "--amend", 1)
+    try_command(counts, folder, "outbox put --amend", amend, status, stands_as(b"entry 1 open\n", b"entry 1 open\nentry 2 open\n"))
+
+
+def try_outbox_migration(counts, folder):
+    database = folder / "outbox.db"
+    make_earlier_outbox(database)
+    status, migrate = (words_of(OUTBOX, command, "--db", database) for command in ("status", "migrate"))
+    try_command(counts, folder, "outbox migrate", migrate, status, stands_as(b"", b"entry 1 confirmed 1\nentry 2 open\n"))
 
 
 def make_register(folder):
@@ -245,7 +254,7 @@ def try_lint(counts, folder):
 
 def main():
     word = sys.argv[1] if len(sys.argv) > 1 else ""
-    for trial in (try_connection, try_script, try_outbox, try_register, try_migration, try_lint):
+    for trial in (try_connection, try_script, try_outbox, try_outbox_migration, try_register, try_migration, try_lint):
         if word in trial.__name__:
             with tempfile.TemporaryDirectory() as outer:
                 folder = pathlib.Path(outer) / "files"

@@ -11,6 +11,13 @@ INTAKE = ROOT / "crates/intake/out/intake"
 OUTBOX = ROOT / "crates/outbox/out/outbox"
 DRILL = ROOT / "crates/drill/out/drill"
 SMALLEST = b'{"documentInfo":{"documentType":"https://xbrl.org/2021/xbrl-json","taxonomy":["t"]}}'
+# A report of one fact.
+REPORT = (
+    b'{"documentInfo":{"documentType":"https://xbrl.org/2021/xbrl-json","namespaces":{"eg":"http://example.com/eg",'
+    b'"iso4217":"http://www.xbrl.org/2003/iso4217","lei":"http://standards.iso.org/iso/17442"},'
+    b'"taxonomy":["http://example.com/eg.xsd"]},"facts":{"f1":{"value":"100","decimals":0,"dimensions":'
+    b'{"concept":"eg:Assets","entity":"lei:ACME","period":"2024-12-31T00:00:00","unit":"iso4217:EUR"}}}}'
+)
 OF_THIS_VERSION = " of this version (intake migrate takes one of an earlier version)"
 # A register of form 2, with an empty body, which is no JSON text.
 EARLIER = """
@@ -25,6 +32,14 @@ CREATE TABLE fact (number INTEGER NOT NULL, pos INTEGER NOT NULL, id BLOB NOT NU
 INSERT INTO intake_meta VALUES (1, 'register', 2);
 INSERT INTO kept VALUES (1, 'ACME', 'k-1', x'', NULL);
 INSERT INTO finding VALUES (1, 1, 1, x'');
+"""
+# An outbox of form 1, with an entry that was confirmed and one that is open.
+EARLIER_OUTBOX = """
+CREATE TABLE outbox_meta (id INTEGER PRIMARY KEY, kind TEXT NOT NULL, form INTEGER NOT NULL, filer TEXT NOT NULL) STRICT;
+CREATE TABLE entry (id INTEGER PRIMARY KEY, idem TEXT NOT NULL UNIQUE, body BLOB NOT NULL, state INTEGER NOT NULL, number INTEGER) STRICT;
+INSERT INTO outbox_meta VALUES (1, 'outbox', 1, 'ACME');
+INSERT INTO entry VALUES (1, 'k-1', x'7b7d', 1, 1);
+INSERT INTO entry VALUES (2, 'k-2', x'7b7d', 0, NULL);
 """
 failures = []
 
@@ -104,12 +119,22 @@ def make_register(database):
     serving.end()
 
 
-def make_earlier(database):
-    """A register of form 2, in which an empty body is kept under `ACME`'s `k-1`: a file without sums."""
+def make_by_sql(database, statements):
+    """A database that these statements make: a file without sums."""
     conn = sqlite3.connect(database)
     conn.execute("PRAGMA journal_mode = WAL")
-    conn.executescript(EARLIER)
+    conn.executescript(statements)
     conn.close()
+
+
+def make_earlier(database):
+    """A register of form 2, in which an empty body is kept under `ACME`'s `k-1`."""
+    make_by_sql(database, EARLIER)
+
+
+def make_earlier_outbox(database, more=""):
+    """An outbox of form 1 of `ACME`, with an entry that was confirmed and one that is open, after these statements too."""
+    make_by_sql(database, EARLIER_OUTBOX + more)
 
 
 def try_all(programs, trials):

@@ -2,6 +2,7 @@
 //! program shows is not stated, and so no task carries the clauses of what it calls.
 
 ghost use Rattle.std.specs.Prelude.{◌≤◌, ◌^◌, map};
+ghost use Rattle.event_script.specs.Events.{view_event, HasTarget, HaveTargets};
 ghost use Rattle.filing_world.specs.Headline.{AreFilers};
 
 use event_script::Event;
@@ -20,12 +21,15 @@ pub fn run<D: Honest>(
 ) -> Result<World<D>, Fault>
     requires filers { AreFilers (map (λ f. f.now) filers.now) }
     requires limit { limit ≤ 2 ^ 62 }
+    requires targets { HaveTargets (map view_event events.now) }
 {
     run_events(alloc, filers, limit, events)
 }
 
 /// Plays one event more.
-pub fn play<D: Honest>(world: &mut World<D>, event: &Event) -> Result<(), Fault> {
+pub fn play<D: Honest>(world: &mut World<D>, event: &Event) -> Result<(), Fault>
+    requires { HasTarget (view_event event.now) }
+{
     world.play(event)
 }
 

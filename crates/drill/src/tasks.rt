@@ -1,6 +1,7 @@
 //! Reads a script, plays it, and shows what came of it.
 
 ghost use Rattle.std.specs.Prelude.{◌≡◌, ◌≤◌, ◌^◌, map, string_bytes, IfOk};
+ghost use Rattle.event_script.specs.Events.{view_event, HasTarget, HaveTargets};
 ghost use Rattle.filing_world.specs.Headline.{AreFilers};
 
 use crate::fault::Fault;
@@ -31,6 +32,7 @@ fn read_bytes<R: Read>(alloc: Global, input: &mut R) -> Result<Vec<u8>, Fault> {
 fn script_of(alloc: Global, bytes: &[u8]) -> Result<Script, Fault>
     ensures filers { IfOk result (λ script. AreFilers (map string_bytes script.filers.items)) }
     ensures limit { IfOk result (λ script. script.limit ≤ 2 ^ 62) }
+    ensures targets { IfOk result (λ script. HaveTargets (map view_event script.events.items)) }
 {
     let Ok(text) = str::from_utf8(bytes) else {
         return Err(Fault::NotText);
@@ -51,6 +53,7 @@ fn filer_codes<'a>(alloc: Global, filers: &'a [String]) -> Result<Vec<&'a str>, 
 fn play<D: Honest>(alloc: Global, script: &Script) -> Result<World<D>, Fault>
     requires filers { AreFilers (map string_bytes script.now.filers.items) }
     requires limit { script.now.limit ≤ 2 ^ 62 }
+    requires targets { HaveTargets (map view_event script.now.events.items) }
 {
     let filers = filer_codes(alloc, script.filers.as_slice())?;
     match calls::run(
@@ -64,7 +67,9 @@ fn play<D: Honest>(alloc: Global, script: &Script) -> Result<World<D>, Fault>
     }
 }
 
-fn restart<D: Honest>(world: &mut World<D>, end: &Event) -> Result<(), Fault> {
+fn restart<D: Honest>(world: &mut World<D>, end: &Event) -> Result<(), Fault>
+    requires { HasTarget (view_event end.now) }
+{
     match calls::play(world, end) {
         Ok(()) => Ok(()),
         Err(fault) => Err(Fault::World(fault)),

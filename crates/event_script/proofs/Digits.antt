@@ -1,11 +1,13 @@
 -- Numbers that words write.
-use Rattle.std.proofs.Common.{◌≡◌, ℕ, ◌<◌, ◌≤◌, ◌^◌, true, List, length, Some, None, arith, rules}
+use Rattle.std.proofs.Common.{◌≡◌, ℕ, ◌<◌, ◌≤◌, ◌^◌, ◌-◌, Bool, true, false, List, length, nat_le, Option, Some, None, refl, subst, leb-true, arith, rules}
+use Rattle.std.specs.Prelude.{option_and_then, if◌then◌else◌}
 use Rattle.std.specs.Char.{is_ascii_digit}
 use Rattle.std.specs.List.{list_all}
 use Rattle.std.specs.Str.Parse.{digits_value}
 use Rattle.std.proofs.lemmas.Bool.Decides.{nat_tests}
 use Rattle.std.proofs.lemmas.Str.Parse.{IsNumeralModel, numerals_by_value}
-use Rattle.event_script.specs.Words.{number_up_to}
+use Rattle.http_wire.specs.Posting.{IsTarget}
+use Rattle.event_script.specs.Words.{number_up_to, number, filing_number}
 
 -- the digits and their value are those of `parse`
 pub digits : IsNumeralModel (λ ds. list_all is_ascii_digit ds ≡ true) (digits_value 10)
@@ -22,3 +24,18 @@ number_up_to-none greatest word small none =
 pub number_up_to-small : (greatest : ℕ) (word : List ℕ) (n : ℕ) → number_up_to greatest word ≡ Some n → n ≤ greatest
 unfolding number_up_to
 number_up_to-small greatest word n is = grind (arith, nat_tests, is)
+
+by_test : (word : List ℕ) (k n : ℕ) (b : Bool) → nat_le 1 k ≡ b → number word ≡ Some k → (if b then Some k else None) ≡ Some n → IsTarget (Some n)
+by_test word k n true one is same =
+    let small = number_up_to-small (2 ^ 63 - 1) word k is in
+    let it : k ≡ n = cc in
+    subst (λ m. IsTarget (Some m)) it (leb-true 1 k one, omega (arith, small))
+by_test word k n false one is same = absurd (cc)
+
+-- the number of a filing is one that may be replaced
+pub filing_number-fits : (word : List ℕ) (n : ℕ) → filing_number word ≡ Some n → IsTarget (Some n)
+filing_number-fits word n same = by_number (number word) refl same
+  where
+    by_number : (read : Option ℕ) → number word ≡ read → option_and_then (λ k. if nat_le 1 k then Some k else None) read ≡ Some n → IsTarget (Some n)
+    by_number (Some k) is same = by_test word k n (nat_le 1 k) refl is same
+    by_number None is same = absurd (cc)

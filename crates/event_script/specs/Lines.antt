@@ -4,9 +4,9 @@ use Rattle.key_string.specs.Key.{double_quote, backslash, key_of_field}
 use Rattle.key_string.specs.Filer.{is_filer}
 use Rattle.filing_model.specs.Stopping.{Crash}
 use Rattle.filing_world.specs.World.{Event}
-use Rattle.event_script.specs.Words.{is_space, words, has_space, first_word, behind_first_word, number_up_to, number, place_number, amount}
+use Rattle.event_script.specs.Words.{is_space, words, has_space, first_word, behind_first_word, number_up_to, number, filing_number, place_number, amount}
 
--- ---- put O KEY BODY
+-- ---- put O KEY BODY, amend O N KEY BODY
 
 -- The place of the double quote that closes a String: the first that no backslash escapes. `escaped` says whether a backslash
 -- that is not escaped itself stood before these bytes.
@@ -21,17 +21,24 @@ abbrev pub string_length : List ℕ → Option ℕ
 string_length bytes = option_map (λ place. place + 2) (closing_quote false (drop 1 bytes))
 
 -- a space and the body, behind a key
-abbrev pub keyed_body : ℕ → Option (List ℕ) → List ℕ → Option Event
-keyed_body outbox (Some key) (c ∷ body) = if is_space c then Some (Event.Put outbox key body) else None
-keyed_body outbox key rest = None
+abbrev pub keyed_body : ℕ → Option ℕ → Option (List ℕ) → List ℕ → Option Event
+keyed_body outbox target (Some key) (c ∷ body) = if is_space c then Some (Event.Put outbox key target body) else None
+keyed_body outbox target key rest = None
 
 -- the String that spells the key, a space, and the body, which is the rest of the line
-abbrev pub key_and_body : ℕ → List ℕ → Option Event
-key_and_body outbox bytes =
-    option_and_then (λ count. keyed_body outbox (key_of_field (take count bytes)) (drop count bytes)) (string_length bytes)
+abbrev pub key_and_body : ℕ → Option ℕ → List ℕ → Option Event
+key_and_body outbox target bytes =
+    option_and_then (λ count. keyed_body outbox target (key_of_field (take count bytes)) (drop count bytes)) (string_length bytes)
 
 abbrev pub put_of : List ℕ → Option Event
-put_of rest = option_and_then (λ outbox. key_and_body outbox (behind_first_word rest)) (number (first_word rest))
+put_of rest = option_and_then (λ outbox. key_and_body outbox None (behind_first_word rest)) (number (first_word rest))
+
+-- behind the outbox, the number of the filing that the report is to replace
+abbrev pub amendment_of : ℕ → List ℕ → Option Event
+amendment_of outbox rest = option_and_then (λ n. key_and_body outbox (Some n) (behind_first_word rest)) (filing_number (first_word rest))
+
+abbrev pub amend_of : List ℕ → Option Event
+amend_of rest = option_and_then (λ outbox. amendment_of outbox (behind_first_word rest)) (number (first_word rest))
 
 -- ---- stranger TEXT
 
@@ -99,11 +106,12 @@ restart_of others = None
 unfoldable pub event_named : List ℕ → List ℕ → Option Event
 event_named name rest =
     if bytes_eq name (codes "put") then put_of rest
+    else (if bytes_eq name (codes "amend") then amend_of rest
     else (if bytes_eq name (codes "send") then send_of (words rest)
     else (if bytes_eq name (codes "stranger") then stranger_of rest
     else (if bytes_eq name (codes "deliver") then deliver_of (words rest)
     else (if bytes_eq name (codes "hand") then hand_of (words rest)
-    else (if bytes_eq name (codes "restart") then restart_of (words rest) else None)))))
+    else (if bytes_eq name (codes "restart") then restart_of (words rest) else None))))))
 
 -- the event that a line says
 unfoldable pub line_event : List ℕ → Option Event

@@ -1,5 +1,5 @@
 -- The words of a line, and the numbers that words write.
-use Rattle.std.specs.Prelude.{ℕ, ◌-◌, ◌^◌, Bool, ◌&&◌, not, List, length, slice_index, codes, bytes_eq, nat_lt, nat_le, ◌==◌, Option, Some, None, if◌then◌else◌}
+use Rattle.std.specs.Prelude.{ℕ, ◌-◌, ◌^◌, Bool, ◌&&◌, not, List, length, slice_index, codes, bytes_eq, nat_lt, nat_le, ◌==◌, Option, Some, None, if◌then◌else◌, option_and_then}
 use Rattle.std.specs.Char.{is_ascii_digit}
 use Rattle.std.specs.List.{list_all, list_any, slice_split, before_first, after_first}
 use Rattle.std.specs.Str.Parse.{digits_value}
@@ -36,6 +36,10 @@ number_up_to greatest word = if is_decimal word && nat_le (digits_value 10 word)
 -- the number of an outbox, an entry, an item, an output, or of bytes
 abbrev pub number : List ℕ → Option ℕ
 number word = number_up_to (2 ^ 63 - 1) word
+
+-- the number of a filing, from 1 on
+abbrev pub filing_number : List ℕ → Option ℕ
+filing_number word = option_and_then (λ n. if nat_le 1 n then Some n else None) (number word)
 
 -- the number of a place to stop at
 abbrev pub place_number : List ℕ → Option ℕ

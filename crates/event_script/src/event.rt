@@ -19,10 +19,11 @@ pub enum Crash {
 /// A delivery and a reply that is handed over give so many bytes, or all where there are fewer.
 #[derive(Drop)]
 pub enum Event {
-    /// A report is put into an outbox under a key.
+    /// A report is put into an outbox under a key; it may be to replace the filing of a number, from 1 to 2^63 - 1.
     Put {
         outbox: u64,
         key: KeyText,
+        target: Option<u64>,
         body: Vec<u8>,
     },
     /// The request of an entry is sent.

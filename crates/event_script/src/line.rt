@@ -1,11 +1,11 @@
 //! What a line of a script says. No line has a line feed here.
 
-ghost use Rattle.std.specs.Prelude.{◌≡◌, map, option_map, option_copied, IfOk};
-ghost use Rattle.event_script.specs.Events.{view_crash, view_event};
+ghost use Rattle.std.specs.Prelude.{◌≡◌, map, option_map, option_copied, IfOk, IfSome};
+ghost use Rattle.event_script.specs.Events.{view_crash, view_event, HasTarget};
 ghost use Rattle.event_script.specs.Lines.{send_of, crash_at, delivery_stop, deliver_of, handing_stop, hand_of, restart_of, event_named, line_event, line_limit, line_filer};
 
 use crate::event::{Crash, Event};
-use crate::put::read_put;
+use crate::put::{read_amend, read_put};
 use crate::stranger::read_stranger;
 use crate::words::{read_amount, read_number, read_number_up_to, read_place, split_words};
 use key_string::is_filer;
@@ -39,7 +39,8 @@ pub(crate) fn read_outbox_line(line: &str) -> Option<&str>
 /// The event that a line says.
 #[tactic(auto, unfolding(crate::specs::Lines::line_event))]
 pub(crate) fn read_event(alloc: Global, line: &str) -> Result<Option<Event>, AllocError>
-    ensures { IfOk result (λ event. option_map view_event event ≡ line_event line.now) }
+    ensures read { IfOk result (λ event. option_map view_event event ≡ line_event line.now) }
+    ensures targets { IfOk result (λ event. IfSome event (λ e. HasTarget (view_event e))) }
 {
     match line.split_once(' ') {
         Some((name, rest)) => read_event_named(alloc, name, rest),
@@ -49,10 +50,12 @@ pub(crate) fn read_event(alloc: Global, line: &str) -> Result<Option<Event>, All
 
 #[tactic(auto, unfolding(crate::specs::Lines::event_named))]
 fn read_event_named(alloc: Global, name: &str, rest: &str) -> Result<Option<Event>, AllocError>
-    ensures { IfOk result (λ event. option_map view_event event ≡ event_named name.now rest.now) }
+    ensures read { IfOk result (λ event. option_map view_event event ≡ event_named name.now rest.now) }
+    ensures targets { IfOk result (λ event. IfSome event (λ e. HasTarget (view_event e))) }
 {
     match name {
         "put" => read_put(alloc, rest),
+        "amend" => read_amend(alloc, rest),
         "stranger" => read_stranger(alloc, rest),
         "send" => Ok(read_send(&split_words(alloc, rest)?)),
         "deliver" => Ok(read_deliver(&split_words(alloc, rest)?)),
@@ -64,7 +67,8 @@ fn read_event_named(alloc: Global, name: &str, rest: &str) -> Result<Option<Even
 
 /// `O E`.
 fn read_send(words: &[&str]) -> Option<Event>
-    ensures { option_map view_event result ≡ send_of (map (λ word. word.now) words.now) }
+    ensures read { option_map view_event result ≡ send_of (map (λ word. word.now) words.now) }
+    ensures targets { IfSome result (λ e. HasTarget (view_event e)) }
 {
     let [outbox, entry] = words else {
         return None;
@@ -76,7 +80,8 @@ fn read_send(words: &[&str]) -> Option<Event>
 
 /// `S N`, and where the delivery stops.
 fn read_deliver(words: &[&str]) -> Option<Event>
-    ensures { option_map view_event result ≡ deliver_of (map (λ word. word.now) words.now) }
+    ensures read { option_map view_event result ≡ deliver_of (map (λ word. word.now) words.now) }
+    ensures targets { IfSome result (λ e. HasTarget (view_event e)) }
 {
     let [item, bytes, stop @ ..] = words else {
         return None;
@@ -100,7 +105,8 @@ fn read_delivery_stop(words: &[&str]) -> Option<Crash>
 
 /// `P N`, and where the outbox stops.
 fn read_hand(words: &[&str]) -> Option<Event>
-    ensures { option_map view_event result ≡ hand_of (map (λ word. word.now) words.now) }
+    ensures read { option_map view_event result ≡ hand_of (map (λ word. word.now) words.now) }
+    ensures targets { IfSome result (λ e. HasTarget (view_event e)) }
 {
     let [output, bytes, stop @ ..] = words else {
         return None;
@@ -139,7 +145,8 @@ fn crash_at(when: &str, place: u32) -> Option<Crash>
 
 /// `server` or `outbox O`.
 fn read_restart(words: &[&str]) -> Option<Event>
-    ensures { option_map view_event result ≡ restart_of (map (λ word. word.now) words.now) }
+    ensures read { option_map view_event result ≡ restart_of (map (λ word. word.now) words.now) }
+    ensures targets { IfSome result (λ e. HasTarget (view_event e)) }
 {
     match words {
         [end] if *end == "server" => Some(Event::RestartServer),

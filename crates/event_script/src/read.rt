@@ -2,7 +2,7 @@
 
 ghost use Rattle.std.specs.Prelude.{◌≡◌, ◌+◌, ◌^◌, ◌<◌, ◌≤◌, ◌∷◌, [], length, map, drop, string_bytes, IfOk, IfErr, IfSome, MatchOption};
 ghost use Rattle.filing_world.specs.Headline.{AreFilers};
-ghost use Rattle.event_script.specs.Events.{view_event};
+ghost use Rattle.event_script.specs.Events.{view_event, HaveTargets};
 ghost use Rattle.event_script.specs.Text.{lines_of};
 ghost use Rattle.event_script.specs.Scripts.{events_from, filers_of, limit_of, script_from, script_of, view_script, IsFaultOf};
 
@@ -23,6 +23,7 @@ const DEFAULT_LIMIT: u64 = 1_000_000;
 ///
 /// ```text
 /// put O KEY BODY          KEY is the spelling of a key, BODY the rest of the line
+/// amend O N KEY BODY      the same, of a report that is to replace filing N
 /// send O E
 /// stranger TEXT           \r, \n, \\ stand for CR, LF, backslash
 /// deliver S N             N is a number or all
@@ -38,6 +39,7 @@ pub fn read_script(alloc: Global, text: &str) -> Result<Script, ScriptFault>
     ensures read { IfOk result (λ script. script_of text.now ≡ Ok (view_script script)) }
     ensures filers { IfOk result (λ script. AreFilers (map string_bytes script.filers.items)) }
     ensures limit { IfOk result (λ script. script.limit ≤ 2 ^ 62) }
+    ensures targets { IfOk result (λ script. HaveTargets (map view_event script.events.items)) }
     ensures wrong { IfErr result (IsFaultOf (script_of text.now)) }
 {
     let lines = Lines::new(text);
@@ -61,6 +63,7 @@ fn split_limit(text: Lines<'_>) -> Option<(u64, Lines<'_>)>
 /// One outbox or more, and the events behind them.
 fn read_behind_limit(alloc: Global, limit: u64, text: Lines<'_>) -> Result<Script, ScriptFault>
     ensures read { IfOk result (λ script. script_from limit text.entry.number (lines_of text.entry.rest.now) ≡ Ok (view_script script)) }
+    ensures targets { IfOk result (λ script. HaveTargets (map view_event script.events.items)) }
     ensures wrong { IfErr result (IsFaultOf (script_from limit text.entry.number (lines_of text.entry.rest.now))) }
 {
     let (filers, behind) = read_filers(alloc, text)?;
@@ -105,6 +108,7 @@ fn split_filer(text: Lines<'_>) -> Option<(&str, Lines<'_>)>
 
 fn read_events(alloc: Global, text: Lines<'_>) -> Result<Vec<Event>, ScriptFault>
     ensures read { IfOk result (λ events. events_from text.entry.number (lines_of text.entry.rest.now) ≡ Ok (map view_event events.items)) }
+    ensures targets { IfOk result (λ events. HaveTargets (map view_event events.items)) }
     ensures wrong { IfErr result (IsFaultOf (events_from text.entry.number (lines_of text.entry.rest.now))) }
 {
     let mut events = Vec::new(alloc);

@@ -1,7 +1,7 @@
 //! Lines by which somebody else sends bytes.
 
 ghost use Rattle.std.specs.Prelude.{◌≡◌, ◌<◌, ◌∷◌, length, option_map, false, IfOk, IfSome, MatchOption};
-ghost use Rattle.event_script.specs.Events.{view_event};
+ghost use Rattle.event_script.specs.Events.{view_event, HasTarget};
 ghost use Rattle.event_script.specs.Lines.{escaped_byte, unescaped, stranger_of};
 
 use crate::event::Event;
@@ -9,7 +9,8 @@ use std::alloc::{AllocError, Global};
 
 /// `TEXT`: the bytes, in which `\r`, `\n` and `\\` stand for CR, LF and a backslash.
 pub(crate) fn read_stranger(alloc: Global, text: &str) -> Result<Option<Event>, AllocError>
-    ensures { IfOk result (λ event. option_map view_event event ≡ stranger_of text.now) }
+    ensures read { IfOk result (λ event. option_map view_event event ≡ stranger_of text.now) }
+    ensures targets { IfOk result (λ event. IfSome event (λ e. HasTarget (view_event e))) }
 {
     let bytes = unescape(alloc, text.as_bytes())?;
     Ok(bytes.map(|bytes| Event::Stranger { bytes }))

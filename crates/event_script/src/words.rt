@@ -3,7 +3,7 @@
 ghost use Rattle.std.specs.Prelude.{◌≡◌, ◌<◌, ◌^◌, map, length, IfOk};
 ghost use Rattle.std.specs.Char.{is_ascii_digit};
 ghost use Rattle.std.specs.List.{list_all};
-ghost use Rattle.event_script.specs.Words.{words, has_leading_zero, is_decimal, number_up_to, number, place_number, amount};
+ghost use Rattle.event_script.specs.Words.{words, has_leading_zero, is_decimal, number_up_to, number, filing_number, place_number, amount};
 
 use std::alloc::{AllocError, Global};
 
@@ -39,6 +39,13 @@ pub(crate) fn read_number(word: &str) -> Option<u64>
     ensures { result ≡ number word.now }
 {
     read_number_up_to(MAX_NUMBER, word)
+}
+
+/// The number of a filing, from 1 on.
+pub(crate) fn read_filing_number(word: &str) -> Option<u64>
+    ensures { result ≡ filing_number word.now }
+{
+    read_number(word).filter(|number| *number >= 1)
 }
 
 /// The number of a place to stop at.

@@ -2,6 +2,7 @@
 
 ghost use Rattle.std.specs.Prelude.{◌≡◌, ◌≤◌, ◌↔◌, List, length, true, Some, None, option_map, IsTrue, IfOk, IfErr, OnOk, Err};
 ghost use Rattle.key_string.specs.Filer.{is_filer};
+ghost use Rattle.http_wire.specs.Posting.{IsTarget};
 ghost use Rattle.http_wire.specs.Head.{max_body_len};
 ghost use Rattle.sqlite.specs.State.{HasCleanDisk, Survives};
 ghost use Rattle.sqlite.specs.Tree.{Trees};
@@ -83,6 +84,7 @@ fn find_entry<S: Alter>(outbox: &mut Outbox<S>, id: u64) -> Result<Entry, TakeFa
     ensures found { HasCleanDisk (shows S.Store outbox.new) → (entries : List Item) → HasEntries S.Store outbox.old entries
         → IfOk result (λ entry. Some (view_entry entry) ≡ option_map (λ e. (id, e)) (entry_at entries id)) }
     ensures short { IfOk result (λ entry. length entry.body.items ≤ max_body_len) }
+    ensures target { IfOk result (λ entry. IsTarget entry.target) }
     ensures no_entry { HasCleanDisk (shows S.Store outbox.new) → (entries : List Item) → HasEntries S.Store outbox.old entries → result ≡ Err TakeFault.NoEntry → entry_at entries id ≡ None }
     ensures kept { HasCleanDisk (shows S.Store outbox.new) → (entries : List Item) → HasEntries S.Store outbox.old entries → HasEntries S.Store outbox.new entries }
     ensures stopped { IsTrue outbox.old.has_failed → (result ≡ Err TakeFault.Store) × (outbox.new ≡ outbox.old) }
@@ -104,11 +106,18 @@ fn find_entry<S: Alter>(outbox: &mut Outbox<S>, id: u64) -> Result<Entry, TakeFa
 fn request_of(alloc: Global, filer: &str, entry: &Entry) -> Result<Vec<u8>, TakeFault>
     requires filer { is_filer filer.now ≡ true }
     requires short { length entry.now.body.items ≤ max_body_len }
+    requires target { IsTarget entry.now.target }
     ensures bytes { IfOk result (λ text. text.items ≡ bytes_of (request_of filer.now (view_entry entry.now).1)) }
     ensures memory { IfErr result (λ fault. fault ≡ TakeFault.Memory) }
 {
     let mut text = Vec::new(alloc);
-    match append_request(filer, None, &entry.key, entry.body.as_slice(), &mut text) {
+    match append_request(
+        filer,
+        entry.target,
+        &entry.key,
+        entry.body.as_slice(),
+        &mut text,
+    ) {
         Ok(()) => Ok(text),
         Err(_) => Err(TakeFault::Memory),
     }

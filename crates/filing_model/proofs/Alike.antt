@@ -37,7 +37,7 @@ module _ (old new : List Request) (same : firsts old ≡ firsts new) where
 
   reply_on_alike : (early : List Request) (to : Route) → reply_on early old to ≡ reply_on early new to
   reply_on_alike early (Told reply) = refl
-  reply_on_alike early (Listed filer) = ap (λ fs. list_reply (listings filer fs)) register_alike
+  reply_on_alike early (Listed filer number) = ap (λ fs. list_reply (listings filer number fs)) register_alike
   reply_on_alike early (Filed r) = ap (reply_as (style_of early r)) (answer_alike r)
 
   pub reply_alike : (early : List Request) (m : Message) → reply_with early old m ≡ reply_with early new m
@@ -56,9 +56,9 @@ module _ (old new : List Request) (same : firsts old ≡ firsts new) where
       fit
   route_fits_alike limit (Filed r) Unavailable fit = fit
   route_fits_alike limit (Filed r) NotFiled fit = fit
-  route_fits_alike limit (Listed filer) Done fit = fit
-  route_fits_alike limit (Listed filer) Unavailable fit = fit
-  route_fits_alike limit (Listed filer) NotFiled fit = fit
+  route_fits_alike limit (Listed filer number) Done fit = fit
+  route_fits_alike limit (Listed filer number) Unavailable fit = fit
+  route_fits_alike limit (Listed filer number) NotFiled fit = fit
   route_fits_alike limit (Told reply) Done fit = fit
   route_fits_alike limit (Told reply) Unavailable fit = fit
   route_fits_alike limit (Told reply) NotFiled fit = fit

@@ -9,26 +9,26 @@ use Rattle.http_wire.specs.Reply.{render}
 use Rattle.filing_model.specs.declared.served.Mark.{Mark}
 use Rattle.filing_model.specs.declared.served.Mark.TheVariants.{Done, Unavailable, NotFiled}
 use Rattle.filing_model.specs.Request.{Request}
-use Rattle.filing_model.specs.Text.{Route, Told, filer_of_path, route_by_method, route_by_filer, bare, is_head, route, reply_on, reply_with, MarkFits, RouteFits, reply_text_with}
+use Rattle.filing_model.specs.Text.{Route, Told, place_of_path, route_by_method, route_by_place, bare, is_head, route, reply_on, reply_with, MarkFits, RouteFits, reply_text_with}
 
 -- a route that tells a status by problem details, and no content
 abbrev IsBare : Route → Type 0
 IsBare to = (status : ℕ) × (to ≡ Told (record { status = status; content = []; kind = Problem }))
 
 module _ (m : Message) (head : m.head.method ≡ codes "HEAD") where
-  by_method : (filer : List ℕ) → IsBare (bare true (route_by_method filer m))
-  by_method filer = (405, rw head refl)
+  by_method : (filer : List ℕ) (target : Option ℕ) → IsBare (bare true (route_by_method filer target m))
+  by_method filer target = (405, rw head refl)
 
-  by_filer : (filer : Option (List ℕ)) → IsBare (bare true (route_by_filer filer m))
-  by_filer None = (404, refl)
-  by_filer (Some filer) = by_method filer
+  by_place : (place : Option (List ℕ × Option ℕ)) → IsBare (bare true (route_by_place place m))
+  by_place None = (404, refl)
+  by_place (Some (filer, target)) = by_method filer target
 
   route-head : IsBare (route m)
   unfolding route
   route-head =
-      let told = by_filer (filer_of_path m.head.path) in
+      let told = by_place (place_of_path m.head.path) in
       let is : is_head m ≡ true = ap (λ method. bytes_eq method (codes "HEAD")) head in
-      (told.0, ap (λ b. bare b (route_by_filer (filer_of_path m.head.path) m)) is ∙ told.1)
+      (told.0, ap (λ b. bare b (route_by_place (place_of_path m.head.path) m)) is ∙ told.1)
 
   module _ (early requests : List Request) where
     pub reply-head : (reply_with early requests m).content ≡ []

@@ -9,13 +9,13 @@ use Rattle.http_wire.specs.Response.{max_content_len, IsReadable}
 use Rattle.serde_json.specs.Written.{compact_text}
 use Rattle.serde_json.proofs.OnLiterals.{serde_json_on_literals}
 use Rattle.xbrl_report.specs.CodeNumber.{number_of}
-use Rattle.xbrl_report.specs.Findings.{findings}
+use Rattle.xbrl_report.specs.Amendment.{amendment_findings}
 use Rattle.xbrl_report.specs.Pair.{Pair, fits}
-use Rattle.xbrl_report.proofs.FindingLaws.{findings-fits}
+use Rattle.xbrl_report.proofs.FindingLaws.{amendment_findings-fits}
 use Rattle.filing_model.specs.declared.served.Style.{Style}
 use Rattle.filing_model.specs.declared.served.Style.TheVariants.{Old, Problem}
 use Rattle.filing_model.specs.Request.{Request, same_content, has_key, firsts}
-use Rattle.filing_model.specs.Register.{Outcome, Kept, filings, verdict, outcome_by, judged, kept_after, kept}
+use Rattle.filing_model.specs.Register.{Outcome, Kept, is_free, filings, verdict, outcome_by, judged, kept_after, kept}
 use Rattle.filing_model.specs.Answer.{Answer, answer_by, answer_from, answer}
 use Rattle.filing_model.specs.Reply.{answer_data, refused_status, reply_as, unavailable}
 use Rattle.filing_model.specs.Outbox.{Open, Confirmed, moved}
@@ -32,7 +32,9 @@ IsFitting k = (found : List Pair) → k.outcome ≡ Outcome.Refused found → fi
 
 judged-fits : (before : List Kept) (r : Request) → IsFitting (judged before r)
 unfolding verdict
-judged-fits before r = by_findings (findings r.filer r.body) (findings-fits r.filer r.body)
+judged-fits before r =
+    let free = is_free (filings before) r.filer r.target in
+    by_findings (amendment_findings r.filer r.body free) (amendment_findings-fits r.filer r.body free)
   where
     by_findings : (all : List Pair) → fits all ≡ true → (found : List Pair) → outcome_by all (suc (length (filings before))) ≡ Outcome.Refused found → fits found ≡ true
     by_findings [] fit found e = absurd (cc)

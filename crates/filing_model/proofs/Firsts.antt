@@ -1,18 +1,29 @@
 -- The first requests, as the list goes on.
-use Rattle.std.proofs.Common.{◌≡◌, ◌≤◌, suc, Bool, true, false, not, List, [], ◌∷◌, ◌++◌, length, refl, sym, ap, ◌∙◌, ⊎_elim, arith, length-append}
-use Rattle.std.specs.Prelude.{filter}
+use Rattle.std.proofs.Common.{◌≡◌, ℕ, ◌≤◌, suc, Bool, true, false, not, List, [], ◌∷◌, ◌++◌, length, refl, sym, ap, ◌∙◌, ⊎_elim, arith, length-append}
+use Rattle.std.specs.Prelude.{filter, Option, Some, None}
+use Rattle.std.proofs.lemmas.Bool.Decides.{nat_tests}
 use Rattle.std.proofs.lemmas.Bool.{cases_Bool, and_parts, both_ways}
 use Rattle.std.proofs.lemmas.Slice.Eq.{bytes_eq-Decides}
 use Rattle.std.proofs.lemmas.List.Elements.{filter-append}
 use Rattle.std.proofs.lemmas.List.Filters.{length-filter_both}
-use Rattle.filing_model.specs.Request.{Request, same_key, same_content, has_key, firsts}
+use Rattle.filing_model.specs.Request.{Request, same_key, same_target, same_content, has_key, firsts}
 use Rattle.filing_model.proofs.Lists.{filter_all, list_any-filter, filter-filter, filter-disjoint, filter-neither, filter-swap}
 
 pub same_key-refl : (r : Request) → same_key r r ≡ true
 same_key-refl r = rw ((bytes_eq-Decides r.filer r.filer).1 refl, (bytes_eq-Decides r.key r.key).1 refl) refl
 
+pub same_target-refl : (t : Option ℕ) → same_target t t ≡ true
+same_target-refl None = refl
+same_target-refl (Some n) = grind (arith, nat_tests)
+
+pub same_target-is : (s t : Option ℕ) → same_target s t ≡ true → s ≡ t
+same_target-is None None h = refl
+same_target-is None (Some n) h = absurd (cc)
+same_target-is (Some m) None h = absurd (cc)
+same_target-is (Some m) (Some n) h = let same : m ≡ n = grind (arith, nat_tests, h) in ap Some same
+
 pub same_content-refl : (r : Request) → same_content r r ≡ true
-same_content-refl r = (bytes_eq-Decides r.body r.body).1 refl
+same_content-refl r = rw ((bytes_eq-Decides r.body r.body).1 refl) (same_target-refl r.target)
 
 -- requests with one filer and key are alike for every other
 pub same_key-like : (r s t : Request) → same_key r s ≡ true → (same_key r t ≡ same_key s t) × (same_key t r ≡ same_key t s)

@@ -14,4 +14,5 @@ pub mod Contents
 pub mod Sizes
 pub mod Finals
 pub mod Posted
+pub mod Replacing
 pub mod Serving

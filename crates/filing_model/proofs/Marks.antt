@@ -32,7 +32,7 @@ within_route limit requests (Filed r) Done fit h = ⊎_elim
     fit
 within_route limit requests (Filed r) Unavailable fit h = rw append_nil h
 within_route limit requests (Filed r) NotFiled fit h = rw append_nil h
-within_route limit requests (Listed filer) mark fit h = rw append_nil h
+within_route limit requests (Listed filer number) mark fit h = rw append_nil h
 within_route limit requests (Told reply) mark fit h = rw append_nil h
 
 within_place : (limit : ℕ) (requests : List Request) (place : Place) (mark : Mark) → MarkFits limit requests place mark → length (firsts requests) ≤ limit → length (firsts (requests ++ completed_at place mark)) ≤ limit

@@ -1,14 +1,13 @@
 -- What holds of every list of completed requests.
-use Rattle.std.specs.Prelude.{◌≡◌, ℕ, Bool, List, [], ◌∷◌, ◌++◌, map, length, filter, true, false}
+use Rattle.std.specs.Prelude.{◌≡◌, ℕ, Bool, List, [], ◌∷◌, ◌++◌, map, length, filter, true, false, not, ◌&&◌, if◌then◌else◌}
 use Rattle.std.specs.List.{range_with_len}
-use Rattle.xbrl_report.specs.Findings.{findings}
 use Rattle.xbrl_report.specs.Pair.{Pair}
 use Rattle.http_wire.specs.Message.{Place, Ending, HasPlaces}
 use Rattle.filing_model.specs.declared.served.Ended.{Ended}
 use Rattle.filing_model.specs.declared.served.Mark.{Mark}
 use Rattle.filing_model.specs.Prefix.{IsPrefixOf}
-use Rattle.filing_model.specs.Request.{Request, firsts}
-use Rattle.filing_model.specs.Register.{Filing, register, numbers_of}
+use Rattle.filing_model.specs.Request.{Request, has_key, firsts}
+use Rattle.filing_model.specs.Register.{Filing, register, numbers_of, verdict, is_amendment_of}
 use Rattle.filing_model.specs.Answer.{answer, as_repeat}
 use Rattle.filing_model.specs.declared.served.Style.{Style}
 use Rattle.filing_model.specs.Reply.{reply_as}
@@ -20,13 +19,18 @@ abbrev pub is_nothing : List Pair → Bool
 is_nothing [] = true
 is_nothing (f ∷ found) = false
 
--- whether nothing is found in the request's report
-abbrev pub is_valid : Request → Bool
-is_valid r = is_nothing (findings r.filer r.body)
+-- whether the request, which comes after these, is the first of its filer and key, and nothing is found in it where the register is theirs
+abbrev pub is_valid_first : List Request → Request → Bool
+is_valid_first before r = not (has_key before r) && is_nothing (verdict (register before) r)
+
+-- such ones among requests that come after others, each after those before it
+unfoldable pub valid_firsts : List Request → List Request → List Request
+valid_firsts before [] = []
+valid_firsts before (r ∷ requests) = (if is_valid_first before r then r ∷ [] else []) ++ valid_firsts (before ++ r ∷ []) requests
 
 -- the register has the valid ones among the first requests, in their order, under the numbers 1, 2, ..
 pub record IsRegisterOf (requests : List Request) (filings : List Filing) : Type 0 where
-  pub valid : map (λ f. f.request) filings ≡ filter is_valid (firsts requests)
+  pub valid : map (λ f. f.request) filings ≡ valid_firsts [] requests
   pub numbered : map (λ f. f.number) filings ≡ range_with_len 1 (length filings)
 
 -- after a request whose filer and key came before, the first requests and the register are what they were

@@ -6,7 +6,7 @@ use Rattle.key_string.specs.Key.{IsKey}
 use Rattle.key_string.specs.Filer.{is_filer}
 use Rattle.xbrl_report.specs.Findings.{tree}
 use Rattle.http_wire.specs.Head.{max_body_len}
-use Rattle.http_wire.specs.Posting.{render_post}
+use Rattle.http_wire.specs.Posting.{IsTarget, render_post}
 use Rattle.http_wire.specs.Reply.{ReplyParts}
 use Rattle.filing_model.specs.Request.{Request}
 
@@ -64,19 +64,21 @@ moved Clashed reply = Clashed
 -- a report under its key, and what is known of it
 pub record Entry : Type 0 where
   pub key : List ℕ
+  pub target : Option ℕ
   pub body : List ℕ
   pub state : State
 
 -- the request that an entry of this filer makes
 abbrev pub request_of : List ℕ → Entry → Request
-request_of filer entry = record { filer = filer; key = entry.key; body = entry.body }
+request_of filer entry = record { filer = filer; key = entry.key; target = entry.target; body = entry.body }
 
 -- the bytes that are sent for a request
 abbrev pub bytes_of : Request → List ℕ
-bytes_of r = render_post r.filer None r.key r.body
+bytes_of r = render_post r.filer r.target r.key r.body
 
 -- a request that may be sent
 pub record IsSendable (r : Request) : Type 0 where
   pub filer : is_filer r.filer ≡ true
   pub key : IsKey r.key
+  pub target : IsTarget r.target
   pub body : length r.body ≤ max_body_len

@@ -1,8 +1,9 @@
 -- The outcomes of the first requests, and the register of the valid ones.
-use Rattle.std.specs.Prelude.{ℕ, suc, map, filter, List, [], ◌∷◌, ◌++◌, length, Option, Some, None, filter_map}
-use Rattle.xbrl_report.specs.Findings.{findings}
+use Rattle.std.specs.Prelude.{ℕ, suc, Bool, true, ◌&&◌, not, map, filter, List, [], ◌∷◌, ◌++◌, length, Option, Some, None, filter_map, bytes_eq, nat_eq}
+use Rattle.std.specs.List.{list_any}
+use Rattle.xbrl_report.specs.Amendment.{amendment_findings}
 use Rattle.xbrl_report.specs.Pair.{Pair}
-use Rattle.filing_model.specs.Request.{Request, firsts, same_request}
+use Rattle.filing_model.specs.Request.{Request, firsts, same_request, same_target}
 
 -- a registered request, under its number
 pub record Filing : Type 0 where
@@ -28,9 +29,26 @@ filing_of r (Refused findings) = None
 unfoldable pub filings : List Kept → List Filing
 filings kept = filter_map (λ k. filing_of k.request k.outcome) kept
 
+-- whether the filing is the filer's under this number
+abbrev pub is_filing_of : List ℕ → ℕ → Filing → Bool
+is_filing_of filer n f = bytes_eq f.request.filer filer && nat_eq f.number n
+
+-- whether the filing replaces the one of this number
+abbrev pub is_amendment_of : ℕ → Filing → Bool
+is_amendment_of n f = same_target f.request.target (Some n)
+
+-- whether the filer may replace the filing of this number: it is there, and none of these replaces it
+abbrev pub is_replaceable : List Filing → List ℕ → ℕ → Bool
+is_replaceable before filer n = list_any (is_filing_of filer n) before && not (list_any (is_amendment_of n) before)
+
+-- a request without a target replaces nothing
+abbrev pub is_free : List Filing → List ℕ → Option ℕ → Bool
+is_free before filer None = true
+is_free before filer (Some n) = is_replaceable before filer n
+
 -- what is found in a request that comes after these filings
 unfoldable pub verdict : List Filing → Request → List Pair
-verdict before r = findings r.filer r.body
+verdict before r = amendment_findings r.filer r.body (is_free before r.filer r.target)
 
 -- a request in which nothing is found is registered under the next number
 abbrev pub outcome_by : List Pair → ℕ → Outcome

@@ -1,5 +1,5 @@
 -- The replies to answers and lists: their statuses, and their contents as compact JSON texts.
-use Rattle.std.specs.Prelude.{ℕ, List, [], ◌∷◌, map, codes, nat_eq, if◌then◌else◌, unwrap_or}
+use Rattle.std.specs.Prelude.{ℕ, List, [], ◌∷◌, map, codes, nat_eq, if◌then◌else◌, Option, Some, None, unwrap_or}
 use Rattle.serde_json.specs.Data.{Data, number, string, array, object, unsigned, Members, no_members, member}
 use Rattle.serde_json.specs.Written.{compact_text}
 use Rattle.serde_json.specs.View.{items_of}
@@ -75,9 +75,16 @@ reply_as style a = record { status = answer_status a; content = compact_text (an
 abbrev pub reply_of : Answer → ReplyParts
 reply_of a = reply_as Problem a
 
+-- a member with a number, where there is one, before others
+abbrev pub number_member : List ℕ → Option ℕ → Members → Members
+number_member name None more = more
+number_member name (Some n) more = member name (number (unsigned n)) more
+
 -- a filing in a list
 abbrev pub listing_data : Listing → Data
-listing_data l = object (member (codes "facts") (number (unsigned l.facts)) (member (codes "number") (number (unsigned l.number)) no_members))
+listing_data l =
+    object (member (codes "facts") (number (unsigned l.facts)) (member (codes "number") (number (unsigned l.number))
+    (number_member (codes "replaced_by") l.replaced_by (number_member (codes "replaces") l.replaces no_members))))
 
 -- filings, in order
 abbrev pub listings_data : List Listing → Data

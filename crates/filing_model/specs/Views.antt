@@ -1,5 +1,5 @@
 -- Answers, lists and requests without where they lie in memory.
-use Rattle.std.specs.Prelude.{ℕ, List}
+use Rattle.std.specs.Prelude.{ℕ, List, Option}
 use Rattle.filing_model.specs.declared.listing.FilingRow.{FilingRow as Row}
 use Rattle.filing_model.specs.declared.answer.Answer.{Answer as Given}
 use Rattle.filing_model.specs.declared.answer.Answer.TheVariants as given
@@ -15,8 +15,8 @@ view_answer (given.KeyReused style) = Answer.KeyReused
 
 -- a filing as it is listed
 abbrev pub view_row : Row → Listing
-view_row r = record { number = r.number; facts = r.facts }
+view_row r = record { number = r.number; facts = r.facts; replaced_by = r.replaced_by; replaces = r.replaces }
 
--- the request of this filer and key with this body
-abbrev pub the_request : List ℕ → List ℕ → List ℕ → Request
-the_request filer key body = record { filer = filer; key = key; body = body }
+-- the request of this filer and key with this body, which is to replace the filing of this number, if any
+abbrev pub the_request : List ℕ → List ℕ → Option ℕ → List ℕ → Request
+the_request filer key target body = record { filer = filer; key = key; target = target; body = body }

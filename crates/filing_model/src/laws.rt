@@ -2,7 +2,7 @@
 //! live here: functions that do nothing, each with a law about the definitions as its contract. The
 //! code that decides requests has contracts by the same definitions.
 
-ghost use Rattle.std.specs.Prelude.{◌≡◌, ◌≢◌, ◌↔◌, ℕ, ◌^◌, ◌<◌, ◌≤◌, Bool, true, List, [], ◌++◌, length, codes, Option, Some};
+ghost use Rattle.std.specs.Prelude.{◌≡◌, ◌≢◌, ◌↔◌, ℕ, ◌^◌, ◌<◌, ◌≤◌, Bool, true, List, [], ◌++◌, length, filter, codes, Option, Some};
 ghost use Rattle.http_wire.specs.declared.refusal.ConnFault.{ConnFault};
 ghost use Rattle.http_wire.specs.declared.reply.Kind.TheVariants.{Problem};
 ghost use Rattle.http_wire.specs.Head.{closes};
@@ -16,7 +16,7 @@ ghost use Rattle.filing_model.specs.declared.served.Mark.{Mark};
 ghost use Rattle.filing_model.specs.declared.served.Style.{Style};
 ghost use Rattle.filing_model.specs.declared.served.Style.TheVariants.{Old};
 ghost use Rattle.filing_model.specs.Request.{Request, has_key, firsts};
-ghost use Rattle.filing_model.specs.Register.{register};
+ghost use Rattle.filing_model.specs.Register.{is_amendment_of, register};
 ghost use Rattle.filing_model.specs.Answer.{answer};
 ghost use Rattle.filing_model.specs.Answer.Answer.{Registered, KeyReused};
 ghost use Rattle.filing_model.specs.Outbox.{Open, Confirmed, Clashed, moved};
@@ -43,6 +43,11 @@ pub fn repeat_changes_nothing()
 /// ones come behind it.
 pub fn register_grows()
     ensures { (requests more : List Request) → RegisterGrows requests more }
+{}
+
+/// A filing is replaced at most once: no two filings of the register replace one number.
+pub fn replaced_at_most_once()
+    ensures { (requests : List Request) (n : ℕ) → length (filter (is_amendment_of n) (register requests)) ≤ 1 }
 {}
 
 /// The first answer stands: whatever comes between and after, the same request gets the same status

@@ -9,6 +9,7 @@ use Rattle.key_string.specs.Key.{IsKey}
 use Rattle.http_wire.specs.Head.{max_body_len}
 use Rattle.http_wire.specs.Reply.{ReplyParts}
 use Rattle.http_wire.specs.Response.{GivesReply}
+use Rattle.http_wire.specs.Posting.{IsTarget}
 use Rattle.filing_model.specs.Request.{Request, firsts}
 use Rattle.filing_model.specs.Answer.{IsRegistered}
 use Rattle.filing_model.specs.Outbox.{State, Open, Confirmed, Refused, Clashed, moved, Entry, request_of, bytes_of}
@@ -125,8 +126,8 @@ turn_push limit done more before sent (output ∷ outputs) last out begins adds 
 
 -- ---- the events
 
-puts_box : (done : List Request) (box : Outbox) (entry : Entry) → IsKey entry.key → entry.state ≡ Open → IsSoundBox done box → IsSoundBox done (with_entry box entry) × KeepsBox box (with_entry box entry)
-puts_box done box entry is_key open' sound = ⊎_elim
+puts_box : (done : List Request) (box : Outbox) (entry : Entry) → IsKey entry.key → IsTarget entry.target → entry.state ≡ Open → IsSoundBox done box → IsSoundBox done (with_entry box entry) × KeepsBox box (with_entry box entry)
+puts_box done box entry is_key is_target open' sound = ⊎_elim
     (λ (h : takes box entry ≡ true). rw h (added (leb-true _ _ (and_parts _ _ h).0) (and_parts _ _ h).1))
     (λ (h : takes box entry ≡ false). rw h (sound, λ number which here. (which, here, refl)))
     (cases_Bool (takes box entry))
@@ -136,7 +137,7 @@ puts_box done box entry is_key open' sound = ⊎_elim
 
     fresh : length entry.body ≤ max_body_len → IsSound done box.filer entry
     fresh short = record {
-      sendable = record { filer = sound.is_filer'; key = is_key; body = short };
+      sendable = record { filer = sound.is_filer'; key = is_key; target = is_target; body = short };
       registered = λ n e. absurd (unconfirmed n (sym open' ∙ e));
     }
       where
@@ -178,7 +179,7 @@ pub keeps_put : (old : World) (outbox : ℕ) (entry : Entry) (new : World) → e
 keeps_put old outbox entry new open' keeps step = subst Keeps (sym step.becomes) after
   where
     parts : IsSoundBox old.done (with_entry step.box entry) × KeepsBox step.box (with_entry step.box entry)
-    parts = puts_box old.done step.box entry step.is_key open' (keeps.boxes outbox step.box step.here)
+    parts = puts_box old.done step.box entry step.is_key step.is_target open' (keeps.boxes outbox step.box step.here)
 
     after : Keeps (record old { outboxes = renewed old.outboxes outbox (with_entry step.box entry) })
     after = record {
@@ -379,7 +380,7 @@ keeps_restart old outbox new keeps step = subst Keeps (sym step.becomes) after
 
 -- whatever happens next, the world keeps it
 pub keeps_step : (old : World) (event : Event) (new : World) → Keeps old → Step old event new → Keeps new
-keeps_step old (Put outbox key body) new keeps step = keeps_put old outbox (record { key = key; body = body; state = Open }) new refl keeps step
+keeps_step old (Put outbox key target body) new keeps step = keeps_put old outbox (record { key = key; target = target; body = body; state = Open }) new refl keeps step
 keeps_step old (Send outbox entry) new keeps step = keeps_send old outbox entry new keeps step
 keeps_step old (Stranger bytes) new keeps step = subst Keeps (sym step) (keeps_sent old (record { from = None; bytes = bytes }) keeps (λ outbox number from. absurd (cc)))
 keeps_step old (Deliver item given crash) new keeps step = keeps_deliver old item given crash new keeps step

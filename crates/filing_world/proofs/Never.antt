@@ -21,6 +21,7 @@ use Rattle.filing_model.specs.Reply.{reply_as, reply_of, unavailable}
 use Rattle.filing_model.specs.Outbox.{State, bytes_of, IsSendable}
 use Rattle.filing_model.specs.Stopping.{Crash, BeginsPlaces}
 use Rattle.filing_model.specs.Text.{Filed, MarksFit, completed, requests_of_route, interim_of, reply_text, text, text_with}
+use Rattle.filing_model.proofs.Firsts.{same_target-is}
 use Rattle.filing_model.proofs.Finals.{answer-readable, unavailable-readable}
 use Rattle.filing_model.proofs.Keeping.{register_numbered}
 use Rattle.filing_model.proofs.Lists.{append_nil, take_prefix, take_all}
@@ -98,8 +99,8 @@ filed_as r (f ∷ fs) n e = ⊎_elim
     head : f.number ∷ map (λ g. g.number) (filter (λ g. same_request g.request r) fs) ≡ n ∷ [] → f.number ≡ n
     head e = cc
 
-abbrev request_by : List ℕ → List ℕ → List ℕ → Request
-request_by filer key body = record { filer = filer; key = key; body = body }
+abbrev request_by : List ℕ → List ℕ → Option ℕ → List ℕ → Request
+request_by filer key target body = record { filer = filer; key = key; target = target; body = body }
 
 same_is : (r s : Request) → same_request r s ≡ true → r ≡ s
 same_is r s h =
@@ -107,8 +108,10 @@ same_is r s h =
     let keys = and_parts _ _ parts.0 in
     let filer = (bytes_eq-Decides r.filer s.filer).0 keys.0 in
     let key = (bytes_eq-Decides r.key s.key).0 keys.1 in
-    let body = (bytes_eq-Decides r.body s.body).0 parts.1 in
-    λ i. request_by (filer i) (key i) (body i)
+    let content = and_parts _ _ parts.1 in
+    let body = (bytes_eq-Decides r.body s.body).0 content.0 in
+    let target = same_target-is r.target s.target content.1 in
+    λ i. request_by (filer i) (key i) (target i) (body i)
 
 -- a number is that of one request
 pub one_request : (done : List Request) (r s : Request) (n : ℕ) → numbers_of r (register done) ≡ n ∷ [] → numbers_of s (register done) ≡ n ∷ [] → r ≡ s

@@ -30,9 +30,10 @@ use Rattle.filing_world.proofs.Posting.{IsPosted}
 abbrev pub after_put : World → ℕ → Request → World
 after_put old outbox r = record old { outboxes = renewed old.outboxes outbox (outbox_with r Open) }
 
-pub plays_put : (old : World) (outbox : ℕ) (r : Request) → IsSendable r → numbered old.outboxes outbox ≡ Some (new_outbox r.filer) → Step old (Put outbox r.key r.body) (after_put old outbox r)
+pub plays_put : (old : World) (outbox : ℕ) (r : Request) → IsSendable r → numbered old.outboxes outbox ≡ Some (new_outbox r.filer) → Step old (Put outbox r.key r.target r.body) (after_put old outbox r)
 plays_put old outbox r sendable here = record {
   is_key = sendable.key;
+  is_target = sendable.target;
   box = new_outbox r.filer;
   here = here;
   up = refl;

@@ -40,15 +40,15 @@ IsAlone places ending r =
 -- the bytes that are sent for a request are one message, which files it
 pub posted : (r : Request) → IsSendable r → IsPosted r
 posted r sendable =
-    let place : List ℕ = place_of r.filer None in
+    let place : List ℕ = place_of r.filer r.target in
     record {
-      message = post_request r.filer None r.key r.body;
-      spells = post-spells r.filer None r.key r.body sendable.filer tt sendable.key sendable.body;
+      message = post_request r.filer r.target r.key r.body;
+      spells = post-spells r.filer r.target r.key r.body sendable.filer sendable.target sendable.key sendable.body;
       closes' = post_parts-closes place r.key (length r.body);
       alone = record {
-        filed = route-post (post_request r.filer None r.key r.body) r.filer r.key sendable.filer sendable.key (record {
+        filed = route-post (post_request r.filer r.target r.key r.body) r.filer r.target r.key sendable.filer sendable.target sendable.key (record {
           method = refl;
-          path = ap (λ p. codes "/filings/" ++ p) (append_nil r.filer);
+          path = refl;
           keys = post_parts-key place r.key (length r.body);
           uncoded = post_parts-uncoded place r.key (length r.body);
         });

@@ -23,11 +23,12 @@ settled_stays Clashed (Some reply) settled = refl
 -- an entry after another
 record IsSame (old new : Entry) : Type 0 where
   key : new.key ≡ old.key
+  target : new.target ≡ old.target
   body : new.body ≡ old.body
   settled : old.state ≢ Open → new.state ≡ old.state
 
 same_entry : (entry : Entry) → IsSame entry entry
-same_entry entry = record { key = refl; body = refl; settled = λ _. refl }
+same_entry entry = record { key = refl; target = refl; body = refl; settled = λ _. refl }
 
 -- an outbox after another
 abbrev IsLater : Outbox → Outbox → Type 0
@@ -54,7 +55,7 @@ later_heard box number entry heard crash here = (refl, each)
         (renewed_other box.entries number other now which there)
       where
         it_is : IsSame entry now
-        it_is = record { key = refl; body = refl; settled = settled_stays entry.state heard }
+        it_is = record { key = refl; target = refl; body = refl; settled = settled_stays entry.state heard }
 
 -- ---- all outboxes
 
@@ -69,6 +70,7 @@ all_same boxes new same outbox number box entry here there = record {
   still = entry;
   there = there;
   key = refl;
+  target = refl;
   body = refl;
   settled = λ _. refl;
 }
@@ -85,6 +87,7 @@ one_later boxes outbox old later new here is becomes which number box entry at t
       still = now.0;
       there = now.1;
       key = now.2.key;
+      target = now.2.target;
       body = now.2.body;
       settled = now.2.settled;
     })
@@ -92,8 +95,8 @@ one_later boxes outbox old later new here is becomes which number box entry at t
     (renewed_other boxes outbox which later box at)
 
 step_remains : (old : World) (event : Event) (new : World) → Step old event new → AllRemain old.outboxes new
-step_remains old (Put outbox key body) new step =
-    let entry : Entry = record { key = key; body = body; state = Open } in
+step_remains old (Put outbox key target body) new step =
+    let entry : Entry = record { key = key; target = target; body = body; state = Open } in
     one_later old.outboxes outbox step.box (with_entry step.box entry) new step.here (later_put step.box entry) (ap (λ (w : World). w.outboxes) step.becomes)
 step_remains old (Send outbox entry) new step = all_same old.outboxes new (ap (λ (w : World). w.outboxes) step.becomes)
 step_remains old (Stranger bytes) new step = all_same old.outboxes new (ap (λ (w : World). w.outboxes) step)
@@ -114,6 +117,7 @@ remains_on between new outbox number filer entry first second = record {
   still = second.still;
   there = second.there;
   key = second.key ∙ first.key;
+  target = second.target ∙ first.target;
   body = second.body ∙ first.body;
   settled = λ settled.
       let same = first.settled settled in

@@ -6,7 +6,7 @@ use Rattle.filing_world.specs.World.{Outbox, Sent}
 
 -- an outbox of the request's filer with this one entry
 abbrev pub entry_with : Request → State → Entry
-entry_with r state = record { key = r.key; body = r.body; state = state }
+entry_with r state = record { key = r.key; target = r.target; body = r.body; state = state }
 
 abbrev pub outbox_with : Request → State → Outbox
 outbox_with r state = record { filer = r.filer; entries = entry_with r state ∷ []; up = true }

@@ -16,6 +16,7 @@ use Rattle.http_wire.specs.Reply.{ReplyParts}
 use Rattle.http_wire.specs.Request.{Request as Message}
 use Rattle.http_wire.specs.Response.{GivesReply, BeginsReply}
 use Rattle.http_wire.proofs.UniqueReply.{BeginsReply-more, BeginsReply-unique}
+use Rattle.http_wire.specs.Posting.{IsTarget}
 use Rattle.filing_model.specs.declared.served.Mark.{Mark}
 use Rattle.filing_model.specs.declared.served.Mark.TheVariants.{Done, Unavailable, NotFiled}
 use Rattle.filing_model.specs.declared.served.Ended.{Ended}
@@ -37,10 +38,10 @@ use Rattle.filing_world.proofs.Posting.{posted, own_front, never_whole, never_re
 
 -- ---- what can be played
 
-pub can_put : (old : World) (outbox : ℕ) (box : Outbox) (key body : List ℕ) → numbered old.outboxes outbox ≡ Some box → box.up ≡ true → IsKey key → (new : World) × Step old (Put outbox key body) new
-can_put old outbox box key body here up is_key = (
-  record old { outboxes = renewed old.outboxes outbox (with_entry box (record { key = key; body = body; state = Open })) },
-  record { is_key = is_key; box = box; here = here; up = up; becomes = refl },
+pub can_put : (old : World) (outbox : ℕ) (box : Outbox) (key : List ℕ) (target : Option ℕ) (body : List ℕ) → numbered old.outboxes outbox ≡ Some box → box.up ≡ true → IsKey key → IsTarget target → (new : World) × Step old (Put outbox key target body) new
+can_put old outbox box key target body here up is_key is_target = (
+  record old { outboxes = renewed old.outboxes outbox (with_entry box (record { key = key; target = target; body = body; state = Open })) },
+  record { is_key = is_key; is_target = is_target; box = box; here = here; up = up; becomes = refl },
 )
 
 pub can_send : (old : World) (outbox number : ℕ) (box : Outbox) (entry : Entry) → numbered old.outboxes outbox ≡ Some box → box.up ≡ true → numbered box.entries number ≡ Some entry → (new : World) × Step old (Send outbox number) new
@@ -58,12 +59,12 @@ can_restart old outbox box here = (
   renewed_numbered old.outboxes outbox (record box { up = true }) box here,
 )
 
-pub put_adds : (old new : World) (outbox : ℕ) (box : Outbox) (key body : List ℕ) → numbered old.outboxes outbox ≡ Some box → length body ≤ max_body_len → ((number : ℕ) (entry : Entry) → numbered box.entries number ≡ Some entry → entry.key ≢ key)
-    → Step old (Put outbox key body) new → numbered new.outboxes outbox ≡ Some (record box { entries = box.entries ++ record { key = key; body = body; state = Open } ∷ [] })
-put_adds old new outbox box key body here short unused step = there ∙ ap Some with_it
+pub put_adds : (old new : World) (outbox : ℕ) (box : Outbox) (key : List ℕ) (target : Option ℕ) (body : List ℕ) → numbered old.outboxes outbox ≡ Some box → length body ≤ max_body_len → ((number : ℕ) (entry : Entry) → numbered box.entries number ≡ Some entry → entry.key ≢ key)
+    → Step old (Put outbox key target body) new → numbered new.outboxes outbox ≡ Some (record box { entries = box.entries ++ record { key = key; target = target; body = body; state = Open } ∷ [] })
+put_adds old new outbox box key target body here short unused step = there ∙ ap Some with_it
   where
     entry : Entry
-    entry = record { key = key; body = body; state = Open }
+    entry = record { key = key; target = target; body = body; state = Open }
 
     is : step.box ≡ box
     is = same_element (numbered old.outboxes outbox) step.box box step.here here
@@ -83,7 +84,7 @@ few_of_route : (to : Route) (mark : Mark) → length (requests_of_route to mark)
 few_of_route (Filed r) Done = omega arith
 few_of_route (Filed r) Unavailable = omega arith
 few_of_route (Filed r) NotFiled = omega arith
-few_of_route (Listed filer) mark = omega arith
+few_of_route (Listed filer number) mark = omega arith
 few_of_route (Told reply) mark = omega arith
 
 few_at : (place : Place) (mark : Mark) → length (completed_at place mark) ≤ 1
@@ -301,7 +302,7 @@ module _ (old new : World) (output given outbox number : ℕ) (crash : Crash) (f
 
   pub outbox_down : crash ≢ No → IsDown new outbox
   outbox_down stops = record {
-    puts = λ key body. away;
+    puts = λ key target body. away;
     sends = λ entry. inl away;
     hands = λ another more place again other answer. inr (other, answer.item, answer.here, answer.item_here, inr (outbox, place, answer.sender, away));
   }

@@ -12,6 +12,7 @@ use Rattle.filing_model.specs.declared.served.Style.TheVariants.{Problem}
 use Rattle.filing_model.specs.Reply.{reply_of}
 use Rattle.filing_model.specs.Outbox.{Open, Confirmed, Clashed, moved}
 use Rattle.filing_model.proofs.Answers.{answer_stable, answer_new, answer_kept, reply_as-as_repeat}
+use Rattle.xbrl_report.proofs.FindingLaws.{free-findings}
 use Rattle.filing_model.proofs.Contents.{moved-reused}
 use Rattle.filing_model.proofs.Finals.{answer-readable, told-confirms}
 use Rattle.filing_model.proofs.Firsts.{firsts_short}
@@ -23,14 +24,14 @@ use Rattle.filing_world.specs.Schedules.{IsGood, filing_of, registered_bytes, cl
 module _ (r : Request) (good : IsGood r) where
   pub answer_first : answer [] r ≡ Answer.Registered 1 false
   unfolding firsts kept_after filings verdict
-  answer_first = answer_new [] r refl ∙ rw good.valid refl
+  answer_first = answer_new [] r refl ∙ rw (good.untargeted, free-findings r.filer r.body, good.valid) refl
 
   pub told_first : moved Open (reply_of (answer [] r)) ≡ Confirmed 1
   told_first = ap (λ a. moved Open (reply_of a)) answer_first ∙ told-confirms Problem 1 false (omega arith) (omega arith)
 
   pub registered_one : register (r ∷ []) ≡ filing_of r ∷ []
   unfolding firsts kept_after filings verdict
-  registered_one = rw good.valid refl
+  registered_one = rw (good.untargeted, free-findings r.filer r.body, good.valid) refl
 
   answer_again : answer (r ∷ []) r ≡ Answer.Registered 1 true
   answer_again = answer_stable [] r [] ∙ ap as_repeat answer_first
@@ -64,7 +65,7 @@ module _ (first second : Request) (filer : first.filer ≡ second.filer) (key : 
   differs : second.body ≢ first.body → same_content first second ≡ false
   differs other = ⊎_elim
       (λ (h : bytes_eq first.body second.body ≡ true). absurd (other (sym ((bytes_eq-Decides first.body second.body).0 h))))
-      (λ (h : bytes_eq first.body second.body ≡ false). h)
+      (λ (h : bytes_eq first.body second.body ≡ false). rw h refl)
       (cases_Bool (bytes_eq first.body second.body))
 
   reused : second.body ≢ first.body → answer (first ∷ []) second ≡ Answer.KeyReused

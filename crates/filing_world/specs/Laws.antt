@@ -1,5 +1,5 @@
 -- What the laws over every step and every run say.
-use Rattle.std.specs.Prelude.{◌≡◌, ◌≢◌, ◌≤◌, ℕ, List, [], ◌∷◌, ◌++◌, length, take, min, Some}
+use Rattle.std.specs.Prelude.{◌≡◌, ◌≢◌, ◌≤◌, ℕ, List, Option, [], ◌∷◌, ◌++◌, length, take, min, Some}
 use Rattle.http_wire.specs.Message.{Place}
 use Rattle.filing_model.specs.Request.{Request}
 use Rattle.filing_model.specs.Outbox.{Open, Entry}
@@ -16,6 +16,7 @@ pub record Remains (world : World) (outbox number : ℕ) (filer : List ℕ) (ent
   pub still : Entry
   pub there : numbered box.entries number ≡ Some still
   pub key : still.key ≡ entry.key
+  pub target : still.target ≡ entry.target
   pub body : still.body ≡ entry.body
   pub settled : entry.state ≢ Open → still.state ≡ entry.state
 
@@ -45,6 +46,6 @@ pub record IsAnswerTo (world : World) (output : ℕ) (from : Output) (outbox num
 
 -- nothing can be put into the outbox, sent from it or handed to it
 pub record IsDown (world : World) (outbox : ℕ) : Type 0 where
-  pub puts : (key body : List ℕ) → CannotPlay world (Put outbox key body)
+  pub puts : (key : List ℕ) (target : Option ℕ) (body : List ℕ) → CannotPlay world (Put outbox key target body)
   pub sends : (entry : ℕ) → CannotPlay world (Send outbox entry)
   pub hands : (output given number : ℕ) (crash : Crash) (from : Output) → IsAnswerTo world output from outbox number → CannotPlay world (Hand output given crash)

@@ -1,5 +1,5 @@
 -- Worked schedules: a few events each, with one entry in each outbox.
-use Rattle.std.specs.Prelude.{◌≡◌, ◌≢◌, ℕ, ◌≤◌, true, false, List, [], ◌∷◌, length, map, codes}
+use Rattle.std.specs.Prelude.{◌≡◌, ◌≢◌, ℕ, ◌≤◌, true, false, List, [], ◌∷◌, length, map, codes, None}
 use Rattle.xbrl_report.specs.Findings.{findings}
 use Rattle.http_wire.specs.Reply.{render}
 use Rattle.filing_model.specs.Request.{Request}
@@ -12,14 +12,15 @@ use Rattle.filing_world.specs.World.{World, Event, Put, Send, Stranger, Deliver,
 use Rattle.filing_world.specs.Headline.{states}
 use Rattle.filing_world.specs.Step.{Run}
 
--- a report that can be sent, and in which nothing is found
+-- a report that can be sent, in which nothing is found, and which replaces none
 pub record IsGood (r : Request) : Type 0 where
   pub sendable : IsSendable r
+  pub untargeted : r.target ≡ None
   pub valid : findings r.filer r.body ≡ []
 
 -- a small report of this kind
 abbrev pub small : Request
-small = record { filer = codes "ACME"; key = codes "k-1"; body = codes "{\"documentInfo\":{\"documentType\":\"https://xbrl.org/2021/xbrl-json\",\"taxonomy\":[\"t\"]}}" }
+small = record { filer = codes "ACME"; key = codes "k-1"; target = None; body = codes "{\"documentInfo\":{\"documentType\":\"https://xbrl.org/2021/xbrl-json\",\"taxonomy\":[\"t\"]}}" }
 
 -- the filing of a report, where it is the first
 abbrev pub filing_of : Request → Filing
@@ -52,7 +53,7 @@ MayLeave old events done filings outputs known = (new : World) × Run old events
 
 -- one outbox, with its report in it, sent once
 abbrev pub sent_once : Request → List Event → List Event
-sent_once r events = Put 1 r.key r.body ∷ Send 1 1 ∷ events
+sent_once r events = Put 1 r.key r.target r.body ∷ Send 1 1 ∷ events
 
 -- the intake is stopped behind its commit, and both ends are restarted; the report is sent again, and its reply is cut at first
 abbrev pub stopped_and_sent_again : Request → ℕ → ℕ → List Event
@@ -86,12 +87,12 @@ stopped_hearing r all crash = sent_once r (Deliver 1 all No ∷ Hand 1 all crash
 -- a stranger sends the very request first, and it is completed before the entry's
 abbrev pub stranger_first : Request → ℕ → List Event
 stranger_first r all =
-    Stranger (bytes_of r) ∷ Deliver 1 all No ∷ Put 1 r.key r.body ∷ Send 1 1 ∷ Deliver 2 all No ∷ Hand 2 all No ∷ []
+    Stranger (bytes_of r) ∷ Deliver 1 all No ∷ Put 1 r.key r.target r.body ∷ Send 1 1 ∷ Deliver 2 all No ∷ Hand 2 all No ∷ []
 
 -- two outboxes file under one key; the second's request comes first, and its reply is handed over twice
 abbrev pub two_outboxes : Request → Request → ℕ → List Event
 two_outboxes first second all =
-    Put 1 first.key first.body ∷ Put 2 second.key second.body ∷ Send 1 1 ∷ Send 2 1 ∷ Deliver 2 all No ∷ Deliver 1 all No ∷ Hand 2 all No ∷ Hand 1 all No ∷ Hand 1 all No ∷ []
+    Put 1 first.key first.target first.body ∷ Put 2 second.key second.target second.body ∷ Send 1 1 ∷ Send 2 1 ∷ Deliver 2 all No ∷ Deliver 1 all No ∷ Hand 2 all No ∷ Hand 1 all No ∷ Hand 1 all No ∷ []
 
 -- the requests of one filer under one key, with two bodies
 pub record AreRivals (first second : Request) : Type 0 where

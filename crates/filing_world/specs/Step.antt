@@ -9,6 +9,7 @@ use Rattle.http_wire.specs.Reply.{ReplyParts}
 use Rattle.http_wire.specs.Response.{GivesReply}
 use Rattle.filing_model.specs.declared.served.Mark.{Mark}
 use Rattle.filing_model.specs.declared.served.Ended.{Ended}
+use Rattle.http_wire.specs.Posting.{IsTarget}
 use Rattle.filing_model.specs.Outbox.{State, Open, moved, Entry, request_of, bytes_of}
 use Rattle.filing_model.specs.Stopping.{Crash, No, Before, After, ServesUntil}
 use Rattle.filing_model.specs.Text.{completed}
@@ -33,6 +34,7 @@ with_entry box entry = if takes box entry then record box { entries = box.entrie
 -- a report is put into an outbox that is up
 pub record Puts (old : World) (outbox : ℕ) (entry : Entry) (new : World) : Type 0 where
   pub is_key : IsKey entry.key
+  pub is_target : IsTarget entry.target
   pub box : Outbox
   pub here : numbered old.outboxes outbox ≡ Some box
   pub up : box.up ≡ true
@@ -113,7 +115,7 @@ pub record Restarts (old : World) (outbox : ℕ) (new : World) : Type 0 where
 
 -- what the world may be after an event
 abbrev pub Step : World → Event → World → Type 0
-Step old (Put outbox key body) new = Puts old outbox (record { key = key; body = body; state = Open }) new
+Step old (Put outbox key target body) new = Puts old outbox (record { key = key; target = target; body = body; state = Open }) new
 Step old (Send outbox entry) new = Sends old outbox entry new
 Step old (Stranger bytes) new = new ≡ record old { sent = old.sent ++ record { from = None; bytes = bytes } ∷ [] }
 Step old (Deliver item given crash) new = Delivers old item given crash new
@@ -134,7 +136,7 @@ IsAway outboxes outbox = (box : Outbox) → numbered outboxes outbox ≡ Some bo
 
 -- A number names nothing, an output answers a stranger, or an end that the event needs is down.
 abbrev pub CannotPlay : World → Event → Type 0
-CannotPlay world (Put outbox key body) = IsAway world.outboxes outbox
+CannotPlay world (Put outbox key target body) = IsAway world.outboxes outbox
 CannotPlay world (Send outbox entry) = IsAway world.outboxes outbox ⊎ ((box : Outbox) → numbered world.outboxes outbox ≡ Some box → numbered box.entries entry ≡ None)
 CannotPlay world (Stranger bytes) = ⊥
 CannotPlay world (Deliver item given crash) = (world.up ≡ false) ⊎ (numbered world.sent item ≡ None)

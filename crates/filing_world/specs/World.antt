@@ -39,7 +39,7 @@ pub record World : Type 0 where
 -- Outboxes, entries, items and outputs are named by their numbers, from 1 on. A delivery and a reply that is handed over give
 -- so many bytes, or all where there are fewer.
 pub data Event : Type 0 where
-  Put : (outbox : ℕ) (key body : List ℕ) → Event
+  Put : (outbox : ℕ) (key : List ℕ) (target : Option ℕ) (body : List ℕ) → Event
   Send : (outbox entry : ℕ) → Event
   Stranger : (bytes : List ℕ) → Event
   Deliver : (item bytes : ℕ) → Crash → Event

@@ -1,13 +1,14 @@
 //! Laws over every step. What may live here: functions that do nothing, each with a law as its
 //! contract that holds of a step of any world, reached or not.
 
-ghost use Rattle.std.specs.Prelude.{◌≡◌, ◌≢◌, ◌⊎◌, ◌↔◌, ◌<◌, ◌≤◌, ◌-◌, ℕ, List, [], ◌∷◌, ◌++◌, length, take, max, true, Some, None};
+ghost use Rattle.std.specs.Prelude.{◌≡◌, ◌≢◌, ◌⊎◌, ◌↔◌, ◌<◌, ◌≤◌, ◌-◌, ℕ, List, Option, [], ◌∷◌, ◌++◌, length, take, max, true, Some, None};
 ghost use Rattle.key_string.specs.Key.{IsKey};
 ghost use Rattle.http_wire.specs.Head.{max_body_len};
 ghost use Rattle.http_wire.specs.Received.{max_reads};
 ghost use Rattle.http_wire.specs.Reply.{ReplyParts};
 ghost use Rattle.http_wire.specs.Response.{GivesReply};
 ghost use Rattle.filing_model.specs.Request.{Request};
+ghost use Rattle.http_wire.specs.Posting.{IsTarget};
 ghost use Rattle.filing_model.specs.Outbox.{State, Open, Entry, moved, IsSendable, request_of, bytes_of};
 ghost use Rattle.filing_model.specs.Stopping.{Crash, No, Before, After};
 ghost use Rattle.filing_world.specs.World.{World, Outbox, Output, Sent, Put, Send, Stranger, Deliver, Hand, RestartServer, RestartOutbox, numbered};
@@ -15,11 +16,11 @@ ghost use Rattle.filing_world.specs.Step.{Step, CannotPlay};
 ghost use Rattle.filing_world.specs.Headline.{HasEntry, states};
 ghost use Rattle.filing_world.specs.Laws.{AddsAtMost, IsDelivered, IsAnswerTo, IsDown};
 
-/// What can be played where its end is up: a key and a body are put, a request is sent for any entry,
+/// What can be played where its end is up: a key, a target and a body are put, a request is sent for any entry,
 /// whatever its state, and a stranger sends any bytes. An end that is down, or up, is restarted.
 pub fn can_be_played()
-    ensures puts { (old : World) (outbox : ℕ) (box : Outbox) (key body : List ℕ)
-        → numbered old.outboxes outbox ≡ Some box → box.up ≡ true → IsKey key → (new : World) × Step old (Put outbox key body) new }
+    ensures puts { (old : World) (outbox : ℕ) (box : Outbox) (key : List ℕ) (target : Option ℕ) (body : List ℕ)
+        → numbered old.outboxes outbox ≡ Some box → box.up ≡ true → IsKey key → IsTarget target → (new : World) × Step old (Put outbox key target body) new }
     ensures sends { (old : World) (outbox number : ℕ) (box : Outbox) (entry : Entry)
         → numbered old.outboxes outbox ≡ Some box → box.up ≡ true → numbered box.entries number ≡ Some entry
         → (new : World) × Step old (Send outbox number) new
@@ -34,11 +35,11 @@ pub fn can_be_played()
 /// A report that is put stands behind the entries of its outbox, and is open, unless its body is too
 /// long or its key is used.
 pub fn adds_what_is_put()
-    ensures { (old new : World) (outbox : ℕ) (box : Outbox) (key body : List ℕ)
+    ensures { (old new : World) (outbox : ℕ) (box : Outbox) (key : List ℕ) (target : Option ℕ) (body : List ℕ)
         → numbered old.outboxes outbox ≡ Some box → length body ≤ max_body_len
         → ((number : ℕ) (entry : Entry) → numbered box.entries number ≡ Some entry → entry.key ≢ key)
-        → Step old (Put outbox key body) new
-        → numbered new.outboxes outbox ≡ Some (record box { entries = box.entries ++ record { key = key; body = body; state = Open } ∷ [] }) }
+        → Step old (Put outbox key target body) new
+        → numbered new.outboxes outbox ≡ Some (record box { entries = box.entries ++ record { key = key; target = target; body = body; state = Open } ∷ [] }) }
 {}
 
 /// What a delivery completes. Of an entry's request it is that one request or nothing, and nothing

@@ -1,5 +1,6 @@
 //! Reports, what is found in them, and their facts.
 
+mod amendments;
 mod examples;
 mod extremes;
 mod lists;
@@ -9,7 +10,7 @@ mod texts;
 use std::alloc::{AllocError, Global};
 use std::process::Abort;
 use std::test::Fail;
-use xbrl_report::{Fact, Finding, Judged, judge};
+use xbrl_report::{Fact, Finding, Judged, judge, judge_amendment};
 
 /// The start of a report that has no findings, and goes on after its taxonomy.
 const START: &str =
@@ -42,7 +43,19 @@ fn listed(alloc: Global, findings: &[Finding]) -> Result<String, Fail> {
 
 /// What is said of a body of ACME: how many facts it has, or what is found in it.
 fn told(alloc: Global, body: &str) -> Result<String, Fail> {
-    match judge(alloc, "ACME", body.as_bytes())? {
+    said_of(alloc, &judge(alloc, "ACME", body.as_bytes())?)
+}
+
+/// The same of one that is to replace a filing, which is free to be replaced or not.
+fn told_if(alloc: Global, body: &str, free: bool) -> Result<String, Fail> {
+    said_of(
+        alloc,
+        &judge_amendment(alloc, "ACME", body.as_bytes(), free)?,
+    )
+}
+
+fn said_of(alloc: Global, judged: &Judged) -> Result<String, Fail> {
+    match judged {
         Judged::Valid(report) => {
             let count = report.fact_count();
             Ok(format!(in alloc; "facts: {count}")?)

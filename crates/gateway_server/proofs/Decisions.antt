@@ -1,5 +1,5 @@
 -- What could not be answered changes nothing.
-use Rattle.std.proofs.Common.{◌≡◌, ℕ, Bool, true, false, List, refl, sym, subst, IfOk, Result}
+use Rattle.std.proofs.Common.{◌≡◌, ℕ, Bool, true, false, List, Option, refl, sym, subst, IfOk, Result}
 use Rattle.std.specs.declared.alloc.AllocError.{AllocError}
 use Rattle.http_wire.specs.declared.reply.Reply.{Reply}
 use Rattle.http_wire.specs.Replies.{reply_parts}
@@ -21,8 +21,8 @@ decides limit early requests to d is fit kept = record {
   reply = subst (λ (m : Mark). IfOk d.reply (λ r. reply_parts r ≡ marked_reply early requests to m)) (sym is.mark) is.reply;
 }
 
-pub Decides-listed_unavailable : (limit : ℕ) (early requests : List Request) (filer : List ℕ) (d : Decided) → IsUnavailable d → Decides limit early requests requests (Listed filer) d
-Decides-listed_unavailable limit early requests filer d is = decides limit early requests (Listed filer) d is tt refl
+pub Decides-listed_unavailable : (limit : ℕ) (early requests : List Request) (filer : List ℕ) (number : Option ℕ) (d : Decided) → IsUnavailable d → Decides limit early requests requests (Listed filer number) d
+Decides-listed_unavailable limit early requests filer number d is = decides limit early requests (Listed filer number) d is tt refl
 
 pub Decides-filed_unavailable : (limit : ℕ) (early requests : List Request) (r : Request) (d : Decided) → IsUnavailable d → Decides limit early requests requests (Filed r) d
 Decides-filed_unavailable limit early requests r d is = decides limit early requests (Filed r) d is tt refl

@@ -1,7 +1,9 @@
 pub mod Progress
 pub mod Keys
+pub mod Numbers
 pub mod Statuses
 pub mod Decisions
+pub mod Listed
 pub mod Places
 pub mod Answering
 pub mod Continuing

@@ -6,6 +6,7 @@ use Rattle.key_string.specs.Filer.{is_filer}
 use Rattle.key_string.specs.Key.{key_of_field}
 use Rattle.http_wire.specs.declared.inbox.Message.{Message as Lent}
 use Rattle.http_wire.specs.Request.{Request as Message}
+use Rattle.http_wire.specs.Posting.{IsTarget}
 use Rattle.filing_model.specs.Reply.{word_reply}
 use Rattle.filing_model.specs.Text.{Route}
 use Rattle.filing_model.specs.Views.{the_request}
@@ -36,14 +37,14 @@ told_word KeyBad = codes "key-bad"
 -- what a message with this body asks for
 abbrev pub view_route : Asked → List ℕ → Route
 view_route (asked.Told why) body = Route.Told (word_reply (told_status why) (told_word why))
-view_route (asked.Listed filer) body = Route.Listed filer.now
-view_route (asked.Filed filer key) body = Route.Filed (the_request filer.now key body)
+view_route (asked.Listed filer number) body = Route.Listed filer.now number
+view_route (asked.Filed filer target key) body = Route.Filed (the_request filer.now key target body)
 
--- the code is a filer's
+-- the code is a filer's, and the number one that a filing may have
 abbrev pub HasFiler : Asked → Type 0
 HasFiler (asked.Told why) = Unit {0}
-HasFiler (asked.Listed filer) = Unit {0}
-HasFiler (asked.Filed filer key) = is_filer filer.now ≡ true
+HasFiler (asked.Listed filer number) = Unit {0}
+HasFiler (asked.Filed filer target key) = (is_filer filer.now ≡ true) × IsTarget target
 
 abbrev pub key_field : List ℕ
 key_field = codes "idempotency-key"

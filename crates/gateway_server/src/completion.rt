@@ -84,12 +84,13 @@ fn push_filed(alloc: Global, message: &Message, list: &mut Vec<Completed>) -> Re
 {
     let asked = route_of(alloc, message)?;
     list.reserve(1)?;
-    if let Route::Filed(filer, key) = asked {
+    if let Route::Filed(filer, target, key) = asked {
         let mut body = Vec::new(alloc);
         body.extend_from_slice(message.body)?;
         list.push_reserved(Completed {
             filer: String::from_str(alloc, filer)?,
             key: String::from_str(alloc, key.as_str())?,
+            target,
             body,
         });
     }

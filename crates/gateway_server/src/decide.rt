@@ -1,17 +1,20 @@
 //! What a message gets: its mark, and its reply.
 
-ghost use Rattle.std.specs.Prelude.{◌≡◌, ◌≤◌, length, true, IfOk};
+ghost use Rattle.std.specs.Prelude.{◌≡◌, ◌≤◌, ℕ, List, length, map, true, None, IfOk};
 ghost use Rattle.key_string.specs.Filer.{is_filer};
 ghost use Rattle.http_wire.specs.Head.{max_body_len};
+ghost use Rattle.http_wire.specs.Posting.{IsTarget};
 ghost use Rattle.http_wire.specs.Replies.{reply_parts};
 ghost use Rattle.filing_model.specs.Text.{Listed as AsksList, Filed as AsksFiling, bare};
-ghost use Rattle.filing_model.specs.Views.{the_request};
+ghost use Rattle.filing_model.specs.Listing.{listings};
+ghost use Rattle.filing_model.specs.Register.{Filing};
+ghost use Rattle.filing_model.specs.Views.{the_request, view_row};
 ghost use Rattle.gateway_server.specs.Route.{view_route, HasFiler};
 ghost use Rattle.intake_core.specs.Held.{limit_of, IsClean, Turns};
 ghost use Rattle.gateway_server.specs.Decided.{told_reply, Decides, IsUnavailable, IsPhrased};
 
 use crate::route::{Route, Told};
-use filing_model::Mark;
+use filing_model::{FilingRow, Mark};
 use http_wire::{Kind, Reply};
 use intake_core::{Intake, list_reply, reply_of, word_reply};
 use key_string::KeyText;
@@ -45,8 +48,8 @@ pub(crate) fn decide<S: Alter>(
             mark: Mark::NotFiled,
             reply: told_reply(alloc, why, is_bare),
         },
-        Route::Listed(filer) => list(alloc, intake, filer),
-        Route::Filed(filer, key) => file(alloc, intake, filer, &key, body),
+        Route::Listed(filer, number) => list(alloc, intake, filer, number),
+        Route::Filed(filer, target, key) => file(alloc, intake, filer, target, &key, body),
     }
 }
 
@@ -64,17 +67,37 @@ fn told_reply(alloc: Global, why: Told, is_bare: bool) -> Result<Reply, AllocErr
     }
 }
 
-fn list<S: Alter>(alloc: Global, intake: &mut Intake<S>, filer: &str) -> Decided
-    ensures decided { Turns S.Store intake.old intake.new (λ early before after. Decides (limit_of intake.old) early before after (AsksList filer.now) result) }
+/// Of a filer's list the filing of this number alone, if one is named.
+fn listed(rows: Vec<FilingRow>, number: Option<u64>) -> Vec<FilingRow>
+    ensures { (filer : List ℕ) (filings : List Filing) → map view_row rows.items ≡ listings filer None filings → map view_row result.items ≡ listings filer number filings }
+{
+    let Some(number) = number else {
+        return rows;
+    };
+    let mut rows = rows;
+    rows.retain(|row| row.number == number);
+    rows
+}
+
+fn list<S: Alter>(
+    alloc: Global,
+    intake: &mut Intake<S>,
+    filer: &str,
+    number: Option<u64>,
+) -> Decided
+    ensures decided { Turns S.Store intake.old intake.new (λ early before after. Decides (limit_of intake.old) early before after (AsksList filer.now number) result) }
     ensures phrase { IsPhrased result }
     ensures clean { IsClean S.Store intake.new → IsClean S.Store intake.old }
     ensures limit { limit_of intake.new ≡ limit_of intake.old }
 {
     match intake.list(filer) {
-        Ok(rows) => Decided {
-            mark: Mark::NotFiled,
-            reply: list_reply(alloc, &rows),
-        },
+        Ok(rows) => {
+            let rows = listed(rows, number);
+            Decided {
+                mark: Mark::NotFiled,
+                reply: list_reply(alloc, &rows),
+            }
+        }
         Err(_) => unavailable(alloc),
     }
 }
@@ -83,17 +106,19 @@ fn file<S: Alter>(
     alloc: Global,
     intake: &mut Intake<S>,
     filer: &str,
+    target: Option<u64>,
     key: &KeyText,
     body: &[u8],
 ) -> Decided
     requires filer { is_filer filer.now ≡ true }
+    requires target { IsTarget target }
     requires body { length body.now ≤ max_body_len }
-    ensures decided { Turns S.Store intake.old intake.new (λ early before after. Decides (limit_of intake.old) early before after (AsksFiling (the_request filer.now key.now body.now)) result) }
+    ensures decided { Turns S.Store intake.old intake.new (λ early before after. Decides (limit_of intake.old) early before after (AsksFiling (the_request filer.now key.now target body.now)) result) }
     ensures phrase { IsPhrased result }
     ensures clean { IsClean S.Store intake.new → IsClean S.Store intake.old }
     ensures limit { limit_of intake.new ≡ limit_of intake.old }
 {
-    match intake.submit(filer, key, body) {
+    match intake.submit(filer, target, key, body) {
         Ok(answer) => Decided {
             mark: Mark::Done,
             reply: reply_of(alloc, &answer),

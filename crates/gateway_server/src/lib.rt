@@ -6,6 +6,7 @@ mod answer;
 mod completion;
 mod decide;
 mod line;
+mod path;
 mod route;
 mod serving;
 mod stop;

@@ -1,17 +1,17 @@
 //! What a message asks for, before any register is looked at.
 
-ghost use Rattle.std.specs.Prelude.{◌≡◌, ◌∷◌, [], true, option_map, IfOk, IfSome, MatchResult};
+ghost use Rattle.std.specs.Prelude.{◌≡◌, ◌∷◌, [], true, option_map, IfOk, MatchResult};
 ghost use Rattle.key_string.specs.Filer.{is_filer};
 ghost use Rattle.http_wire.specs.Head.{values_named};
-ghost use Rattle.filing_model.specs.Text.{route, route_by_filer, route_by_method, filer_of_path, is_head, bare};
+ghost use Rattle.http_wire.specs.Posting.{IsTarget};
+ghost use Rattle.filing_model.specs.Text.{route, route_by_place, route_by_method, is_head, bare};
 ghost use Rattle.filing_model.specs.Views.{the_request};
 ghost use Rattle.gateway_server.specs.Route.{told_status, told_word, view_route, view_message, HasFiler, key_field, IsKeyOf, NoKeyOf, no_key};
 
+use crate::path::{FilingsPath, read_path};
 use http_wire::{Head, Message, has_content_coding};
-use key_string::{KeyFault, KeyText, read_filer, read_key};
+use key_string::{KeyFault, KeyText, read_key};
 use std::alloc::{AllocError, Global};
-
-const FILINGS: &[u8] = b"/filings/";
 
 /// Why a message is answered without the register.
 #[derive(Clone, Copy, Debug, PartialEq, Eq)]
@@ -53,10 +53,10 @@ impl Told {
 pub(crate) enum Route<'a> {
     /// An answer that depends on the message alone.
     Told(Told),
-    /// The list of this filer's filings.
-    Listed(&'a str),
-    /// That its body be filed under this filer and key.
-    Filed(&'a str, KeyText),
+    /// The list of this filer's filings, or the one of this number alone.
+    Listed(&'a str, Option<u64>),
+    /// That its body be filed under this filer and key, to replace the filing of this number, if there is one.
+    Filed(&'a str, Option<u64>, KeyText),
 }
 
 /// Why a message has no usable key.
@@ -84,8 +84,8 @@ pub(crate) fn route_of<'a>(alloc: Global, message: &Message<'a>) -> Result<Route
     ensures filer { IfOk result HasFiler }
     ensures asked { IfOk result (λ r. route (view_message message.now) ≡ bare (is_head (view_message message.now)) (view_route r message.now.body.now)) }
 {
-    match filer_of_path(message.head.path()) {
-        Some(filer) => route_by_method(alloc, message, filer),
+    match read_path(message.head.path()) {
+        Some(named) => route_by_method(alloc, message, named),
         None => Ok(Route::Told(Told::NoPath)),
     }
 }
@@ -97,24 +97,16 @@ pub(crate) fn is_head(message: &Message) -> bool
     message.head.method() == b"HEAD".as_slice()
 }
 
-/// The filer code behind `/filings/`.
-fn filer_of_path(path: &[u8]) -> Option<&str>
-    ensures value { option_map (λ filer. filer.now) result ≡ filer_of_path path.now }
-    ensures filer { IfSome result (λ filer. is_filer filer.now ≡ true) }
-{
-    let code = path.strip_prefix(FILINGS)?;
-    read_filer(code)
-}
-
-/// What a message to the path of this filer asks for.
+/// What a message to this path of filings asks for.
 fn route_by_method<'a>(
     alloc: Global,
     message: &Message<'a>,
-    filer: &'a str,
+    named: FilingsPath<'a>,
 ) -> Result<Route<'a>, AllocError>
-    requires { is_filer filer.now ≡ true }
+    requires filer { is_filer named.filer.now ≡ true }
+    requires number { IsTarget named.number }
     ensures filer { IfOk result HasFiler }
-    ensures asked { IfOk result (λ r. view_route r message.now.body.now ≡ route_by_method filer.now (view_message message.now)) }
+    ensures asked { IfOk result (λ r. view_route r message.now.body.now ≡ route_by_method named.entry.filer.now named.entry.number (view_message message.now)) }
 {
     let is_post = message.head.method() == b"POST".as_slice();
     let is_get = message.head.method() == b"GET".as_slice();
@@ -125,10 +117,10 @@ fn route_by_method<'a>(
         return Ok(Route::Told(Told::ContentCoding));
     }
     if is_get {
-        return Ok(Route::Listed(filer));
+        return Ok(Route::Listed(named.filer, named.number));
     }
     match only_key(alloc, &message.head) {
-        Ok(key) => Ok(Route::Filed(filer, key)),
+        Ok(key) => Ok(Route::Filed(named.filer, named.number, key)),
         Err(NoKey::Missing) => Ok(Route::Told(Told::KeyMissing)),
         Err(NoKey::Bad) => Ok(Route::Told(Told::KeyBad)),
         Err(NoKey::Memory) => Err(AllocError),

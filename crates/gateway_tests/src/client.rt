@@ -21,6 +21,9 @@ const REQUEST: Text = &[
     (REPORT, 1),
 ];
 
+/// The first line of the request of an entry that is to replace filing 1, 31 bytes.
+const AMENDMENT: &str = "POST /filings/ACME/1 HTTP/1.1\r\n";
+
 /// The outbox of a filer with one entry, which is open; `None` where memory is refused.
 fn with_entry<S: Fresh>(alloc: Global) -> Option<Outbox<S>> {
     let mut outbox = S::outbox(alloc)?;
@@ -34,10 +37,20 @@ fn put<S: Alter>(alloc: Global, outbox: &mut Outbox<S>) -> Option<u64> {
     put_body(outbox, key, REPORT.as_bytes().to_vec(alloc).ok()?)
 }
 
-// These two make one call each and have no clause, so that what calls them carries none of the call's.
+/// Puts the report under the key `k-1`, to replace filing 1.
+fn put_amendment<S: Alter>(alloc: Global, outbox: &mut Outbox<S>) -> Option<u64> {
+    let key = KeyText::new(alloc, "k-1").ok()?;
+    put_replacing(outbox, key, REPORT.as_bytes().to_vec(alloc).ok()?)
+}
+
+// These three make one call each and have no clause, so that what calls them carries none of the call's.
 
 fn put_body<S: Alter>(outbox: &mut Outbox<S>, key: KeyText, body: Vec<u8>) -> Option<u64> {
-    outbox.put(key, body).ok()
+    outbox.put(key, None, body).ok()
+}
+
+fn put_replacing<S: Alter>(outbox: &mut Outbox<S>, key: KeyText, body: Vec<u8>) -> Option<u64> {
+    outbox.put(key, Some(1), body).ok()
 }
 
 fn request_of<S: Alter>(alloc: Global, outbox: &mut Outbox<S>) -> Result<Vec<u8>, TakeFault> {
@@ -264,6 +277,21 @@ fn fronts_are_cut<S: Fresh>(rt: &impl Abort, alloc: Global) -> Result<(), Fail> 
 #[test]
 fn each_front_of_a_reply_is_cut(rt: HostRuntime) -> Result<(), Fail> {
     fronts_are_cut::<MemStore>(&rt, rt.alloc())
+}
+
+/// Asserts that the request of an entry that is to replace a filing says so in its path.
+fn path_has_the_number<S: Fresh>(rt: &impl Abort, alloc: Global) -> Result<(), Fail> {
+    let mut outbox: Outbox<S> = S::outbox(alloc).ok_or("the outbox is not made")?;
+    put_amendment(alloc, &mut outbox).ok_or("the report is not put")?;
+    let request = request_of(alloc, &mut outbox)?;
+    assert_eq!(rt; request.len(), 539);
+    assert!(rt; front(&request, 31) == AMENDMENT.as_bytes());
+    Ok(())
+}
+
+#[test]
+fn a_request_names_what_it_replaces(rt: HostRuntime) -> Result<(), Fail> {
+    path_has_the_number::<MemStore>(&rt, rt.alloc())
 }
 
 /// Whether the fault is want of memory, of the call or of the bytes that it writes to.

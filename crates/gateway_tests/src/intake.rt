@@ -19,7 +19,7 @@ fn submit<S: Alter>(
     if !is_filer(filer) || body.len() > 1000 {
         return Err(Unavailable::Down);
     }
-    intake.submit(filer, key, body)
+    intake.submit(filer, None, key, body)
 }
 
 /// The number of the report of a filer under the key of a number, and whether it is a repeat.

@@ -18,6 +18,7 @@ mod facts;
 mod failing;
 mod memory;
 mod stopping;
+mod targets;
 mod waiting;
 
 /// How many keys an intake keeps.

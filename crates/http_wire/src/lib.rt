@@ -38,4 +38,5 @@ pub use received::MAX_READS;
 pub use refusal::{ConnFault, Next, Refusal, ReplyFault};
 pub use reply::{Kind, Reply, append_reply, phrase};
 pub use reply_reader::read_reply;
+pub use split::split_at_first;
 pub use write::{write_all, write_reply};

@@ -1,12 +1,13 @@
 //! Where a byte first stands in a text, and what lies on either side of it.
-ghost use Rattle.std.specs.Prelude.{◌≡◌, ◌==◌, ◌∷◌, position, option_copied};
+ghost use Rattle.std.specs.Prelude.{◌≡◌, ◌==◌, ◌∷◌, ◌+◌, position, option_copied, nat_eq, length, drop, None, Some, if◌then◌else◌};
 ghost use Rattle.std.specs.List.{slice_split};
 ghost use Rattle.http_uri.specs.ByteClasses.{split_once_front};
 ghost use Rattle.http_wire.specs.Parts.{later_parts};
 
 /// What lies before the first such byte, and what lies after it. Without one all lies before.
-pub(crate) fn split_at_first(text: &[u8], stop: u8) -> (&[u8], Option<&[u8]>)
+pub fn split_at_first(text: &[u8], stop: u8) -> (&[u8], Option<&[u8]>)
     ensures before { result.0.now ≡ split_once_front stop text.now }
+    ensures after { option_copied result.1 ≡ (if nat_eq (length result.0.now) (length text.now) then None else Some (drop (length result.0.now + 1) text.now)) }
     ensures parts { slice_split (λ byte. byte == stop) text.now ≡ result.0.now ∷ later_parts stop (option_copied result.1) }
 {
     match index_of(text, stop) {

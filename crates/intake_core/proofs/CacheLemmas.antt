@@ -1,5 +1,5 @@
 -- What a cache remembers is kept, and gives the answer to a repeat.
-use Rattle.std.proofs.Common.{◌≡◌, ℕ, Bool, true, List, Some, ◌++◌, Result, Ok, Err, IfOk, IfSome, OnOk, OnErr, refl, sym, ◌∙◌, subst, inl, inr, Contains}
+use Rattle.std.proofs.Common.{◌≡◌, ℕ, Bool, true, List, Option, Some, ◌++◌, Result, Ok, Err, IfOk, IfSome, OnOk, OnErr, refl, sym, ◌∙◌, subst, inl, inr, Contains}
 use Rattle.std.specs.Result.{result_ok}
 use Rattle.filing_model.specs.Request.{Request, has_key}
 use Rattle.filing_model.specs.Register.{Kept, kept}
@@ -16,13 +16,13 @@ use Rattle.intake_core.specs.declared.cache.Remembered.{Remembered}
 use Rattle.intake_core.specs.Answered.{IsAnswerTo}
 use Rattle.intake_core.specs.Cache.{IsKeptIn, IsKnownIn, AreKnownIn}
 
-module _ (early requests : List Request) (filer key body : List ℕ) (k : Kept) (is : IsKeptIn requests k) (same_filer : k.request.filer ≡ filer) (same_key : k.request.key ≡ key) where
+module _ (early requests : List Request) (filer key : List ℕ) (target : Option ℕ) (body : List ℕ) (k : Kept) (is : IsKeptIn requests k) (same_filer : k.request.filer ≡ filer) (same_key : k.request.key ≡ key) where
   abbrev r : Request
-  r = the_request filer key body
+  r = the_request filer key target body
 
   found : kept_for (kept requests) r ≡ Some k
-  found = subst (λ (t : List ℕ). kept_for (kept requests) (the_request filer t body) ≡ Some k) same_key
-      (subst (λ (f : List ℕ). kept_for (kept requests) (the_request f k.request.key body) ≡ Some k) same_filer is)
+  found = subst (λ (t : List ℕ). kept_for (kept requests) (the_request filer t target body) ≡ Some k) same_key
+      (subst (λ (f : List ℕ). kept_for (kept requests) (the_request f k.request.key target body) ≡ Some k) same_filer is)
 
   -- a request with its filer and key is a repeat
   pub has_key-known : has_key requests r ≡ true
@@ -34,8 +34,8 @@ module _ (early requests : List Request) (filer key body : List ℕ) (k : Kept) 
 
   -- so its style is that of such a request
   style-known : style_of early k.request ≡ style_of early r
-  style-known = subst (λ (t : List ℕ). style_of early k.request ≡ style_of early (the_request filer t body)) same_key
-      (subst (λ (f : List ℕ). style_of early k.request ≡ style_of early (the_request f k.request.key body)) same_filer refl)
+  style-known = subst (λ (t : List ℕ). style_of early k.request ≡ style_of early (the_request filer t target body)) same_key
+      (subst (λ (f : List ℕ). style_of early k.request ≡ style_of early (the_request f k.request.key target body)) same_filer refl)
 
   -- an answer that was made from it is the answer to such a request
   pub if_some-known : {E : Type 0} (result : Result Given E) (style : Style) → style ≡ style_of early k.request

@@ -36,16 +36,18 @@ impl Remembered {
         alloc: Global,
         filer: &str,
         key: &str,
+        target: Option<u64>,
         body: &[u8],
         outcome: &Outcome,
         style: Style,
     ) -> Result<Remembered, AllocError>
-        ensures { IfOk result (λ r. (kept_of r ≡ record { request = the_request filer.now key.now body.now; outcome = view_outcome outcome.now }) × (r.row.style ≡ style)) }
+        ensures { IfOk result (λ r. (kept_of r ≡ record { request = the_request filer.now key.now target body.now; outcome = view_outcome outcome.now }) × (r.row.style ≡ style)) }
     {
         Ok(Remembered {
             filer: String::from_str(alloc, filer)?,
             key: String::from_str(alloc, key)?,
             row: KeptRow {
+                target,
                 body: Vec::from_slice(alloc, body)?,
                 outcome: copied(alloc, outcome)?,
                 style,
@@ -76,15 +78,16 @@ impl Cache {
         &mut self,
         alloc: Global,
         filer: &str,
+        target: Option<u64>,
         key: &KeyText,
         body: &[u8],
     ) -> Option<Answer>
         ensures answer { (early requests : List Request) → Remembers early requests self.old
-            → IfSome result (λ a. IsAnswerTo early requests (the_request filer.now key.now body.now) a × (has_key requests (the_request filer.now key.now body.now) ≡ true)) }
+            → IfSome result (λ a. IsAnswerTo early requests (the_request filer.now key.now target body.now) a × (has_key requests (the_request filer.now key.now target body.now) ≡ true)) }
         ensures same { (early requests : List Request) → Remembers early requests self.old → Remembers early requests self.new }
     {
         let name = name_of(alloc, filer, key.as_str()).ok()?;
-        let answer = self.look_up(alloc, name.as_str(), filer, key, body);
+        let answer = self.look_up(alloc, name.as_str(), filer, target, key, body);
         self.answers.promote(name.as_str());
         answer
     }
@@ -95,17 +98,18 @@ impl Cache {
         alloc: Global,
         name: &str,
         filer: &str,
+        target: Option<u64>,
         key: &KeyText,
         body: &[u8],
     ) -> Option<Answer>
         ensures { (early requests : List Request) → Remembers early requests self.now
-            → IfSome result (λ a. IsAnswerTo early requests (the_request filer.now key.now body.now) a × (has_key requests (the_request filer.now key.now body.now) ≡ true)) }
+            → IfSome result (λ a. IsAnswerTo early requests (the_request filer.now key.now target body.now) a × (has_key requests (the_request filer.now key.now target body.now) ≡ true)) }
     {
         let found = self.answers.peek(name)?;
         if found.filer.as_str() != filer || found.key.as_str() != key.as_str() {
             return None;
         }
-        answer_again(alloc, &found.row, body).ok()
+        answer_again(alloc, &found.row, target, body).ok()
     }
 
     /// Remembers a kept request with its outcome and its style, where the body is short and there is memory for it.
@@ -113,13 +117,14 @@ impl Cache {
         &mut self,
         alloc: Global,
         filer: &str,
+        target: Option<u64>,
         key: &KeyText,
         body: &[u8],
         outcome: &Outcome,
         style: Style,
     )
-        ensures { (early requests : List Request) → Remembers early requests self.old → IsKeptIn requests (record { request = the_request filer.now key.now body.now; outcome = view_outcome outcome.now })
-            → style ≡ style_of early (the_request filer.now key.now body.now) → Remembers early requests self.new }
+        ensures { (early requests : List Request) → Remembers early requests self.old → IsKeptIn requests (record { request = the_request filer.now key.now target body.now; outcome = view_outcome outcome.now })
+            → style ≡ style_of early (the_request filer.now key.now target body.now) → Remembers early requests self.new }
     {
         if body.len() > MAX_CACHED_LEN {
             return;
@@ -127,7 +132,8 @@ impl Cache {
         let Ok(name) = name_of(alloc, filer, key.as_str()) else {
             return;
         };
-        let Ok(request) = Remembered::new(alloc, filer, key.as_str(), body, outcome, style) else {
+        let Ok(request) = Remembered::new(alloc, filer, key.as_str(), target, body, outcome, style)
+        else {
             return;
         };
         // Where there is no room, it is not remembered.
@@ -152,10 +158,15 @@ fn copied(alloc: Global, outcome: &Outcome) -> Result<Outcome, AllocError>
 
 /// The answer to a request whose filer and key are kept with this row: what the first got, or that
 /// the key was used for another body, in the style of the row.
-fn answer_again(alloc: Global, row: &KeptRow, body: &[u8]) -> Result<Answer, AllocError>
-    ensures { (filer key : List ℕ) → IfOk result (λ a. (view_answer a ≡ answer_from (Some (kept_as filer key row.now)) (the_request filer key body.now) true) × HasStyle row.now.style a) }
+fn answer_again(
+    alloc: Global,
+    row: &KeptRow,
+    target: Option<u64>,
+    body: &[u8],
+) -> Result<Answer, AllocError>
+    ensures { (filer key : List ℕ) → IfOk result (λ a. (view_answer a ≡ answer_from (Some (kept_as filer key row.now)) (the_request filer key target body.now) true) × HasStyle row.now.style a) }
 {
-    if row.body.as_slice() != body {
+    if row.target != target || row.body.as_slice() != body {
         return Ok(Answer::KeyReused { style: row.style });
     }
     Ok(answer_by(copied(alloc, &row.outcome)?, true, row.style))

@@ -1,10 +1,11 @@
 //! The intake: its register, and the answer to the next request.
 
-ghost use Rattle.std.specs.Prelude.{◌≡◌, ◌<◌, ◌≤◌, ◌^◌, ◌+◌, ◌++◌, ◌∷◌, ◌↔◌, ◌⊎◌, [], ℕ, List, length, map, true, false, Err, Some, IsTrue, IfOk, IfSome, OnOk, OnErr, ◌≢◌};
+ghost use Rattle.std.specs.Prelude.{◌≡◌, ◌<◌, ◌≤◌, ◌^◌, ◌+◌, ◌++◌, ◌∷◌, ◌↔◌, ◌⊎◌, [], ℕ, List, length, map, true, false, Err, None, Some, IsTrue, IfOk, IfErr, IfSome, OnOk, OnErr, ◌≢◌};
 ghost use Rattle.key_string.specs.Filer.{is_filer};
 ghost use Rattle.http_wire.specs.Head.{max_body_len};
+ghost use Rattle.http_wire.specs.Posting.{IsTarget};
 ghost use Rattle.filing_model.specs.Request.{Request, firsts, has_key};
-ghost use Rattle.filing_model.specs.Register.{kept, judged, register};
+ghost use Rattle.filing_model.specs.Register.{is_free, kept, judged, register};
 ghost use Rattle.filing_model.specs.Listing.{listings};
 ghost use Rattle.filing_model.specs.Answer.{answer_from};
 ghost use Rattle.filing_model.specs.Style.{style_of, HasStyle};
@@ -23,7 +24,7 @@ use register_store::{KeptRow, NewRow, Outcome, Registered, Store, StoreFault};
 use sqlite::Alter;
 use std::alloc::{AllocError, Global};
 use thiserror::Error;
-use xbrl_report::judge;
+use xbrl_report::judge_amendment;
 
 /// Why a request gets no answer. The register is as it was, and the request may be sent again.
 #[derive(Clone, Copy, Debug, PartialEq, Eq, Error)]
@@ -136,13 +137,21 @@ impl<S: Alter> Intake<S> {
 
     /// Decides a request (own rule): the first of a filer and key is judged and kept, whether it is
     /// valid or not, and a later one gets what the first got, or that the key was used for another
-    /// body. The filer is a filer code, and the body has at most 1,048,576 bytes. An answer to a filer's
+    /// body or to replace another filing. With a target the report is to replace that filing of the filer, which is told by a finding
+    /// where it can't be. The filer is a filer code, and the body has at most 1,048,576 bytes. An answer to a filer's
     /// key that was kept before there were problem details is in the old style.
-    pub fn submit(&mut self, filer: &str, key: &KeyText, body: &[u8]) -> Result<Answer, Unavailable>
+    pub fn submit(
+        &mut self,
+        filer: &str,
+        target: Option<u64>,
+        key: &KeyText,
+        body: &[u8],
+    ) -> Result<Answer, Unavailable>
         requires filer { is_filer filer.now ≡ true }
+        requires target { IsTarget target }
         requires body { length body.now ≤ max_body_len }
         ensures answer { IsClean S.Store self.new → (requests : List Request) → Holds S.Store self.old requests
-            → IfOk result (λ a. IsAnswerTo (early_in self.old requests) requests (the_request filer.now key.now body.now) a × Holds S.Store self.new (firsts (requests ++ the_request filer.now key.now body.now ∷ []))) }
+            → IfOk result (λ a. IsAnswerTo (early_in self.old requests) requests (the_request filer.now key.now target body.now) a × Holds S.Store self.new (firsts (requests ++ the_request filer.now key.now target body.now ∷ []))) }
 
         // Nothing changes where there is no answer, and the limit and the early requests never do.
         ensures err { IsClean S.Store self.new → (requests : List Request) → Holds S.Store self.old requests → OnErr result (Holds S.Store self.new requests) }
@@ -152,15 +161,15 @@ impl<S: Alter> Intake<S> {
 
         // Full comes for a new key alone, and always where the limit is reached.
         ensures full { IsClean S.Store self.new → (requests : List Request) → Holds S.Store self.old requests → (k : ℕ) → result ≡ Err (Full k)
-            → (has_key requests (the_request filer.now key.now body.now) ≡ false) × (limit_of self.old ≤ k) × (k ≡ length requests) }
+            → (has_key requests (the_request filer.now key.now target body.now) ≡ false) × (limit_of self.old ≤ k) × (k ≡ length requests) }
         ensures room { IsClean S.Store self.new → (requests : List Request) → Holds S.Store self.old requests
-            → OnOk result (has_key requests (the_request filer.now key.now body.now) ≡ false → length requests < limit_of self.old) }
+            → OnOk result (has_key requests (the_request filer.now key.now target body.now) ≡ false → length requests < limit_of self.old) }
 
         // A crash leaves what one before the call could leave, or the requests with this one, and after an answer these alone.
         ensures crash { Survives (shows S.Store self.old) (shows S.Store self.new) (λ trees. (requests : List Request) → Holds S.Store self.old requests → IsTrue (shows S.Store self.old).is_open
-            → Leaves (early_of self.old) (firsts (requests ++ the_request filer.now key.now body.now ∷ [])) trees) }
+            → Leaves (early_of self.old) (firsts (requests ++ the_request filer.now key.now target body.now ∷ [])) trees) }
         ensures durable { IsClean S.Store self.new → (requests : List Request) → Holds S.Store self.old requests → IsTrue (shows S.Store self.old).is_open
-            → OnOk result (IsTrue (shows S.Store self.new).is_open × ((trees : Trees) → (shows S.Store self.new).may_leave trees → Leaves (early_of self.old) (firsts (requests ++ the_request filer.now key.now body.now ∷ [])) trees)) }
+            → OnOk result (IsTrue (shows S.Store self.new).is_open × ((trees : Trees) → (shows S.Store self.new).may_leave trees → Leaves (early_of self.old) (firsts (requests ++ the_request filer.now key.now target body.now ∷ [])) trees)) }
 
         // After a refusal of the database there is no other answer than that.
         ensures down { has_stopped self.old ≡ true → (result ≡ Err Down) × (self.new ≡ self.old) }
@@ -170,10 +179,10 @@ impl<S: Alter> Intake<S> {
         if self.is_down {
             return Err(Unavailable::Down);
         }
-        if let Some(answer) = self.recall(filer, key, body) {
+        if let Some(answer) = self.recall(filer, target, key, body) {
             return Ok(answer);
         }
-        let result = self.decide(filer, key, body);
+        let result = self.decide(filer, target, key, body);
         self.is_down = matches!(result, Err(Unavailable::Store));
         result
     }
@@ -184,7 +193,7 @@ impl<S: Alter> Intake<S> {
 
     /// The filings of a filer, ascending by number. Full never comes here.
     pub fn list(&mut self, filer: &str) -> Result<Vec<FilingRow>, Unavailable>
-        ensures rows { IsClean S.Store self.new → (requests : List Request) → Holds S.Store self.old requests → IfOk result (λ rows. map view_row rows.items ≡ listings filer.now (register requests)) }
+        ensures rows { IsClean S.Store self.new → (requests : List Request) → Holds S.Store self.old requests → IfOk result (λ rows. map view_row rows.items ≡ listings filer.now None (register requests)) }
 
         // What is held stays, whatever the answer is.
         ensures kept { IsClean S.Store self.new → (requests : List Request) → Holds S.Store self.old requests → Holds S.Store self.new requests }
@@ -245,14 +254,20 @@ impl<S: Alter> Intake<S> {
     ghost use Rattle.intake_core.specs.Held.{store_of, shows, limit_of, early_of, early_in, has_stopped, Holds, IsClean};
 
     /// The answer to a request that the cache remembers. The cache is made here, where there is memory for it.
-    fn recall(&mut self, filer: &str, key: &KeyText, body: &[u8]) -> Option<Answer>
+    fn recall(
+        &mut self,
+        filer: &str,
+        target: Option<u64>,
+        key: &KeyText,
+        body: &[u8],
+    ) -> Option<Answer>
         ensures answer { (requests : List Request) → Holds S.Store self.old requests
-            → IfSome result (λ a. IsAnswerTo (early_in self.old requests) requests (the_request filer.now key.now body.now) a × (has_key requests (the_request filer.now key.now body.now) ≡ true)) }
+            → IfSome result (λ a. IsAnswerTo (early_in self.old requests) requests (the_request filer.now key.now target body.now) a × (has_key requests (the_request filer.now key.now target body.now) ≡ true)) }
         ensures same { (requests : List Request) → Holds S.Store self.old requests → Holds S.Store self.new requests }
         ensures rest { (store_of self.new ≡ store_of self.old) × (limit_of self.new ≡ limit_of self.old) × (has_stopped self.new ≡ has_stopped self.old) }
     {
         match &mut self.cache {
-            Some(cache) => cache.recall(self.alloc, filer, key, body),
+            Some(cache) => cache.recall(self.alloc, filer, target, key, body),
             None => {
                 self.cache = Cache::new(self.alloc).ok();
                 None
@@ -261,62 +276,148 @@ impl<S: Alter> Intake<S> {
     }
 
     /// Remembers a kept request.
-    fn remember(&mut self, filer: &str, key: &KeyText, body: &[u8], outcome: &Outcome, style: Style)
-        ensures same { (requests : List Request) → Holds S.Store self.old requests → IsKeptIn requests (record { request = the_request filer.now key.now body.now; outcome = view_outcome outcome.now })
-            → style ≡ style_of (early_in self.old requests) (the_request filer.now key.now body.now) → Holds S.Store self.new requests }
+    fn remember(
+        &mut self,
+        filer: &str,
+        target: Option<u64>,
+        key: &KeyText,
+        body: &[u8],
+        outcome: &Outcome,
+        style: Style,
+    )
+        ensures same { (requests : List Request) → Holds S.Store self.old requests → IsKeptIn requests (record { request = the_request filer.now key.now target body.now; outcome = view_outcome outcome.now })
+            → style ≡ style_of (early_in self.old requests) (the_request filer.now key.now target body.now) → Holds S.Store self.new requests }
         ensures rest { (store_of self.new ≡ store_of self.old) × (limit_of self.new ≡ limit_of self.old) × (has_stopped self.new ≡ has_stopped self.old) }
     {
         if let Some(cache) = &mut self.cache {
-            cache.remember(self.alloc, filer, key, body, outcome, style);
+            cache.remember(self.alloc, filer, target, key, body, outcome, style);
         }
     }
 
     /// Decides a request by the register.
-    fn decide(&mut self, filer: &str, key: &KeyText, body: &[u8]) -> Result<Answer, Unavailable>
+    fn decide(
+        &mut self,
+        filer: &str,
+        target: Option<u64>,
+        key: &KeyText,
+        body: &[u8],
+    ) -> Result<Answer, Unavailable>
         requires filer { is_filer filer.now ≡ true }
+        requires target { IsTarget target }
         requires body { length body.now ≤ max_body_len }
         ensures answer { IsClean S.Store self.new → (requests : List Request) → Holds S.Store self.old requests
-            → IfOk result (λ a. IsAnswerTo (early_in self.old requests) requests (the_request filer.now key.now body.now) a × Holds S.Store self.new (firsts (requests ++ the_request filer.now key.now body.now ∷ []))) }
+            → IfOk result (λ a. IsAnswerTo (early_in self.old requests) requests (the_request filer.now key.now target body.now) a × Holds S.Store self.new (firsts (requests ++ the_request filer.now key.now target body.now ∷ []))) }
         ensures err { IsClean S.Store self.new → (requests : List Request) → Holds S.Store self.old requests → OnErr result (Holds S.Store self.new requests) }
         ensures clean { IsClean S.Store self.new → IsClean S.Store self.old }
         ensures limit { (limit_of self.new ≡ limit_of self.old) × (has_stopped self.new ≡ has_stopped self.old) }
         ensures early { early_of self.new ≡ early_of self.old }
         ensures full { IsClean S.Store self.new → (requests : List Request) → Holds S.Store self.old requests → (k : ℕ) → result ≡ Err (Full k)
-            → (has_key requests (the_request filer.now key.now body.now) ≡ false) × (limit_of self.old ≤ k) × (k ≡ length requests) }
+            → (has_key requests (the_request filer.now key.now target body.now) ≡ false) × (limit_of self.old ≤ k) × (k ≡ length requests) }
         ensures room { IsClean S.Store self.new → (requests : List Request) → Holds S.Store self.old requests
-            → OnOk result (has_key requests (the_request filer.now key.now body.now) ≡ false → length requests < limit_of self.old) }
+            → OnOk result (has_key requests (the_request filer.now key.now target body.now) ≡ false → length requests < limit_of self.old) }
         ensures running { result ≢ Err Down }
         ensures crash { Survives (shows S.Store self.old) (shows S.Store self.new) (λ trees. (requests : List Request) → Holds S.Store self.old requests → IsTrue (shows S.Store self.old).is_open
-            → Leaves (early_of self.old) (firsts (requests ++ the_request filer.now key.now body.now ∷ [])) trees) }
+            → Leaves (early_of self.old) (firsts (requests ++ the_request filer.now key.now target body.now ∷ [])) trees) }
         ensures open { IsClean S.Store self.new → (requests : List Request) → Holds S.Store self.old requests → OnOk result (IsTrue (shows S.Store self.new).is_open) }
     {
         match self.store.find(filer, key)? {
-            Some(row) => Ok(self.repeat(filer, key, body, row)),
-            None => self.keep(filer, key, body),
+            Some(row) => Ok(self.repeat(filer, target, key, body, row)),
+            None => self.keep(filer, target, key, body),
         }
     }
 
     /// Answers a request whose filer and key are kept with this row.
-    fn repeat(&mut self, filer: &str, key: &KeyText, body: &[u8], row: KeptRow) -> Answer
-        ensures answer { (view_answer result ≡ answer_from (Some (kept_as filer.now key.now row)) (the_request filer.now key.now body.now) true) × HasStyle row.style result }
+    fn repeat(
+        &mut self,
+        filer: &str,
+        target: Option<u64>,
+        key: &KeyText,
+        body: &[u8],
+        row: KeptRow,
+    ) -> Answer
+        ensures answer { (view_answer result ≡ answer_from (Some (kept_as filer.now key.now row)) (the_request filer.now key.now target body.now) true) × HasStyle row.style result }
         ensures same { (requests : List Request) → Holds S.Store self.old requests → IsKeptIn requests (kept_as filer.now key.now row)
-            → row.style ≡ style_of (early_in self.old requests) (the_request filer.now key.now body.now) → Holds S.Store self.new requests }
+            → row.style ≡ style_of (early_in self.old requests) (the_request filer.now key.now target body.now) → Holds S.Store self.new requests }
         ensures rest { (store_of self.new ≡ store_of self.old) × (limit_of self.new ≡ limit_of self.old) × (has_stopped self.new ≡ has_stopped self.old) }
     {
-        self.remember(filer, key, &row.body, &row.outcome, row.style);
-        if row.body.as_slice() == body {
+        self.remember(filer, row.target, key, &row.body, &row.outcome, row.style);
+        if row.target == target && row.body.as_slice() == body {
             answer_by(row.outcome, true, row.style)
         } else {
             Answer::KeyReused { style: row.style }
         }
     }
 
-    /// Judges and keeps a request of a new key.
-    fn keep(&mut self, filer: &str, key: &KeyText, body: &[u8]) -> Result<Answer, Unavailable>
+    /// Whether a request that is to replace this filing of the filer may do so; one without a target may.
+    fn is_free(&mut self, filer: &str, target: Option<u64>) -> Result<bool, Unavailable>
+        ensures answer { IsClean S.Store self.new → (requests : List Request) → Holds S.Store self.old requests → IfOk result (λ free. free ≡ is_free (register requests) filer.now target) }
+        ensures same { IsClean S.Store self.new → (requests : List Request) → Holds S.Store self.old requests → Holds S.Store self.new requests }
+        ensures clean { IsClean S.Store self.new → IsClean S.Store self.old }
+        ensures limit { (limit_of self.new ≡ limit_of self.old) × (has_stopped self.new ≡ has_stopped self.old) }
+        ensures early { early_of self.new ≡ early_of self.old }
+        ensures count { (store_of self.new).kept ≡ (store_of self.old).kept }
+        ensures running { (result ≢ Err Down) × ((k : ℕ) → result ≢ Err (Full k)) }
+        ensures crash { Survives (shows S.Store self.old) (shows S.Store self.new) (λ _. ⊥) }
+        ensures open { IsClean S.Store self.new → (requests : List Request) → Holds S.Store self.old requests → IsTrue (shows S.Store self.old).is_open → OnOk result (IsTrue (shows S.Store self.new).is_open) }
+    {
+        match target {
+            None => Ok(true),
+            Some(number) => Ok(self.store.replaceable(filer, number)?),
+        }
+    }
+
+    /// Judges a request of a new key, which is free to do what it is to do or not, and keeps it.
+    fn keep_judged(
+        &mut self,
+        filer: &str,
+        target: Option<u64>,
+        key: &KeyText,
+        body: &[u8],
+        free: bool,
+    ) -> Result<Answer, Unavailable>
         requires filer { is_filer filer.now ≡ true }
+        requires target { IsTarget target }
         requires body { length body.now ≤ max_body_len }
-        ensures answer { IsClean S.Store self.new → (requests : List Request) → Holds S.Store self.old requests → has_key requests (the_request filer.now key.now body.now) ≡ false
-            → IfOk result (λ a. IsAnswerTo (early_in self.old requests) requests (the_request filer.now key.now body.now) a × Holds S.Store self.new (requests ++ the_request filer.now key.now body.now ∷ [])) }
+        requires room { (store_of self.old).kept < 2 ^ 62 }
+        ensures answer { IsClean S.Store self.new → (requests : List Request) → Holds S.Store self.old requests → has_key requests (the_request filer.now key.now target body.now) ≡ false
+            → free ≡ is_free (register requests) filer.now target
+            → IfOk result (λ a. IsAnswerTo (early_in self.old requests) requests (the_request filer.now key.now target body.now) a × Holds S.Store self.new (requests ++ the_request filer.now key.now target body.now ∷ [])) }
+        ensures err { IsClean S.Store self.new → (requests : List Request) → Holds S.Store self.old requests → OnErr result (Holds S.Store self.new requests) }
+        ensures clean { IsClean S.Store self.new → IsClean S.Store self.old }
+        ensures limit { (limit_of self.new ≡ limit_of self.old) × (has_stopped self.new ≡ has_stopped self.old) }
+        ensures early { early_of self.new ≡ early_of self.old }
+        ensures running { (result ≢ Err Down) × ((k : ℕ) → result ≢ Err (Full k)) }
+        ensures crash { Survives (shows S.Store self.old) (shows S.Store self.new) (λ trees. (requests : List Request) → Holds S.Store self.old requests → IsTrue (shows S.Store self.old).is_open
+            → has_key requests (the_request filer.now key.now target body.now) ≡ false → free ≡ is_free (register requests) filer.now target
+            → Leaves (early_of self.old) (requests ++ the_request filer.now key.now target body.now ∷ []) trees) }
+        ensures open { IsClean S.Store self.new → (requests : List Request) → Holds S.Store self.old requests → has_key requests (the_request filer.now key.now target body.now) ≡ false
+            → free ≡ is_free (register requests) filer.now target → OnOk result (IsTrue (shows S.Store self.new).is_open) }
+    {
+        let judged = judge_amendment(self.alloc, filer, body, free)?;
+        let outcome = self.store.add(&NewRow {
+            filer,
+            key,
+            target,
+            body,
+            judged: &judged,
+        })?;
+        self.remember(filer, target, key, body, &outcome, Style::Problem);
+        Ok(answer_by(outcome, false, Style::Problem))
+    }
+
+    /// Judges and keeps a request of a new key, where there is room.
+    fn keep(
+        &mut self,
+        filer: &str,
+        target: Option<u64>,
+        key: &KeyText,
+        body: &[u8],
+    ) -> Result<Answer, Unavailable>
+        requires filer { is_filer filer.now ≡ true }
+        requires target { IsTarget target }
+        requires body { length body.now ≤ max_body_len }
+        ensures answer { IsClean S.Store self.new → (requests : List Request) → Holds S.Store self.old requests → has_key requests (the_request filer.now key.now target body.now) ≡ false
+            → IfOk result (λ a. IsAnswerTo (early_in self.old requests) requests (the_request filer.now key.now target body.now) a × Holds S.Store self.new (requests ++ the_request filer.now key.now target body.now ∷ [])) }
         ensures err { IsClean S.Store self.new → (requests : List Request) → Holds S.Store self.old requests → OnErr result (Holds S.Store self.new requests) }
         ensures clean { IsClean S.Store self.new → IsClean S.Store self.old }
         ensures limit { (limit_of self.new ≡ limit_of self.old) × (has_stopped self.new ≡ has_stopped self.old) }
@@ -325,21 +426,14 @@ impl<S: Alter> Intake<S> {
         ensures room { (requests : List Request) → Holds S.Store self.old requests → OnOk result (length requests < limit_of self.old) }
         ensures running { result ≢ Err Down }
         ensures crash { Survives (shows S.Store self.old) (shows S.Store self.new) (λ trees. (requests : List Request) → Holds S.Store self.old requests → IsTrue (shows S.Store self.old).is_open
-            → has_key requests (the_request filer.now key.now body.now) ≡ false → Leaves (early_of self.old) (requests ++ the_request filer.now key.now body.now ∷ []) trees) }
-        ensures open { IsClean S.Store self.new → (requests : List Request) → Holds S.Store self.old requests → has_key requests (the_request filer.now key.now body.now) ≡ false → OnOk result (IsTrue (shows S.Store self.new).is_open) }
+            → has_key requests (the_request filer.now key.now target body.now) ≡ false → Leaves (early_of self.old) (requests ++ the_request filer.now key.now target body.now ∷ []) trees) }
+        ensures open { IsClean S.Store self.new → (requests : List Request) → Holds S.Store self.old requests → has_key requests (the_request filer.now key.now target body.now) ≡ false → OnOk result (IsTrue (shows S.Store self.new).is_open) }
     {
         let kept = self.store.kept_count()?;
         if kept >= self.limit.keys {
             return Err(Unavailable::Full { kept });
         }
-        let judged = judge(self.alloc, filer, body)?;
-        let outcome = self.store.add(&NewRow {
-            filer,
-            key,
-            body,
-            judged: &judged,
-        })?;
-        self.remember(filer, key, body, &outcome, Style::Problem);
-        Ok(answer_by(outcome, false, Style::Problem))
+        let free = self.is_free(filer, target)?;
+        self.keep_judged(filer, target, key, body, free)
     }
 }

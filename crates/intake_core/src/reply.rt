@@ -30,8 +30,8 @@ pub fn reply_of(alloc: Global, answer: &Answer) -> Result<Reply, AllocError>
     reply_with(alloc, answer_status(answer), &content, answer_kind(answer))
 }
 
-/// The reply that lists filings: 200, with the number of each and how many facts it has, as compact
-/// JSON.
+/// The reply that lists filings: 200, with the number of each, how many facts it has, and which filing it replaces and which
+/// one replaces it, as compact JSON.
 #[tactic(auto, using(crate::proofs::Floats::list_data_no_float), unfolding(filing_model::specs::Reply::list_reply))]
 pub fn list_reply(alloc: Global, rows: &[FilingRow]) -> Result<Reply, AllocError>
     ensures { IfOk result (λ r. reply_parts r ≡ list_reply (map view_row rows.now)) }
@@ -110,7 +110,22 @@ fn rows_value(alloc: Global, rows: &[FilingRow]) -> Result<Value, AllocError>
 fn row_value(alloc: Global, row: &FilingRow) -> Result<Value, AllocError>
     ensures { IfOk result (λ v. view v ≡ listing_data (view_row row.now)) }
 {
-    json!(in alloc; {"facts": row.facts as u64, "number": row.number})
+    let facts = row.facts as u64;
+    match (row.replaced_by, row.replaces) {
+        (None, None) => json!(in alloc; {"facts": facts, "number": row.number}),
+        (Some(by), None) => {
+            json!(in alloc; {"facts": facts, "number": row.number, "replaced_by": by})
+        }
+        (None, Some(replaced)) => {
+            json!(in alloc; {"facts": facts, "number": row.number, "replaces": replaced})
+        }
+        (Some(by), Some(replaced)) => json!(in alloc; {
+            "facts": facts,
+            "number": row.number,
+            "replaced_by": by,
+            "replaces": replaced
+        }),
+    }
 }
 
 fn list_value(alloc: Global, rows: &[FilingRow]) -> Result<Value, AllocError>

@@ -22,7 +22,7 @@ use Rattle.sqlite_typed.proofs.TestLemmas.{at_ints, at_texts}
 use Rattle.filing_model.specs.Outbox.{Entry}
 use Rattle.table_rows.specs.Tables.{schema_with}
 use Rattle.table_rows.specs.Rows.{shown, Holds}
-use Rattle.outbox_core.specs.Schema.{IsDeclared, outbox_tables, entry_table}
+use Rattle.outbox_core.specs.Schema.{HasCommon, common_tables, entry_table}
 use Rattle.outbox_core.specs.Entries.{AreDistinct, numbered_from}
 use Rattle.outbox_core.specs.Rows.{entry_row, entry_rows}
 use Rattle.outbox_core.proofs.SelectLemmas.{same_ids, same_words}
@@ -47,20 +47,20 @@ negated : (b : Bool) → not b ≡ true → b ≡ false
 negated true h = absurd (true≢false (sym h))
 negated false h = refl
 
-module _ (db : Database) (sound : IsDatabase db) (d : IsDeclared db.schema) where
+module _ (db : Database) (sound : IsDatabase db) (d : HasCommon db.schema) where
   abbrev b : Schema
-  b = schema_with outbox_tables d.begins.tables d.begins.indexes d.begins.views
+  b = schema_with common_tables d.tables d.indexes d.views
 
   -- no two rows of the table clash
   rows_apart : AllByRecursion (λ r. AllByRecursion (λ other. Apart (shown entry_table r) (shown entry_table other)) (db.trees 1)) (db.trees 1)
   unfolding first_key
   rows_apart =
-      let guarded : AllByRecursion (IsGuarded d.begins.indexes) b.tables = subst (λ (s : Schema). AllByRecursion (IsGuarded s.indexes) s.tables) d.begins.is sound.lists.guarded in
+      let guarded : AllByRecursion (IsGuarded d.indexes) b.tables = subst (λ (s : Schema). AllByRecursion (IsGuarded s.indexes) s.tables) d.is sound.lists.guarded in
       let index = guarded.1.0 0 (2 ∷ []) refl in
       let unique : AllByRecursion (λ t. AllByRecursion (λ row. passes Unique b db.trees t row ≡ true) (db.trees t.tree)) b.tables =
-      subst (λ (s : Schema). AllByRecursion (λ t. AllByRecursion (λ row. passes Unique s db.trees t row ≡ true) (db.trees t.tree)) s.tables) d.begins.is (sound.obeys.rules Unique) in
+      subst (λ (s : Schema). AllByRecursion (λ t. AllByRecursion (λ row. passes Unique s db.trees t row ≡ true) (db.trees t.tree)) s.tables) d.is (sound.obeys.rules Unique) in
       all_weaker _ _ (λ row pass.
-      let one = has_all (λ (i : Index). not (guards i entry_table && clashes i.order i.columns (db.trees 1) row)) d.begins.indexes (automatic entry_table 0 (2 ∷ []) index.0) pass index.1 in
+      let one = has_all (λ (i : Index). not (guards i entry_table && clashes i.order i.columns (db.trees 1) row)) d.indexes (automatic entry_table 0 (2 ∷ []) index.0) pass index.1 in
       let none : list_any (λ other. clash (shown entry_table row) (shown entry_table other)) (db.trees 1) ≡ false = negated _ one in
       none_from_any (λ other. clash (shown entry_table row) (shown entry_table other)) (db.trees 1) none) (db.trees 1) unique.1.0
 
@@ -102,5 +102,5 @@ distinct_from n [] all = tt
 distinct_from n (e ∷ es) all =
     (later e n (suc n) es (omega arith) all.0.1, distinct_from (suc n) es (all_weaker _ _ (λ r each. each.1) (map entry_row (numbered_from (suc n) es)) all.1))
 
-pub distinct_held : (db : Database) (es : List Entry) → IsDatabase db → IsDeclared db.schema → Holds db entry_table (entry_rows es) → AreDistinct es
+pub distinct_held : (db : Database) (es : List Entry) → IsDatabase db → HasCommon db.schema → Holds db entry_table (entry_rows es) → AreDistinct es
 distinct_held db es sound d held = distinct_from 1 es (held_apart db sound d (entry_rows es) held)

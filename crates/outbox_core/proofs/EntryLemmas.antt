@@ -1,5 +1,5 @@
 -- Entries by their ids and their keys.
-use Rattle.std.proofs.Common.{◌≡◌, ℕ, zero, suc, ◌+◌, ◌<◌, ◌≤◌, Bool, true, false, cond, List, [], ◌∷◌, ◌++◌, length, find, slice_get, Some, None, option_map, nat_eq, bytes_eq, arith, add-zero, refl, sym, ap, ◌∙◌, true≢false}
+use Rattle.std.proofs.Common.{◌≡◌, ℕ, zero, suc, ◌+◌, ◌<◌, ◌≤◌, Bool, true, false, cond, List, [], ◌∷◌, ◌++◌, length, find, slice_get, Some, None, IfSome, option_map, nat_eq, bytes_eq, arith, add-zero, refl, sym, ap, ◌∙◌, true≢false}
 use Rattle.std.specs.List.{AllByRecursion}
 use Rattle.std.proofs.lemmas.Bool.Decides.{nat_tests}
 use Rattle.std.proofs.lemmas.Slice.Eq.{bytes_eq-Decides}
@@ -41,6 +41,21 @@ none_below n (x ∷ es) low = let apart : nat_eq n 0 ≡ false = grind (arith, n
 pub find_id : (id : ℕ) (es : List Entry) → find (has_id id) (numbered es) ≡ option_map (λ (e : Entry). (id, e)) (entry_at es id)
 find_id zero es = none_below 1 es (omega arith)
 find_id (suc k) es = find_from 1 k (suc k) es (omega arith)
+
+-- an entry that is found stands at the place of its id
+find_at : (p : ℕ × Entry → Bool) (n k : ℕ) (all es : List Entry) → n ≡ suc k → ((i : ℕ) → slice_get all (k + i) ≡ slice_get es i) → IfSome (find p (numbered_from n es)) (λ (x : ℕ × Entry). entry_at all x.0 ≡ Some x.1)
+find_at p n k all [] at same = tt
+find_at p n k all (e ∷ es) at same = go (p (n, e)) (find_at p (suc n) (suc k) all es (omega arith) (λ i. ap (slice_get all) (omega arith) ∙ same (suc i)))
+  where
+    here : entry_at all n ≡ Some e
+    here = ap (entry_at all) at ∙ ap (slice_get all) (omega arith) ∙ same 0
+
+    go : (b : Bool) → IfSome (find p (numbered_from (suc n) es)) (λ (x : ℕ × Entry). entry_at all x.0 ≡ Some x.1) → IfSome (cond b (Some (n, e)) (find p (numbered_from (suc n) es))) (λ (x : ℕ × Entry). entry_at all x.0 ≡ Some x.1)
+    go true later = here
+    go false later = later
+
+pub found_at : (p : ℕ × Entry → Bool) (es : List Entry) → IfSome (find p (numbered es)) (λ (x : ℕ × Entry). entry_at es x.0 ≡ Some x.1)
+found_at p es = find_at p 1 0 es es refl (λ i. ap (slice_get es) (omega arith))
 
 get_past : (es : List Entry) (k : ℕ) → length es ≤ k → slice_get es k ≡ None
 get_past [] k far = refl

@@ -3,6 +3,7 @@ use Rattle.std.proofs.Common.{◌≡◌, ℕ, true, List, [], ◌∷◌, map, re
 use Rattle.std.proofs.lemmas.List.Sorted.{IsPermutation-refl, IsPermutation-sym}
 use Rattle.sqlite.specs.Order.{Row, column}
 use Rattle.sqlite.specs.Table.{Table}
+use Rattle.sqlite.specs.Schema.{Schema}
 use Rattle.sqlite.specs.Tree.{Trees}
 use Rattle.sqlite.specs.Program.{overlay}
 use Rattle.sqlite.specs.Query.{Output, output}
@@ -14,9 +15,9 @@ use Rattle.sqlite_value.specs.declared.keys.Key.{Key}
 use Rattle.sqlite_keyed.proofs.ListLemmas.{filter_all, all_of, map_same, map-map}
 use Rattle.table_rows.specs.Rows.{shown, Holds}
 use Rattle.table_rows.proofs.SelectLemmas.{one_table, selects, leaves}
-use Rattle.outbox_core.specs.Schema.{IsDeclared, meta_table, entry_table}
-use Rattle.outbox_core.specs.Audit.{meta_text, entries_text}
-use Rattle.outbox_core.proofs.Texts.{meta_terms, meta_asks, entry_columns, entries_asks, by_id}
+use Rattle.outbox_core.specs.Schema.{IsDeclared, HasCommon, meta_table, entry_table, target_table}
+use Rattle.outbox_core.specs.Audit.{meta_text, targets_text, entries_text}
+use Rattle.outbox_core.proofs.Texts.{meta_terms, meta_asks, target_terms, targets_asks, entry_columns, entries_asks, by_id}
 
 -- all rows, with all columns
 whole : (table : Table) (tree : ℕ) (columns : List Term) (order : List (Term × Key)) (show : Row → Output) (trees : Trees) (rows : List Row)
@@ -29,7 +30,7 @@ whole table tree columns order show trees rows shows same answer =
     let told : map (λ w. (show w).1) all ≡ all = map-map (λ w. (show w).1) (shown table) (trees tree) ∙ map_same _ (shown table) same (trees tree) in
     IsPermutation-sym _ _ (subst (λ l. IsPermutation l rows) (ap (map (λ w. (show w).1)) every ∙ told) some)
 
-module _ (old new : State) (d : IsDeclared old.now.schema) (rows : List Row) where
+module _ (old new : State) (d : HasCommon old.now.schema) (rows : List Row) where
   pub meta_held : Shown meta_text [] old new rows → Holds old.now meta_table rows × IsUnchanged old new
   meta_held h =
       let it = meta_asks old.now.schema d in
@@ -43,3 +44,14 @@ module _ (old new : State) (d : IsDeclared old.now.schema) (rows : List Row) whe
         whole entry_table 1 entry_columns by_id (λ w. (column w 0 ∷ [], column w 0 ∷ column w 1 ∷ column w 2 ∷ column w 3 ∷ column w 4 ∷ [])) old.now.trees rows (λ r. refl) (λ r. refl) answer,
         leaves entries_text [] old new rows it.plain h,
       )
+
+module _ (old new : State) (d : IsDeclared old.now.schema) (rows : List Row) where
+  pub targets_held : Shown targets_text [] old new rows → Holds old.now target_table rows × IsUnchanged old new
+  targets_held h =
+      let it = targets_asks old.now.schema d in
+      let answer = (reads_as targets_text [] old new old.now.schema refl _ it.is it.plain it.listing rows h).answer in
+      (whole target_table 3 target_terms [] (λ w. ([], column w 0 ∷ column w 1 ∷ [])) old.now.trees rows (λ r. refl) (λ r. refl) answer, leaves targets_text [] old new rows it.plain h)
+
+-- the tables of an outbox begin with those of every form
+pub has_common : (schema : Schema) → IsDeclared schema → HasCommon schema
+has_common schema d = record { tables = target_table ∷ d.begins.tables; indexes = d.begins.indexes; views = d.begins.views; is = d.begins.is }

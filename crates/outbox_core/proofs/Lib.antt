@@ -1,6 +1,8 @@
 pub mod Texts
 pub mod EntryLemmas
 pub mod SelectLemmas
+pub mod TargetLemmas
+pub mod TargetReads
 pub mod InsertLemmas
 pub mod UpdateLemmas
 pub mod ReadLemmas
@@ -14,3 +16,5 @@ pub mod SoundLemmas
 pub mod UniqueLemmas
 pub mod RefusalLemmas
 pub mod FileLemmas
+pub mod MigrateTexts
+pub mod EarlierLemmas

@@ -1,5 +1,5 @@
 -- Contents that are still those of an outbox.
-use Rattle.std.proofs.Common.{◌≡◌, ◌≤◌, ℕ, List, length, find, None, true, IsTrue}
+use Rattle.std.proofs.Common.{◌≡◌, ◌≤◌, ℕ, List, length, find, Option, None, true, IsTrue}
 use Rattle.std.specs.List.{AllByRecursion}
 use Rattle.key_string.specs.Filer.{is_filer}
 use Rattle.sqlite_keyed.proofs.ListLemmas.{all_weaker}
@@ -8,6 +8,7 @@ use Rattle.sqlite.specs.Tree.{Trees}
 use Rattle.sqlite.specs.State.{State as Shown}
 use Rattle.key_string.specs.Key.{IsKey}
 use Rattle.http_wire.specs.Head.{max_body_len}
+use Rattle.http_wire.specs.Posting.{IsTarget}
 use Rattle.filing_model.specs.Outbox.{Entry, State, IsSendable, request_of}
 use Rattle.filing_model.proofs.Keeping.{all_push}
 use Rattle.outbox_core.specs.Entries.{Contents, contents_of, IsOutbox, AreDistinct, FitsNumber, numbered, has_text, opened, with_entry, with_state}
@@ -17,12 +18,13 @@ use Rattle.outbox_core.specs.Rows.{IsOutboxOf, Leaves}
 use Rattle.outbox_core.proofs.EntryLemmas.{all_set, set_all, distinct_push, distinct_set, unused}
 
 -- an entry more, under a key that was not used
-pub one_more : (it : Contents) (key body : List ℕ) → IsKey key → length body ≤ max_body_len → find (has_text key) (numbered it.entries) ≡ None → IsOutbox it → IsOutbox (with_entry it (opened key body))
-one_more it key body is_key short none was = record {
+pub one_more : (it : Contents) (key : List ℕ) (target : Option ℕ) (body : List ℕ) → IsKey key → IsTarget target → length body ≤ max_body_len → find (has_text key) (numbered it.entries) ≡ None → IsOutbox it
+    → IsOutbox (with_entry it (opened key target body))
+one_more it key target body is_key is_target short none was = record {
   filer = was.filer;
-  sendable = all_push (λ e. IsSendable (request_of it.filer e)) it.entries (opened key body) was.sendable (record { filer = was.filer; key = is_key; body = short });
-  numbers = all_push (λ e. FitsNumber e.state) it.entries (opened key body) was.numbers tt;
-  distinct = distinct_push it.entries (opened key body) (unused it.entries key none) was.distinct;
+  sendable = all_push (λ e. IsSendable (request_of it.filer e)) it.entries (opened key target body) was.sendable (record { filer = was.filer; key = is_key; target = is_target; body = short });
+  numbers = all_push (λ e. FitsNumber e.state) it.entries (opened key target body) was.numbers tt;
+  distinct = distinct_push it.entries (opened key target body) (unused it.entries key none) was.distinct;
 }
 
 -- an entry in another state
@@ -38,7 +40,7 @@ another_state it id state fits was = record {
 pub kept_list : (filer : List ℕ) (es : List Entry) → is_filer filer ≡ true → AllByRecursion IsKept es → AreDistinct es → IsOutbox (contents_of filer es)
 kept_list filer es is kept distinct = record {
   filer = is;
-  sendable = all_weaker IsKept (λ e. IsSendable (request_of filer e)) (λ e k. record { filer = is; key = k.key; body = k.body }) es kept;
+  sendable = all_weaker IsKept (λ e. IsSendable (request_of filer e)) (λ e k. record { filer = is; key = k.key; target = k.target; body = k.body }) es kept;
   numbers = all_weaker IsKept (λ e. FitsNumber e.state) (λ e k. k.number) es kept;
   distinct = distinct;
 }

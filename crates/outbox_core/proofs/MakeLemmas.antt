@@ -28,9 +28,9 @@ use Rattle.table_rows.specs.Rows.{Gains}
 use Rattle.table_rows.proofs.CreateLemmas.{IsCreation, IsFreshly, creates, none_held}
 use Rattle.table_rows.proofs.GainLemmas.{gained, cast_int}
 use Rattle.table_rows.proofs.InsertLemmas.{inserts}
-use Rattle.outbox_core.specs.Schema.{outbox_tables, meta_table, entry_table, IsDeclared}
+use Rattle.outbox_core.specs.Schema.{outbox_tables, meta_table, entry_table, target_table, IsDeclared}
 use Rattle.outbox_core.specs.Entries.{IsOutbox, empty}
-use Rattle.outbox_core.specs.Making.{create_meta, create_entry, insert_meta, RunsAll, AreMade}
+use Rattle.outbox_core.specs.Making.{create_meta, create_entry, create_target, insert_meta, RunsAll, AreMade}
 use Rattle.outbox_core.specs.Rows.{HasRows, IsOutboxOf, Leaves, meta_row}
 
 abbrev first_schema : Schema
@@ -44,14 +44,21 @@ creates_entry : IsCreation first_schema create_entry (record entry_table { tree 
 unfolding understood everything
 creates_entry = record { command = refl; statement = refl; defined = refl; plain = (refl, refl) }
 
+abbrev pub second_schema : Schema
+second_schema = created first_schema (record entry_table { tree = 0 })
+
+pub creates_target : IsCreation second_schema create_target (record target_table { tree = 0 })
+unfolding understood everything
+creates_target = record { command = refl; statement = refl; defined = refl; plain = (refl, refl) }
+
 -- the index that SQLite makes for the keys
-abbrev own_indexes : List Index
+abbrev pub own_indexes : List Index
 own_indexes = automatic entry_table 0 (2 ∷ []) 2 ∷ []
 
-abbrev outbox_schema : Schema
+abbrev pub outbox_schema : Schema
 outbox_schema = schema_with outbox_tables [] own_indexes []
 
-inserts_meta : command_of (understood outbox_schema insert_meta) ≡ Insert 0 (Values (lit (Int (pos 1)) ∷ lit Null ∷ lit (Text (codes "outbox")) ∷ lit (Int (pos 1)) ∷ col 0 0 ∷ []) 5)
+inserts_meta : command_of (understood outbox_schema insert_meta) ≡ Insert 0 (Values (lit (Int (pos 1)) ∷ lit Null ∷ lit (Text (codes "outbox")) ∷ lit (Int (pos 2)) ∷ col 0 0 ∷ []) 5)
 unfolding understood everything
 inserts_meta = refl
 
@@ -62,21 +69,23 @@ plain_meta = (refl, refl)
 abbrev begins : (schema : Schema) → schema ≡ outbox_schema → BeginsWith outbox_tables schema
 begins schema is = record { tables = []; indexes = own_indexes; views = []; is = is }
 
-declared : (schema : Schema) → schema ≡ outbox_schema → IsDeclared schema
-declared schema is = record { begins = begins schema is; free = subst (λ (s : Schema). AllByRecursion (λ (t : Table). t.references ≡ []) s.tables) (sym is) (refl, (refl, tt)) }
+pub declared : (schema : Schema) → schema ≡ outbox_schema → IsDeclared schema
+declared schema is = record { begins = begins schema is; free = subst (λ (s : Schema). AllByRecursion (λ (t : Table). t.references ≡ []) s.tables) (sym is) (refl, (refl, (refl, tt))) }
 
-module _ (a b c d : State) (n : ℕ × ℕ × ℕ) (filer : List ℕ) where
-  makes_all : ExecutesInside 0 create_meta [] a b (Ok n.0) → ExecutesInside 0 create_entry [] b c (Ok n.1) → ExecutesInside 0 insert_meta (Text filer ∷ []) c d (Ok n.2) → a.now.schema ≡ no_schema
-      → HasRows (empty filer) d.now × IsDatabase d.now
-  makes_all p q r none =
+module _ (a b c m d : State) (n : ℕ × ℕ × ℕ × ℕ) (filer : List ℕ) where
+  makes_all : ExecutesInside 0 create_meta [] a b (Ok n.0) → ExecutesInside 0 create_entry [] b c (Ok n.1) → ExecutesInside 0 create_target [] c m (Ok n.2) → ExecutesInside 0 insert_meta (Text filer ∷ []) m d (Ok n.3)
+      → a.now.schema ≡ no_schema → HasRows (empty filer) d.now × IsDatabase d.now
+  makes_all p q t r none =
       let one = creates no_schema create_meta meta_table a b n.0 creates_meta refl (record { schema_is = none; empty = tt }) p.0 in
-      let two : IsFreshly outbox_schema c.now = creates first_schema create_entry (record entry_table { tree = 0 }) b c n.1 creates_entry refl one q.0 in
-      let i = inserts outbox_schema 0 _ _ _ _ _ _ _ refl _ 5 (λ _. refl) insert_meta _ c d n.2 two.schema_is inserts_meta plain_meta r.0 in
-      let g : Gains outbox_tables meta_table (meta_row filer ∷ []) c.now d.now = gained outbox_tables meta_table _ (meta_row filer) c.now d.now (begins c.now.schema two.schema_is) i (λ row is. rw (is, cast_int (pos 1)) refl) in (
+      let half : IsFreshly second_schema c.now = creates first_schema create_entry (record entry_table { tree = 0 }) b c n.1 creates_entry refl one q.0 in
+      let two : IsFreshly outbox_schema m.now = creates second_schema create_target (record target_table { tree = 0 }) c m n.2 creates_target refl half t.0 in
+      let i = inserts outbox_schema 0 _ _ _ _ _ _ _ refl _ 5 (λ _. refl) insert_meta _ m d n.3 two.schema_is inserts_meta plain_meta r.0 in
+      let g : Gains outbox_tables meta_table (meta_row filer ∷ []) m.now d.now = gained outbox_tables meta_table _ (meta_row filer) m.now d.now (begins m.now.schema two.schema_is) i (λ row is. rw (is, cast_int (pos 1), cast_int (pos 2)) refl) in (
         record {
           declared = declared d.now.schema (g.schema_is ∙ two.schema_is);
           meta_is = rw two.empty.0 at g.gained;
-          entries_are = none_held entry_table c.now d.now two.empty.1.0 (g.others.1.0 (λ same. absurd (omega (arith, same))));
+          entries_are = none_held entry_table m.now d.now two.empty.1.0 (g.others.1.0 (λ same. absurd (omega (arith, same))));
+          targets_are = none_held target_table m.now d.now two.empty.1.1.0 (g.others.1.1.0 (λ same. absurd (omega (arith, same))));
         },
         i.sound,
       )
@@ -88,7 +97,7 @@ module _ {S : Type 0} (g : Ghosts S) (filer : List ℕ) (old : Held S) (is : is_
   -- in a database with no table they are an outbox with no entry
   pub all_made : (new : Held S) → RunsAll g filer (record old { in_transaction = true }) new → (state g old).now.schema ≡ no_schema → IsOutboxOf (empty filer) (state g new).now
   all_made new ran none =
-      let all = makes_all (state g (record old { in_transaction = true })) (state g ran.first) (state g ran.second) (state g new) ran.counts filer ran.meta ran.entry ran.row none in
+      let all = makes_all (state g (record old { in_transaction = true })) (state g ran.first) (state g ran.second) (state g ran.third) (state g new) ran.counts filer ran.meta ran.entry ran.target ran.row none in
       record { sound = all.1; rows = all.0; list = no_entries filer is }
 
   pub made_leaves : (trees : Trees) → AreMade g filer old trees → (state g old).now.schema ≡ no_schema → Leaves (empty filer) trees

@@ -22,8 +22,8 @@ use Rattle.table_rows.proofs.SelectLemmas.{one_table}
 use Rattle.table_rows.proofs.QueryLemmas.{Asks}
 use Rattle.table_rows.proofs.FailLemmas.{IsWhole}
 use Rattle.table_rows.proofs.TextLemmas.{IsQueryText}
-use Rattle.outbox_core.specs.Schema.{outbox_tables, IsDeclared}
-use Rattle.outbox_core.specs.Audit.{meta_text, entries_text}
+use Rattle.outbox_core.specs.Schema.{common_tables, outbox_tables, HasCommon, IsDeclared}
+use Rattle.outbox_core.specs.Audit.{meta_text, targets_text, entries_text}
 
 abbrev pub by_key_text : List ℕ
 by_key_text = codes "SELECT id, idem, body, state, number FROM entry WHERE idem = ?1 ORDER BY id"
@@ -36,6 +36,12 @@ by_state_text = codes "SELECT id, idem, body, state, number FROM entry WHERE sta
 
 abbrev pub insert_text : List ℕ
 insert_text = codes "INSERT INTO entry (id, idem, body, state) VALUES (?1, ?2, ?3, 0)"
+
+abbrev pub target_text : List ℕ
+target_text = codes "SELECT number FROM target WHERE id = ?1"
+
+abbrev pub insert_target_text : List ℕ
+insert_target_text = codes "INSERT INTO target VALUES (?1, ?2)"
 
 abbrev pub update_text : List ℕ
 update_text = codes "UPDATE entry SET state = ?2, number = ?3 WHERE id = ?1"
@@ -69,6 +75,19 @@ meta_terms = col 1 0 ∷ col 1 2 ∷ col 1 3 ∷ col 1 4 ∷ []
 
 abbrev pub meta_query : Query
 meta_query = one_table 0 [] meta_terms []
+
+-- both columns of a target
+abbrev pub target_terms : List Term
+target_terms = col 1 0 ∷ col 1 2 ∷ []
+
+abbrev pub targets_query : Query
+targets_query = one_table 3 [] target_terms []
+
+abbrev pub target_query : Query
+target_query = one_table 3 (equals 0) (col 1 2 ∷ []) []
+
+abbrev pub insert_target_command : Command
+insert_target_command = Insert 2 (Values (col 0 0 ∷ lit Null ∷ col 0 1 ∷ []) 3)
 
 abbrev pub insert_terms : List Term
 insert_terms = col 0 0 ∷ lit Null ∷ col 0 1 ∷ col 0 2 ∷ lit (Int (pos 0)) ∷ lit Null ∷ []
@@ -108,12 +127,40 @@ pub meta_reads : IsQueryText meta_text
 unfolding understood everything
 meta_reads = refl
 
+pub targets_reads : IsQueryText targets_text
+unfolding understood everything
+targets_reads = refl
+
+pub target_reads : IsQueryText target_text
+unfolding understood everything
+target_reads = refl
+
 pub entries_reads : IsQueryText entries_text
 unfolding understood everything
 entries_reads = refl
 
 abbrev names : List (List ℕ)
 names = codes "id" ∷ codes "idem" ∷ codes "body" ∷ codes "state" ∷ codes "number" ∷ []
+
+module _ (tables : List Table) (indexes : List Index) (views : List View) where
+  abbrev common : Schema
+  common = schema_with common_tables tables indexes views
+
+  asks_meta : Asks common meta_text meta_query
+  unfolding understood everything
+  asks_meta = record { names = codes "id" ∷ codes "kind" ∷ codes "form" ∷ codes "filer" ∷ []; is = refl; plain = (refl, refl); listing = refl }
+
+  asks_entries : Asks common entries_text (entry_query [])
+  unfolding understood everything
+  asks_entries = record { names = names; is = refl; plain = (refl, refl); listing = refl }
+
+  whole_meta : IsWhole common meta_text meta_query
+  unfolding understood everything
+  whole_meta = record { tail = le_refl _; unnamed = refl; typed = refl }
+
+  whole_entries : IsWhole common entries_text (entry_query [])
+  unfolding understood everything
+  whole_entries = record { tail = le_refl _; unnamed = refl; typed = refl }
 
 module _ (tables : List Table) (indexes : List Index) (views : List View) where
   abbrev schema : Schema
@@ -135,29 +182,33 @@ module _ (tables : List Table) (indexes : List Index) (views : List View) where
   unfolding understood everything
   asks_states = record { names = codes "id" ∷ codes "state" ∷ codes "number" ∷ []; is = refl; plain = (refl, refl); listing = refl }
 
-  asks_meta : Asks schema meta_text meta_query
+  asks_targets : Asks schema targets_text targets_query
   unfolding understood everything
-  asks_meta = record { names = codes "id" ∷ codes "kind" ∷ codes "form" ∷ codes "filer" ∷ []; is = refl; plain = (refl, refl); listing = refl }
+  asks_targets = record { names = codes "id" ∷ codes "number" ∷ []; is = refl; plain = (refl, refl); listing = refl }
 
-  asks_entries : Asks schema entries_text (entry_query [])
+  asks_target : Asks schema target_text target_query
   unfolding understood everything
-  asks_entries = record { names = names; is = refl; plain = (refl, refl); listing = refl }
+  asks_target = record { names = codes "number" ∷ []; is = refl; plain = (refl, refl); listing = refl }
 
-  whole_meta : IsWhole schema meta_text meta_query
+  whole_targets : IsWhole schema targets_text targets_query
   unfolding understood everything
-  whole_meta = record { tail = le_refl _; unnamed = refl; typed = refl }
+  whole_targets = record { tail = le_refl _; unnamed = refl; typed = refl }
 
-  whole_entries : IsWhole schema entries_text (entry_query [])
-  unfolding understood everything
-  whole_entries = record { tail = le_refl _; unnamed = refl; typed = refl }
-
-  does_insert : command_of (understood schema insert_text) ≡ insert_command
+  pub does_insert : command_of (understood schema insert_text) ≡ insert_command
   unfolding understood everything
   does_insert = refl
 
-  plain_insert : IsPlain (understood schema insert_text)
+  pub plain_insert : IsPlain (understood schema insert_text)
   unfolding understood everything
   plain_insert = (refl, refl)
+
+  pub does_insert_target : command_of (understood schema insert_target_text) ≡ insert_target_command
+  unfolding understood everything
+  does_insert_target = refl
+
+  pub plain_insert_target : IsPlain (understood schema insert_target_text)
+  unfolding understood everything
+  plain_insert_target = (refl, refl)
 
   does_update : command_of (understood schema update_text) ≡ update_command
   unfolding understood everything
@@ -166,6 +217,19 @@ module _ (tables : List Table) (indexes : List Index) (views : List View) where
   plain_update : IsPlain (understood schema update_text)
   unfolding understood everything
   plain_update = (refl, refl)
+
+module _ (schema : Schema) (c : HasCommon schema) where
+  pub meta_asks : Asks schema meta_text meta_query
+  meta_asks = subst (λ s. Asks s meta_text meta_query) (sym c.is) (asks_meta c.tables c.indexes c.views)
+
+  pub entries_asks : Asks schema entries_text (entry_query [])
+  entries_asks = subst (λ s. Asks s entries_text (entry_query [])) (sym c.is) (asks_entries c.tables c.indexes c.views)
+
+  pub meta_whole : IsWhole schema meta_text meta_query
+  meta_whole = subst (λ s. IsWhole s meta_text meta_query) (sym c.is) (whole_meta c.tables c.indexes c.views)
+
+  pub entries_whole : IsWhole schema entries_text (entry_query [])
+  entries_whole = subst (λ s. IsWhole s entries_text (entry_query [])) (sym c.is) (whole_entries c.tables c.indexes c.views)
 
 module _ (schema : Schema) (d : IsDeclared schema) where
   abbrev b : Schema
@@ -183,23 +247,14 @@ module _ (schema : Schema) (d : IsDeclared schema) where
   pub states_asks : Asks schema states_text states_query
   states_asks = subst (λ s. Asks s states_text states_query) (sym d.begins.is) (asks_states d.begins.tables d.begins.indexes d.begins.views)
 
-  pub meta_asks : Asks schema meta_text meta_query
-  meta_asks = subst (λ s. Asks s meta_text meta_query) (sym d.begins.is) (asks_meta d.begins.tables d.begins.indexes d.begins.views)
+  pub targets_asks : Asks schema targets_text targets_query
+  targets_asks = subst (λ s. Asks s targets_text targets_query) (sym d.begins.is) (asks_targets d.begins.tables d.begins.indexes d.begins.views)
 
-  pub entries_asks : Asks schema entries_text (entry_query [])
-  entries_asks = subst (λ s. Asks s entries_text (entry_query [])) (sym d.begins.is) (asks_entries d.begins.tables d.begins.indexes d.begins.views)
+  pub target_asks : Asks schema target_text target_query
+  target_asks = subst (λ s. Asks s target_text target_query) (sym d.begins.is) (asks_target d.begins.tables d.begins.indexes d.begins.views)
 
-  pub meta_whole : IsWhole schema meta_text meta_query
-  meta_whole = subst (λ s. IsWhole s meta_text meta_query) (sym d.begins.is) (whole_meta d.begins.tables d.begins.indexes d.begins.views)
-
-  pub entries_whole : IsWhole schema entries_text (entry_query [])
-  entries_whole = subst (λ s. IsWhole s entries_text (entry_query [])) (sym d.begins.is) (whole_entries d.begins.tables d.begins.indexes d.begins.views)
-
-  pub insert_is : command_of (understood schema insert_text) ≡ insert_command
-  insert_is = subst (λ s. command_of (understood s insert_text) ≡ insert_command) (sym d.begins.is) (does_insert d.begins.tables d.begins.indexes d.begins.views)
-
-  pub insert_plain : IsPlain (understood schema insert_text)
-  insert_plain = subst (λ s. IsPlain (understood s insert_text)) (sym d.begins.is) (plain_insert d.begins.tables d.begins.indexes d.begins.views)
+  pub targets_whole : IsWhole schema targets_text targets_query
+  targets_whole = subst (λ s. IsWhole s targets_text targets_query) (sym d.begins.is) (whole_targets d.begins.tables d.begins.indexes d.begins.views)
 
   pub update_is : command_of (understood schema update_text) ≡ update_command
   update_is = subst (λ s. command_of (understood s update_text) ≡ update_command) (sym d.begins.is) (does_update d.begins.tables d.begins.indexes d.begins.views)

@@ -1,5 +1,5 @@
 -- A database is one outbox at most.
-use Rattle.std.proofs.Common.{◌≡◌, ◌<◌, ℕ, suc, pos, Bool, true, false, not, List, [], ◌∷◌, map, filter, nat_eq, refl, ap, ap₂, subst₂, ◌∙◌, arith, IsPermutation}
+use Rattle.std.proofs.Common.{◌≡◌, ◌<◌, ℕ, suc, pos, Bool, true, false, not, List, [], ◌∷◌, map, filter, nat_eq, refl, sym, ap, ap₂, subst₂, ◌∙◌, arith, IsPermutation}
 use Rattle.std.specs.List.{AllByRecursion}
 use Rattle.std.proofs.lemmas.Bool.Decides.{nat_tests, Decides-int_eq}
 use Rattle.std.proofs.lemmas.List.Sorted.{IsPermutation-sym, IsPermutation-trans, length_permutation}
@@ -9,10 +9,11 @@ use Rattle.sqlite.proofs.Callers.{one_permutation}
 use Rattle.sqlite_keyed.proofs.ListLemmas.{all_weaker, filter_all, filter_none, IsPermutation-filter}
 use Rattle.filing_model.specs.Outbox.{Entry}
 use Rattle.outbox_core.specs.Entries.{Contents, numbered_from}
-use Rattle.outbox_core.specs.Rows.{IsOutboxOf, meta_row, entry_row, code_of, number_of}
+use Rattle.outbox_core.specs.Rows.{IsOutboxOf, meta_row, entry_row, target_row, target_rows_from, code_of, number_of}
 use Rattle.outbox_core.specs.Audit.{is_int}
 use Rattle.outbox_core.proofs.SelectLemmas.{same_ids}
 use Rattle.outbox_core.proofs.ReadLemmas.{one_state}
+use Rattle.outbox_core.proofs.TargetLemmas.{later_targets, own_row, rows_left, few_rows, one_target}
 
 abbrev rows_from : ℕ → List Entry → List Row
 rows_from n es = map entry_row (numbered_from n es)
@@ -33,23 +34,36 @@ other_rows n e es =
     rw ((Decides-int_eq (pos n) (pos n)).1 refl) (filter_all (λ w. not (has_id_column n w)) (rows_from (suc n) es)
     (all_weaker _ (λ w. not (has_id_column n w) ≡ true) (λ w apart. ap not apart) (rows_from (suc n) es) (later_apart n (suc n) es (omega arith))))
 
-same_row : (n : ℕ) (e f : Entry) → entry_row (n, f) ∷ [] ≡ entry_row (n, e) ∷ [] → e ≡ f
-same_row n e f h =
+same_row : (n : ℕ) (e f : Entry) → entry_row (n, f) ∷ [] ≡ entry_row (n, e) ∷ [] → e.target ≡ f.target → e ≡ f
+same_row n e f h target =
     let key : e.key ≡ f.key = cc in
     let body : e.body ≡ f.body = cc in
     let codes : code_of e.state ≡ code_of f.state = cc in
     let numbers : number_of e.state ≡ number_of f.state = cc in
     let state = one_state e.state f.state codes numbers in
-    λ i. record { key = key i; body = body i; state = state i }
+    λ i. record { key = key i; target = target i; body = body i; state = state i }
 
-same_entries : (n : ℕ) (es fs : List Entry) → IsPermutation (rows_from n es) (rows_from n fs) → es ≡ fs
-same_entries n [] [] h = refl
-same_entries n [] (f ∷ fs) h = absurd (omega (arith, length_permutation _ _ h))
-same_entries n (e ∷ es) [] h = absurd (omega (arith, length_permutation _ _ h))
-same_entries n (e ∷ es) (f ∷ fs) h =
+same_target : (n : ℕ) (e f : Entry) (es fs : List Entry) → IsPermutation (target_rows_from n (e ∷ es)) (target_rows_from n (f ∷ fs)) → e.target ≡ f.target
+same_target n e f es fs h =
+    let mine = own_row n e.target (target_rows_from (suc n) es) (later_targets n (suc n) es (omega arith)) in
+    let other = own_row n f.target (target_rows_from (suc n) fs) (later_targets n (suc n) fs (omega arith)) in
+    let both = subst₂ (λ xs ys. IsPermutation xs ys) mine other (IsPermutation-filter (has_id_column n) _ _ h) in
+    sym (one_target n f.target e.target (few_rows n e.target (target_row n f.target) both))
+
+other_targets : (n : ℕ) (e f : Entry) (es fs : List Entry) → IsPermutation (target_rows_from n (e ∷ es)) (target_rows_from n (f ∷ fs)) → IsPermutation (target_rows_from (suc n) es) (target_rows_from (suc n) fs)
+other_targets n e f es fs h =
+    let mine = rows_left n e.target (target_rows_from (suc n) es) (later_targets n (suc n) es (omega arith)) in
+    let other = rows_left n f.target (target_rows_from (suc n) fs) (later_targets n (suc n) fs (omega arith)) in
+    subst₂ (λ xs ys. IsPermutation xs ys) mine other (IsPermutation-filter (λ w. not (has_id_column n w)) _ _ h)
+
+same_entries : (n : ℕ) (es fs : List Entry) → IsPermutation (rows_from n es) (rows_from n fs) → IsPermutation (target_rows_from n es) (target_rows_from n fs) → es ≡ fs
+same_entries n [] [] h t = refl
+same_entries n [] (f ∷ fs) h t = absurd (omega (arith, length_permutation _ _ h))
+same_entries n (e ∷ es) [] h t = absurd (omega (arith, length_permutation _ _ h))
+same_entries n (e ∷ es) (f ∷ fs) h t =
     let first = subst₂ (λ xs ys. IsPermutation xs ys) (first_row n e es) (first_row n f fs) (IsPermutation-filter (has_id_column n) _ _ h) in
     let rest = subst₂ (λ xs ys. IsPermutation xs ys) (other_rows n e es) (other_rows n f fs) (IsPermutation-filter (λ w. not (has_id_column n w)) _ _ h) in
-    ap₂ (λ x xs. x ∷ xs) (same_row n e f (one_permutation _ _ first)) (same_entries (suc n) es fs rest)
+    ap₂ (λ x xs. x ∷ xs) (same_row n e f (one_permutation _ _ first) (same_target n e f es fs t)) (same_entries (suc n) es fs rest (other_targets n e f es fs t))
 
 same_filer : (f g : List ℕ) → meta_row g ∷ [] ≡ meta_row f ∷ [] → f ≡ g
 same_filer f g h = cc
@@ -57,5 +71,5 @@ same_filer f g h = cc
 pub one_outbox : (a b : Contents) (db : Database) → IsOutboxOf a db → IsOutboxOf b db → a ≡ b
 one_outbox a b db p q =
     let filer = same_filer a.filer b.filer (one_permutation _ _ (IsPermutation-trans _ _ _ p.rows.meta_is (IsPermutation-sym _ _ q.rows.meta_is))) in
-    let entries = same_entries 1 a.entries b.entries (IsPermutation-trans _ _ _ p.rows.entries_are (IsPermutation-sym _ _ q.rows.entries_are)) in
+    let entries = same_entries 1 a.entries b.entries (IsPermutation-trans _ _ _ p.rows.entries_are (IsPermutation-sym _ _ q.rows.entries_are)) (IsPermutation-trans _ _ _ p.rows.targets_are (IsPermutation-sym _ _ q.rows.targets_are)) in
     λ i. record { filer = filer i; entries = entries i }

@@ -25,7 +25,7 @@ use Rattle.sqlite_rules.specs.Edit.{is_taken}
 use Rattle.sqlite_keyed.proofs.ListLemmas.{filter-map, IsPermutation-filter}
 use Rattle.filing_model.specs.Outbox.{Entry, State as Place, Open, Confirmed, Refused, Clashed}
 use Rattle.table_rows.specs.Tables.{schema_with}
-use Rattle.table_rows.specs.Rows.{shown}
+use Rattle.table_rows.specs.Rows.{shown, Holds}
 use Rattle.table_rows.specs.Standing.{Stands}
 use Rattle.table_rows.proofs.InsertLemmas.{put_fresh}
 use Rattle.table_rows.proofs.GainLemmas.{cast_int, cast_null, same_rows}
@@ -33,11 +33,12 @@ use Rattle.table_rows.proofs.SelectLemmas.{selects}
 use Rattle.table_rows.proofs.WriteLemmas.{LeadsTo, EndsNone, written_stands, crash_leaves}
 use Rattle.table_rows.proofs.UpdateLemmas.{other_rows, updated}
 use Rattle.filing_model.specs.Numbered.{changed_at}
-use Rattle.outbox_core.specs.Schema.{outbox_tables, meta_table, entry_table, IsDeclared}
+use Rattle.outbox_core.specs.Schema.{outbox_tables, meta_table, entry_table, target_table, IsDeclared}
 use Rattle.outbox_core.specs.Entries.{Contents, IsOutbox, numbered, numbered_from, has_id, entry_at, with_state, in_state}
-use Rattle.outbox_core.specs.Rows.{IsOutboxOf, Leaves, code_of, number_of, entry_row, entry_rows, meta_row}
+use Rattle.outbox_core.specs.Rows.{IsOutboxOf, Leaves, code_of, number_of, entry_row, entry_rows, target_rows, meta_row}
 use Rattle.outbox_core.proofs.Texts.{equals, changed_columns, update_text, update_command, update_query, update_is, update_plain}
 use Rattle.outbox_core.proofs.SelectLemmas.{matches, id_matches, same_ids, passing}
+use Rattle.outbox_core.proofs.TargetLemmas.{targets_put}
 
 abbrev pub update_params : ℕ → Place → Row
 update_params id state = Int (pos id) ∷ Int (pos (code_of state)) ∷ number_of state ∷ []
@@ -165,6 +166,7 @@ module _ (s : State) (it : Contents) (was : IsOutboxOf it s.now) (k : ℕ) (e : 
           declared = subst IsDeclared (sym (u.schema_is ∙ sym d.begins.is)) d;
           meta_is = same_rows meta_table (meta_row it.filer ∷ []) s.now after (u.others.0 (λ same. omega (arith, same))) was.rows.meta_is;
           entries_are = subst (λ l. IsPermutation (entry_rows (changed_at (in_state state) it.entries k)) (map (shown entry_table) l)) (sym rows) (rows_changed it.entries db was.rows.entries_are k e found state fresh);
+          targets_are = subst (Holds after target_table) (sym (targets_put 1 k it.entries state)) (same_rows target_table (target_rows it.entries) s.now after (u.others.1.1.0 (λ same. omega (arith, same))) was.rows.targets_are);
         };
         list = fits;
       }

@@ -1,5 +1,5 @@
 -- The entries of an outbox as a list, numbered from 1.
-use Rattle.std.specs.Prelude.{◌≡◌, ℕ, zero, suc, ◌≤◌, ◌<◌, ◌^◌, ◌==◌, Bool, true, false, List, [], ◌∷◌, ◌++◌, bytes_eq, Option}
+use Rattle.std.specs.Prelude.{◌≡◌, ℕ, suc, ◌≤◌, ◌<◌, ◌^◌, ◌==◌, Bool, true, false, List, [], ◌∷◌, ◌++◌, bytes_eq, Option, option_and_then}
 use Rattle.std.specs.List.{AllByRecursion}
 use Rattle.key_string.specs.Filer.{is_filer}
 use Rattle.filing_model.specs.Numbered.{numbered as element, changed}
@@ -29,6 +29,10 @@ numbered = numbered_from 1
 abbrev pub entry_at : List Entry → ℕ → Option Entry
 entry_at = element
 
+-- the filing that the entry of an id is to replace, if it is to replace one
+abbrev pub target_at : List Entry → ℕ → Option ℕ
+target_at entries id = option_and_then (λ e. e.target) (entry_at entries id)
+
 abbrev pub has_id : ℕ → ℕ × Entry → Bool
 has_id id x = x.0 == id
 
@@ -43,8 +47,8 @@ abbrev pub is_open : ℕ × Entry → Bool
 is_open x = is_open_state x.1.state
 
 -- an entry as it is first kept
-abbrev pub opened : List ℕ → List ℕ → Entry
-opened key body = record { key = key; body = body; state = Open }
+abbrev pub opened : List ℕ → Option ℕ → List ℕ → Entry
+opened key target body = record { key = key; target = target; body = body; state = Open }
 
 -- the contents with one entry more
 abbrev pub with_entry : Contents → Entry → Contents

@@ -6,4 +6,7 @@ pub mod Faults
 pub mod Box
 pub mod Audit
 pub mod Making
+pub mod Changes
+pub mod Targets
+pub mod Earlier
 pub mod Files

@@ -12,18 +12,23 @@ create_meta = codes "CREATE TABLE outbox_meta (id INTEGER PRIMARY KEY, kind TEXT
 abbrev pub create_entry : List ℕ
 create_entry = codes "CREATE TABLE entry (id INTEGER PRIMARY KEY, idem TEXT NOT NULL UNIQUE, body BLOB NOT NULL, state INTEGER NOT NULL, number INTEGER) STRICT"
 
-abbrev pub insert_meta : List ℕ
-insert_meta = codes "INSERT INTO outbox_meta VALUES (1, 'outbox', 1, ?1)"
+abbrev pub create_target : List ℕ
+create_target = codes "CREATE TABLE target (id INTEGER PRIMARY KEY, number INTEGER NOT NULL) STRICT"
 
--- both tables were made and the row of `outbox_meta` was added, in turn and inside one transaction
+abbrev pub insert_meta : List ℕ
+insert_meta = codes "INSERT INTO outbox_meta VALUES (1, 'outbox', 2, ?1)"
+
+-- the three tables were made and the row of `outbox_meta` was added, in turn and inside one transaction
 pub record RunsAll {S : Type 0} (g : Ghosts S) (filer : List ℕ) (old new : Held S) : Type 0 where
   pub first : Held S
   pub second : Held S
-  pub counts : ℕ × ℕ × ℕ
+  pub third : Held S
+  pub counts : ℕ × ℕ × ℕ × ℕ
   pub meta : ExecutesInside 0 create_meta [] (state g old) (state g first) (Ok counts.0)
   pub entry : ExecutesInside 0 create_entry [] (state g first) (state g second) (Ok counts.1)
-  pub row : ExecutesInside 0 insert_meta (Text filer ∷ []) (state g second) (state g new) (Ok counts.2)
+  pub target : ExecutesInside 0 create_target [] (state g second) (state g third) (Ok counts.2)
+  pub row : ExecutesInside 0 insert_meta (Text filer ∷ []) (state g third) (state g new) (Ok counts.3)
 
--- the trees are what all three make of the database, whatever it was
+-- the trees are what all four make of the database, whatever it was
 abbrev pub AreMade : {S : Type 0} → Ghosts S → List ℕ → Held S → Trees → Type 0
 AreMade {S} g filer old trees = (last : Held S) × RunsAll g filer (record old { in_transaction = true }) last × (trees ≡ (state g last).now.trees)

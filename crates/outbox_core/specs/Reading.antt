@@ -18,7 +18,7 @@ view_state Stored.Clashed = Clashed
 
 -- the id of an entry, and the rest
 abbrev pub view_entry : Read → ℕ × Entry
-view_entry e = (e.id, record { key = e.key; body = e.body.items; state = view_state e.state })
+view_entry e = (e.id, record { key = e.key; target = e.target; body = e.body.items; state = view_state e.state })
 
 -- what the columns of a row say of an entry
 pub record Shows (row : Row) (e : Read) : Type 0 where

@@ -18,15 +18,27 @@ entry_table = keyed (codes "entry") 1
     (optional (codes "id") Integer ∷ needed (codes "idem") Text ∷ needed (codes "body") Blob ∷ needed (codes "state") Integer ∷ optional (codes "number") Integer ∷ [])
     ((2 ∷ []) ∷ []) (plain ∷ [])
 
--- the tables of an outbox; the tree after them is that of the index that SQLite makes for the keys
+-- the filings that entries are to replace, each under the id of its entry
+abbrev pub target_table : Table
+target_table = keyed (codes "target") 3 (optional (codes "id") Integer ∷ needed (codes "number") Integer ∷ []) [] []
+
+-- the tables of an outbox in every form
+abbrev pub common_tables : List Table
+common_tables = meta_table ∷ entry_table ∷ []
+
+-- the tables of an outbox; the tree between them is that of the index that SQLite makes for the keys
 abbrev pub outbox_tables : List Table
-outbox_tables = meta_table ∷ entry_table ∷ []
+outbox_tables = meta_table ∷ entry_table ∷ target_table ∷ []
 
 -- They come first. Others may follow, and no table has a foreign key, which would act when an entry changes.
 pub record IsDeclared (schema : Schema) : Type 0 where
   pub begins : BeginsWith outbox_tables schema
   pub free : AllByRecursion (λ t. t.references ≡ []) schema.tables
 
+-- those of every form come first
+abbrev pub HasCommon : Schema → Type 0
+HasCommon = BeginsWith common_tables
+
 -- whether a table, an index or a view has the name of one of our tables
 abbrev pub is_taken : Schema → Bool
-is_taken schema = is_used schema (codes "outbox_meta") || is_used schema (codes "entry")
+is_taken schema = is_used schema (codes "outbox_meta") || (is_used schema (codes "entry") || is_used schema (codes "target"))

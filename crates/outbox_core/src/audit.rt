@@ -1,17 +1,20 @@
 //! Whether the rows of a database are those of an outbox.
 
-ghost use Rattle.std.specs.Prelude.{◌≡◌, ◌<◌, ◌≤◌, ◌+◌, ◌^◌, ℕ, suc, drop, length, string_bytes, true, option_map};
-ghost use Rattle.sqlite.specs.Order.{column};
+ghost use Rattle.std.specs.Prelude.{◌≡◌, ◌<◌, ◌≤◌, ◌+◌, ◌^◌, ℕ, List, suc, drop, get_or, length, string_bytes, true, option_map, IfOk};
+ghost use Rattle.sqlite.specs.Order.{column, Row as Stored};
 ghost use Rattle.sqlite_value.specs.Value.{owned};
-ghost use Rattle.outbox_core.specs.Audit.{is_int, is_absent, is_key_text, is_body, is_number, is_state, is_outbox, filer_text, filer_in, is_sound, first_damaged};
+ghost use Rattle.outbox_core.specs.Audit.{is_int, is_absent, is_key_text, is_body, is_number, is_state, is_outbox, filer_text, filer_in, is_entry, is_sound, is_target, with_id, first_damaged, damaged_row};
+ghost use Rattle.outbox_core.specs.Targets.{said_by};
 
+use crate::targets::{Said, is_left_over, said_of};
 use http_wire::MAX_BODY_LEN;
 use key_string::{is_key, read_filer};
 use sqlite::Row;
 use sqlite::types::ValueRef;
+use std::alloc::{AllocError, Global};
 
 /// The value of a column, and NULL past the end.
-fn value_at(row: &Row, at: usize) -> ValueRef<'_>
+pub(crate) fn value_at(row: &Row, at: usize) -> ValueRef<'_>
     ensures { owned result ≡ column row.now at }
 {
     row.get_ref(at).unwrap_or(ValueRef::Null)
@@ -45,7 +48,7 @@ fn is_body(value: ValueRef<'_>) -> bool
     }
 }
 
-fn is_number(value: ValueRef<'_>) -> bool
+pub(crate) fn is_number(value: ValueRef<'_>) -> bool
     ensures { result ≡ is_number (owned value.entry) }
 {
     match value {
@@ -74,9 +77,9 @@ fn is_state(code: ValueRef<'_>, number: ValueRef<'_>) -> bool
 }
 
 /// Whether the row, of the columns `id`, `idem`, `body`, `state` and `number`, is that of an entry of this id.
-fn is_sound(id: u64, row: &Row) -> bool
+fn is_entry(id: u64, row: &Row) -> bool
     requires { id < 2 ^ 63 }
-    ensures { result ≡ is_sound id row.now }
+    ensures { result ≡ is_entry id row.now }
 {
     is_int(value_at(row, 0), id)
         && is_key_text(value_at(row, 1))
@@ -105,29 +108,64 @@ fn filer_text(value: ValueRef<'_>) -> Option<&str>
 
 /// The filer of the one row, of the columns `id`, `kind`, `form` and `filer`, that says that the database is an outbox
 /// in this form.
-pub(crate) fn filer_in(rows: &[Row]) -> Option<&str>
-    ensures { option_map (λ filer. filer.now) result ≡ filer_in rows.now }
+pub(crate) fn filer_in<'a>(rows: &'a [Row], form: u64) -> Option<&'a str>
+    requires { form < 2 ^ 63 }
+    ensures { option_map (λ filer. filer.now) result ≡ filer_in form rows.now }
 {
     let [row] = rows else {
         return None;
     };
-    if is_int(value_at(row, 0), 1) && is_outbox(value_at(row, 1)) && is_int(value_at(row, 2), 1) {
+    if is_int(value_at(row, 0), 1)
+        && is_outbox(value_at(row, 1))
+        && is_int(value_at(row, 2), form)
+    {
         filer_text(value_at(row, 3))
     } else {
         None
     }
 }
 
-/// The first row that is not that of the entry of its count, which is from 1.
-pub(crate) fn first_damaged(rows: &[Row]) -> Option<u64>
-    ensures { result ≡ first_damaged 1 rows.now }
+/// Whether the row of the entry of this id is sound, and so is what is said of its target.
+fn is_sound(id: u64, row: &Row, said: Said) -> bool
+    requires { id < 2 ^ 63 }
+    ensures { (targets : List Stored) → said ≡ said_by (with_id id targets) → result ≡ is_sound targets id row.now }
+{
+    is_entry(id, row) && said != Said::Unsound
+}
+
+/// The first row that is not sound as that of the entry of its count, which is from 1.
+fn first_damaged(rows: &[Row], said: &[Said]) -> Option<u64>
+    requires { length said.now ≡ length rows.now }
+    ensures { (targets : List Stored) → ((place : ℕ) (d : Said) → place < length rows.now → get_or said.now place d ≡ said_by (with_id (suc place) targets)) → result ≡ first_damaged targets 1 rows.now }
 {
     let mut id = 0;
-    for row in rows {
+    for at in 0..rows.len() {
         id += 1;
-        if !is_sound(id, row) {
+        if !is_sound(id, &rows[at], said[at]) {
             return Some(id);
         }
     }
     None
+}
+
+/// The row of the first entry that is not sound; or 0, where each is and a row of `target` is that of no entry. The error is
+/// want of memory.
+pub(crate) fn damaged_row(
+    alloc: Global,
+    targets: &[Row],
+    rows: &[Row],
+) -> Result<Option<u64>, AllocError>
+    ensures { IfOk result (λ row. row ≡ damaged_row targets.now rows.now) }
+{
+    let said = said_of(alloc, targets, rows.len())?;
+    match first_damaged(rows, said.as_slice()) {
+        Some(id) => Ok(Some(id)),
+        None => {
+            if is_left_over(targets, rows.len()) {
+                Ok(Some(0))
+            } else {
+                Ok(None)
+            }
+        }
+    }
 }

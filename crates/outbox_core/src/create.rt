@@ -24,10 +24,11 @@ use std::alloc::Global;
 fn is_taken(schema: &Schema) -> bool
     ensures { result ≡ is_taken schema.now }
 {
-    is_used(schema, b"outbox_meta") || is_used(schema, b"entry")
+    is_used(schema, b"outbox_meta") || is_used(schema, b"entry") || is_used(schema, b"target")
 }
 
-fn run<S: Alter>(
+/// Runs a statement.
+pub(crate) fn run<S: Alter>(
     tx: &mut Transaction<'_, S>,
     sql: &str,
     params: &[ValueRef<'_>],
@@ -59,7 +60,12 @@ fn make_tables<S: Alter>(tx: &mut Transaction<'_, S>, filer: &str) -> Result<(),
     )?;
     run(
         tx,
-        "INSERT INTO outbox_meta VALUES (1, 'outbox', 1, ?1)",
+        "CREATE TABLE target (id INTEGER PRIMARY KEY, number INTEGER NOT NULL) STRICT",
+        &[],
+    )?;
+    run(
+        tx,
+        "INSERT INTO outbox_meta VALUES (1, 'outbox', 2, ?1)",
         params![filer],
     )
 }
@@ -101,8 +107,8 @@ pub fn make_outbox<S: Alter>(
     ensures untouched { (result ≡ Err OutboxFault.BadFiler) ⊎ (result ≡ Err OutboxFault.Taken) → conn.new ≡ conn.old }
     ensures no_other { IfErr result (λ fault. (fault ≢ OutboxFault.NotOurs) × ((row : _) → fault ≢ OutboxFault.Damaged row)) }
 
-    // Whatever tables there were: the three statements are committed together; on a refusal what is committed is what was
-    // committed; and a crash leaves what one before the call could leave, or all three, and after Ok these alone.
+    // Whatever tables there were: the four statements are committed together; on a refusal what is committed is what was
+    // committed; and a crash leaves what one before the call could leave, or all four, and after Ok these alone.
     ensures ran { HasCleanDisk (state S.Store conn.new) → OnOk result (AreMade S.Store filer.now conn.old (state S.Store conn.new).now.trees) }
     ensures undone { HasCleanDisk (state S.Store conn.new) → OnErr result (KeepsCommit (state S.Store conn.old) (state S.Store conn.new)) }
     ensures crash { Survives (state S.Store conn.old) (state S.Store conn.new) (λ trees. AreMade S.Store filer.now conn.old trees × ((state S.Store conn.old).now.schema ≡ no_schema → Leaves (empty filer.now) trees)) }

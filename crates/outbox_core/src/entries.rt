@@ -1,10 +1,11 @@
 //! What the calls on an outbox do to its entries, in two statements at most.
 
-ghost use Rattle.std.specs.Prelude.{◌≡◌, ◌≢◌, ◌+◌, ◌^◌, ◌<◌, ◌≤◌, length, find, map, option_map, None, Some, IsTrue, IfOk, IfErr, OnOk, OnErr, IsOk, IfSome, ◌⊎◌};
+ghost use Rattle.std.specs.Prelude.{◌≡◌, ◌≢◌, ◌+◌, ◌^◌, ◌<◌, ◌≤◌, ℕ, Option, length, find, map, option_map, None, Some, IsTrue, IfOk, IfErr, OnOk, OnErr, IfSome, ◌⊎◌};
 ghost use Rattle.sqlite.specs.State.{HasCleanDisk, Survives};
 ghost use Rattle.sqlite.specs.Held.{state};
 ghost use Rattle.key_string.specs.Key.{IsKey};
 ghost use Rattle.http_wire.specs.Head.{max_body_len};
+ghost use Rattle.http_wire.specs.Posting.{IsTarget};
 ghost use Rattle.http_wire.specs.Replies.{reply_parts};
 ghost use Rattle.filing_model.specs.Outbox.{Entry as Item, moved};
 ghost use Rattle.table_rows.specs.Standing.{Stands, Commits};
@@ -12,37 +13,43 @@ ghost use Rattle.outbox_core.specs.Entries.{Contents, IsOutbox, opened, numbered
 ghost use Rattle.outbox_core.specs.Rows.{IsOutboxOf, Leaves, entry_row};
 ghost use Rattle.outbox_core.specs.Reading.{view_entry, view_state, view_pair, id_and_state};
 
-use crate::entry::{Entry, read_states};
+use crate::entry::{Entry, read_states, state_in};
 use crate::fault::{PutFault, StoreFault, TakeFault};
 use crate::state::State;
 use crate::tables;
+use crate::write::keep_entry;
 use http_wire::Reply;
 use sqlite::{Alter, Connection, Error, Row};
 use std::alloc::Global;
 
 const MAX_ENTRIES: u64 = 1 << 62;
 
+/// No row has an id as high.
+const ID_LIMIT: u64 = 1 << 63;
+
 /// Adds an entry after the `count` that are there.
 fn insert_next<S: Alter>(
     conn: &mut Connection<S>,
     count: u64,
     key: &str,
+    target: Option<u64>,
     body: &[u8],
 ) -> Result<u64, PutFault>
+    requires { IsTarget target }
     ensures added { HasCleanDisk (state S.Store conn.new) → (it : Contents) → Stands (IsOutboxOf it) (state S.Store conn.old) → IsTrue (state S.Store conn.old).is_open
-        → count ≡ length it.entries → IsOutbox (with_entry it (opened key.now body.now))
-        → IfOk result (λ id. (id ≡ 1 + length it.entries) × Stands (IsOutboxOf (with_entry it (opened key.now body.now))) (state S.Store conn.new) × IsTrue (state S.Store conn.new).is_open) }
+        → count ≡ length it.entries → IsOutbox (with_entry it (opened key.now target body.now))
+        → IfOk result (λ id. (id ≡ 1 + length it.entries) × Stands (IsOutboxOf (with_entry it (opened key.now target body.now))) (state S.Store conn.new) × IsTrue (state S.Store conn.new).is_open) }
     ensures kept { HasCleanDisk (state S.Store conn.new) → (it : Contents) → Stands (IsOutboxOf it) (state S.Store conn.old) → OnErr result (Stands (IsOutboxOf it) (state S.Store conn.new)) }
     ensures causes { IfErr result (λ fault. (fault ≡ PutFault.Memory) ⊎ (fault ≡ PutFault.Store)) }
     ensures few { IfOk result (λ id. id ≤ 2 ^ 62) }
     ensures crash { Survives (state S.Store conn.old) (state S.Store conn.new) (Commits IsOutboxOf (state S.Store conn.old)
-        (λ it trees. count ≡ length it.entries → IsOutbox (with_entry it (opened key.now body.now)) → Leaves (with_entry it (opened key.now body.now)) trees)) }
+        (λ it trees. count ≡ length it.entries → IsOutbox (with_entry it (opened key.now target body.now)) → Leaves (with_entry it (opened key.now target body.now)) trees)) }
 {
-    if count >= MAX_ENTRIES {
+    if count >= MAX_ENTRIES || !conn.is_autocommit() {
         return Err(PutFault::Store);
     }
-    match tables::insert_entry(conn, count + 1, key, body) {
-        Ok(_) => Ok(count + 1),
+    match keep_entry(conn, count + 1, key, target, body) {
+        Ok(()) => Ok(count + 1),
         Err(error) => Err(PutFault::from(StoreFault::from(error))),
     }
 }
@@ -52,12 +59,14 @@ pub(crate) fn add_entry<S: Alter>(
     conn: &mut Connection<S>,
     count: u64,
     key: &str,
+    target: Option<u64>,
     body: &[u8],
 ) -> Result<u64, PutFault>
     requires key { IsKey key.now }
+    requires target { IsTarget target }
     requires body { length body.now ≤ max_body_len }
     ensures added { HasCleanDisk (state S.Store conn.new) → (it : Contents) → Stands (IsOutboxOf it) (state S.Store conn.old) → count ≡ length it.entries
-        → IfOk result (λ id. (id ≡ 1 + length it.entries) × Stands (IsOutboxOf (with_entry it (opened key.now body.now))) (state S.Store conn.new) × IsTrue (state S.Store conn.new).is_open) }
+        → IfOk result (λ id. (id ≡ 1 + length it.entries) × Stands (IsOutboxOf (with_entry it (opened key.now target body.now))) (state S.Store conn.new) × IsTrue (state S.Store conn.new).is_open) }
     ensures unused { HasCleanDisk (state S.Store conn.new) → (it : Contents) → Stands (IsOutboxOf it) (state S.Store conn.old) → OnOk result (find (has_text key.now) (numbered it.entries) ≡ None) }
     ensures used { HasCleanDisk (state S.Store conn.new) → (it : Contents) → Stands (IsOutboxOf it) (state S.Store conn.old)
         → (id : _) → result ≡ Err (PutFault.KeyUsed id) → option_map (λ x. x.0) (find (has_text key.now) (numbered it.entries)) ≡ Some id }
@@ -65,23 +74,57 @@ pub(crate) fn add_entry<S: Alter>(
     ensures few { IfOk result (λ id. id ≤ 2 ^ 62) }
     ensures any_size { result ≢ Err PutFault.TooLarge }
     ensures crash { Survives (state S.Store conn.old) (state S.Store conn.new) (Commits IsOutboxOf (state S.Store conn.old)
-        (λ it trees. count ≡ length it.entries → Leaves (with_entry it (opened key.now body.now)) trees)) }
+        (λ it trees. count ≡ length it.entries → Leaves (with_entry it (opened key.now target body.now)) trees)) }
 {
     match tables::id_of_key(conn, key) {
-        Ok(None) => insert_next(conn, count, key, body),
+        Ok(None) => insert_next(conn, count, key, target, body),
         Ok(Some(id)) => Err(PutFault::KeyUsed { id }),
         Err(error) => Err(PutFault::from(StoreFault::from(error))),
     }
 }
 
-/// The entry that the row is, if there is one.
-fn read_found(alloc: Global, found: Result<Option<Row>, Error>) -> Result<Option<Entry>, StoreFault>
-    ensures read { (it : _) → IfOk found (λ row. row ≡ option_map entry_row it) → IfOk result (λ entry. option_map view_entry entry ≡ it) }
-    ensures short { IfOk result (λ entry. IfSome entry (λ e. length e.body.items ≤ max_body_len)) }
-    ensures from_ok { IsOk result → IsOk found }
+/// The entry of this id that the row is of.
+fn read_entry<S: Alter>(
+    conn: &mut Connection<S>,
+    alloc: Global,
+    row: &Row,
+) -> Result<Entry, StoreFault>
+    ensures read { HasCleanDisk (state S.Store conn.new) → (it : Contents) → Stands (IsOutboxOf it) (state S.Store conn.old)
+        → (x : ℕ × Item) → row.now ≡ entry_row x → entry_at it.entries x.0 ≡ Some x.1 → IfOk result (λ entry. view_entry entry ≡ x) }
+    ensures short { IfOk result (λ entry. length entry.body.items ≤ max_body_len) }
+    ensures within { IfOk result (λ entry. IsTarget entry.target) }
+    ensures kept { HasCleanDisk (state S.Store conn.new) → (it : Contents) → Stands (IsOutboxOf it) (state S.Store conn.old) → Stands (IsOutboxOf it) (state S.Store conn.new) }
+    ensures open { HasCleanDisk (state S.Store conn.new) → (it : Contents) → Stands (IsOutboxOf it) (state S.Store conn.old) → OnOk result (IsTrue (state S.Store conn.new).is_open) }
+    ensures crash { Survives (state S.Store conn.old) (state S.Store conn.new) (λ _. ⊥) }
 {
-    match found? {
-        Some(row) => Ok(Some(Entry::from_row(alloc, &row)?)),
+    let id = row.get(0)?;
+    if id >= ID_LIMIT {
+        return Err(StoreFault::Store);
+    }
+    let target = tables::target_of(conn, id)?;
+    Entry::from_row(alloc, row, target)
+}
+
+/// The entry that the row is of, if there is one.
+fn read_found<S: Alter>(
+    conn: &mut Connection<S>,
+    alloc: Global,
+    found: Option<Row>,
+) -> Result<Option<Entry>, StoreFault>
+    ensures read { HasCleanDisk (state S.Store conn.new) → (it : Contents) → Stands (IsOutboxOf it) (state S.Store conn.old)
+        → (o : Option (ℕ × Item)) → found ≡ option_map entry_row o → IfSome o (λ x. entry_at it.entries x.0 ≡ Some x.1) → IfOk result (λ entry. option_map view_entry entry ≡ o) }
+    ensures short { IfOk result (λ entry. IfSome entry (λ e. length e.body.items ≤ max_body_len)) }
+    ensures within { IfOk result (λ entry. IfSome entry (λ e. IsTarget e.target)) }
+    ensures kept { HasCleanDisk (state S.Store conn.new) → (it : Contents) → Stands (IsOutboxOf it) (state S.Store conn.old) → Stands (IsOutboxOf it) (state S.Store conn.new) }
+    ensures open { HasCleanDisk (state S.Store conn.new) → (it : Contents) → Stands (IsOutboxOf it) (state S.Store conn.old) → IsTrue (state S.Store conn.old).is_open
+        → OnOk result (IsTrue (state S.Store conn.new).is_open) }
+    ensures crash { Survives (state S.Store conn.old) (state S.Store conn.new) (λ _. ⊥) }
+{
+    match found {
+        Some(row) => match read_entry(conn, alloc, &row) {
+            Ok(entry) => Ok(Some(entry)),
+            Err(fault) => Err(fault),
+        },
         None => Ok(None),
     }
 }
@@ -95,11 +138,15 @@ pub(crate) fn entry_of<S: Alter>(
     ensures found { HasCleanDisk (state S.Store conn.new) → (it : Contents) → Stands (IsOutboxOf it) (state S.Store conn.old)
         → IfOk result (λ entry. option_map view_entry entry ≡ option_map (λ e. (id, e)) (entry_at it.entries id)) }
     ensures short { IfOk result (λ entry. IfSome entry (λ e. length e.body.items ≤ max_body_len)) }
+    ensures within { IfOk result (λ entry. IfSome entry (λ e. IsTarget e.target)) }
     ensures kept { HasCleanDisk (state S.Store conn.new) → (it : Contents) → Stands (IsOutboxOf it) (state S.Store conn.old) → Stands (IsOutboxOf it) (state S.Store conn.new) }
     ensures open { HasCleanDisk (state S.Store conn.new) → (it : Contents) → Stands (IsOutboxOf it) (state S.Store conn.old) → OnOk result (IsTrue (state S.Store conn.new).is_open) }
     ensures crash { Survives (state S.Store conn.old) (state S.Store conn.new) (λ _. ⊥) }
 {
-    read_found(alloc, tables::entry_with_id(conn, id))
+    match tables::entry_with_id(conn, id) {
+        Ok(row) => read_found(conn, alloc, row),
+        Err(error) => Err(StoreFault::from(error)),
+    }
 }
 
 pub(crate) fn open_entry<S: Alter>(
@@ -109,10 +156,30 @@ pub(crate) fn open_entry<S: Alter>(
     ensures found { HasCleanDisk (state S.Store conn.new) → (it : Contents) → Stands (IsOutboxOf it) (state S.Store conn.old)
         → IfOk result (λ entry. option_map view_entry entry ≡ find is_open (numbered it.entries)) }
     ensures short { IfOk result (λ entry. IfSome entry (λ e. length e.body.items ≤ max_body_len)) }
+    ensures within { IfOk result (λ entry. IfSome entry (λ e. IsTarget e.target)) }
     ensures kept { HasCleanDisk (state S.Store conn.new) → (it : Contents) → Stands (IsOutboxOf it) (state S.Store conn.old) → Stands (IsOutboxOf it) (state S.Store conn.new) }
     ensures crash { Survives (state S.Store conn.old) (state S.Store conn.new) (λ _. ⊥) }
 {
-    read_found(alloc, tables::first_open_entry(conn))
+    match tables::first_open_entry(conn) {
+        Ok(row) => read_found(conn, alloc, row),
+        Err(error) => Err(StoreFault::from(error)),
+    }
+}
+
+/// The state of the entry of this id.
+fn state_of_entry<S: Alter>(conn: &mut Connection<S>, id: u64) -> Result<Option<State>, StoreFault>
+    requires { id < 2 ^ 63 }
+    ensures found { HasCleanDisk (state S.Store conn.new) → (it : Contents) → Stands (IsOutboxOf it) (state S.Store conn.old)
+        → IfOk result (λ state. option_map view_state state ≡ option_map (λ e. e.state) (entry_at it.entries id)) }
+    ensures kept { HasCleanDisk (state S.Store conn.new) → (it : Contents) → Stands (IsOutboxOf it) (state S.Store conn.old) → Stands (IsOutboxOf it) (state S.Store conn.new) }
+    ensures open { HasCleanDisk (state S.Store conn.new) → (it : Contents) → Stands (IsOutboxOf it) (state S.Store conn.old) → OnOk result (IsTrue (state S.Store conn.new).is_open) }
+    ensures crash { Survives (state S.Store conn.old) (state S.Store conn.new) (λ _. ⊥) }
+{
+    let row = tables::entry_with_id(conn, id)?;
+    match row {
+        Some(row) => Ok(Some(state_in(&row)?)),
+        None => Ok(None),
+    }
 }
 
 /// The ids and the states of all entries.
@@ -175,8 +242,8 @@ pub(crate) fn take_entry<S: Alter>(
     ensures crash { Survives (state S.Store conn.old) (state S.Store conn.new) (Commits IsOutboxOf (state S.Store conn.old)
         (λ it trees. (e : Item) × (entry_at it.entries id ≡ Some e) × Leaves (with_state it id (moved e.state (reply_parts reply.now))) trees)) }
 {
-    match entry_of(conn, alloc, id) {
-        Ok(Some(entry)) => move_entry(conn, alloc, id, entry.state, reply),
+    match state_of_entry(conn, id) {
+        Ok(Some(from)) => move_entry(conn, alloc, id, from, reply),
         Ok(None) => Err(TakeFault::NoEntry),
         Err(fault) => Err(TakeFault::from(fault)),
     }

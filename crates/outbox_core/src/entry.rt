@@ -1,8 +1,10 @@
 //! An entry, and how a row reads as one.
 
-ghost use Rattle.std.specs.Prelude.{◌≡◌, ◌≤◌, pos, length, map, IfOk, IfSome};
+ghost use Rattle.std.specs.Prelude.{◌≡◌, ◌≤◌, ◌↔◌, pos, length, map, IsTrue, IfOk, IfSome};
 ghost use Rattle.http_wire.specs.Head.{max_body_len};
+ghost use Rattle.http_wire.specs.Posting.{IsTarget};
 ghost use Rattle.sqlite.specs.declared.types.Value.TheVariants.{Int};
+ghost use Rattle.sqlite.specs.Order.{column};
 ghost use Rattle.sqlite.specs.Values.{or_null};
 ghost use Rattle.outbox_core.specs.Rows.{code_of, number_of};
 ghost use Rattle.outbox_core.specs.Reading.{view_state, view_pair, state_told};
@@ -14,12 +16,17 @@ use key_string::{KeyFault, KeyText};
 use sqlite::Row;
 use std::alloc::Global;
 
+/// The greatest number that a column holds.
+const MAX_TARGET: u64 = i64::MAX as u64;
+
 /// A report that is to be sent under its key, and what is known of it.
 #[derive(Debug, Drop)]
 pub struct Entry {
     /// Entries are numbered from 1 in the order in which they were put.
     pub id: u64,
     pub key: KeyText,
+    /// The number of the filing that the report is to replace, from 1 to 2^63 - 1, if it is to replace one.
+    pub target: Option<u64>,
     pub body: Vec<u8>,
     pub state: State,
 }
@@ -49,14 +56,33 @@ fn key_in(alloc: Global, text: &str) -> Result<KeyText, StoreFault>
     }
 }
 
+/// Whether there is no number, or one that a filing may have.
+fn is_target(target: Option<u64>) -> bool
+    ensures { IsTrue result ↔ IsTarget target }
+{
+    match target {
+        Some(number) => 1 <= number && number <= MAX_TARGET,
+        None => true,
+    }
+}
+
 impl Entry {
     ghost use Rattle.outbox_core.specs.Reading.{Shows};
 
-    /// Reads a row of the columns `id`, `idem`, `body`, `state` and `number`.
-    pub(crate) fn from_row(alloc: Global, row: &Row) -> Result<Entry, StoreFault>
+    /// Reads a row of the columns `id`, `idem`, `body`, `state` and `number`, of an entry with this target.
+    pub(crate) fn from_row(
+        alloc: Global,
+        row: &Row,
+        target: Option<u64>,
+    ) -> Result<Entry, StoreFault>
         ensures shown { IfOk result (Shows row.now) }
+        ensures target { IfOk result (λ entry. entry.target ≡ target) }
+        ensures within { IfOk result (λ entry. IsTarget entry.target) }
         ensures short { IfOk result (λ entry. length entry.body.items ≤ max_body_len) }
     {
+        if !is_target(target) {
+            return Err(StoreFault::Store);
+        }
         let id = row.get(0)?;
         let text: String = row.get(1)?;
         let body: Vec<u8> = row.get(2)?;
@@ -70,10 +96,20 @@ impl Entry {
         Ok(Entry {
             id,
             key,
+            target,
             body,
             state,
         })
     }
+}
+
+/// The state of a row of the columns `id`, `idem`, `body`, `state` and `number`.
+pub(crate) fn state_in(row: &Row) -> Result<State, StoreFault>
+    ensures { IfOk result (λ state. (column row.now 3 ≡ Int (pos (code_of (view_state state)))) × (column row.now 4 ≡ number_of (view_state state))) }
+{
+    let code = row.get(3)?;
+    let number = row.get(4)?;
+    state_of(code, number).ok_or(StoreFault::Store)
 }
 
 /// The id and the state that a row of the columns `id`, `state` and `number` tells.

@@ -1,6 +1,6 @@
 //! What an opening finds in a database.
 
-ghost use Rattle.std.specs.Prelude.{◌≡◌, ◌≢◌, ◌≤◌, ◌^◌, ◌⊎◌, ◌∷◌, [], List, length, true, false, not, None, Some, Err, IsTrue, IsSome, IfOk, IfErr, OnOk, string_bytes};
+ghost use Rattle.std.specs.Prelude.{◌≡◌, ◌≢◌, ◌<◌, ◌≤◌, ◌^◌, ◌⊎◌, ◌∷◌, [], ℕ, List, length, IsPermutation, true, false, not, None, Some, Err, IsTrue, IsSome, IfOk, IfErr, OnOk, string_bytes};
 ghost use Rattle.std.specs.List.{AllByRecursion};
 ghost use Rattle.key_string.specs.Filer.{is_filer};
 ghost use Rattle.filing_model.specs.Outbox.{Entry as Item};
@@ -9,16 +9,17 @@ ghost use Rattle.sqlite.specs.Order.{Row as Stored};
 ghost use Rattle.sqlite.specs.State.{HasCleanDisk, IsLive, IsUnchanged, KeepsCommit, Shown, Survives};
 ghost use Rattle.table_rows.specs.Rows.{Holds};
 ghost use Rattle.table_rows.specs.Standing.{Stands};
-ghost use Rattle.outbox_core.specs.Schema.{IsDeclared, meta_table, entry_table};
+ghost use Rattle.outbox_core.specs.Schema.{IsDeclared, HasCommon, meta_table, entry_table, target_table};
 ghost use Rattle.outbox_core.specs.Entries.{Contents, contents_of};
-ghost use Rattle.outbox_core.specs.Rows.{IsOutboxOf, meta_row, entry_rows};
+ghost use Rattle.outbox_core.specs.Rows.{IsOutboxOf, form_row, entry_rows, target_rows};
 ghost use Rattle.outbox_core.specs.Faults.{meta_fault, entry_fault};
-ghost use Rattle.outbox_core.specs.Audit.{meta_text, entries_text, filer_in, IsKept, StopsByDisk, IsNoOutbox, IsDamagedAt, IsRefused};
+ghost use Rattle.outbox_core.specs.Audit.{meta_text, targets_text, entries_text, damaged_row, IsKept, IsPair, StopsFor, IsNoOutbox, ReadsFiler, IsDamagedAt, AreDamaged, AreStopped, IsRefused};
+ghost use Rattle.table_rows.specs.declared.cause.Cause.TheVariants as cause;
 
-use crate::audit::{filer_in, first_damaged};
+use crate::audit::{damaged_row, filer_in};
 use crate::fault::OutboxFault;
 use crate::tables;
-use sqlite::{Alter, Connection, Error};
+use sqlite::{Alter, Connection, Error, Row};
 use std::alloc::Global;
 use table_rows::Cause;
 
@@ -42,24 +43,31 @@ fn entry_fault(error: Error) -> OutboxFault
     }
 }
 
-/// The filer of the outbox that the database is.
-fn filer_of<S: Alter>(conn: &mut Connection<S>, alloc: Global) -> Result<String, OutboxFault>
-    ensures found { HasCleanDisk (state S.Store conn.new) → IsDeclared (state S.Store conn.old).now.schema
-        → IfOk result (λ filer. Holds (state S.Store conn.old).now meta_table (meta_row (string_bytes filer) ∷ []) × (is_filer (string_bytes filer) ≡ true) × IsUnchanged (state S.Store conn.old) (state S.Store conn.new)) }
+/// The filer of the outbox in this form that the database is.
+pub(crate) fn filer_of<S: Alter>(
+    conn: &mut Connection<S>,
+    alloc: Global,
+    form: u64,
+) -> Result<String, OutboxFault>
+    requires { form < 2 ^ 63 }
+    ensures found { HasCleanDisk (state S.Store conn.new) → HasCommon (state S.Store conn.old).now.schema
+        → IfOk result (λ filer. Holds (state S.Store conn.old).now meta_table (form_row form (string_bytes filer) ∷ []) × (is_filer (string_bytes filer) ≡ true) × IsUnchanged (state S.Store conn.old) (state S.Store conn.new)) }
     ensures code { IfOk result (λ filer. is_filer (string_bytes filer) ≡ true) }
-    ensures read { HasCleanDisk (state S.Store conn.new) → OnOk result ((rows : List Stored) × Shown meta_text [] (state S.Store conn.old) (state S.Store conn.new) rows × IsSome (filer_in rows)) }
-    ensures not_ours { HasCleanDisk (state S.Store conn.new) → result ≡ Err OutboxFault.NotOurs → IsNoOutbox (state S.Store conn.old) (state S.Store conn.new) }
-    ensures disk { HasCleanDisk (state S.Store conn.new) → result ≡ Err OutboxFault.Disk → StopsByDisk meta_text (state S.Store conn.old) (state S.Store conn.new) }
+    ensures read { HasCleanDisk (state S.Store conn.new) → OnOk result (ReadsFiler form (state S.Store conn.old) (state S.Store conn.new)) }
+    ensures not_ours { HasCleanDisk (state S.Store conn.new) → result ≡ Err OutboxFault.NotOurs → IsNoOutbox form (state S.Store conn.old) (state S.Store conn.new) }
+    ensures disk { HasCleanDisk (state S.Store conn.new) → result ≡ Err OutboxFault.Disk → StopsFor cause.Disk meta_text (state S.Store conn.old) (state S.Store conn.new) }
     ensures others { IfErr result (λ fault. (fault ≡ OutboxFault.NotOurs) ⊎ ((fault ≡ OutboxFault.Memory) ⊎ (fault ≡ OutboxFault.Disk))) }
-    ensures ours { HasCleanDisk (state S.Store conn.new) → (it : Contents) → IsOutboxOf it (state S.Store conn.old).now → (state S.Store conn.old).step_limit ≡ None
+    ensures ours { HasCleanDisk (state S.Store conn.new) → (filer : List ℕ) → HasCommon (state S.Store conn.old).now.schema → Holds (state S.Store conn.old).now meta_table (form_row form filer ∷ [])
+        → is_filer filer ≡ true → (state S.Store conn.old).step_limit ≡ None
         → IfErr result (λ fault. (fault ≡ OutboxFault.Memory) ⊎ (fault ≡ OutboxFault.Disk)) }
     ensures kept { HasCleanDisk (state S.Store conn.new) → KeepsCommit (state S.Store conn.old) (state S.Store conn.new) }
+    ensures limit { conn.new.step_limit ≡ conn.old.step_limit }
     ensures crash { Survives (state S.Store conn.old) (state S.Store conn.new) (λ _. ⊥) }
     ensures mode { conn.old.in_transaction ≡ false → conn.new.in_transaction ≡ false }
     ensures clean { HasCleanDisk (state S.Store conn.new) → HasCleanDisk (state S.Store conn.old) }
 {
     match tables::meta_rows(conn) {
-        Ok(rows) => match filer_in(rows.as_slice()) {
+        Ok(rows) => match filer_in(rows.as_slice(), form) {
             Some(filer) => Ok(String::from_str(alloc, filer)?),
             None => Err(OutboxFault::NotOurs),
         },
@@ -67,12 +75,66 @@ fn filer_of<S: Alter>(conn: &mut Connection<S>, alloc: Global) -> Result<String,
     }
 }
 
+/// The rows of `target`.
+fn read_targets<S: Alter>(conn: &mut Connection<S>) -> Result<Vec<Row>, OutboxFault>
+    ensures held { HasCleanDisk (state S.Store conn.new) → IsDeclared (state S.Store conn.old).now.schema
+        → IfOk result (λ targets. Holds (state S.Store conn.old).now target_table targets.items × IsUnchanged (state S.Store conn.old) (state S.Store conn.new)) }
+    ensures shown { HasCleanDisk (state S.Store conn.new) → IfOk result (λ targets. Shown targets_text [] (state S.Store conn.old) (state S.Store conn.new) targets.items) }
+    ensures damaged { HasCleanDisk (state S.Store conn.new) → (row : _) → result ≡ Err (OutboxFault.Damaged row) → (row ≡ 0) × StopsFor cause.Other targets_text (state S.Store conn.old) (state S.Store conn.new) }
+    ensures disk { HasCleanDisk (state S.Store conn.new) → result ≡ Err OutboxFault.Disk → StopsFor cause.Disk targets_text (state S.Store conn.old) (state S.Store conn.new) }
+    ensures others { IfErr result (λ fault. ((row : _) × (fault ≡ OutboxFault.Damaged row)) ⊎ ((fault ≡ OutboxFault.Memory) ⊎ (fault ≡ OutboxFault.Disk))) }
+    ensures whole { HasCleanDisk (state S.Store conn.new) → (it : Contents) → IsOutboxOf it (state S.Store conn.old).now → (state S.Store conn.old).step_limit ≡ None
+        → IfErr result (λ fault. (fault ≡ OutboxFault.Memory) ⊎ (fault ≡ OutboxFault.Disk)) }
+    ensures kept { HasCleanDisk (state S.Store conn.new) → KeepsCommit (state S.Store conn.old) (state S.Store conn.new) }
+    ensures limit { conn.new.step_limit ≡ conn.old.step_limit }
+    ensures crash { Survives (state S.Store conn.old) (state S.Store conn.new) (λ _. ⊥) }
+    ensures mode { conn.old.in_transaction ≡ false → conn.new.in_transaction ≡ false }
+    ensures clean { HasCleanDisk (state S.Store conn.new) → HasCleanDisk (state S.Store conn.old) }
+{
+    match tables::target_rows(conn) {
+        Ok(rows) => Ok(rows),
+        Err(error) => Err(entry_fault(error)),
+    }
+}
+
+/// How many entries the outbox has that the database is, with the targets of these rows.
+pub(crate) fn count_entries<S: Alter>(
+    alloc: Global,
+    conn: &mut Connection<S>,
+    targets: &[Row],
+) -> Result<u64, OutboxFault>
+    ensures counted { HasCleanDisk (state S.Store conn.new) → HasCommon (state S.Store conn.old).now.schema → AllByRecursion IsPair targets.now
+        → IfOk result (λ count. (entries : List Item) × Holds (state S.Store conn.old).now entry_table (entry_rows entries) × IsPermutation (target_rows entries) targets.now
+        × AllByRecursion IsKept entries × (count ≡ length entries) × IsUnchanged (state S.Store conn.old) (state S.Store conn.new)) }
+    ensures damaged { HasCleanDisk (state S.Store conn.new) → (row : _) → result ≡ Err (OutboxFault.Damaged row) → IsDamagedAt targets.now row (state S.Store conn.old) (state S.Store conn.new) }
+    ensures read { HasCleanDisk (state S.Store conn.new) → OnOk result ((rows : List Stored) × Shown entries_text [] (state S.Store conn.old) (state S.Store conn.new) rows × (damaged_row targets.now rows ≡ None)) }
+    ensures disk { HasCleanDisk (state S.Store conn.new) → result ≡ Err OutboxFault.Disk → StopsFor cause.Disk entries_text (state S.Store conn.old) (state S.Store conn.new) }
+    ensures others { IfErr result (λ fault. ((row : _) × (fault ≡ OutboxFault.Damaged row)) ⊎ ((fault ≡ OutboxFault.Memory) ⊎ (fault ≡ OutboxFault.Disk))) }
+    ensures few { IfOk result (λ count. count ≤ 2 ^ 62) }
+    ensures whole { HasCleanDisk (state S.Store conn.new) → (entries : List Item) → HasCommon (state S.Store conn.old).now.schema → Holds (state S.Store conn.old).now entry_table (entry_rows entries)
+        → AllByRecursion IsKept entries → IsPermutation (target_rows entries) targets.now → (state S.Store conn.old).step_limit ≡ None → IfErr result (λ fault. (fault ≡ OutboxFault.Memory) ⊎ (fault ≡ OutboxFault.Disk)) }
+    ensures kept { HasCleanDisk (state S.Store conn.new) → KeepsCommit (state S.Store conn.old) (state S.Store conn.new) }
+    ensures limit { conn.new.step_limit ≡ conn.old.step_limit }
+    ensures crash { Survives (state S.Store conn.old) (state S.Store conn.new) (λ _. ⊥) }
+    ensures mode { conn.old.in_transaction ≡ false → conn.new.in_transaction ≡ false }
+    ensures clean { HasCleanDisk (state S.Store conn.new) → HasCleanDisk (state S.Store conn.old) }
+{
+    match tables::all_rows(conn) {
+        Ok(rows) => match damaged_row(alloc, targets, rows.as_slice())? {
+            None => Ok(rows.len() as u64),
+            Some(row) => Err(OutboxFault::Damaged { row }),
+        },
+        Err(error) => Err(entry_fault(error)),
+    }
+}
+
 /// How many entries the outbox has that the database is.
-fn count_entries<S: Alter>(conn: &mut Connection<S>) -> Result<u64, OutboxFault>
+fn count_all<S: Alter>(alloc: Global, conn: &mut Connection<S>) -> Result<u64, OutboxFault>
     ensures counted { HasCleanDisk (state S.Store conn.new) → IsDeclared (state S.Store conn.old).now.schema
-        → IfOk result (λ count. (entries : List Item) × Holds (state S.Store conn.old).now entry_table (entry_rows entries) × AllByRecursion IsKept entries × (count ≡ length entries) × IsUnchanged (state S.Store conn.old) (state S.Store conn.new)) }
-    ensures damaged { HasCleanDisk (state S.Store conn.new) → (row : _) → result ≡ Err (OutboxFault.Damaged row) → IsDamagedAt row (state S.Store conn.old) (state S.Store conn.new) }
-    ensures disk { HasCleanDisk (state S.Store conn.new) → result ≡ Err OutboxFault.Disk → StopsByDisk entries_text (state S.Store conn.old) (state S.Store conn.new) }
+        → IfOk result (λ count. (entries : List Item) × Holds (state S.Store conn.old).now entry_table (entry_rows entries) × Holds (state S.Store conn.old).now target_table (target_rows entries)
+        × AllByRecursion IsKept entries × (count ≡ length entries) × IsUnchanged (state S.Store conn.old) (state S.Store conn.new)) }
+    ensures damaged { HasCleanDisk (state S.Store conn.new) → (row : _) → result ≡ Err (OutboxFault.Damaged row) → AreDamaged S.Store row conn.old conn.new }
+    ensures disk { HasCleanDisk (state S.Store conn.new) → result ≡ Err OutboxFault.Disk → AreStopped S.Store conn.old conn.new }
     ensures others { IfErr result (λ fault. ((row : _) × (fault ≡ OutboxFault.Damaged row)) ⊎ ((fault ≡ OutboxFault.Memory) ⊎ (fault ≡ OutboxFault.Disk))) }
     ensures few { IfOk result (λ count. count ≤ 2 ^ 62) }
     ensures whole { HasCleanDisk (state S.Store conn.new) → (it : Contents) → IsOutboxOf it (state S.Store conn.old).now → (state S.Store conn.old).step_limit ≡ None
@@ -82,17 +144,14 @@ fn count_entries<S: Alter>(conn: &mut Connection<S>) -> Result<u64, OutboxFault>
     ensures mode { conn.old.in_transaction ≡ false → conn.new.in_transaction ≡ false }
     ensures clean { HasCleanDisk (state S.Store conn.new) → HasCleanDisk (state S.Store conn.old) }
 {
-    match tables::all_rows(conn) {
-        Ok(rows) => match first_damaged(rows.as_slice()) {
-            None => Ok(rows.len() as u64),
-            Some(row) => Err(OutboxFault::Damaged { row }),
-        },
-        Err(error) => Err(entry_fault(error)),
+    match read_targets(conn) {
+        Ok(targets) => count_entries(alloc, conn, targets.as_slice()),
+        Err(fault) => Err(fault),
     }
 }
 
 /// Whether no transaction is under way.
-fn is_settled<S: Alter>(conn: &Connection<S>) -> bool
+pub(crate) fn is_settled<S: Alter>(conn: &Connection<S>) -> bool
     ensures value { result ≡ not conn.now.in_transaction }
     ensures live { IsLive (state S.Store conn.now) }
     ensures settled { IsTrue result → IsTrue (state S.Store conn.now).is_open → (state S.Store conn.now).now ≡ (state S.Store conn.now).committed }
@@ -131,8 +190,8 @@ pub fn read_outbox<S: Alter>(alloc: Global, conn: &mut Connection<S>) -> Result<
     ensures autocommit { conn.new.in_transaction ≡ false }
 {
     prove!(is_settled(conn));
-    match filer_of(conn, alloc) {
-        Ok(filer) => match count_entries(conn) {
+    match filer_of(conn, alloc, 2) {
+        Ok(filer) => match count_all(alloc, conn) {
             Ok(count) => Ok(Found { filer, count }),
             Err(fault) => Err(fault),
         },

@@ -1,5 +1,5 @@
 //! The outbox of a filer: the reports that are to be sent, and what is known of each. What may live here: the
-//! two tables of an outbox and the statements on them, how a reply moves an entry, and the calls on an outbox.
+//! three tables of an outbox and the statements on them, how a reply moves an entry, and the calls on an outbox.
 //! Only `tables` knows SQL.
 #![tactic(auto)]
 
@@ -10,15 +10,19 @@ mod entry;
 mod fault;
 mod finding;
 mod key;
+mod migrate;
 mod outbox;
 mod state;
 mod stop;
 mod tables;
+mod targets;
+mod write;
 
 pub use create::make_outbox;
 pub use entry::Entry;
 pub use fault::{OutboxFault, PutFault, StoreFault, TakeFault};
 pub use finding::{Found, read_outbox};
 pub use key::key_of;
+pub use migrate::migrate_outbox;
 pub use outbox::Outbox;
 pub use state::State;

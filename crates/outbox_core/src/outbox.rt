@@ -6,6 +6,7 @@ ghost use Rattle.sqlite.specs.Held.{state};
 ghost use Rattle.sqlite.specs.Tree.{Trees};
 ghost use Rattle.key_string.specs.Filer.{is_filer};
 ghost use Rattle.http_wire.specs.Head.{max_body_len};
+ghost use Rattle.http_wire.specs.Posting.{IsTarget};
 ghost use Rattle.http_wire.specs.Replies.{reply_parts};
 ghost use Rattle.filing_model.specs.Outbox.{Entry as Item, moved};
 ghost use Rattle.table_rows.specs.Tables.{no_schema};
@@ -20,6 +21,7 @@ use crate::entries::{add_entry, entry_of, open_entry, states_of, take_entry};
 use crate::entry::Entry;
 use crate::fault::{OutboxFault, PutFault, StoreFault, TakeFault};
 use crate::finding::{Found, read_outbox};
+use crate::migrate::migrate_outbox;
 use crate::state::State;
 use http_wire::{MAX_BODY_LEN, Reply};
 use key_string::KeyText;
@@ -152,6 +154,49 @@ impl<S: Alter + Drop> Outbox<S> {
     }
 }
 
+impl<S: Alter + Drop> Outbox<S> {
+    ghost use Rattle.sqlite.specs.Held.{Held};
+    ghost use Rattle.std.specs.Prelude.{◌⊎◌};
+    ghost use Rattle.outbox_core.specs.Entries.{Contents};
+    ghost use Rattle.outbox_core.specs.Earlier.{IsAlone, IsEarlierOf, IsNotMigrated, is_blocked};
+    ghost use Rattle.outbox_core.specs.Box.{shows, contents, HasEntries};
+
+    /// Brings the outbox that the database holds from the form before this one into this one, in one transaction, and opens
+    /// it: no entry has a target. A refusal gives the connection up, and leaves the rows as they were. What is said of the new
+    /// rows holds where the database has no other tables.
+    pub fn migrate(alloc: Global, conn: Connection<S>) -> Result<Outbox<S>, OutboxFault>
+        requires autocommit { conn.in_transaction ≡ false }
+        requires unlimited { conn.step_limit ≡ None }
+        ensures migrated { IfOk result (λ outbox. HasCleanDisk (shows S.Store outbox) → IsAlone (state S.Store conn).now.schema
+            → (entries : List Item) × IsEarlierOf (contents outbox entries) (state S.Store conn).now × HasEntries S.Store outbox entries) }
+        ensures able { IfOk result (λ outbox. outbox.has_failed ≡ false) }
+
+        // A refusal says why, of the connection as it was given up (`migrate_outbox` names it); where the rows hold an outbox in
+        // that form and the name is not in the way, it is by memory or disk.
+        ensures refused { IfErr result (λ fault. (last : Held S) × Survives (state S.Store conn) (state S.Store last) (λ trees. (it : Contents) → IsAlone (state S.Store conn).now.schema → IsEarlierOf it (state S.Store conn).now → Leaves it trees)
+            × (HasCleanDisk (state S.Store last) → KeepsCommit (state S.Store conn) (state S.Store last))
+            × (HasCleanDisk (state S.Store last) → IsNotMigrated S.Store fault conn last)
+            × (HasCleanDisk (state S.Store last) → (it : Contents) → IsEarlierOf it (state S.Store conn).now → is_blocked (state S.Store conn).now.schema ≡ false → (fault ≡ OutboxFault.Memory) ⊎ (fault ≡ OutboxFault.Disk))) }
+
+        // A crash leaves what it could leave before, or the migrated rows, and after the call these alone.
+        ensures crash { IfOk result (λ outbox. Survives (state S.Store conn) (shows S.Store outbox) (λ trees. (it : Contents) → IsAlone (state S.Store conn).now.schema → IsEarlierOf it (state S.Store conn).now → Leaves it trees)) }
+        ensures durable { IfOk result (λ outbox. HasCleanDisk (shows S.Store outbox) → (entries : List Item) → HasEntries S.Store outbox entries
+            → IsTrue (shows S.Store outbox).is_open × ((trees : Trees) → (shows S.Store outbox).may_leave trees → Leaves (contents outbox entries) trees)) }
+    {
+        let mut conn = conn;
+        match migrate_outbox(alloc, &mut conn) {
+            Ok(Found { filer, count }) => Ok(Outbox {
+                alloc,
+                conn,
+                filer,
+                count,
+                has_failed: false,
+            }),
+            Err(fault) => Err(fault),
+        }
+    }
+}
+
 impl<S: Alter> Outbox<S> {
     ghost use Rattle.outbox_core.specs.Box.{shows, contents, HasEntries};
 
@@ -177,11 +222,12 @@ impl<S: Alter> Outbox<S> {
         conn
     }
 
-    /// Puts a report in as an open entry and answers its id: 1, 2, 3, .. A refusal gives the key and the body up. With
-    /// 2^62 entries the answer is Store.
-    pub fn put(&mut self, key: KeyText, body: Vec<u8>) -> Result<u64, PutFault>
+    /// Puts a report in as an open entry, which may be to replace the filing of a number, and answers its id: 1, 2, 3, .. A
+    /// refusal gives the key and the body up. With 2^62 entries the answer is Store.
+    pub fn put(&mut self, key: KeyText, target: Option<u64>, body: Vec<u8>) -> Result<u64, PutFault>
+        requires { IsTarget target }
         ensures added { HasCleanDisk (shows S.Store self.new) → (entries : List Item) → HasEntries S.Store self.old entries
-            → IfOk result (λ id. (id ≡ 1 + length entries) × HasEntries S.Store self.new (entries ++ opened key body.items ∷ [])) }
+            → IfOk result (λ id. (id ≡ 1 + length entries) × HasEntries S.Store self.new (entries ++ opened key target body.items ∷ [])) }
         ensures unused { HasCleanDisk (shows S.Store self.new) → (entries : List Item) → HasEntries S.Store self.old entries → OnOk result (find (has_text key) (numbered entries) ≡ None) }
         ensures used { HasCleanDisk (shows S.Store self.new) → (entries : List Item) → HasEntries S.Store self.old entries
             → (id : _) → result ≡ Err (PutFault.KeyUsed id) → option_map (λ x. x.0) (find (has_text key) (numbered entries)) ≡ Some id }
@@ -195,9 +241,9 @@ impl<S: Alter> Outbox<S> {
 
         // A crash leaves what one before the call could leave, or the entries with this one, and after Ok these alone.
         ensures crash { Survives (shows S.Store self.old) (shows S.Store self.new) (λ trees. (entries : List Item) → HasEntries S.Store self.old entries → IsTrue (shows S.Store self.old).is_open
-            → Leaves (contents self.old (entries ++ opened key body.items ∷ [])) trees) }
+            → Leaves (contents self.old (entries ++ opened key target body.items ∷ [])) trees) }
         ensures durable { HasCleanDisk (shows S.Store self.new) → (entries : List Item) → HasEntries S.Store self.old entries
-            → OnOk result (IsTrue (shows S.Store self.new).is_open × ((trees : Trees) → (shows S.Store self.new).may_leave trees → Leaves (contents self.new (entries ++ opened key body.items ∷ [])) trees)) }
+            → OnOk result (IsTrue (shows S.Store self.new).is_open × ((trees : Trees) → (shows S.Store self.new).may_leave trees → Leaves (contents self.new (entries ++ opened key target body.items ∷ [])) trees)) }
     {
         if self.has_failed {
             return Err(PutFault::Store);
@@ -205,7 +251,13 @@ impl<S: Alter> Outbox<S> {
         if body.len() > MAX_BODY_LEN {
             return Err(PutFault::TooLarge);
         }
-        match add_entry(&mut self.conn, self.count, key.as_str(), body.as_slice()) {
+        match add_entry(
+            &mut self.conn,
+            self.count,
+            key.as_str(),
+            target,
+            body.as_slice(),
+        ) {
             Ok(id) => {
                 self.count = id;
                 Ok(id)
@@ -222,6 +274,7 @@ impl<S: Alter> Outbox<S> {
         ensures found { HasCleanDisk (shows S.Store self.new) → (entries : List Item) → HasEntries S.Store self.old entries
             → IfOk result (λ entry. option_map view_entry entry ≡ option_map (λ e. (id, e)) (entry_at entries id)) }
         ensures short { IfOk result (λ entry. IfSome entry (λ e. length e.body.items ≤ max_body_len)) }
+        ensures within { IfOk result (λ entry. IfSome entry (λ e. IsTarget e.target)) }
 
         // The entries are those of before, whatever the answer is, and a crash leaves what it could leave before.
         ensures kept { HasCleanDisk (shows S.Store self.new) → (entries : List Item) → HasEntries S.Store self.old entries → HasEntries S.Store self.new entries }
@@ -254,6 +307,7 @@ impl<S: Alter> Outbox<S> {
         ensures found { HasCleanDisk (shows S.Store self.new) → (entries : List Item) → HasEntries S.Store self.old entries
             → IfOk result (λ entry. option_map view_entry entry ≡ find is_open (numbered entries)) }
         ensures short { IfOk result (λ entry. IfSome entry (λ e. length e.body.items ≤ max_body_len)) }
+        ensures within { IfOk result (λ entry. IfSome entry (λ e. IsTarget e.target)) }
 
         // The entries are those of before, whatever the answer is, and a crash leaves what it could leave before.
         ensures kept { HasCleanDisk (shows S.Store self.new) → (entries : List Item) → HasEntries S.Store self.old entries → HasEntries S.Store self.new entries }
@@ -299,7 +353,7 @@ impl<S: Alter> Outbox<S> {
     }
 
     /// Moves an entry by the status and the content of a reply, and answers its state. An entry that is not open
-    /// keeps its state, and no entry's key or body changes.
+    /// keeps its state, and no entry's key, target or body changes.
     pub fn take(&mut self, id: u64, reply: &Reply) -> Result<State, TakeFault>
         ensures moved { HasCleanDisk (shows S.Store self.new) → (entries : List Item) → HasEntries S.Store self.old entries
             → IfOk result (λ to. (Some (view_state to) ≡ option_map (λ e. moved e.state (reply_parts reply.now)) (entry_at entries id)) × HasEntries S.Store self.new (set_state entries id (view_state to))) }

@@ -1,20 +1,21 @@
-//! The statements on the two tables. No other module knows SQL.
+//! The statements on the three tables. No other module knows SQL.
 
-ghost use Rattle.std.specs.Prelude.{◌≡◌, ◌+◌, ◌^◌, ◌<◌, pos, codes, OnErr, length, find, map, option_map, IsTrue, IfOk, IfErr, OnOk, IsSome, false, []};
+ghost use Rattle.std.specs.Prelude.{◌≡◌, ◌+◌, ◌^◌, ◌<◌, pos, codes, OnErr, length, find, map, option_map, IsTrue, IfOk, IfErr, OnOk, IsSome, false, [], ◌∷◌};
 ghost use Rattle.sqlite.specs.Values.{or_null};
-ghost use Rattle.sqlite.specs.declared.types.Value.TheVariants.{Int};
+ghost use Rattle.sqlite.specs.declared.types.Value.TheVariants.{Null, Int, Text, Blob};
 ghost use Rattle.sqlite.specs.State.{HasCleanDisk, Survives, Shown, FailsToQuery, IsUnchanged, KeepsCommit};
 ghost use Rattle.sqlite.specs.Held as held;
 ghost use Rattle.table_rows.specs.Rows.{Holds};
 ghost use Rattle.table_rows.specs.Standing.{Stands, Commits};
-ghost use Rattle.outbox_core.specs.Schema.{IsDeclared, meta_table, entry_table};
-ghost use Rattle.outbox_core.specs.Audit.{meta_text, entries_text};
-ghost use Rattle.outbox_core.specs.Entries.{Contents, IsOutbox, opened, numbered, has_id, has_text, is_open, entry_at, with_entry, with_state, FitsNumber};
+ghost use Rattle.outbox_core.specs.Schema.{IsDeclared, HasCommon, meta_table, entry_table, target_table};
+ghost use Rattle.outbox_core.specs.Audit.{meta_text, targets_text, entries_text};
+ghost use Rattle.outbox_core.specs.Entries.{Contents, numbered, has_id, has_text, is_open, entry_at, target_at, with_state, FitsNumber};
+ghost use Rattle.outbox_core.specs.Changes.{GainsRows};
 ghost use Rattle.outbox_core.specs.Rows.{IsOutboxOf, Leaves, code_of, number_of, entry_row, state_row};
 ghost use Rattle.outbox_core.specs.Reading.{view_state};
 
 use crate::state::State;
-use sqlite::{Alter, Connection, Error, Row, params};
+use sqlite::{Alter, Connection, Error, Row, Transaction, params};
 use table_rows::first_row;
 
 fn entry_with_key<S: Alter>(conn: &mut Connection<S>, key: &str) -> Result<Option<Row>, Error>
@@ -93,12 +94,13 @@ pub(crate) fn state_rows<S: Alter>(conn: &mut Connection<S>) -> Result<Vec<Row>,
 /// The rows of `outbox_meta`.
 pub(crate) fn meta_rows<S: Alter>(conn: &mut Connection<S>) -> Result<Vec<Row>, Error>
     ensures shown { HasCleanDisk (held.state S.Store conn.new) → IfOk result (λ rows. Shown meta_text [] (held.state S.Store conn.old) (held.state S.Store conn.new) rows.items) }
-    ensures held { HasCleanDisk (held.state S.Store conn.new) → IsDeclared (held.state S.Store conn.old).now.schema
+    ensures held { HasCleanDisk (held.state S.Store conn.new) → HasCommon (held.state S.Store conn.old).now.schema
         → IfOk result (λ rows. Holds (held.state S.Store conn.old).now meta_table rows.items × IsUnchanged (held.state S.Store conn.old) (held.state S.Store conn.new)) }
     ensures failed { HasCleanDisk (held.state S.Store conn.new) → IfErr result (FailsToQuery meta_text [] (held.state S.Store conn.old) (held.state S.Store conn.new)) }
     ensures mode { conn.old.in_transaction ≡ false → conn.new.in_transaction ≡ false }
     ensures kept { HasCleanDisk (held.state S.Store conn.new) → KeepsCommit (held.state S.Store conn.old) (held.state S.Store conn.new) }
     ensures clean { HasCleanDisk (held.state S.Store conn.new) → HasCleanDisk (held.state S.Store conn.old) }
+    ensures limit { conn.new.step_limit ≡ conn.old.step_limit }
     ensures crash { Survives (held.state S.Store conn.old) (held.state S.Store conn.new) (λ _. ⊥) }
 {
     conn.query_all("SELECT id, kind, form, filer FROM outbox_meta", &[])
@@ -107,7 +109,7 @@ pub(crate) fn meta_rows<S: Alter>(conn: &mut Connection<S>) -> Result<Vec<Row>, 
 /// The rows of all entries, in the order of the ids.
 pub(crate) fn all_rows<S: Alter>(conn: &mut Connection<S>) -> Result<Vec<Row>, Error>
     ensures shown { HasCleanDisk (held.state S.Store conn.new) → IfOk result (λ rows. Shown entries_text [] (held.state S.Store conn.old) (held.state S.Store conn.new) rows.items) }
-    ensures held { HasCleanDisk (held.state S.Store conn.new) → IsDeclared (held.state S.Store conn.old).now.schema
+    ensures held { HasCleanDisk (held.state S.Store conn.new) → HasCommon (held.state S.Store conn.old).now.schema
         → IfOk result (λ rows. Holds (held.state S.Store conn.old).now entry_table rows.items × IsUnchanged (held.state S.Store conn.old) (held.state S.Store conn.new)) }
     ensures failed { HasCleanDisk (held.state S.Store conn.new) → IfErr result (FailsToQuery entries_text [] (held.state S.Store conn.old) (held.state S.Store conn.new)) }
     ensures mode { conn.old.in_transaction ≡ false → conn.new.in_transaction ≡ false }
@@ -121,25 +123,95 @@ pub(crate) fn all_rows<S: Alter>(conn: &mut Connection<S>) -> Result<Vec<Row>, E
     )
 }
 
-/// Adds an open entry of this id, which is that after the last.
+/// The rows of `target`.
+pub(crate) fn target_rows<S: Alter>(conn: &mut Connection<S>) -> Result<Vec<Row>, Error>
+    ensures shown { HasCleanDisk (held.state S.Store conn.new) → IfOk result (λ rows. Shown targets_text [] (held.state S.Store conn.old) (held.state S.Store conn.new) rows.items) }
+    ensures held { HasCleanDisk (held.state S.Store conn.new) → IsDeclared (held.state S.Store conn.old).now.schema
+        → IfOk result (λ rows. Holds (held.state S.Store conn.old).now target_table rows.items × IsUnchanged (held.state S.Store conn.old) (held.state S.Store conn.new)) }
+    ensures failed { HasCleanDisk (held.state S.Store conn.new) → IfErr result (FailsToQuery targets_text [] (held.state S.Store conn.old) (held.state S.Store conn.new)) }
+    ensures mode { conn.old.in_transaction ≡ false → conn.new.in_transaction ≡ false }
+    ensures kept { HasCleanDisk (held.state S.Store conn.new) → KeepsCommit (held.state S.Store conn.old) (held.state S.Store conn.new) }
+    ensures clean { HasCleanDisk (held.state S.Store conn.new) → HasCleanDisk (held.state S.Store conn.old) }
+    ensures limit { conn.new.step_limit ≡ conn.old.step_limit }
+    ensures crash { Survives (held.state S.Store conn.old) (held.state S.Store conn.new) (λ _. ⊥) }
+{
+    conn.query_all("SELECT id, number FROM target", &[])
+}
+
+/// The row of the target of the entry that has the id.
+fn target_with_id<S: Alter>(conn: &mut Connection<S>, id: u64) -> Result<Option<Row>, Error>
+    requires { id < 2 ^ 63 }
+    ensures found { HasCleanDisk (held.state S.Store conn.new) → (it : Contents) → Stands (IsOutboxOf it) (held.state S.Store conn.old)
+        → IfOk result (λ row. row ≡ option_map (λ number. Int (pos number) ∷ []) (target_at it.entries id)) }
+    ensures kept { HasCleanDisk (held.state S.Store conn.new) → (it : Contents) → Stands (IsOutboxOf it) (held.state S.Store conn.old) → Stands (IsOutboxOf it) (held.state S.Store conn.new) }
+    ensures open { HasCleanDisk (held.state S.Store conn.new) → (it : Contents) → Stands (IsOutboxOf it) (held.state S.Store conn.old) → OnOk result (IsTrue (held.state S.Store conn.new).is_open) }
+    ensures crash { Survives (held.state S.Store conn.old) (held.state S.Store conn.new) (λ _. ⊥) }
+{
+    first_row(
+        conn,
+        "SELECT number FROM target WHERE id = ?1",
+        params![id as i64],
+    )
+}
+
+/// The target of the entry that has the id, if it has one.
+pub(crate) fn target_of<S: Alter>(conn: &mut Connection<S>, id: u64) -> Result<Option<u64>, Error>
+    requires { id < 2 ^ 63 }
+    ensures found { HasCleanDisk (held.state S.Store conn.new) → (it : Contents) → Stands (IsOutboxOf it) (held.state S.Store conn.old)
+        → IfOk result (λ target. target ≡ target_at it.entries id) }
+    ensures kept { HasCleanDisk (held.state S.Store conn.new) → (it : Contents) → Stands (IsOutboxOf it) (held.state S.Store conn.old) → Stands (IsOutboxOf it) (held.state S.Store conn.new) }
+    ensures open { HasCleanDisk (held.state S.Store conn.new) → (it : Contents) → Stands (IsOutboxOf it) (held.state S.Store conn.old) → OnOk result (IsTrue (held.state S.Store conn.new).is_open) }
+    ensures crash { Survives (held.state S.Store conn.old) (held.state S.Store conn.new) (λ _. ⊥) }
+{
+    let row = target_with_id(conn, id)?;
+    match row {
+        Some(row) => Ok(Some(row.get(0)?)),
+        None => Ok(None),
+    }
+}
+
+/// Adds the row of an open entry of this id.
 pub(crate) fn insert_entry<S: Alter>(
-    conn: &mut Connection<S>,
+    tx: &mut Transaction<'_, S>,
     id: u64,
     key: &str,
     body: &[u8],
-) -> Result<usize, Error>
+) -> Result<(), Error>
     requires { id < 2 ^ 63 }
-    ensures added { HasCleanDisk (held.state S.Store conn.new) → (it : Contents) → Stands (IsOutboxOf it) (held.state S.Store conn.old) → IsTrue (held.state S.Store conn.old).is_open
-        → id ≡ 1 + length it.entries → IsOutbox (with_entry it (opened key.now body.now))
-        → OnOk result (Stands (IsOutboxOf (with_entry it (opened key.now body.now))) (held.state S.Store conn.new) × IsTrue (held.state S.Store conn.new).is_open) }
-    ensures kept { HasCleanDisk (held.state S.Store conn.new) → (it : Contents) → Stands (IsOutboxOf it) (held.state S.Store conn.old) → OnErr result (Stands (IsOutboxOf it) (held.state S.Store conn.new)) }
-    ensures crash { Survives (held.state S.Store conn.old) (held.state S.Store conn.new) (Commits IsOutboxOf (held.state S.Store conn.old)
-        (λ it trees. id ≡ 1 + length it.entries → IsOutbox (with_entry it (opened key.now body.now)) → Leaves (with_entry it (opened key.now body.now)) trees)) }
+    ensures same_reference { tx.new.conn.ghost_name ≡ tx.old.conn.ghost_name }
+    ensures was_inside { OnOk result (IsTrue (held.state S.Store tx.old.conn.now).in_transaction) }
+    ensures gains { HasCleanDisk (held.state S.Store tx.new.conn.now) → OnOk result (GainsRows entry_table
+        ((Int (pos id) ∷ Text key.now ∷ Blob body.now ∷ Int (pos 0) ∷ Null ∷ []) ∷ []) (held.state S.Store tx.old.conn.now) (held.state S.Store tx.new.conn.now)) }
+    ensures keeps { HasCleanDisk (held.state S.Store tx.new.conn.now) → KeepsCommit (held.state S.Store tx.old.conn.now) (held.state S.Store tx.new.conn.now) }
+    ensures survives { Survives (held.state S.Store tx.old.conn.now) (held.state S.Store tx.new.conn.now) (λ _. ⊥) }
 {
-    conn.execute(
+    tx.execute(
         "INSERT INTO entry (id, idem, body, state) VALUES (?1, ?2, ?3, 0)",
         params![id as i64, key, body],
-    )
+    )?;
+    Ok(())
+}
+
+/// Adds the row of the target of the entry of this id.
+pub(crate) fn insert_target<S: Alter>(
+    tx: &mut Transaction<'_, S>,
+    id: u64,
+    number: u64,
+) -> Result<(), Error>
+    requires id { id < 2 ^ 63 }
+    requires number { number < 2 ^ 63 }
+    ensures same_reference { tx.new.conn.ghost_name ≡ tx.old.conn.ghost_name }
+    ensures was_inside { OnOk result (IsTrue (held.state S.Store tx.old.conn.now).in_transaction) }
+    ensures gains { HasCleanDisk (held.state S.Store tx.new.conn.now) → OnOk result (GainsRows target_table
+        ((Int (pos id) ∷ Int (pos number) ∷ []) ∷ []) (held.state S.Store tx.old.conn.now) (held.state S.Store tx.new.conn.now)) }
+    ensures keeps { HasCleanDisk (held.state S.Store tx.new.conn.now) → KeepsCommit (held.state S.Store tx.old.conn.now) (held.state S.Store tx.new.conn.now) }
+    ensures survives { Survives (held.state S.Store tx.old.conn.now) (held.state S.Store tx.new.conn.now) (λ _. ⊥) }
+{
+    tx.execute(
+        "INSERT INTO target VALUES (?1, ?2)",
+        params![id as i64, number as i64],
+    )?;
+    Ok(())
 }
 
 fn code_of(state: State) -> u32

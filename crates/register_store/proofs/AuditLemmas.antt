@@ -1,55 +1,92 @@
 -- A row that is held against what judging its request gives.
-use Rattle.std.proofs.Common.{◌≡◌, ◌<◌, ℕ, ◌+◌, true, false, List, [], ◌∷◌, length, map, Option, Some, None, MatchOption, refl, sym, ap, subst, ◌∙◌, arith}
+use Rattle.std.proofs.Common.{◌≡◌, ℕ, ◌+◌, suc, true, false, List, [], ◌∷◌, ◌++◌, length, Option, Some, None, MatchOption, IfOk, Result, Ok, Err, sym, ap, subst, ◌∙◌, arith}
+use Rattle.std.specs.declared.alloc.AllocError.{AllocError}
 use Rattle.sqlite.specs.Order.{Row}
-use Rattle.xbrl_report.specs.Findings.{findings}
-use Rattle.xbrl_report.specs.Pair.{Pair}
-use Rattle.xbrl_report.specs.Judgement.{IsJudgement}
-use Rattle.xbrl_report.specs.declared.judging.Judged.{Judged}
-use Rattle.xbrl_report.specs.declared.judging.Judged.TheVariants.{Valid, Refused}
-use Rattle.filing_model.specs.Request.{has_key}
-use Rattle.filing_model.specs.Register.{Outcome, outcome_by}
-use Rattle.register_store.specs.declared.audit.Rest.{Rest}
+use Rattle.filing_model.specs.Request.{Request, has_key}
+use Rattle.filing_model.specs.Register.{Outcome, Kept, filings, judged, kept, register}
+use Rattle.filing_model.proofs.Keeping.{kept_new}
 use Rattle.std.proofs.lemmas.List.{append_cancel_left}
-use Rattle.register_store.specs.Audit.{Others, Begins, IsNext, has_more, view_rest, request_outcome, kept_in}
+use Rattle.register_store.specs.declared.audit.Rest.{Rest}
+use Rattle.register_store.specs.declared.filed.Filed.{Filed}
+use Rattle.register_store.specs.Audit.{Others, Begins, IsAfter, IsNext, has_more, view_rest, with_target, request_outcome}
 use Rattle.register_store.specs.Columns.{request_in}
-use Rattle.register_store.specs.Outcomes.{outcome_of, filings_by}
+use Rattle.register_store.specs.Filed.{AreFiled}
+use Rattle.register_store.specs.Outcomes.{filings_by}
 use Rattle.register_store.specs.Register.{IsCompleted, kept_row}
+use Rattle.register_store.proofs.MoreRequests.{registered_more}
+use Rattle.register_store.proofs.StepsOfTargets.{IsOnlyTarget, no_more_targets}
 
--- what becomes of a request that was judged so
-pub outcome_is : (number : ℕ) (filer body : List ℕ) (j : Judged) → IsJudgement filer body j → outcome_by (findings filer body) number ≡ outcome_of number j
-outcome_is number filer body (Valid report) is = ap (λ found. outcome_by found number) is.0
-outcome_is number filer body (Refused list) is = sym (ap (λ found. outcome_by found number) is.0) ∙ refused list is.1
-  where
-    refused : (found : List Pair) → 0 < length found → outcome_by found number ≡ Outcome.Refused found
-    refused [] some = absurd (omega arith)
-    refused (f ∷ found) some = refl
+module _ (F : List Request) (row : Row) (seq : ℕ) (target : Option ℕ) (rest : Rest) (o : Outcome)
+    (is : (judged (kept F) (request_in target row)).outcome ≡ o) where
+  abbrev r : Request
+  r = request_in target row
 
-module _ (earlier : List Row) (row : Row) (seq number : ℕ) (all : Others) (completed : IsCompleted (request_in row)) (fresh : has_key (map request_in earlier) (request_in row) ≡ false) where
-  abbrev Told : Outcome → Option Rest → Type 0
-  Told o next = MatchOption next ((tail : Others) → row ≡ kept_row seq (request_outcome row o) → Begins seq (request_outcome row o) all tail → ⊥)
-      (λ tail. (row ≡ kept_row seq (request_outcome row o)) × Begins seq (request_outcome row o) all (view_rest tail) × (tail.number ≡ number + filings_by o))
+  abbrev all : Others
+  all = with_target seq target (view_rest rest)
 
-  module _ (j : Judged) (is : IsJudgement (request_in row).filer (request_in row).body j) where
-    same_outcome : outcome_of number j ≡ (kept_in row number).outcome
-    same_outcome = sym (outcome_is number (request_in row).filer (request_in row).body j is)
+  kept_is : judged (kept F) r ≡ request_outcome r o
+  kept_is = ap (request_outcome r) is
 
-    pub unsound_if : Told (outcome_of number j) None → (tail : Others) → IsNext earlier seq number row all tail → ⊥
-    unsound_if h tail s = let told = subst (λ o. Told o None) same_outcome h in told tail s.row_is s.begins
+  pub sound_if : IsCompleted (request_in target row) → has_key F (request_in target row) ≡ false → (tail : Rest) → IsAfter seq row target o rest (Some tail)
+      → has_more seq o (view_rest tail) ≡ false
+      → IsNext F seq row target (with_target seq target (view_rest rest)) (view_rest tail)
+  sound_if completed fresh tail told none = record {
+    completed = completed;
+    fresh = fresh;
+    row_is = told.0 ∙ ap (kept_row seq) (sym kept_is);
+    begins = subst (λ (k : Kept). Begins seq k all (view_rest tail)) (sym kept_is) told.1;
+    ends = subst (λ x. has_more seq x (view_rest tail) ≡ false) (sym is) none;
+  }
 
-    pub sound_if : (tail : Rest) → Told (outcome_of number j) (Some tail) → has_more seq (outcome_of number j) (view_rest tail) ≡ false
-        → IsNext earlier seq number row all (view_rest tail) × (tail.number ≡ number + filings_by (kept_in row number).outcome)
-    sound_if tail h none =
-        let told = subst (λ o. Told o (Some tail)) same_outcome h in
-        (record { completed = completed; fresh = fresh; row_is = told.0; begins = told.1; ends = subst (λ o. has_more seq o (view_rest tail) ≡ false) same_outcome none }, told.2)
+  -- what is left is told by the rows before it
+  pub more_if : (tail : Rest) → IsAfter seq row target o rest (Some tail) → has_more seq o (view_rest tail) ≡ true → (other : Others)
+      → IsNext F seq row target (with_target seq target (view_rest rest)) other → ⊥
+  more_if tail told some other s =
+      let begins = subst (λ (k : Kept). Begins seq k all other) kept_is s.begins in
+      let one = append_cancel_left _ _ _ (sym told.1.finding ∙ begins.finding) in
+      let two = append_cancel_left _ _ _ (sym told.1.filing ∙ begins.filing) in
+      let three = append_cancel_left _ _ _ (sym told.1.fact ∙ begins.fact) in
+      let four = append_cancel_left _ _ _ (sym told.1.amends ∙ begins.amends) in
+      let ends : has_more seq o other ≡ false = subst (λ x. has_more seq x other ≡ false) is s.ends in
+      let here : has_more seq o other ≡ has_more seq o (view_rest tail) =
+      λ i. has_more seq o (record { finding = sym one i; filing = sym two i; fact = sym three i; amends = sym four i }) in
+      absurd (let both : false ≡ true = sym ends ∙ here ∙ some in cc)
 
-    -- what is left is told by the rows before it
-    pub more_if : (tail : Rest) → Told (outcome_of number j) (Some tail) → has_more seq (outcome_of number j) (view_rest tail) ≡ true → (rest : Others) → IsNext earlier seq number row all rest → ⊥
-    more_if tail h some rest s =
-        let told = subst (λ o. Told o (Some tail)) same_outcome h in
-        let one = append_cancel_left _ _ _ (sym told.1.finding ∙ s.begins.finding) in
-        let two = append_cancel_left _ _ _ (sym told.1.filing ∙ s.begins.filing) in
-        let three = append_cancel_left _ _ _ (sym told.1.fact ∙ s.begins.fact) in
-        let there : has_more seq (kept_in row number).outcome (view_rest tail) ≡ true = subst (λ o. has_more seq o (view_rest tail) ≡ true) same_outcome some in
-        let here : has_more seq (kept_in row number).outcome rest ≡ has_more seq (kept_in row number).outcome (view_rest tail) =
-        λ i. has_more seq (kept_in row number).outcome (record { finding = sym one i; filing = sym two i; fact = sym three i }) in
-        absurd (let both : false ≡ true = sym s.ends ∙ here ∙ there in cc)
+  -- the filings with it
+  pub filed_more : has_key F (request_in target row) ≡ false → (filed : Filed)
+      → AreFiled (filings (kept F ++ judged (kept F) (request_in target row) ∷ [])) filed → AreFiled (register (F ++ request_in target row ∷ [])) filed
+  filed_more fresh filed are = subst (λ fs. AreFiled fs filed) (ap filings (sym (kept_new F r fresh))) are
+
+  pub number_more : has_key F (request_in target row) ≡ false → (number next : ℕ) → number ≡ suc (length (register F)) → next ≡ number + filings_by o
+      → next ≡ suc (length (register (F ++ request_in target row ∷ [])))
+  number_more fresh number next was told =
+      let count = registered_more F r fresh in
+      let by = ap filings_by is in
+      omega (arith, was, told, count, by)
+
+-- the next row, whatever it is to replace, where rows say what that is
+module _ (F : List Request) (row : Row) (seq : ℕ) (target : Option ℕ) (all others : Others) (filed : Filed) (same : all ≡ others)
+    (only : (t : Option ℕ) (tail : Others) → IsNext F seq row t all tail → t ≡ target) where
+  abbrev Told : Option Rest → Type 0
+  Told next = MatchOption next ((tail : Others) → IsNext F seq row target others tail → ⊥)
+      (λ tail. IsNext F seq row target others (view_rest tail) × AreFiled (register (F ++ request_in target row ∷ [])) filed
+      × (tail.number ≡ suc (length (register (F ++ request_in target row ∷ [])))))
+
+  abbrev ToldOfAny : Option Rest → Type 0
+  ToldOfAny next = MatchOption next ((t : Option ℕ) (tail : Others) → IsNext F seq row t all tail → ⊥)
+      (λ tail. (t : Option ℕ) × IsNext F seq row t all (view_rest tail) × AreFiled (register (F ++ request_in t row ∷ [])) filed
+      × (tail.number ≡ suc (length (register (F ++ request_in t row ∷ [])))))
+
+  of_any : (next : Option Rest) → Told next → ToldOfAny next
+  of_any None none = λ t tail s. none tail (subst (λ a. IsNext F seq row target a tail) same (subst (λ t. IsNext F seq row t all tail) (only t tail s) s))
+  of_any (Some tail) told = (target, subst (λ a. IsNext F seq row target a (view_rest tail)) (sym same) told.0, told.1, told.2)
+
+  pub told_of_any : (result : Result (Option Rest) AllocError) → IfOk result Told → IfOk result ToldOfAny
+  told_of_any (Ok next) told = of_any next told
+  told_of_any (Err error) told = tt
+
+-- the rows say it
+pub told_target : (F : List Request) (row : Row) (seq : ℕ) (target : Option ℕ) (all : Others) (behind : List Row) → IsOnlyTarget seq all.amends target behind
+    → (t : Option ℕ) (tail : Others) → IsNext F seq row t all tail → t ≡ target
+told_target F row seq target all behind only t tail s =
+    (only t tail.amends s.begins.amends (no_more_targets seq (judged (kept F) (request_in t row)).outcome tail s.ends)).0

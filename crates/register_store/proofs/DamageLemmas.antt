@@ -1,22 +1,29 @@
 -- The kept row that is told.
-use Rattle.std.proofs.Common.{◌≡◌, ◌<◌, ◌≤◌, ℕ, ◌+◌, zero, suc, Bool, true, false, List, [], ◌∷◌, ◌++◌, append-nil, append_assoc, length, length-append, map, filter, cond, take, drop, get_or, refl, sym, ap, ap₂, subst, ◌∙◌, arith}
+use Rattle.std.proofs.Common.{◌≡◌, ◌<◌, ◌≤◌, ℕ, ◌+◌, zero, suc, pos, Bool, true, false, List, [], ◌∷◌, ◌++◌, append-nil, append_assoc, length, length-append, map, filter, cond, take, drop, get_or, Option, Some, None, refl, sym, ap, ap₂, subst, subst₂, ◌∙◌, arith, add-one, drop-cons, length-drop, ⊎_elim, ◌-◌}
+use Rattle.std.specs.Prelude.{is_some}
 use Rattle.std.proofs.Math.Seq.{take-length}
+use Rattle.std.proofs.lemmas.Bool.{cases_Bool}
 use Rattle.std.proofs.lemmas.List.{take_more, take-append-drop, map-append}
 use Rattle.std.proofs.lemmas.List.Elements.{filter-append, filter_more}
-use Rattle.sqlite.specs.Order.{Row}
-use Rattle.filing_model.specs.Request.{firsts, has_key}
-use Rattle.filing_model.specs.Register.{Kept, filings, kept_after, judged, kept, register}
+use Rattle.sqlite.specs.declared.types.Value.TheVariants.{Int}
+use Rattle.sqlite.specs.Order.{Row, column}
+use Rattle.filing_model.specs.Request.{Request, firsts, has_key}
+use Rattle.filing_model.specs.Register.{filings, kept_after, judged, kept, register}
+use Rattle.filing_model.proofs.Keeping.{kept_new}
 use Rattle.table_rows.specs.Rows.{counted_from}
 use Rattle.table_rows.proofs.StepLemmas.{counted_more}
-use Rattle.register_store.specs.Audit.{Others, IsKeptAs, IsSoundAt, is_repeated_at, kept_in, number_after}
+use Rattle.register_store.specs.declared.filed.Filed.{Filed}
+use Rattle.register_store.specs.Audit.{Others, IsKeptAs, IsSound, AreSound, IsFirstUnsound, begins_with, is_number, is_repeated_at, with_number}
 use Rattle.register_store.specs.Columns.{request_in}
+use Rattle.register_store.specs.Filed.{AreFiled}
 use Rattle.register_store.specs.Outcomes.{filings_by}
-use Rattle.register_store.specs.Register.{IsCompleted}
+use Rattle.register_store.specs.Register.{IsCompleted, amends_rows_by}
 use Rattle.register_store.proofs.AuditRefutes.{row_at}
-use Rattle.register_store.proofs.AuditSteps.{kept_is_judged}
+use Rattle.register_store.proofs.AuditSteps.{one_filing}
 use Rattle.register_store.proofs.MoreRequests.{registered_more}
-use Rattle.register_store.proofs.SeenLemmas.{get_at}
+use Rattle.register_store.proofs.SeenLemmas.{get_at, repeated_is, untargeted}
 use Rattle.register_store.proofs.SegmentLemmas.{begun_at, length_counted}
+use Rattle.register_store.proofs.StepsOfTargets.{only_target}
 
 length_first : {X : Type 0} (i : ℕ) (xs : List X) → i ≤ length xs → length (take i xs) ≡ i
 length_first zero xs low = refl
@@ -70,42 +77,136 @@ module _ {X : Type 0} (made : ℕ → X → Row) (p : Row → Bool) (rows : List
             let place : made (found + 1) x ≡ made (1 + found) (get_or xs found x) = ap (made (found + 1)) next ∙ ap (λ n. made n (get_or xs found x)) (omega arith) in
             step true yes ∙ ap₂ (λ l r. l ++ r ∷ []) had (row_is ∙ place) ∙ sym (counted_more made xs found x below)
 
+-- ---- the row of `amends` of one request
+
+-- the row at this place, from 0, is the only one of the request, and says what that is to replace
+pub record SaysAlone (seq at : ℕ) (rows : List Row) (target : Option ℕ) : Type 0 where
+  pub some : is_some target ≡ true
+  pub first : with_number 0 seq (take at rows) ≡ []
+  pub behind : List Row
+  pub says : take (length rows - at) (drop at rows) ≡ amends_rows_by seq target ++ behind
+  pub ends : begins_with 0 seq behind ≡ false
+
+module _ (seq : ℕ) (rows : List Row) (at : ℕ) (row : Row) (low : at < length rows) (is : row ≡ get_or rows at row)
+    (yes : is_number seq (column row 0) ≡ true) where
+  abbrev has : Row → Bool
+  has r = is_number seq (column r 0)
+
+  back : drop at rows ≡ row ∷ drop (at + 1) rows
+  back = rw (add-one at, drop-cons rows at row low) (ap (λ r. r ∷ drop (suc at) rows) (sym is))
+
+  parts : with_number 0 seq rows ≡ with_number 0 seq (take at rows) ++ row ∷ with_number 0 seq (drop (at + 1) rows)
+  parts =
+      ap (filter has) (sym (take-append-drop at rows)) ∙ filter-append has (take at rows) (drop at rows)
+      ∙ ap (λ l. with_number 0 seq (take at rows) ++ filter has l) back
+      ∙ ap (λ b. with_number 0 seq (take at rows) ++ cond b (row ∷ with_number 0 seq (drop (at + 1) rows)) (with_number 0 seq (drop (at + 1) rows))) yes
+
+  -- it says what the request is to replace, where no other does
+  pub alone : (t : Option ℕ) → with_number 0 seq rows ≡ amends_rows_by seq t → SaysAlone seq at rows t
+  alone t are = go t (with_number 0 seq (take at rows)) refl (sym parts ∙ are)
+    where
+      none_first : (l : List Row) → filter has l ≡ [] → begins_with 0 seq l ≡ false
+      none_first [] none = refl
+      none_first (r ∷ l) none = ⊎_elim
+          (λ (h : has r ≡ true). let one : r ∷ filter has l ≡ [] = rw h at none in absurd cc)
+          (λ (h : has r ≡ false). h)
+          (cases_Bool (has r))
+
+      go : (t : Option ℕ) (front : List Row) → with_number 0 seq (take at rows) ≡ front
+          → front ++ row ∷ with_number 0 seq (drop (at + 1) rows) ≡ amends_rows_by seq t → SaysAlone seq at rows t
+      go None [] is e = absurd cc
+      go None (x ∷ front) is e = absurd cc
+      go (Some n) [] is e =
+          let said : row ≡ Int (pos seq) ∷ Int (pos n) ∷ [] = cc in
+          let none : with_number 0 seq (drop (at + 1) rows) ≡ [] = cc in
+          record {
+            some = refl;
+            first = is;
+            behind = drop (at + 1) rows;
+            says = ap (λ m. take m (drop at rows)) (sym (length-drop at rows)) ∙ take-length (drop at rows) ∙ back ∙ ap (λ r. r ∷ drop (at + 1) rows) said;
+            ends = none_first (drop (at + 1) rows) none;
+          }
+      go (Some n) (x ∷ []) is e = absurd cc
+      go (Some n) (x ∷ y ∷ front) is e = absurd cc
+
+-- rows of `amends` say one target alone
+pub same_target : (n : ℕ) (s t : Option ℕ) → amends_rows_by n s ≡ amends_rows_by n t → s ≡ t
+same_target n s t is = (only_target n s t [] [] refl refl (append-nil _ ∙ is ∙ sym (append-nil _))).0
+
 -- ---- one kept row after another
 
-module _ (rows : List Row) (others : Others) (at number : ℕ) (row : Row) (low : at < length rows) (is : row ≡ get_or rows at row) (number_is : number ≡ number_after at rows) where
-  place : get_or rows at [] ≡ row
-  place = get_at rows at [] row low ∙ sym is
+-- the rows up to this place are sound as those of these requests
+pub record Held (rows : List Row) (others : Others) (at number : ℕ) (filed : Filed) : Type 0 where
+  pub requests : List Request
+  pub many : length requests ≡ at
+  pub number_is : number ≡ suc (length (register requests))
+  pub fewer : number ≤ at + 1
+  pub said : map (request_in None) (take at rows) ≡ map untargeted requests
+  pub sound : AreSound rows others [] requests
+  pub filed_are : AreFiled (register requests) filed
 
-  seq : at + 1 ≡ suc at
-  seq = omega arith
-
-  abbrev KeptAs : ℕ → ℕ → Row → Type 0
-  KeptAs s n r = IsKeptAs s (kept_in r n) r others
-
-  pub sound_at : is_repeated_at rows at ≡ false → IsCompleted (request_in row) → IsKeptAs (at + 1) (kept_in row number) row others → IsSoundAt rows others at
-  sound_at fresh completed kept_as = record {
-    completed = subst (λ r. IsCompleted (request_in r)) (sym place) completed;
-    fresh = fresh;
-    kept_as = subst (λ r. KeptAs (suc at) (number_after at rows) r) (sym place) (subst (λ n. KeptAs (suc at) n row) number_is (subst (λ s. KeptAs s number row) seq kept_as));
-  }
-
-  pub unsound_at : (IsCompleted (request_in row) → IsKeptAs (at + 1) (kept_in row number) row others → ⊥) → IsSoundAt rows others at → ⊥
-  unsound_at none s =
-      none (subst (λ r. IsCompleted (request_in r)) place s.completed)
-      (subst (λ s. KeptAs s number row) (sym seq) (subst (λ n. KeptAs (suc at) n row) (sym number_is) (subst (λ r. KeptAs (suc at) (number_after at rows) r) place s.kept_as)))
-
-  pub number_next : (next : ℕ) → is_repeated_at rows at ≡ false → next ≡ number + filings_by (kept_in row number).outcome → next ≡ number_after (at + 1) rows
-  number_next next fresh told =
-      let F = map request_in (take at rows) in
-      let new = ap (λ r. has_key F (request_in r)) (sym place) ∙ fresh in
-      let rows_are : map request_in (take (at + 1) rows) ≡ F ++ request_in row ∷ [] =
-      ap (map request_in) (take_more rows at row low ∙ ap (λ r. take at rows ++ r ∷ []) (sym is)) ∙ map-append request_in (take at rows) (row ∷ []) in
-      let count = registered_more F (request_in row) new in
-      let made : next ≡ suc (length (register F)) + filings_by (judged (kept F) (request_in row)).outcome =
-      told ∙ ap (λ n. n + filings_by (kept_in row n).outcome) number_is ∙ ap (λ (k : Kept). suc (length (register F)) + filings_by k.outcome) (kept_is_judged F row) in
-      let same : next ≡ suc (length (register (F ++ request_in row ∷ []))) = omega (arith, count, made) in
-      same ∙ ap (λ G. suc (length (register G))) (sym rows_are)
-
-pub first_number : (rows : List Row) → 1 ≡ number_after 0 rows
+pub none_held : (rows : List Row) (others : Others) (filed : Filed) → AreFiled [] filed → Held rows others 0 1 filed
 unfolding firsts kept_after filings
-first_number rows = refl
+none_held rows others filed are = record { requests = []; many = refl; number_is = refl; fewer = omega arith; said = refl; sound = tt; filed_are = are }
+
+sound_more : (rows : List Row) (others : Others) (before F : List Request) (r : Request) → AreSound rows others before F → IsSound rows others (before ++ F) r
+    → AreSound rows others before (F ++ r ∷ [])
+sound_more rows others before [] r all one = (subst (λ l. IsSound rows others l r) (append-nil before) one, tt)
+sound_more rows others before (q ∷ F) r all one =
+    (all.0, sound_more rows others (before ++ q ∷ []) F r all.1 (subst (λ l. IsSound rows others l r) (sym (append_assoc before (q ∷ []) F)) one))
+
+module _ (rows : List Row) (others : Others) (at number : ℕ) (filed : Filed) (row : Row) (low : at < length rows) (is : row ≡ get_or rows at row)
+    (held : Held rows others at number filed) where
+  abbrev F : List Request
+  F = held.requests
+
+  seq : at + 1 ≡ suc (length F)
+  seq = omega (arith, held.many)
+
+  place : row ≡ get_or rows (length F) []
+  place = is ∙ sym (get_at rows at [] row low) ∙ ap (λ n. get_or rows n []) (sym held.many)
+
+  repeated : is_repeated_at rows at ≡ has_key F (request_in None row)
+  repeated = repeated_is rows F at row low is held.said
+
+  abbrev KeptAs : Request → ℕ → Row → Type 0
+  KeptAs r s x = IsKeptAs s (judged (kept F) r) x others
+
+  pub held_more : (r : Request) (next : ℕ) (new : Filed) → is_repeated_at rows at ≡ false → IsCompleted r
+      → IsKeptAs (at + 1) (judged (kept held.requests) r) row others
+      → AreFiled (filings (kept held.requests ++ judged (kept held.requests) r ∷ [])) new
+      → next ≡ number + filings_by (judged (kept held.requests) r).outcome → Held rows others (at + 1) next new
+  held_more r next new once completed kept_as are told =
+      let asked : request_in None row ≡ untargeted r = ap (request_in None) kept_as.row_is in
+      let fresh : has_key F r ≡ false = sym (ap (has_key F) asked) ∙ sym repeated ∙ once in
+      let count = registered_more F r fresh in
+      let few = one_filing (judged (kept F) r).outcome in
+      let long = length-append F (r ∷ []) in
+      record {
+        requests = F ++ r ∷ [];
+        many = omega (arith, long, held.many);
+        number_is = omega (arith, told, count, held.number_is);
+        fewer = omega (arith, told, few, held.fewer);
+        said = ap (map (request_in None)) (take_more rows at row low ∙ ap (λ x. take at rows ++ x ∷ []) (sym is))
+            ∙ map-append (request_in None) (take at rows) (row ∷ [])
+            ∙ ap₂ (λ l x. l ++ x ∷ []) held.said asked ∙ sym (map-append untargeted F (r ∷ []));
+        sound = sound_more rows others [] F r held.sound (record { completed = completed; fresh = fresh; kept_as = subst₂ (KeptAs r) seq place kept_as });
+        filed_are = subst (λ fs. AreFiled fs new) (ap filings (sym (kept_new F r fresh))) are;
+      }
+
+  told_first : ((r : Request) → IsSound rows others held.requests r → ⊥) → IsFirstUnsound rows others (at + 1)
+  told_first none = record { before = F; place = seq; within = omega (arith, low, held.many); sound = held.sound; unsound = none }
+
+  -- a row that is kept as none of its requests would be is told
+  pub unsound_at : ((r : Request) → IsCompleted r → IsKeptAs (at + 1) (judged (kept held.requests) r) row others → ⊥) → IsFirstUnsound rows others (at + 1)
+  unsound_at none = told_first (λ r s. none r s.completed (subst₂ (KeptAs r) (sym seq) (sym place) s.kept_as))
+
+  -- and so is one that is repeated
+  pub unsound_again : is_repeated_at rows at ≡ true → IsFirstUnsound rows others (at + 1)
+  unsound_again again = told_first stale
+    where
+      stale : (r : Request) → IsSound rows others held.requests r → ⊥
+      stale r s =
+          let asked : request_in None row ≡ untargeted r = ap (request_in None) (place ∙ s.kept_as.row_is) in
+          let both : false ≡ true = sym s.fresh ∙ sym (ap (has_key F) asked) ∙ sym repeated ∙ again in
+          absurd cc

@@ -1,5 +1,5 @@
 -- What is read of a register in an earlier form.
-use Rattle.std.proofs.Common.{◌≡◌, ◌⊎◌, inl, inr, ◌≤◌, ℕ, List, [], ◌∷◌, length, refl, sym, ap, subst, ◌∙◌}
+use Rattle.std.proofs.Common.{◌≡◌, ◌⊎◌, inl, inr, ◌≤◌, ℕ, List, [], ◌∷◌, length, refl, sym, subst, ◌∙◌}
 use Rattle.sqlite.specs.Order.{Row}
 use Rattle.sqlite.specs.Effect.{Database}
 use Rattle.sqlite.specs.Store.{Ghosts}
@@ -7,7 +7,6 @@ use Rattle.sqlite.specs.Held.{Held, state}
 use Rattle.sqlite.specs.State.{State, IsUnchanged}
 use Rattle.sqlite.specs.declared.error.Error.{Error}
 use Rattle.sqlite.proofs.Callers.{unchanged_then}
-use Rattle.filing_model.proofs.Lists.{length-map}
 use Rattle.table_rows.specs.Causes.{cause_of}
 use Rattle.table_rows.specs.declared.cause.Cause.{Cause}
 use Rattle.table_rows.specs.declared.cause.Cause.TheVariants as cause
@@ -19,44 +18,42 @@ use Rattle.register_store.specs.declared.fault.OpenFault.TheVariants as fault
 use Rattle.register_store.specs.declared.opening.Counts.{Counts}
 use Rattle.register_store.specs.declared.walk.Totals.{Totals}
 use Rattle.register_store.specs.Audit.{Others, IsVerdict}
-use Rattle.register_store.specs.Columns.{request_in}
 use Rattle.register_store.specs.Faults.{table_fault, table_fault_by}
 use Rattle.register_store.specs.Migrating.{AreTotals, HasNoTotals, HasNoCounts, IsCounted, SaysNone}
 use Rattle.register_store.specs.Opening.{all_kept, all_findings, all_filings, all_facts, all_migrated, row_texts, IsRead, AreRead, StopsFor}
 use Rattle.register_store.specs.Register.{migrated_row}
 use Rattle.register_store.specs.Schema.{HasCommon}
-use Rattle.register_store.specs.Walk.{Amounts}
-use Rattle.register_store.proofs.AuditSteps.{requests_first}
-use Rattle.register_store.proofs.OpenLemmas.{got_four, reads_on}
+use Rattle.register_store.specs.Walk.{AreAllOf, Amounts}
+use Rattle.register_store.proofs.OpenLemmas.{got_four, reads_on, rows_many}
 use Rattle.register_store.proofs.ReadTexts.{query_kept, query_findings, query_filings, query_facts}
 use Rattle.register_store.proofs.WalkOpens.{all_of, stops_before, are_read_before}
 
 pub totals_then : (totals : Totals) (a b e : State) → IsUnchanged a b → AreTotals totals b e → AreTotals totals a e
 totals_then totals a b e same t = record {
   same = unchanged_then a b e same t.same;
-  amounts = λ d. subst (Amounts totals) same.0.now_is (t.amounts (subst (λ (db : Database). HasCommon db.schema) (sym same.0.now_is) d));
+  amounts = λ d. subst (Amounts totals []) same.0.now_is (t.amounts (subst (λ (db : Database). HasCommon db.schema) (sym same.0.now_is) d));
 }
 
 module _ {S : Type 0} (g : Ghosts S) where
   -- ---- the four tables, read whole
 
   pub whole_totals : (a e : Held S) (kept_are : List Row) (others : Others) (totals : Totals) → AreRead g row_texts a e (kept_are ∷ others.finding ∷ others.filing ∷ others.fact ∷ [])
-      → totals.kept ≡ length kept_are → IsVerdict kept_are others (Sound totals.filings) → AreTotals totals (state g a) (state g e)
-  whole_totals a e kept_are others totals h many is = record {
+      → others.amends ≡ [] → totals.kept ≡ length kept_are → IsVerdict kept_are others (Sound totals.filings) → AreTotals totals (state g a) (state g e)
+  whole_totals a e kept_are others totals h none many is = record {
     same = reads_on g (all_findings ∷ all_filings ∷ all_facts ∷ []) (query_findings, (query_filings, (query_facts, tt))) a h.0 e (query_same all_kept query_kept [] (state g a) (state g h.0) kept_are h.1.shown)
         (others.finding ∷ others.filing ∷ others.fact ∷ []) h.2;
     amounts = λ d. record {
       requests = is.0;
-      are = all_of is.0 (state g a).now kept_are others (got_four g a e kept_are others d h).1 is.1;
-      kept_is = many ∙ sym (length-map request_in kept_are) ∙ ap length (requests_first kept_are is.0 is.1.distinct is.1.kept_is);
+      are = subst (λ l. AreAllOf is.0 l (state g a).now) none (all_of is.0 (state g a).now kept_are others (got_four g a e kept_are others d h).1 is.1);
+      kept_is = many ∙ rows_many kept_are is.0 is.1.distinct is.1.kept_is;
       filings_is = is.2;
     };
   }
 
   pub whole_refused : (a e : Held S) (kept_are : List Row) (others : Others) (why : OpenFault) → AreRead g row_texts a e (kept_are ∷ others.finding ∷ others.filing ∷ others.fact ∷ [])
-      → (why ≡ fault.Memory) ⊎ ((row : ℕ) × (why ≡ fault.Damaged row) × IsVerdict kept_are others (Damaged row)) → HasNoTotals g why a e
-  whole_refused a e kept_are others why h (inl short) = subst (λ w. HasNoTotals g w a e) (sym short) (inr (kept_are ∷ others.finding ∷ others.filing ∷ others.fact ∷ [], h))
-  whole_refused a e kept_are others why h (inr found) = subst (λ w. HasNoTotals g w a e) (sym found.1) (inr (kept_are, others, h, found.2))
+      → others.amends ≡ [] → (why ≡ fault.Memory) ⊎ ((row : ℕ) × (why ≡ fault.Damaged row) × IsVerdict kept_are others (Damaged row)) → HasNoTotals g why a e
+  whole_refused a e kept_are others why h none (inl short) = subst (λ w. HasNoTotals g w a e) (sym short) (inr (kept_are ∷ others.finding ∷ others.filing ∷ others.fact ∷ [], h))
+  whole_refused a e kept_are others why h none (inr found) = subst (λ w. HasNoTotals g w a e) (sym found.1) (inr (kept_are, others, h, none, found.2))
 
   pub whole_unread : (a e : Held S) (error : Error) → StopsFor g (cause_of error) row_texts a e → HasNoTotals g (table_fault error) a e
   whole_unread a e error stops = go (cause_of error) stops
@@ -72,7 +69,7 @@ module _ {S : Type 0} (g : Ghosts S) where
     pub no_totals_before : (why : OpenFault) → HasNoTotals g why b e → HasNoTotals g why a e
     no_totals_before fault.NotOurs h = absurd h
     no_totals_before (fault.Damaged row) (inl stops) = inl (stops.0, stops_before g a b e same limit low cause.Other stops.1)
-    no_totals_before (fault.Damaged row) (inr found) = inr (found.0, found.1, are_read_before g a b e same limit (found.0 ∷ found.1.finding ∷ found.1.filing ∷ found.1.fact ∷ []) found.2, found.3)
+    no_totals_before (fault.Damaged row) (inr found) = inr (found.0, found.1, are_read_before g a b e same limit (found.0 ∷ found.1.finding ∷ found.1.filing ∷ found.1.fact ∷ []) found.2, found.3, found.4)
     no_totals_before fault.Memory (inl stops) = inl (stops_before g a b e same limit low cause.Memory stops)
     no_totals_before fault.Memory (inr read) = inr (read.0, are_read_before g a b e same limit read.0 read.1)
     no_totals_before fault.Disk stops = stops_before g a b e same limit low cause.Disk stops

@@ -13,7 +13,7 @@ use Rattle.sqlite.proofs.Callers.{one_permutation}
 use Rattle.xbrl_report.specs.Pair.{Pair}
 use Rattle.xbrl_report.specs.CodeNumber.{number_of}
 use Rattle.xbrl_report.specs.declared.code.Code.{Code}
-use Rattle.xbrl_report.specs.declared.code.Code.TheVariants.{NotJson, NotObject, DocumentInfo, DocumentType, Namespaces, NamespaceUri, Taxonomy, Facts, Fact, Value, Decimals, Dimensions, ConceptMissing, EntityMissing, DimensionValue, Name, UnboundPrefix, NotTheFiler, Period, PeriodOrder, UnitForm, Number, Language, UnknownDimension, TooMany}
+use Rattle.xbrl_report.specs.declared.code.Code.TheVariants.{NotJson, NotObject, DocumentInfo, DocumentType, Namespaces, NamespaceUri, Taxonomy, Facts, Fact, Value, Decimals, Dimensions, ConceptMissing, EntityMissing, DimensionValue, Name, UnboundPrefix, NotTheFiler, Period, PeriodOrder, UnitForm, Number, Language, UnknownDimension, TooMany, NotReplaceable}
 use Rattle.filing_model.specs.Request.{Request, same_key, has_key, firsts}
 use Rattle.filing_model.specs.Register.{Kept, kept}
 use Rattle.filing_model.specs.Answer.{kept_for}
@@ -27,19 +27,19 @@ use Rattle.table_rows.specs.Rows.{counted_from}
 use Rattle.table_rows.specs.Reading.{RisesBy, ReadsRows}
 use Rattle.table_rows.specs.Standing.{Stands}
 use Rattle.table_rows.proofs.OrderLemmas.{counted_rise, same_text, same_number, and_true}
-use Rattle.register_store.specs.Schema.{kept_table, finding_table}
-use Rattle.register_store.specs.Register.{kept_row, finding_row, finding_rows, findings_of, joined_from}
+use Rattle.register_store.specs.Schema.{kept_table, finding_table, amends_table}
+use Rattle.register_store.specs.Register.{kept_row, finding_row, finding_rows, findings_of, amends_rows, amends_rows_by, joined_from}
 use Rattle.register_store.specs.Reads.{by_second}
-use Rattle.register_store.specs.Found.{has_texts, has_seq, unsorted, found_in, pair_in, found_row, finding_in, code_in, IsPlaced, IsReading, IsLookUp}
+use Rattle.register_store.specs.Found.{has_texts, has_seq, unsorted, found_in, pair_in, found_row, finding_in, target_alone, code_in, IsPlaced, IsReading, IsLookUp}
 use Rattle.register_store.specs.Outcomes.{style_at}
 use Rattle.register_store.specs.declared.found.Found.{Found}
 use Rattle.register_store.specs.Store.{IsRegisterOf}
 
 -- ---- the row of a filer and key
 
-module _ (filer key body : List ℕ) where
+module _ (filer key : List ℕ) (target : Option ℕ) (body : List ℕ) where
   abbrev r : Request
-  r = the_request filer key body
+  r = the_request filer key target body
 
   pub has_its : (at : ℕ) (k : Kept) → has_texts filer key (kept_row at k) ≡ same_key k.request r
   has_its at k = rw (same_text k.request.filer filer, same_text k.request.key key, and_true (bytes_eq k.request.key key)) refl
@@ -103,33 +103,33 @@ pub record IsThere (filer key : List ℕ) (F : List Request) (rows : List Row) :
   pub k : Kept
   pub seq : ℕ
   pub placed : IsPlaced 1 seq (kept F) k
-  pub is : (body : List ℕ) → kept_for (kept F) (the_request filer key body) ≡ Some k
+  pub is : (target : Option ℕ) (body : List ℕ) → kept_for (kept F) (the_request filer key target body) ≡ Some k
   pub filer_is : k.request.filer ≡ filer
   pub key_is : k.request.key ≡ key
   pub rows_are : rows ≡ found_row seq k ∷ []
 
 -- what the rows of a filer and key say
 abbrev pub IsRead : List ℕ → List ℕ → List Request → List Row → Type 0
-IsRead filer key F rows = (((body : List ℕ) → kept_for (kept F) (the_request filer key body) ≡ None) × (rows ≡ [])) ⊎ IsThere filer key F rows
+IsRead filer key F rows = (((target : Option ℕ) (body : List ℕ) → kept_for (kept F) (the_request filer key target body) ≡ None) × (rows ≡ [])) ⊎ IsThere filer key F rows
 
 module _ {early : ℕ} (filer key : List ℕ) (F : List Request) (old new : State) (rows : List Row) (was : Stands (IsRegisterOf early F) old) where
-  its_row : IsNone filer key [] (kept F) (filter (has_texts filer key) (counted_from kept_row 1 (kept F))) ⊎ IsOnly filer key [] 1 (kept F) (filter (has_texts filer key) (counted_from kept_row 1 (kept F)))
+  its_row : IsNone filer key None [] (kept F) (filter (has_texts filer key) (counted_from kept_row 1 (kept F))) ⊎ IsOnly filer key None [] 1 (kept F) (filter (has_texts filer key) (counted_from kept_row 1 (kept F)))
       → IsPermutation (map found_in (filter (has_texts filer key) (counted_from kept_row 1 (kept F)))) rows → IsRead filer key F rows
-  its_row (inl none) same = inl ((λ body. none.is), nothing rows (rw none.rows_are at same))
+  its_row (inl none) same = inl ((λ target body. none.is), nothing rows (rw none.rows_are at same))
   its_row (inr one) same =
       let both = and_parts _ _ one.so in
       inr (record {
         k = one.k;
         seq = one.seq;
         placed = one.placed;
-        is = λ body. one.is;
+        is = λ target body. one.is;
         filer_is = (bytes_eq-Decides one.k.request.filer filer).0 both.0;
         key_is = (bytes_eq-Decides one.k.request.key key).0 both.1;
         rows_are = one_permutation (found_row one.seq one.k) rows (rw one.rows_are at same);
       })
 
   pub key_read : ReadsRows kept_table (has_texts filer key) unsorted found_in rows old new → IsRead filer key F rows
-  key_read h = its_row (only filer key [] 1 (kept F) (few_kept F (the_request filer key []))) (h.any (counted_from kept_row 1 (kept F)) (was.now h.same.0.was_open).rows.rows.kept_is)
+  key_read h = its_row (only filer key None [] 1 (kept F) (few_kept F (the_request filer key None []))) (h.any (counted_from kept_row 1 (kept F)) (was.now h.same.0.was_open).rows.rows.kept_is)
 
 looked_up : (filer key : List ℕ) (F : List Request) (rows : List Row) → IsRead filer key F rows → (found : Option Found) → IsReading rows found → IsLookUp filer key F found
 looked_up filer key F rows (inl none) None h = none.0
@@ -142,7 +142,7 @@ looked_up filer key F rows (inr one) (Some found) h =
       seq = one.seq;
       placed = one.placed;
       is = one.is;
-      request = λ i. record { filer = one.filer_is i; key = one.key_is i; body = sym says.1 i };
+      request = λ i. record { filer = one.filer_is i; key = one.key_is i; target = one.k.request.target; body = sym says.1 i };
       seq_is = says.0;
       number_is = says.2;
     }
@@ -192,9 +192,9 @@ module _ (seq : ℕ) where
 
 -- ---- the style of a filer and key
 
-module _ (filer key body : List ℕ) where
+module _ (filer key : List ℕ) (target : Option ℕ) (body : List ℕ) where
   abbrev asked : Request
-  asked = the_request filer key body
+  asked = the_request filer key target body
 
   abbrev alike : List Kept → List Kept
   alike ks = filter (λ k. same_key k.request asked) ks
@@ -228,8 +228,8 @@ module _ (filer key body : List ℕ) where
       let same : nat_le seq early ≡ nat_lt seq (1 + early) = grind (arith, nat_tests) in
       ap (λ b. cond b Old Problem) (same ∙ sym has ∙ ap (λ rs. has_key (take early rs) asked) (requests_of_kept F ∙ distinct))
 
-pub has_same_key : (s : Request) (filer key body other : List ℕ) → s ≡ the_request filer key body → same_key s (the_request filer key other) ≡ true
-has_same_key s filer key body other is = ap (λ (r : Request). same_key r (the_request filer key other)) is ∙ same_key-refl (the_request filer key body)
+pub has_same_key : (s : Request) (filer key : List ℕ) (target another : Option ℕ) (body other : List ℕ) → s ≡ the_request filer key target body → same_key s (the_request filer key another other) ≡ true
+has_same_key s filer key target another body other is = ap (λ (r : Request). same_key r (the_request filer key another other)) is ∙ same_key-refl (the_request filer key target body)
 
 -- what a row says of its finding
 pub code_back : (c : Code) → code_in (Int (pos (number_of c))) ≡ c
@@ -258,6 +258,7 @@ code_back Number = refl
 code_back Language = refl
 code_back UnknownDimension = refl
 code_back TooMany = refl
+code_back NotReplaceable = refl
 
 pairs_back : (seq at : ℕ) (fs : List Pair) → map finding_in (map pair_in (counted_from (finding_row seq) at fs)) ≡ fs
 pairs_back seq at [] = refl
@@ -273,3 +274,45 @@ module _ {early : ℕ} (F : List Request) (old new : State) (rows : List Row) (w
       ap (map finding_in) (h.ordered (joined_from finding_rows 1 (kept F)) (was.now h.same.0.was_open).rows.rows.finding_is
       (subst (RisesBy by_second) (sym its_table) (counted_rise (finding_row seq) by_second (λ _ _. refl) 1 (findings_of k.outcome))) ∙ ap (map pair_in) its_table)
       ∙ pairs_back seq 1 (findings_of k.outcome)
+
+-- ---- the filing that a request is to replace
+
+module _ (seq : ℕ) where
+  amends_its : (at : ℕ) (t : Option ℕ) → nat_eq at seq ≡ true → filter (has_seq (pos seq)) (amends_rows_by at t) ≡ amends_rows_by at t
+  amends_its at None same = refl
+  amends_its at (Some n) same = rw (and_true _ ∙ same_number at seq ∙ same) refl
+
+  no_amends : (at : ℕ) (t : Option ℕ) → nat_eq at seq ≡ false → filter (has_seq (pos seq)) (amends_rows_by at t) ≡ []
+  no_amends at None apart = refl
+  no_amends at (Some n) apart = rw (and_true _ ∙ same_number at seq ∙ apart) refl
+
+  no_later_amends : (at : ℕ) (ks : List Kept) → seq < at → filter (has_seq (pos seq)) (joined_from amends_rows at ks) ≡ []
+  no_later_amends at [] low = refl
+  no_later_amends at (k ∷ ks) low =
+      let apart : nat_eq at seq ≡ false = grind (arith, nat_tests) in
+      filter-append (has_seq (pos seq)) (amends_rows at k) (joined_from amends_rows (at + 1) ks) ∙ ap₂ ◌++◌ (no_amends at k.request.target apart) (no_later_amends (at + 1) ks (omega arith))
+
+  -- the rows of a place are those of the request that stands there
+  pub its_amends : (at : ℕ) (ks : List Kept) (k : Kept) → IsPlaced at seq ks k → filter (has_seq (pos seq)) (joined_from amends_rows at ks) ≡ amends_rows seq k
+  its_amends at [] k h = absurd h
+  its_amends at (x ∷ ks) k (inl here) =
+      let low : seq < at + 1 = omega (arith, here.0) in
+      let same : nat_eq at seq ≡ true = let e = here.0 in grind (arith, nat_tests, e) in
+      filter-append (has_seq (pos seq)) (amends_rows at x) (joined_from amends_rows (at + 1) ks)
+      ∙ ap₂ ◌++◌ (amends_its at x.request.target same) (no_later_amends (at + 1) ks low)
+      ∙ append-nil _ ∙ ap (λ n. amends_rows n x) (sym here.0) ∙ ap (amends_rows seq) (sym here.1)
+  its_amends at (x ∷ ks) k (inr later) =
+      let above = placed_from seq (at + 1) ks k later in
+      let apart : nat_eq at seq ≡ false = grind (arith, nat_tests) in
+      filter-append (has_seq (pos seq)) (amends_rows at x) (joined_from amends_rows (at + 1) ks) ∙ ap₂ ◌++◌ (no_amends at x.request.target apart) (its_amends (at + 1) ks k later)
+
+few_targets : (seq : ℕ) (t : Option ℕ) (rows : List Row) → IsPermutation (map target_alone (amends_rows_by seq t)) rows → rows ≡ map target_alone (amends_rows_by seq t)
+few_targets seq None rows same = nothing rows same
+few_targets seq (Some n) rows same = one_permutation (Int (pos n) ∷ []) rows same
+
+-- the rows say the target
+pub target_read : {early : ℕ} (F : List Request) (old new : State) (rows : List Row) → Stands (IsRegisterOf early F) old → (seq : ℕ) (k : Kept) → IsPlaced 1 seq (kept F) k
+    → ReadsRows amends_table (has_seq (pos seq)) unsorted target_alone rows old new → rows ≡ map target_alone (amends_rows_by seq k.request.target)
+target_read F old new rows was seq k placed h =
+    let all = h.any (joined_from amends_rows 1 (kept F)) (was.now h.same.0.was_open).rows.rows.amends_is in
+    few_targets seq k.request.target rows (rw (its_amends seq 1 (kept F) k placed) at all)

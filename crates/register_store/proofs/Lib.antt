@@ -8,7 +8,10 @@ pub mod CreateTexts
 pub mod DamageLemmas
 pub mod FactLemmas
 pub mod FailLemmas
-pub mod Filed
+pub mod FiledLemmas
+pub mod FiledRows
+pub mod FiledSteps
+pub mod Filings
 pub mod FindLemmas
 pub mod FindReads
 pub mod FindTexts
@@ -24,11 +27,13 @@ pub mod Opened
 pub mod OurGains
 pub mod ReadLemmas
 pub mod ReadTexts
+pub mod ReplaceLemmas
 pub mod RisingLemmas
 pub mod SeenLemmas
 pub mod SegmentLemmas
 pub mod SpanLemmas
 pub mod StepsOfLists
+pub mod StepsOfTargets
 pub mod StoreLemmas
 pub mod Texts
 pub mod WalkLemmas

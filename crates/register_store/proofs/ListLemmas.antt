@@ -1,21 +1,21 @@
 -- What the rows that are read say of the requests that they stand for.
-use Rattle.std.proofs.Common.{◌≡◌, ℕ, ◌+◌, List, [], ◌∷◌, map, filter, refl, sym, ap, subst, ◌∙◌}
-use Rattle.std.specs.Prelude.{filter_map}
+use Rattle.std.proofs.Common.{◌≡◌, ◌<◌, ℕ, ◌+◌, pos, Less, Option, None, Some, List, [], ◌∷◌, ◌++◌, map, filter, refl, sym, ap, subst, ◌∙◌, arith}
+use Rattle.sqlite.specs.declared.types.Value.TheVariants.{Int}
+use Rattle.std.specs.List.{AllByRecursion}
+use Rattle.sqlite_sql.specs.Query.{key_cmp}
 use Rattle.sqlite.specs.Order.{Row}
 use Rattle.sqlite.specs.State.{State}
 use Rattle.filing_model.specs.Request.{Request}
-use Rattle.filing_model.specs.Register.{Outcome, Kept, filing_of, filings, kept, register}
-use Rattle.filing_model.specs.Register.Outcome.{Registered, Refused}
-use Rattle.filing_model.proofs.Keeping.{requests_of_kept}
+use Rattle.filing_model.specs.Register.{Kept, kept}
 use Rattle.table_rows.specs.Rows.{counted_from}
-use Rattle.table_rows.specs.Reading.{RisesBy, ReadsRows}
+use Rattle.table_rows.specs.Reading.{ascending, RisesBy, ReadsRows}
 use Rattle.table_rows.specs.Standing.{Stands, Keeps}
 use Rattle.table_rows.proofs.StandLemmas.{stands_on}
-use Rattle.table_rows.proofs.OrderLemmas.{counted_rise}
-use Rattle.register_store.specs.Columns.{request_in, filing_in}
-use Rattle.register_store.specs.Reads.{Knows, every, whole, by_first}
-use Rattle.register_store.specs.Register.{kept_row}
-use Rattle.register_store.specs.Schema.{kept_table}
+use Rattle.table_rows.proofs.OrderLemmas.{counted_rise, int_less}
+use Rattle.register_store.specs.Columns.{request_in}
+use Rattle.register_store.specs.Reads.{Knows, KnowsAll, every, whole, by_first, filer_and_number}
+use Rattle.register_store.specs.Register.{kept_row, amends_rows, amends_rows_by, joined_from}
+use Rattle.register_store.specs.Schema.{kept_table, amends_table}
 use Rattle.register_store.proofs.CommonLemmas.{has_common}
 use Rattle.register_store.specs.Store.{IsRegisterOf}
 
@@ -42,28 +42,47 @@ kept_read F old new rows was r =
     let same = filter_every wanted in
     r.ordered wanted has (subst (RisesBy by_first) (sym same) (counted_rise kept_row by_first (λ _ _. refl) 1 (kept F))) ∙ ap (map whole) same ∙ map_whole wanted
 
-pub requests_said : (at : ℕ) (ks : List Kept) → map request_in (counted_from kept_row at ks) ≡ map (λ (k : Kept). k.request) ks
+pub knows_all : {early : ℕ} (F : List Request) (s : State) → Stands (IsRegisterOf early F) s → KnowsAll s
+knows_all F s was alive = (was.now alive).rows.rows.declared
+
+-- the kept rows say the requests, but not what they are to replace
+pub requests_said : (at : ℕ) (ks : List Kept) → map (request_in None) (counted_from kept_row at ks) ≡ map (λ (k : Kept). record k.request { target = None }) ks
 requests_said at [] = refl
-requests_said at (k ∷ ks) = ap (λ l. k.request ∷ l) (requests_said (at + 1) ks)
+requests_said at (k ∷ ks) = ap (λ l. record k.request { target = None } ∷ l) (requests_said (at + 1) ks)
 
--- they say the requests
-pub requests_read : {early : ℕ} (F : List Request) (old new : State) (rows : List Row) → Stands (IsRegisterOf early F) old → ReadsRows kept_table every by_first whole rows old new → map request_in rows ≡ F
-requests_read F old new rows was r =
-    ap (map request_in) (kept_read F old new rows was r) ∙ requests_said 1 (kept F) ∙ requests_of_kept F ∙ (was.now r.same.0.was_open).rows.distinct
+-- the rows of `amends` rise
 
-filings_said : (at : ℕ) (ks : List Kept) → filter_map filing_in (counted_from kept_row at ks) ≡ filings ks
-unfolding filings
-filings_said at [] = refl
-filings_said at (k ∷ ks) = go k.outcome (filings_said (at + 1) ks)
+abbrev Above : ℕ → Row → Type 0
+Above m row = key_cmp 0 (ascending ∷ []) (Int (pos m) ∷ []) (by_first row) ≡ Less
+
+amends_after : (m at : ℕ) (ks : List Kept) → m < at → AllByRecursion (Above m) (joined_from amends_rows at ks)
+amends_after m at [] low = tt
+amends_after m at (k ∷ ks) low = go k.request.target (amends_after m (at + 1) ks (omega arith))
   where
-    rest : List Row
-    rest = counted_from kept_row (at + 1) ks
+    go : (t : Option ℕ) → AllByRecursion (Above m) (joined_from amends_rows (at + 1) ks) → AllByRecursion (Above m) (amends_rows_by at t ++ joined_from amends_rows (at + 1) ks)
+    go None h = h
+    go (Some n) h = (int_less m at low, h)
 
-    go : (o : Outcome) → filter_map filing_in rest ≡ filter_map (λ (k : Kept). filing_of k.request k.outcome) ks
-        → filter_map filing_in (kept_row at (record { request = k.request; outcome = o }) ∷ rest) ≡ filter_map (λ (k : Kept). filing_of k.request k.outcome) (record { request = k.request; outcome = o } ∷ ks)
-    go (Registered number) h = ap (λ l. record { number = number; request = k.request } ∷ l) h
-    go (Refused findings) h = h
+pub amends_rise : (at : ℕ) (ks : List Kept) → RisesBy by_first (joined_from amends_rows at ks)
+amends_rise at [] = tt
+amends_rise at (k ∷ ks) = go k.request.target (amends_rise (at + 1) ks)
+  where
+    go : (t : Option ℕ) → RisesBy by_first (joined_from amends_rows (at + 1) ks) → RisesBy by_first (amends_rows_by at t ++ joined_from amends_rows (at + 1) ks)
+    go None h = h
+    go (Some n) h = (amends_after at (at + 1) ks (omega arith), h)
 
--- and the filings
-pub filings_read : {early : ℕ} (F : List Request) (old new : State) (rows : List Row) → Stands (IsRegisterOf early F) old → ReadsRows kept_table every by_first whole rows old new → filter_map filing_in rows ≡ register F
-filings_read F old new rows was r = ap (filter_map filing_in) (kept_read F old new rows was r) ∙ filings_said 1 (kept F)
+-- all rows of `amends`, in order
+pub amends_read : {early : ℕ} (F : List Request) (old new : State) (rows : List Row) → Stands (IsRegisterOf early F) old → ReadsRows amends_table every by_first whole rows old new → rows ≡ joined_from amends_rows 1 (kept F)
+amends_read F old new rows was r =
+    let wanted = joined_from amends_rows 1 (kept F) in
+    let has = (was.now r.same.0.was_open).rows.rows.amends_is in
+    let same = filter_every wanted in
+    r.ordered wanted has (subst (RisesBy by_first) (sym same) (amends_rise 1 (kept F))) ∙ ap (map whole) same ∙ map_whole wanted
+
+-- the filers and the numbers of all kept rows, in order
+pub filed_read : {early : ℕ} (F : List Request) (old new : State) (rows : List Row) → Stands (IsRegisterOf early F) old → ReadsRows kept_table every by_first filer_and_number rows old new → rows ≡ map filer_and_number (counted_from kept_row 1 (kept F))
+filed_read F old new rows was r =
+    let wanted = counted_from kept_row 1 (kept F) in
+    let has = (was.now r.same.0.was_open).rows.rows.kept_is in
+    let same = filter_every wanted in
+    r.ordered wanted has (subst (RisesBy by_first) (sym same) (counted_rise kept_row by_first (λ _ _. refl) 1 (kept F))) ∙ ap (map filer_and_number) same

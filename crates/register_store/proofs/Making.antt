@@ -21,7 +21,7 @@ use Rattle.register_store.proofs.OurGains.{meta_gains, none_early_gains}
 
 -- the tables, then the meta row, and then the row that tells of none before
 has_no_rows : (old mid new : Database) → IsFreshly (schema_with register_tables [] own_indexes []) old → Gains register_tables meta_table (meta_row ∷ []) old mid
-    → Gains register_tables migrated_table (migrated_row 0 ∷ []) mid new → HasRows new 0 [] [] [] []
+    → Gains register_tables migrated_table (migrated_row 0 ∷ []) mid new → HasRows new 0 [] [] [] [] []
 has_no_rows old mid new fresh g h =
     let e = fresh.empty in
     let o = g.others in
@@ -86,7 +86,7 @@ pub none_registered : register [] ≡ []
 unfolding firsts kept_after filings
 none_registered = refl
 
-pub stands_for_none : (db : Database) → HasRows db 0 [] [] [] [] → StandsFor db 0 []
+pub stands_for_none : (db : Database) → HasRows db 0 [] [] [] [] [] → StandsFor db 0 []
 unfolding firsts
 stands_for_none db has = record { distinct = refl; completed = tt; within = omega arith; rows = rw none_kept has }
 

@@ -23,12 +23,12 @@ use Rattle.register_store.proofs.MigrateTexts.{IsBeside, IsRaised, creates_besid
 pub record HasAll (form early : ℕ) (F : List Request) (db : Database) : Type 0 where
   pub schema_is : db.schema ≡ whole_schema
   pub meta_is : Holds db meta_table (form_row form ∷ [])
-  pub are : AreAllOf F db
+  pub are : AreAllOf F [] db
   pub migrated_is : Holds db migrated_table (migrated_row early ∷ [])
   pub amends_is : Holds db amends_table []
   pub within : early ≤ length F
 
-same_four : (F : List Request) (old new : Database) → new.trees 1 ≡ old.trees 1 → new.trees 3 ≡ old.trees 3 → new.trees 5 ≡ old.trees 5 → new.trees 7 ≡ old.trees 7 → AreAllOf F old → AreAllOf F new
+same_four : (F : List Request) (old new : Database) → new.trees 1 ≡ old.trees 1 → new.trees 3 ≡ old.trees 3 → new.trees 5 ≡ old.trees 5 → new.trees 7 ≡ old.trees 7 → AreAllOf F [] old → AreAllOf F [] new
 same_four F old new a b c d are = record {
   distinct = are.distinct;
   completed = are.completed;
@@ -36,6 +36,7 @@ same_four F old new a b c d are = record {
   finding_is = same_rows finding_table _ old new b are.finding_is;
   filing_is = same_rows filing_table _ old new c are.filing_is;
   fact_is = same_rows fact_table _ old new d are.fact_is;
+  amends_is = are.amends_is;
 }
 
 module _ (early : ℕ) (F : List Request) where
@@ -56,7 +57,7 @@ module _ (early : ℕ) (F : List Request) where
             filing_is = same_rows filing_table _ old new (o.1.1.1.0 (λ e. absurd (omega (arith, e)))) has.are.filing_is;
             fact_is = same_rows fact_table _ old new (o.1.1.1.1.0 (λ e. absurd (omega (arith, e)))) has.are.fact_is;
             migrated_is = same_rows migrated_table _ old new (o.1.1.1.1.1.0 (λ e. absurd (omega (arith, e)))) has.migrated_is;
-            amends_is = same_rows amends_table _ old new (o.1.1.1.1.1.1.0 (λ e. absurd (omega (arith, e)))) has.amends_is;
+            amends_is = subst (Holds new amends_table) has.are.amends_is (same_rows amends_table _ old new (o.1.1.1.1.1.1.0 (λ e. absurd (omega (arith, e)))) has.amends_is);
           };
         };
       }

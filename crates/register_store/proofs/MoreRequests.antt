@@ -3,18 +3,18 @@ use Rattle.std.proofs.Common.{◌≡◌, ◌<◌, ℕ, ◌+◌, suc, false, List
 use Rattle.sqlite.specs.Order.{Row}
 use Rattle.sqlite.specs.Effect.{Database}
 use Rattle.xbrl_report.specs.Pair.{Pair}
-use Rattle.xbrl_report.specs.Judgement.{IsJudgement}
+use Rattle.xbrl_report.specs.Judgement.{IsAmendmentJudgement}
 use Rattle.xbrl_report.specs.declared.judging.Judged.{Judged}
 use Rattle.xbrl_report.specs.declared.judging.Judged.TheVariants.{Valid, Refused}
 use Rattle.filing_model.specs.Request.{Request, firsts, has_key}
-use Rattle.filing_model.specs.Register.{Outcome, Kept, filings, verdict, outcome_by, judged, kept, register}
+use Rattle.filing_model.specs.Register.{Outcome, Kept, filings, verdict, outcome_by, is_free, judged, kept, register}
 use Rattle.filing_model.proofs.Firsts.{firsts_new}
 use Rattle.filing_model.proofs.Lists.{length-map}
 use Rattle.filing_model.proofs.Keeping.{kept_new, requests_of_kept, filings-append, all_push}
 use Rattle.table_rows.specs.Rows.{counted_from}
 use Rattle.table_rows.proofs.StepLemmas.{counted_push}
 use Rattle.register_store.specs.Outcomes.{outcome_of, filings_by}
-use Rattle.register_store.specs.Register.{IsCompleted, StandsFor, kept_row, finding_rows, filing_rows, fact_rows, joined_from}
+use Rattle.register_store.specs.Register.{IsCompleted, StandsFor, kept_row, finding_rows, filing_rows, fact_rows, amends_rows, joined_from}
 use Rattle.register_store.specs.Changes.{AddsRows}
 use Rattle.register_store.specs.Store.{IsRegisterOf}
 
@@ -30,7 +30,7 @@ pub kept_length : (F : List Request) → firsts F ≡ F → length (kept F) ≡ 
 kept_length F once = sym (length-map (λ (k : Kept). k.request) (kept F)) ∙ ap length (requests_of_kept F ∙ once)
 
 -- what becomes of a request that was judged
-pub judged_as : (before : List Kept) (r : Request) (j : Judged) → IsJudgement r.filer r.body j → (judged before r).outcome ≡ outcome_of (suc (length (filings before))) j
+pub judged_as : (before : List Kept) (r : Request) (j : Judged) → IsAmendmentJudgement r.filer r.body (is_free (filings before) r.filer r.target) j → (judged before r).outcome ≡ outcome_of (suc (length (filings before))) j
 unfolding verdict
 judged_as before r (Valid report) is = ap (λ found. outcome_by found (suc (length (filings before)))) is.0
 judged_as before r (Refused list) is = sym (ap (λ found. outcome_by found (suc (length (filings before)))) is.0) ∙ refused list is.1
@@ -58,16 +58,17 @@ module _ (early : ℕ) (F : List Request) (r : Request) (new : has_key F r ≡ f
       let ks = kept F in
       let k = judged (kept F) r in
       let at : 1 + length ks ≡ suc (length F) = omega (arith, kept_length F stands.distinct) in
-      let has = adds.rows early _ _ _ _ stands.rows in
+      let has = adds.rows early _ _ _ _ _ stands.rows in
       let kept_is = ap (counted_from kept_row 1) (kept_new F r new) ∙ counted_push kept_row 1 ks k ∙ ap (λ n. counted_from kept_row 1 ks ++ kept_row n k ∷ []) at in
       let finding_is = ap (joined_from finding_rows 1) (kept_new F r new) ∙ joined_push finding_rows 1 ks k ∙ ap (λ n. joined_from finding_rows 1 ks ++ finding_rows n k) at in
       let filing_is = ap (joined_from filing_rows 1) (kept_new F r new) ∙ joined_push filing_rows 1 ks k ∙ ap (λ n. joined_from filing_rows 1 ks ++ filing_rows n k) at in
       let fact_is = ap (joined_from fact_rows 1) (kept_new F r new) ∙ joined_push fact_rows 1 ks k ∙ ap (λ n. joined_from fact_rows 1 ks ++ fact_rows n k) at in
+      let amends_is = ap (joined_from amends_rows 1) (kept_new F r new) ∙ joined_push amends_rows 1 ks k ∙ ap (λ n. joined_from amends_rows 1 ks ++ amends_rows n k) at in
       record {
         distinct = firsts_new F r new ∙ ap (λ front. front ++ r ∷ []) stands.distinct;
         completed = all_push IsCompleted F r stands.completed completed;
         within = omega (arith, stands.within, length-append F (r ∷ []));
-        rows = rw (kept_is, finding_is, filing_is, fact_is) has;
+        rows = rw (kept_is, finding_is, filing_is, fact_is, amends_is) has;
       }
 
   pub register_of_more : (old after : Database) → IsRegisterOf early F old → AddsRows (suc (length F)) (judged (kept F) r) old after → IsRegisterOf early (F ++ r ∷ []) after

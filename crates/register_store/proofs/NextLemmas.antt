@@ -1,8 +1,7 @@
 -- The rows of later requests are none of an earlier one's.
-use Rattle.std.proofs.Common.{◌≡◌, ◌<◌, ℕ, ◌+◌, suc, pos, false, List, [], ◌∷◌, ◌++◌, map, length, refl, ap, ap₂, subst, ◌∙◌, arith, int_eq}
+use Rattle.std.proofs.Common.{◌≡◌, ◌<◌, ℕ, ◌+◌, suc, false, List, [], ◌∷◌, ◌++◌, map, length, refl, ap, ap₂, subst, ◌∙◌, arith}
 use Rattle.std.specs.Prelude.{flat_map, ◌||◌}
 use Rattle.std.specs.List.{range_with_len}
-use Rattle.std.proofs.lemmas.Int.{ints}
 use Rattle.xbrl_report.specs.FactRecord.{FactRecord}
 use Rattle.xbrl_report.specs.Pair.{Pair}
 use Rattle.xbrl_report.specs.ReportParts.{facts}
@@ -12,11 +11,9 @@ use Rattle.filing_model.specs.Register.Outcome.{Registered, Refused}
 use Rattle.filing_model.proofs.Keeping.{register_numbered, filings-append}
 use Rattle.table_rows.specs.Rows.{counted_from}
 use Rattle.register_store.specs.Audit.{Others, begins_with, has_more, has_more_facts}
-use Rattle.register_store.specs.Register.{fact_row, finding_row, finding_rows, findings_of, filing_rows, fact_rows, joined_from}
+use Rattle.register_store.specs.Register.{fact_row, finding_row, finding_rows, findings_of, filing_rows, fact_rows, amends_rows, joined_from}
 use Rattle.register_store.proofs.FactLemmas.{rows_of, table_is}
-
-other : (n m : ℕ) → n < m → int_eq (pos m) (pos n) ≡ false
-other n m low = grind (arith, ints)
+use Rattle.register_store.proofs.StepsOfTargets.{other, no_amends}
 
 no_finding : (n m : ℕ) (ks : List Kept) → n < m → begins_with 0 n (joined_from finding_rows m ks) ≡ false
 no_finding n m [] low = refl
@@ -69,9 +66,11 @@ module _ (F G : List Request) (k : Kept) (more : List Kept) (kept_are : kept G �
 
   -- what is left begins with the rows of a later request
   pub goes_on : (tail : Others) → tail.finding ≡ joined_from finding_rows (suc (length F) + 1) more → tail.filing ≡ joined_from filing_rows (suc (length F) + 1) more → tail.fact ≡ joined_from fact_rows (suc (length F) + 1) more
-      → has_more (suc (length F)) k.outcome tail ≡ false
-  goes_on tail one two three =
+      → tail.amends ≡ joined_from amends_rows (suc (length F) + 1) more → has_more (suc (length F)) k.outcome tail ≡ false
+  goes_on tail one two three four =
       let p : begins_with 0 (suc (length F)) tail.finding ≡ false = ap (begins_with 0 (suc (length F))) one ∙ no_finding (suc (length F)) (suc (length F) + 1) more (omega arith) in
       let q : begins_with 1 (suc (length F)) tail.filing ≡ false = ap (begins_with 1 (suc (length F))) two ∙ no_filing (suc (length F)) (suc (length F) + 1) more (omega arith) in
       let r : has_more_facts k.outcome tail.fact ≡ false = ap (has_more_facts k.outcome) three ∙ after_this k.outcome refl in
-      ap₂ ◌||◌ p (ap₂ ◌||◌ q r)
+      let s : begins_with 0 (suc (length F)) tail.amends ≡ false =
+      ap (begins_with 0 (suc (length F))) four ∙ no_amends (suc (length F)) (suc (length F) + 1) more (omega arith) in
+      ap₂ ◌||◌ p (ap₂ ◌||◌ q (ap₂ ◌||◌ r s))

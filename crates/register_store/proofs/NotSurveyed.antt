@@ -75,25 +75,26 @@ module _ {S : Type 0} (g : Ghosts S) where
 
 -- ---- where the rows stand for requests, it is by memory or disk
 
-rows_of : (F : List Request) (db : Database) (kept_are : List Row) (others : Others) → AreAllOf F db → Four kept_are others db → AreRowsOf kept_are others F
-rows_of F db kept_are others are r = record {
+rows_of : (F : List Request) (db : Database) (kept_are : List Row) (others : Others) → AreAllOf F [] db → Four kept_are others db → others.amends ≡ [] → AreRowsOf kept_are others F
+rows_of F db kept_are others are r none = record {
   distinct = are.distinct;
   completed = are.completed;
   kept_is = r.kept_is.ordered _ are.kept_is (counted_rise kept_row by_first (λ _ _. refl) 1 (kept F));
   finding_is = r.finding_is.ordered _ are.finding_is (findings_rise (kept F));
   filing_is = r.filing_is.ordered _ are.filing_is (filings_rise F);
   fact_is = r.fact_is.ordered _ are.fact_is (facts_rise F);
+  amends_is = none ∙ are.amends_is;
 }
 
 module _ {S : Type 0} (g : Ghosts S) (e : Held S) (F : List Request) where
-  totals_sound : (why : OpenFault) (a : Held S) → HasCommon (state g a).now.schema → a.step_limit ≡ None → AreAllOf F (state g a).now → HasNoTotals g why a e → (why ≡ fault.Memory) ⊎ (why ≡ fault.Disk)
+  totals_sound : (why : OpenFault) (a : Held S) → HasCommon (state g a).now.schema → a.step_limit ≡ None → AreAllOf F [] (state g a).now → HasNoTotals g why a e → (why ≡ fault.Memory) ⊎ (why ≡ fault.Disk)
   totals_sound fault.NotOurs a d unlimited are h = absurd h
   totals_sound (fault.Damaged row) a d unlimited are (inl stops) = absurd (four_stop g a e d unlimited stops.1)
-  totals_sound (fault.Damaged row) a d unlimited are (inr found) = absurd (found.3.0 F (rows_of F (state g a).now found.0 found.1 are (got_four g a e found.0 found.1 d found.2).1))
+  totals_sound (fault.Damaged row) a d unlimited are (inr found) = absurd (found.4.0 F (rows_of F (state g a).now found.0 found.1 are (got_four g a e found.0 found.1 d found.2).1 found.3))
   totals_sound fault.Memory a d unlimited are h = inl refl
   totals_sound fault.Disk a d unlimited are h = inr refl
 
-  counts_sound : (form : Earlier) (why : OpenFault) (a : Held S) → BeginsWith (tables_of form) (state g a).now.schema → a.step_limit ≡ None → AreAllOf F (state g a).now
+  counts_sound : (form : Earlier) (why : OpenFault) (a : Held S) → BeginsWith (tables_of form) (state g a).now.schema → a.step_limit ≡ None → AreAllOf F [] (state g a).now
       → (early : ℕ) → HasEarly form (state g a).now early (length F) → HasNoCounts g form why a e → (why ≡ fault.Memory) ⊎ (why ≡ fault.Disk)
   counts_sound Second why a d unlimited are early has h = totals_sound why a d unlimited are h
   counts_sound Third why a d unlimited are early has (inl h) = go (cause_of h.0) refl
@@ -110,11 +111,11 @@ module _ {S : Type 0} (g : Ghosts S) (e : Held S) (F : List Request) where
       common : HasCommon (state g h.0).now.schema
       common = common_in Third (state g h.0).now.schema (subst (λ (db : Database). BeginsWith (tables_of Third) db.schema) (sym same.0.now_is) d)
 
-      there : AreAllOf F (state g h.0).now
-      there = subst (AreAllOf F) (sym same.0.now_is) are
+      there : AreAllOf F [] (state g h.0).now
+      there = subst (AreAllOf F []) (sym same.0.now_is) are
 
       amount : (totals : Totals) → AreTotals totals (state g h.0) (state g e) → totals.kept ≡ length F
-      amount totals t = let it = t.amounts common in it.kept_is ∙ ap length (only_these it.requests (state g h.0).now it.are F there.distinct there.kept_is)
+      amount totals t = let it = t.amounts common in it.kept_is ∙ ap length (only_these it.requests [] (state g h.0).now it.are F there.distinct there.kept_is there.amends_is)
 
       said : (many : ℕ) → SaysNone many h.1 → many ≡ length F → ⊥
       said many none is = none early ((got_third (state g a) (state g h.0) d h.1 h.2.shown).ordered (migrated_row early ∷ []) has.0 (tt, tt)) (subst (λ n. early ≤ n) (sym is) has.1)
@@ -137,5 +138,5 @@ module _ {S : Type 0} (g : Ghosts S) (e : Held S) (F : List Request) where
         let got = got_meta (state g a) (state g h.1) (form_row (form_number h.0) ∷ []) common h.2.shown in
         let same = same_form h.0 f (same_number (form_number h.0) (form_number f) (got.1.ordered (form_row (form_number f) ∷ []) is.rows.meta_is (tt, tt))) in
         let now = sym got.0.0.now_is in
-        counts_sound f why h.1 (subst (λ (db : Database). BeginsWith (tables_of f) db.schema) now is.rows.declared) (h.2.limit ∙ unlimited) (subst (AreAllOf F) now is.rows.are) early
+        counts_sound f why h.1 (subst (λ (db : Database). BeginsWith (tables_of f) db.schema) now is.rows.declared) (h.2.limit ∙ unlimited) (subst (AreAllOf F []) now is.rows.are) early
         (subst (λ (db : Database). HasEarly f db early (length F)) now is.rows.early_is) (subst (λ k. HasNoCounts g k why h.1 e) same h.3)

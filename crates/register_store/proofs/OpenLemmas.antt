@@ -10,9 +10,9 @@ use Rattle.sqlite.specs.Store.{Ghosts}
 use Rattle.sqlite.specs.Held.{Held, state}
 use Rattle.sqlite.specs.State.{State, Shown, IsUnchanged}
 use Rattle.sqlite.proofs.Callers.{unchanged_then}
-use Rattle.filing_model.specs.Request.{Request}
+use Rattle.filing_model.specs.Request.{Request, firsts}
 use Rattle.filing_model.specs.Register.{kept}
-use Rattle.table_rows.specs.Rows.{Holds, shown}
+use Rattle.table_rows.specs.Rows.{Holds, shown, counted_from}
 use Rattle.table_rows.specs.Reading.{RisesBy, ReadsRows}
 use Rattle.table_rows.specs.Standing.{Keeps}
 use Rattle.table_rows.specs.declared.cause.Cause.{Cause}
@@ -25,14 +25,16 @@ use Rattle.register_store.specs.Audit.{Others, AreRowsOf}
 use Rattle.register_store.specs.declared.fault.OpenFault.{OpenFault}
 use Rattle.register_store.specs.declared.fault.OpenFault.TheVariants as fault
 use Rattle.register_store.specs.Opening.{all_meta, all_kept, all_findings, all_filings, all_facts, all_migrated, all_amends, row_texts, new_texts, table_texts, Later, SaysEarly, IsRead, AreRead, StopsFor, IsRefused}
-use Rattle.register_store.specs.Register.{meta_row, migrated_row, kept_row}
+use Rattle.register_store.specs.Register.{meta_row, migrated_row, kept_row, amends_rows, joined_from}
 use Rattle.register_store.specs.Store.{IsRegisterOf}
 use Rattle.register_store.specs.Reads.{Knows, every, whole, by_first, by_both}
 use Rattle.register_store.specs.Schema.{IsDeclared, HasCommon, common_tables, register_tables, meta_table, kept_table, finding_table, filing_table, fact_table, migrated_table, amends_table}
 use Rattle.register_store.proofs.ReadTexts.{columns, asks_meta, asks_findings, asks_filings, asks_facts, asks_migrated, asks_amends, query_meta, query_kept, query_findings, query_filings, query_facts, query_migrated, query_amends}
 use Rattle.register_store.proofs.ReadLemmas.{reads_kept}
-use Rattle.register_store.proofs.ListLemmas.{filter_every, map_whole}
+use Rattle.register_store.proofs.ListLemmas.{filter_every, map_whole, amends_rise}
+use Rattle.register_store.proofs.MoreRequests.{kept_length}
 use Rattle.register_store.proofs.RisingLemmas.{findings_rise, filings_rise, facts_rise}
+use Rattle.register_store.proofs.SegmentLemmas.{length_counted}
 
 -- ---- one table
 
@@ -204,24 +206,32 @@ module _ {S : Type 0} (g : Ghosts S) where
 
 -- ---- a database that stands
 
+-- there are as many kept rows as requests
+pub rows_many : (rows : List Row) (F : List Request) → firsts F ≡ F → rows ≡ counted_from kept_row 1 (kept F) → length rows ≡ length F
+rows_many rows F once is = ap length is ∙ length_counted kept_row 1 (kept F) ∙ kept_length F once
+
 module _ (early : ℕ) (F : List Request) (db : Database) (is : IsRegisterOf early F db) where
   pub one_meta : (rows : List Row) → Gets meta_table by_first rows db → rows ≡ meta_row ∷ []
   one_meta rows r = r.ordered (meta_row ∷ []) is.rows.rows.meta_is (tt, tt)
 
-  pub are_rows : (kept_are : List Row) (others : Others) → Four kept_are others db → AreRowsOf kept_are others F
-  are_rows kept_are others r = record {
+  -- the rows of `amends` are those of the requests
+  pub are_amends : (later : Later) → Two later db → later.amends ≡ joined_from amends_rows 1 (kept F)
+  are_amends later r = r.amends_is.ordered _ is.rows.rows.amends_is (amends_rise 1 (kept F))
+
+  pub are_rows : (kept_are : List Row) (others : Others) → Four kept_are others db → others.amends ≡ joined_from amends_rows 1 (kept F) → AreRowsOf kept_are others F
+  are_rows kept_are others r amends = record {
     distinct = is.rows.distinct;
     completed = is.rows.completed;
     kept_is = r.kept_is.ordered _ is.rows.rows.kept_is (counted_rise kept_row by_first (λ _ _. refl) 1 (kept F));
     finding_is = r.finding_is.ordered _ is.rows.rows.finding_is (findings_rise (kept F));
     filing_is = r.filing_is.ordered _ is.rows.rows.filing_is (filings_rise F);
     fact_is = r.fact_is.ordered _ is.rows.rows.fact_is (facts_rise F);
+    amends_is = amends;
   }
 
   pub says_early : (later : Later) → Two later db → SaysEarly (length F) early later
   says_early later r = record {
     migrated_is = r.migrated_is.ordered (migrated_row early ∷ []) is.rows.rows.migrated_is (tt, tt);
-    amends_is = r.amends_is.ordered [] is.rows.rows.amends_is tt;
     within = is.rows.within;
   }
 

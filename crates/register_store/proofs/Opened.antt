@@ -9,7 +9,6 @@ use Rattle.sqlite.proofs.Callers.{unchanged_then}
 use Rattle.sqlite.specs.declared.error.Error.{Error}
 use Rattle.filing_model.specs.Request.{Request}
 use Rattle.filing_model.specs.Register.{register}
-use Rattle.filing_model.proofs.Lists.{length-map}
 use Rattle.table_rows.specs.Standing.{Stands}
 use Rattle.table_rows.specs.Causes.{cause_of}
 use Rattle.table_rows.specs.declared.cause.Cause.{Cause}
@@ -17,7 +16,6 @@ use Rattle.table_rows.specs.declared.cause.Cause.TheVariants as cause
 use Rattle.table_rows.proofs.StandLemmas.{stands_on}
 use Rattle.table_rows.proofs.TextLemmas.{query_same}
 use Rattle.register_store.specs.Audit.{Others}
-use Rattle.register_store.specs.Columns.{request_in}
 use Rattle.register_store.specs.declared.fault.OpenFault.{OpenFault}
 use Rattle.register_store.specs.declared.fault.OpenFault.TheVariants as fault
 use Rattle.register_store.specs.declared.opening.Counts.{Counts}
@@ -28,10 +26,9 @@ use Rattle.register_store.specs.Register.{meta_row}
 use Rattle.register_store.specs.Schema.{IsDeclared, HasCommon, meta_table}
 use Rattle.register_store.specs.Store.{IsRegisterOf}
 use Rattle.register_store.specs.Walk.{AreCounted}
-use Rattle.register_store.proofs.AuditSteps.{requests_first}
 use Rattle.register_store.proofs.CommonLemmas.{has_common}
 use Rattle.register_store.proofs.FailLemmas.{meta_fails, kept_fails, findings_fail, filings_fail, facts_fail, migrated_fails, amends_fail}
-use Rattle.register_store.proofs.OpenLemmas.{Gets, Four, Two, got_meta, got_migrated, got_amends, got_two, got_four, one_meta, are_rows, says_early, still_ours, next_kept, next_findings, next_filings, reads_on}
+use Rattle.register_store.proofs.OpenLemmas.{Gets, Four, Two, got_meta, got_migrated, got_amends, got_two, got_four, one_meta, are_amends, are_rows, rows_many, says_early, still_ours, next_kept, next_findings, next_filings, reads_on}
 use Rattle.register_store.proofs.ReadTexts.{query_meta, query_migrated, query_amends}
 use Rattle.register_store.proofs.WalkOpens.{counted_register, counted_only}
 
@@ -72,7 +69,7 @@ module _ {S : Type 0} (g : Ghosts S) (a b : Held S) (one : IsRead g all_meta a b
   refused_after c e later two fault.NotOurs h = absurd h
   refused_after c e later two (fault.Damaged row) (inl stops) = (b, one, inl (stops.0, stops_later g cause.Other new_texts row_texts b c e (later.migrated ∷ later.amends ∷ []) two stops.1))
   refused_after c e later two (fault.Damaged row) (inr found) =
-      (b, one, inr (later, found.0, found.1, read_then g new_texts row_texts b c e (later.migrated ∷ later.amends ∷ []) (found.0 ∷ found.1.finding ∷ found.1.filing ∷ found.1.fact ∷ []) two found.2, found.3))
+      (b, one, inr (later, found.0, found.1, read_then g new_texts row_texts b c e (later.migrated ∷ later.amends ∷ []) (found.0 ∷ found.1.finding ∷ found.1.filing ∷ found.1.fact ∷ []) two found.2, found.3, found.4))
   refused_after c e later two fault.Memory (inl stops) = inl (inr (b, meta_row ∷ [], one, stops_later g cause.Memory new_texts row_texts b c e (later.migrated ∷ later.amends ∷ []) two stops))
   refused_after c e later two fault.Memory (inr read) =
       inr ((meta_row ∷ []) ∷ (later.migrated ∷ later.amends ∷ []) ++ read.0, (b, one, read_then g new_texts row_texts b c e (later.migrated ∷ later.amends ∷ []) read.0 two read.1))
@@ -116,11 +113,12 @@ module _ {S : Type 0} (g : Ghosts S) where
             four_stop c last (has_common (state g c).now.schema d_c) (q.2.limit ∙ limit_b) q.3)
       ]
 
-  not_damaged : (early : ℕ) (F : List Request) (db : Database) → IsRegisterOf early F db → (later : Later) (kept_are : List Row) (others : Others) → Two later db → Four kept_are others db → (row : ℕ) → AreDamaged kept_are others later row → ⊥
-  not_damaged early F db is later kept_are others two four row (inl unsound) = unsound.0 F (are_rows early F db is kept_are others four)
-  not_damaged early F db is later kept_are others two four row (inr h) =
-      let are = are_rows early F db is kept_are others four in
-      let many : length F ≡ length kept_are = sym (ap length (requests_first kept_are F are.distinct are.kept_is)) ∙ length-map request_in kept_are in
+  not_damaged : (early : ℕ) (F : List Request) (db : Database) → IsRegisterOf early F db → (later : Later) (kept_are : List Row) (others : Others) → others.amends ≡ later.amends → Two later db → Four kept_are others db
+      → (row : ℕ) → AreDamaged kept_are others later row → ⊥
+  not_damaged early F db is later kept_are others same two four row (inl unsound) = unsound.0 F (are_rows early F db is kept_are others four (same ∙ are_amends early F db is later two))
+  not_damaged early F db is later kept_are others same two four row (inr h) =
+      let are = are_rows early F db is kept_are others four (same ∙ are_amends early F db is later two) in
+      let many : length F ≡ length kept_are = sym (rows_many kept_are F are.distinct are.kept_is) in
       h.2 early (subst (λ n. SaysEarly n early later) many (says_early early F db is later two))
 
   -- its rows are neither those of something else nor damaged
@@ -129,7 +127,7 @@ module _ {S : Type 0} (g : Ghosts S) where
   by_memory_or_disk fault.NotOurs a last unlimited (inl (inr h)) early F is = absurd h.3
   by_memory_or_disk fault.NotOurs a last unlimited (inr h) early F is =
       absurd (h.2 (one_meta early F (state g a).now is h.0 (got_meta (state g a) (state g last) h.0 (has_common (state g a).now.schema is.rows.rows.declared) h.1.shown).1))
-  by_memory_or_disk (fault.Damaged row) a last unlimited h early F is = absurd (elim h.2 [ inl stops ↦ six_stop mid last d (h.1.limit ∙ unlimited) stops.1 | inr found ↦ whole found.0 found.1 found.2 found.3 found.4 ])
+  by_memory_or_disk (fault.Damaged row) a last unlimited h early F is = absurd (elim h.2 [ inl stops ↦ six_stop mid last d (h.1.limit ∙ unlimited) stops.1 | inr found ↦ whole found.0 found.1 found.2 found.3 found.4 found.5 ])
     where
       mid : Held S
       mid = h.0
@@ -143,13 +141,13 @@ module _ {S : Type 0} (g : Ghosts S) where
       here : IsRegisterOf early F (state g mid).now
       here = subst (IsRegisterOf early F) (sym same.0.now_is) is
 
-      whole : (later : Later) (kept_are : List Row) (others : Others) → AreRead g table_texts mid last (later.migrated ∷ later.amends ∷ kept_are ∷ others.finding ∷ others.filing ∷ others.fact ∷ []) → AreDamaged kept_are others later row → ⊥
-      whole later kept_are others read damaged =
+      whole : (later : Later) (kept_are : List Row) (others : Others) → AreRead g table_texts mid last (later.migrated ∷ later.amends ∷ kept_are ∷ others.finding ∷ others.filing ∷ others.fact ∷ []) → others.amends ≡ later.amends → AreDamaged kept_are others later row → ⊥
+      whole later kept_are others read agree damaged =
           let c = read.2.0 in
           let two = got_two g mid c later d (read.0, read.1, (c, read.2.1, refl)) in
           let d_c = still_ours (state g mid) (state g c) two.0 d in
           let four = got_four g c last kept_are others (has_common (state g c).now.schema d_c) read.2.2 in
-          not_damaged early F (state g mid).now here later kept_are others two.1 (subst (Four kept_are others) two.0.0.now_is four.1) row damaged
+          not_damaged early F (state g mid).now here later kept_are others agree two.1 (subst (Four kept_are others) two.0.0.now_is four.1) row damaged
   by_memory_or_disk fault.Memory a last unlimited h early F is = inl refl
   by_memory_or_disk fault.Disk a last unlimited h early F is = inr refl
 

@@ -9,11 +9,11 @@ use Rattle.sqlite.specs.State.{State, ExecutesInside}
 use Rattle.table_rows.specs.Tables.{schema_with}
 use Rattle.table_rows.proofs.GainLemmas.{inside, gained, cast_int, cast_null, cast_maybe}
 use Rattle.table_rows.proofs.InsertLemmas.{inserts}
-use Rattle.register_store.specs.Schema.{register_tables, IsDeclared, meta_table, kept_table, finding_table, filing_table, fact_table, migrated_table}
+use Rattle.register_store.specs.Schema.{register_tables, IsDeclared, meta_table, kept_table, finding_table, filing_table, fact_table, migrated_table, amends_table}
 use Rattle.register_store.specs.Register.{meta_row, migrated_row}
 use Rattle.register_store.specs.Changes.{GainsRows}
 use Rattle.register_store.specs.Making.{insert_meta, insert_none_early}
-use Rattle.register_store.proofs.Texts.{insert_kept, insert_finding, insert_filing, insert_fact, inserts_meta, inserts_kept, inserts_finding, inserts_filing, inserts_fact, inserts_none_early, plain_inserts}
+use Rattle.register_store.proofs.Texts.{insert_kept, insert_finding, insert_filing, insert_fact, insert_amends, inserts_amends, inserts_meta, inserts_kept, inserts_finding, inserts_filing, inserts_fact, inserts_none_early, plain_inserts}
 
 module _ (old new : State) where
   pub filing_gains : (number seq : ℤ) (count : ℕ) → ExecutesInside 0 insert_filing (Int number ∷ Int seq ∷ []) old new (Ok count) → GainsRows filing_table ((Int number ∷ Int seq ∷ []) ∷ []) old new
@@ -45,6 +45,12 @@ module _ (old new : State) where
       (inserts_fact d.tables d.indexes d.views) (plain_inserts d.tables d.indexes d.views).3 ran in
       gained register_tables fact_table _ (Int number ∷ Int at ∷ Blob id ∷ Blob concept ∷ Blob dimensions ∷ or_null Blob value ∷ or_null Int decimals ∷ []) old.now new.now d i
       (λ row is. rw (is, cast_null, cast_int number, cast_int at, cast_maybe decimals) refl))
+
+  pub amends_gains : (seq target : ℤ) (count : ℕ) → ExecutesInside 0 insert_amends (Int seq ∷ Int target ∷ []) old new (Ok count) → GainsRows amends_table ((Int seq ∷ Int target ∷ []) ∷ []) old new
+  amends_gains seq target count = inside register_tables amends_table _ insert_amends _ old new count (λ ran d.
+      let means = inserts_amends d.tables d.indexes d.views in
+      let i = inserts (schema_with register_tables d.tables d.indexes d.views) 6 _ _ _ _ _ _ _ refl _ 3 (λ _. refl) insert_amends _ old new count d.is means.0 means.1 ran in
+      gained register_tables amends_table _ (Int seq ∷ Int target ∷ []) old.now new.now d i (λ row is. rw (is, cast_int seq, cast_int target) refl))
 
   -- the row of the database itself; what SQLite's files can have comes of it
   pub meta_gains : (count : ℕ) → IsDeclared old.now.schema → ExecutesInside 0 insert_meta [] old new (Ok count) → GainsRows meta_table (meta_row ∷ []) old new × IsDatabase new.now

@@ -19,8 +19,23 @@ use Rattle.table_rows.proofs.TextLemmas.{IsQueryText}
 use Rattle.register_store.specs.Opening.{all_meta, all_kept, all_findings, all_filings, all_facts, all_migrated, all_amends}
 use Rattle.register_store.specs.Schema.{common_tables, register_tables, HasCommon, IsDeclared}
 
-abbrev pub filer_numbers : List ℕ
-filer_numbers = codes "SELECT number FROM kept WHERE filer = ?1 ORDER BY seq"
+abbrev pub filers_and_numbers : List ℕ
+filers_and_numbers = codes "SELECT seq, filer, number FROM kept ORDER BY seq"
+
+abbrev pub place_of_filing : List ℕ
+place_of_filing = codes "SELECT seq FROM filing WHERE number = ?1 ORDER BY number"
+
+abbrev pub filer_at : List ℕ
+filer_at = codes "SELECT filer FROM kept WHERE seq = ?1 ORDER BY seq"
+
+abbrev pub number_at : List ℕ
+number_at = codes "SELECT number FROM kept WHERE seq = ?1 ORDER BY seq"
+
+abbrev pub places_with_target : List ℕ
+places_with_target = codes "SELECT seq FROM amends WHERE target = ?1 ORDER BY seq"
+
+abbrev pub target_at : List ℕ
+target_at = codes "SELECT target FROM amends WHERE seq = ?1"
 
 abbrev pub fact_places : List ℕ
 fact_places = codes "SELECT pos FROM fact WHERE number = ?1 ORDER BY pos"
@@ -58,9 +73,29 @@ pub query_amends : IsQueryText all_amends
 unfolding everything
 query_amends = refl
 
-pub query_numbers : IsQueryText filer_numbers
+pub query_filers : IsQueryText filers_and_numbers
 unfolding everything
-query_numbers = refl
+query_filers = refl
+
+pub query_place : IsQueryText place_of_filing
+unfolding everything
+query_place = refl
+
+pub query_filer : IsQueryText filer_at
+unfolding everything
+query_filer = refl
+
+pub query_number : IsQueryText number_at
+unfolding everything
+query_number = refl
+
+pub query_with_target : IsQueryText places_with_target
+unfolding everything
+query_with_target = refl
+
+pub query_target : IsQueryText target_at
+unfolding everything
+query_target = refl
 
 pub query_places : IsQueryText fact_places
 unfolding everything
@@ -108,9 +143,21 @@ module _ (tables : List Table) (indexes : List Index) (views : List View) where
     listing = refl;
   }
 
-  numbers_text : Asks schema filer_numbers (one_table 1 (equals 2) (columns (5 ∷ [])) (by_each (col 1 0 ∷ [])))
+  filers_text : Asks schema filers_and_numbers (one_table 1 [] (columns (0 ∷ 2 ∷ 5 ∷ [])) (by_each (col 1 0 ∷ [])))
   unfolding understood everything
-  numbers_text = record { names = codes "number" ∷ []; is = refl; plain = (refl, refl); listing = refl }
+  filers_text = record { names = codes "seq" ∷ codes "filer" ∷ codes "number" ∷ []; is = refl; plain = (refl, refl); listing = refl }
+
+  place_text : Asks schema place_of_filing (one_table 5 (equals 0) (columns (2 ∷ [])) (by_each (col 1 0 ∷ [])))
+  unfolding understood everything
+  place_text = record { names = codes "seq" ∷ []; is = refl; plain = (refl, refl); listing = refl }
+
+  filer_text : Asks schema filer_at (one_table 1 (equals 0) (columns (2 ∷ [])) (by_each (col 1 0 ∷ [])))
+  unfolding understood everything
+  filer_text = record { names = codes "filer" ∷ []; is = refl; plain = (refl, refl); listing = refl }
+
+  number_text : Asks schema number_at (one_table 1 (equals 0) (columns (5 ∷ [])) (by_each (col 1 0 ∷ [])))
+  unfolding understood everything
+  number_text = record { names = codes "number" ∷ []; is = refl; plain = (refl, refl); listing = refl }
 
   places_text : Asks schema fact_places (one_table 7 (equals 1) (columns (2 ∷ [])) (by_each (col 1 2 ∷ [])))
   unfolding understood everything
@@ -131,6 +178,20 @@ module _ (tables : List Table) (indexes : List Index) (views : List View) where
   amends_text : Asks whole_schema all_amends (one_table 10 [] (columns (0 ∷ 2 ∷ [])) (by_each (col 1 0 ∷ [])))
   unfolding understood everything
   amends_text = record { names = codes "seq" ∷ codes "target" ∷ []; is = refl; plain = (refl, refl); listing = refl }
+
+  with_target_text : Asks whole_schema places_with_target (one_table 10 (equals 2) (columns (0 ∷ [])) (by_each (col 1 0 ∷ [])))
+  unfolding understood everything
+  with_target_text = record { names = codes "seq" ∷ []; is = refl; plain = (refl, refl); listing = refl }
+
+  target_text : Asks whole_schema target_at (one_table 10 (equals 0) (columns (2 ∷ [])) (by_each []))
+  unfolding understood everything
+  target_text = record { names = codes "target" ∷ []; is = refl; plain = (refl, refl); listing = refl }
+
+pub asks_with_target : (s : Schema) → IsDeclared s → Asks s places_with_target (one_table 10 (equals 2) (columns (0 ∷ [])) (by_each (col 1 0 ∷ [])))
+asks_with_target s d = subst (λ t. Asks t places_with_target (one_table 10 (equals 2) (columns (0 ∷ [])) (by_each (col 1 0 ∷ [])))) (sym d.is) (with_target_text d.tables d.indexes d.views)
+
+pub asks_target : (s : Schema) → IsDeclared s → Asks s target_at (one_table 10 (equals 0) (columns (2 ∷ [])) (by_each []))
+asks_target s d = subst (λ t. Asks t target_at (one_table 10 (equals 0) (columns (2 ∷ [])) (by_each []))) (sym d.is) (target_text d.tables d.indexes d.views)
 
 pub asks_migrated : (s : Schema) → IsDeclared s → Asks s all_migrated (one_table 9 [] (columns (0 ∷ 2 ∷ [])) (by_each (col 1 0 ∷ [])))
 asks_migrated s d = subst (λ t. Asks t all_migrated (one_table 9 [] (columns (0 ∷ 2 ∷ [])) (by_each (col 1 0 ∷ [])))) (sym d.is) (migrated_text d.tables d.indexes d.views)
@@ -157,8 +218,17 @@ asks_filings = on_ours _ _ filings_text
 pub asks_facts : (s : Schema) → HasCommon s → Asks s all_facts (one_table 7 [] (columns (1 ∷ 2 ∷ 3 ∷ 4 ∷ 5 ∷ 6 ∷ 7 ∷ [])) (by_each (col 1 1 ∷ col 1 2 ∷ [])))
 asks_facts = on_ours _ _ facts_text
 
-pub asks_numbers : (s : Schema) → HasCommon s → Asks s filer_numbers (one_table 1 (equals 2) (columns (5 ∷ [])) (by_each (col 1 0 ∷ [])))
-asks_numbers = on_ours _ _ numbers_text
+pub asks_filers : (s : Schema) → HasCommon s → Asks s filers_and_numbers (one_table 1 [] (columns (0 ∷ 2 ∷ 5 ∷ [])) (by_each (col 1 0 ∷ [])))
+asks_filers = on_ours _ _ filers_text
+
+pub asks_place : (s : Schema) → HasCommon s → Asks s place_of_filing (one_table 5 (equals 0) (columns (2 ∷ [])) (by_each (col 1 0 ∷ [])))
+asks_place = on_ours _ _ place_text
+
+pub asks_filer : (s : Schema) → HasCommon s → Asks s filer_at (one_table 1 (equals 0) (columns (2 ∷ [])) (by_each (col 1 0 ∷ [])))
+asks_filer = on_ours _ _ filer_text
+
+pub asks_number : (s : Schema) → HasCommon s → Asks s number_at (one_table 1 (equals 0) (columns (5 ∷ [])) (by_each (col 1 0 ∷ [])))
+asks_number = on_ours _ _ number_text
 
 pub asks_places : (s : Schema) → HasCommon s → Asks s fact_places (one_table 7 (equals 1) (columns (2 ∷ [])) (by_each (col 1 2 ∷ [])))
 asks_places = on_ours _ _ places_text

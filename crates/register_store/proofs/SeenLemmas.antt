@@ -1,5 +1,5 @@
 -- The filers and keys that are seen among rows.
-use Rattle.std.proofs.Common.{◌≡◌, ◌<◌, ℕ, ◌+◌, zero, suc, Bool, true, false, not, nat_lt, List, [], ◌∷◌, ◌++◌, length, map, take, get_or, refl, sym, ap, ap₂, subst, ◌∙◌, arith, ⊎_elim, Ordering, Less, Equal, Greater, is_eq}
+use Rattle.std.proofs.Common.{◌≡◌, ◌<◌, ℕ, ◌+◌, zero, suc, Bool, true, false, not, nat_lt, List, [], ◌∷◌, ◌++◌, length, map, take, get_or, refl, sym, ap, ap₂, subst, ◌∙◌, arith, ⊎_elim, None, ◌≤◌, nat_eq, Ordering, Less, Equal, Greater, is_eq}
 use Rattle.std.specs.Prelude.{bytes_eq, ◌&&◌, ◌||◌}
 use Rattle.std.specs.Bool.{one_answer}
 use Rattle.std.specs.BTreeSet.{insert_key}
@@ -14,7 +14,7 @@ use Rattle.std.proofs.lemmas.List.Folds.{list_any-append}
 use Rattle.std.proofs.lemmas.Map.Text.{is_eq-slice_cmp}
 use Rattle.std.proofs.lemmas.Slice.Eq.{bytes_eq-Decides}
 use Rattle.sqlite.specs.Order.{Row, column}
-use Rattle.filing_model.specs.Request.{has_key, same_key}
+use Rattle.filing_model.specs.Request.{Request, has_key, same_key}
 use Rattle.filing_model.specs.Views.{the_request}
 use Rattle.register_store.specs.Audit.{is_repeated_at}
 use Rattle.register_store.specs.Columns.{request_in, text_in}
@@ -71,14 +71,19 @@ module _ {K : Type 0} (first second : K → List ℕ) where
 
 -- one row more
 one_more_seen : (rows : List Row) (at : ℕ) (row : Row) → at < length rows → row ≡ get_or rows at row → (f k : List ℕ)
-    → ((bytes_eq f (request_in row).filer && bytes_eq k (request_in row).key) || has_key (map request_in (take at rows)) (the_request f k [])) ≡ has_key (map request_in (take (at + 1) rows)) (the_request f k [])
+    → ((bytes_eq f (request_in None row).filer && bytes_eq k (request_in None row).key) || has_key (map (request_in None) (take at rows)) (the_request f k None [])) ≡ has_key (map (request_in None) (take (at + 1) rows)) (the_request f k None [])
 one_more_seen rows at row low is f k =
-    let before = has_key (map request_in (take at rows)) (the_request f k []) in
-    let turned : (bytes_eq f (request_in row).filer && bytes_eq k (request_in row).key) ≡ same_key (request_in row) (the_request f k []) = ap₂ ◌&&◌ (bytes_turned f (request_in row).filer) (bytes_turned k (request_in row).key) in
-    let last : list_any (λ s. same_key s (the_request f k [])) (request_in row ∷ []) ≡ same_key (request_in row) (the_request f k []) = or_comm (same_key (request_in row) (the_request f k [])) false in
-    let rows_are : map request_in (take (at + 1) rows) ≡ map request_in (take at rows) ++ request_in row ∷ [] =
-    ap (map request_in) (take_more rows at row low ∙ ap (λ r. take at rows ++ r ∷ []) (sym is)) ∙ map-append request_in (take at rows) (row ∷ []) in
-    or_comm (bytes_eq f (request_in row).filer && bytes_eq k (request_in row).key) before ∙ ap (λ b. before || b) (turned ∙ sym last) ∙ sym (list_any-append (λ s. same_key s (the_request f k [])) (map request_in (take at rows)) (request_in row ∷ [])) ∙ ap (λ F. has_key F (the_request f k [])) (sym rows_are)
+    let before = has_key (map (request_in None) (take at rows)) (the_request f k None []) in
+    let turned : (bytes_eq f (request_in None row).filer && bytes_eq k (request_in None row).key) ≡ same_key (request_in None row) (the_request f k None []) =
+    ap₂ ◌&&◌ (bytes_turned f (request_in None row).filer) (bytes_turned k (request_in None row).key) in
+    let last : list_any (λ s. same_key s (the_request f k None [])) (request_in None row ∷ []) ≡ same_key (request_in None row) (the_request f k None []) =
+    or_comm (same_key (request_in None row) (the_request f k None [])) false in
+    let rows_are : map (request_in None) (take (at + 1) rows) ≡ map (request_in None) (take at rows) ++ request_in None row ∷ [] =
+    ap (map (request_in None)) (take_more rows at row low ∙ ap (λ r. take at rows ++ r ∷ []) (sym is)) ∙ map-append (request_in None) (take at rows) (row ∷ []) in
+    or_comm (bytes_eq f (request_in None row).filer && bytes_eq k (request_in None row).key) before
+    ∙ ap (λ b. before || b) (turned ∙ sym last)
+    ∙ sym (list_any-append (λ s. same_key s (the_request f k None [])) (map (request_in None) (take at rows)) (request_in None row ∷ []))
+    ∙ ap (λ F. has_key F (the_request f k None [])) (sym rows_are)
 
 pub get_at : {X : Type 0} (rows : List X) (at : ℕ) (d e : X) → at < length rows → get_or rows at d ≡ get_or rows at e
 get_at [] at d e low = absurd (omega arith)
@@ -101,12 +106,12 @@ up_to P at before here i low = ⊎_elim
 
 module _ {K : Type 0} (first second : K → List ℕ) (old : List K) (y : K) (rows : List Row) (at : ℕ) (row : Row) (low : at < length rows) (is : row ≡ get_or rows at row)
     (filer : first y ≡ text_in (column row 1)) (key : second y ≡ text_in (column row 2))
-    (seen : (f k : List ℕ) → list_any (has first second f k) old ≡ has_key (map request_in (take at rows)) (the_request f k [])) where
+    (seen : (f k : List ℕ) → list_any (has first second f k) old ≡ has_key (map (request_in None) (take at rows)) (the_request f k None [])) where
   told : list_any (has first second (first y) (second y)) old ≡ is_repeated_at rows at
   told =
       let place : get_or rows at [] ≡ row = get_at rows at [] row low ∙ sym is in
-      seen (first y) (second y) ∙ ap₂ (λ f k. has_key (map request_in (take at rows)) (the_request f k [])) filer key
-      ∙ ap (λ r. has_key (map request_in (take at rows)) (request_in r)) (sym place)
+      seen (first y) (second y) ∙ ap₂ (λ f k. has_key (map (request_in None) (take at rows)) (the_request f k None [])) filer key
+      ∙ ap (λ r. has_key (map (request_in None) (take at rows)) (request_in None r)) (sym place)
 
   -- a key that is not put stands twice
   pub stands_twice : (new : Bool) → new ≡ not (list_any (has first second (first y) (second y)) old) → new ≡ false → is_repeated_at rows at ≡ true
@@ -115,17 +120,37 @@ module _ {K : Type 0} (first second : K → List ℕ) (old : List K) (y : K) (ro
   pub stands_once : (new : Bool) → new ≡ not (list_any (has first second (first y) (second y)) old) → new ≡ true → is_repeated_at rows at ≡ false
   stands_once new is h = sym told ∙ once new _ is h
 
-  pub noted : (new : List K) → new ≡ insert_key (pair_cmp first second) old y → (f k : List ℕ) → list_any (has first second f k) new ≡ has_key (map request_in (take (at + 1) rows)) (the_request f k [])
+  pub noted : (new : List K) → new ≡ insert_key (pair_cmp first second) old y → (f k : List ℕ)
+      → list_any (has first second f k) new ≡ has_key (map (request_in None) (take (at + 1) rows)) (the_request f k None [])
   noted new put_is f k =
       ap (list_any (has first second f k)) put_is ∙ put first second f k old y
       ∙ ap₂ ◌||◌ (has_is first second f k y ∙ ap₂ (λ a b. bytes_eq f a && bytes_eq k b) filer key) (seen f k)
       ∙ one_more_seen rows at row low is f k
 
--- a row that is sound is not the first that is repeated
-pub not_the_first : (rows : List Row) (at first : ℕ) (row : Row) → at < length rows → row ≡ get_or rows at row → has_key (map request_in (take at rows)) (request_in row) ≡ false → (first < length rows → is_repeated_at rows first ≡ true)
-    → at ≡ first → ⊥
-not_the_first rows at first row low is fresh repeated same =
-    let place : get_or rows at [] ≡ row = get_at rows at [] row low ∙ sym is in
-    let here : is_repeated_at rows at ≡ true = subst (λ i. is_repeated_at rows i ≡ true) (sym same) (repeated (subst (λ i. i < length rows) same low)) in
-    let no : is_repeated_at rows at ≡ false = ap (λ r. has_key (map request_in (take at rows)) (request_in r)) place ∙ fresh in
-    absurd cc
+-- kept rows do not say what a request is to replace
+abbrev pub untargeted : Request → Request
+untargeted r = record r { target = None }
+
+pub has_key_untargeted : (F : List Request) (r : Request) → has_key (map untargeted F) r ≡ has_key F r
+has_key_untargeted [] r = refl
+has_key_untargeted (q ∷ F) r = ap (λ b. same_key q r || b) (has_key_untargeted F r)
+
+module _ (rows : List Row) (F : List Request) (at : ℕ) (row : Row) (low : at < length rows) (is : row ≡ get_or rows at row)
+    (said : map (request_in None) (take at rows) ≡ map untargeted F) where
+  -- whether a row is repeated, among rows that say these requests
+  pub repeated_is : is_repeated_at rows at ≡ has_key F (request_in None row)
+  repeated_is =
+      let place : get_or rows at [] ≡ row = get_at rows at [] row low ∙ sym is in
+      ap₂ (λ (G : List Request) (r : Row). has_key G (request_in None r)) said place ∙ has_key_untargeted F (request_in None row)
+
+  -- it is where it is the first that is
+  pub first_is : (first : ℕ) → at ≤ first → ((i : ℕ) → i < first → is_repeated_at rows i ≡ false) → (first < length rows → is_repeated_at rows first ≡ true)
+      → nat_eq at first ≡ has_key F (request_in None row)
+  first_is first before none some = ⊎_elim
+      (λ (same : nat_eq at first ≡ true).
+      let e : at ≡ first = grind (arith, nat_tests, same) in
+      same ∙ sym (some (omega (arith, low, e))) ∙ ap (is_repeated_at rows) (sym e) ∙ repeated_is)
+      (λ (other : nat_eq at first ≡ false).
+      let less : at < first = grind (arith, nat_tests, other, before) in
+      other ∙ sym (none at less) ∙ repeated_is)
+      (cases_Bool (nat_eq at first))

@@ -5,12 +5,11 @@ use Rattle.std.proofs.lemmas.Bool.{cases_Bool}
 use Rattle.std.proofs.lemmas.List.{take-append-drop, length-drop, length-take-le, get_or-take, get_or-drop}
 use Rattle.std.proofs.lemmas.List.Elements.{filter-append}
 use Rattle.sqlite.specs.Order.{Row, column}
-use Rattle.xbrl_report.specs.Findings.{findings as found_in}
 use Rattle.xbrl_report.specs.Pair.{Pair}
-use Rattle.filing_model.specs.Register.{Outcome, outcome_by}
+use Rattle.filing_model.specs.Request.{Request}
+use Rattle.filing_model.specs.Register.{Kept, outcome_by, verdict, judged, kept, register}
 use Rattle.register_store.specs.declared.spans.Span.{Span}
-use Rattle.register_store.specs.Audit.{Others, IsKeptAs, facts_under, is_number, kept_in, with_number}
-use Rattle.register_store.specs.Columns.{request_in}
+use Rattle.register_store.specs.Audit.{Others, IsKeptAs, facts_under, is_number, with_number}
 use Rattle.register_store.specs.Spans.{Covers, AreSpans, AgreeAt}
 
 -- ---- rows of which those that pass a test lie in one part
@@ -57,16 +56,31 @@ same_facts : (found : List Pair) (number : ℕ) (part whole : List Row) → with
 same_facts [] number part whole same = same
 same_facts (f ∷ found) number part whole same = refl
 
-module _ (seq number : ℕ) (row : Row) (part whole : Others) (same : AgreeAt seq number part whole) where
-  abbrev outcome : Outcome
-  outcome = (kept_in row number).outcome
+module _ (seq number : ℕ) (row : Row) (part whole : Others) (same : AgreeAt seq number part whole) (F : List Request)
+    (number_is : number ≡ suc (length (register F))) (r : Request) where
+  abbrev k : Kept
+  k = judged (kept F) r
 
-  facts_agree : facts_under outcome part.fact ≡ facts_under outcome whole.fact
-  facts_agree = same_facts (found_in (request_in row).filer (request_in row).body) number part.fact whole.fact same.fact
+  facts_agree : facts_under k.outcome part.fact ≡ facts_under k.outcome whole.fact
+  facts_agree =
+      same_facts (verdict (register F) r) (suc (length (register F))) part.fact whole.fact
+      (subst (λ n. with_number 0 n part.fact ≡ with_number 0 n whole.fact) number_is same.fact)
 
   -- rows among which are all that have its place or its number tell of it as the tables whole do
-  pub kept_whole : IsKeptAs seq (kept_in row number) row part → IsKeptAs seq (kept_in row number) row whole
-  kept_whole k = record { row_is = k.row_is; finding_is = sym same.finding ∙ k.finding_is; filing_is = sym same.filing ∙ k.filing_is; fact_is = sym facts_agree ∙ k.fact_is }
+  pub kept_whole : IsKeptAs seq (judged (kept F) r) row part → IsKeptAs seq (judged (kept F) r) row whole
+  kept_whole k = record {
+    row_is = k.row_is;
+    finding_is = sym same.finding ∙ k.finding_is;
+    filing_is = sym same.filing ∙ k.filing_is;
+    fact_is = sym facts_agree ∙ k.fact_is;
+    amends_is = sym same.amends ∙ k.amends_is;
+  }
 
-  pub kept_in_part : IsKeptAs seq (kept_in row number) row whole → IsKeptAs seq (kept_in row number) row part
-  kept_in_part k = record { row_is = k.row_is; finding_is = same.finding ∙ k.finding_is; filing_is = same.filing ∙ k.filing_is; fact_is = facts_agree ∙ k.fact_is }
+  pub kept_in_part : IsKeptAs seq (judged (kept F) r) row whole → IsKeptAs seq (judged (kept F) r) row part
+  kept_in_part k = record {
+    row_is = k.row_is;
+    finding_is = same.finding ∙ k.finding_is;
+    filing_is = same.filing ∙ k.filing_is;
+    fact_is = facts_agree ∙ k.fact_is;
+    amends_is = same.amends ∙ k.amends_is;
+  }

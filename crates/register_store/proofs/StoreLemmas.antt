@@ -5,10 +5,10 @@ use Rattle.sqlite.specs.Tree.{Trees}
 use Rattle.sqlite.specs.Effect.{Database}
 use Rattle.sqlite.specs.State.{State, Survives}
 use Rattle.sqlite.proofs.StateLemmas.{survives_weaker}
-use Rattle.xbrl_report.specs.Judgement.{IsJudgement}
+use Rattle.xbrl_report.specs.Judgement.{IsAmendmentJudgement}
 use Rattle.xbrl_report.specs.declared.judging.Judged.{Judged}
 use Rattle.filing_model.specs.Request.{Request, has_key}
-use Rattle.filing_model.specs.Register.{Outcome, Kept, judged, kept, register}
+use Rattle.filing_model.specs.Register.{Outcome, Kept, is_free, judged, kept, register}
 use Rattle.table_rows.specs.Standing.{Stands}
 use Rattle.register_store.specs.Outcomes.{outcome_of, filings_by}
 use Rattle.register_store.specs.Register.{IsCompleted}
@@ -21,11 +21,15 @@ pub leaves : (early : ℕ) (F : List Request) (s : State) → Stands (IsRegister
 leaves early F s h alive trees last = record { db = s.now; is = last ∙ ap (λ (d : Database). d.trees) (h.committed alive); register = h.now alive }
 
 -- a request that is kept as it was judged, after those that the store has
-module _ {S : Type 0} (g : Ghosts S) (store : StoreParts S) (r : Request) (j : Judged) (completed : IsCompleted r) (is : IsJudgement r.filer r.body j) where
+module _ {S : Type 0} (g : Ghosts S) (store : StoreParts S) (r : Request) (j : Judged) (completed : IsCompleted r) where
   abbrev it : Kept
   it = record { request = r; outcome = outcome_of (store.filings + 1) j }
 
-  module _ (F : List Request) (was : HasRequests g store F) (new_key : has_key F r ≡ false) where
+  -- it was judged so after these
+  abbrev pub IsJudged : List Request → Type 0
+  IsJudged F = IsAmendmentJudgement r.filer r.body (is_free (register F) r.filer r.target) j
+
+  module _ (F : List Request) (was : HasRequests g store F) (new_key : has_key F r ≡ false) (is : IsJudged F) where
     pub outcome_is : outcome_of (store.filings + 1) j ≡ (judged (kept F) r).outcome
     outcome_is = ap (λ n. outcome_of n j) next ∙ sym (judged_as (kept F) r j is)
       where
@@ -52,5 +56,5 @@ module _ {S : Type 0} (g : Ghosts S) (store : StoreParts S) (r : Request) (j : J
 
   -- what a crash may leave of the call
   pub crash_more : (new : State) → Survives (shows g store) new (AddsTo (store.kept + 1) it (shows g store).now)
-      → Survives (shows g store) new (λ trees. (F : List Request) → HasRequests g store F → IsTrue (shows g store).is_open → has_key F r ≡ false → Leaves store.early (F ++ r ∷ []) trees)
-  crash_more new = survives_weaker (shows g store) new _ _ (λ _ trees a F was alive new_key. record { db = a.db; is = a.is; register = register_more F was new_key a.db alive a.adds })
+      → Survives (shows g store) new (λ trees. (F : List Request) → HasRequests g store F → IsTrue (shows g store).is_open → has_key F r ≡ false → IsJudged F → Leaves store.early (F ++ r ∷ []) trees)
+  crash_more new = survives_weaker (shows g store) new _ _ (λ _ trees a F was alive new_key is. record { db = a.db; is = a.is; register = register_more F was new_key is a.db alive a.adds })

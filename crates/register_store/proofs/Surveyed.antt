@@ -147,9 +147,9 @@ module _ {S : Type 0} (g : Ghosts S) (a : Held S) where
     pub to_end : IsUnchanged (state g a) (state g e)
     to_end = unchanged_then (state g a) (state g s.counted.mid) (state g e) to_second s.counted.totals_are.same
 
-    amounts : HasCommon (state g a).now.schema → Amounts (record { kept = counts.kept; filings = counts.filings }) (state g a).now
+    amounts : HasCommon (state g a).now.schema → Amounts (record { kept = counts.kept; filings = counts.filings }) [] (state g a).now
     amounts d =
-        subst (Amounts (record { kept = counts.kept; filings = counts.filings })) to_second.0.now_is
+        subst (Amounts (record { kept = counts.kept; filings = counts.filings }) []) to_second.0.now_is
         (s.counted.totals_are.amounts (subst (λ (db : Database). HasCommon db.schema) (sym to_second.0.now_is) d))
 
     meta_gets : HasCommon (state g a).now.schema → Gets meta_table by_first (form_row (form_number form) ∷ []) (state g a).now
@@ -184,7 +184,7 @@ module _ {S : Type 0} (g : Ghosts S) (a : Held S) where
     pub survey_only : (early : ℕ) (F : List Request) → IsEarlierOf form early F (state g a).now → (counts.early ≡ early) × (counts.kept ≡ length F) × (counts.filings ≡ length (register F))
     survey_only early F is =
         let it = amounts (common_in form (state g a).now.schema is.rows.declared) in
-        let same = only_these it.requests (state g a).now it.are F is.rows.are.distinct is.rows.are.kept_is in
+        let same = only_these it.requests [] (state g a).now it.are F is.rows.are.distinct is.rows.are.kept_is is.rows.are.amends_is in
         let many : counts.kept ≡ length F = it.kept_is ∙ ap length same in
         (early_only form counts.early early counts.kept F s.mid s.counted.mid is to_first many s.counted.early_is, many, it.filings_is ∙ ap (λ H. length (register H)) same)
 

@@ -27,6 +27,9 @@ insert_filing = codes "INSERT INTO filing VALUES (?1, ?2)"
 abbrev pub insert_fact : List ℕ
 insert_fact = codes "INSERT INTO fact VALUES (?1, ?2, ?3, ?4, ?5, ?6, ?7)"
 
+abbrev pub insert_amends : List ℕ
+insert_amends = codes "INSERT INTO amends VALUES (?1, ?2)"
+
 module _ (tables : List Table) (indexes : List Index) (views : List View) where
   abbrev schema : Schema
   schema = schema_with register_tables tables indexes views
@@ -58,3 +61,7 @@ module _ (tables : List Table) (indexes : List Index) (views : List View) where
   pub inserts_none_early : (command_of (understood schema insert_none_early) ≡ Insert 5 (Values (lit (Int (pos 1)) ∷ lit Null ∷ lit (Int (pos 0)) ∷ []) 3)) × IsPlain (understood schema insert_none_early)
   unfolding understood everything
   inserts_none_early = (refl, (refl, refl))
+
+  pub inserts_amends : (command_of (understood schema insert_amends) ≡ Insert 6 (Values (col 0 0 ∷ lit Null ∷ col 0 1 ∷ []) 3)) × IsPlain (understood schema insert_amends)
+  unfolding understood everything
+  inserts_amends = (refl, (refl, refl))

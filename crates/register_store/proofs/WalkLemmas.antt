@@ -15,22 +15,26 @@ use Rattle.xbrl_report.specs.FactRecord.{FactRecord}
 use Rattle.xbrl_report.specs.Pair.{Pair}
 use Rattle.xbrl_report.specs.ReportParts.{facts}
 use Rattle.filing_model.specs.Request.{Request, firsts, has_key, same_key}
-use Rattle.filing_model.specs.Register.{Outcome, Kept, Filing, filings, kept_after, verdict, judged, kept, register}
+use Rattle.filing_model.specs.Register.{Outcome, Kept, Filing, filings, kept_after, judged, kept, register}
 use Rattle.filing_model.specs.Register.Outcome.{Registered, Refused}
 use Rattle.filing_model.proofs.Firsts.{firsts_new}
 use Rattle.filing_model.proofs.Keeping.{kept_new, requests_of_kept, register_numbered, all_push}
 use Rattle.table_rows.specs.Rows.{Holds, counted_from}
 use Rattle.table_rows.proofs.OrderLemmas.{same_number, and_true}
+use Rattle.xbrl_report.specs.declared.judging.Judged.{Judged}
+use Rattle.register_store.specs.declared.filed.Filed.{Filed}
 use Rattle.register_store.specs.declared.walk.Left.{Left}
 use Rattle.register_store.specs.declared.walk.Sizes.{Sizes}
 use Rattle.sqlite.specs.declared.error.Error.{Error}
+use Rattle.register_store.specs.Audit.{request_outcome}
 use Rattle.register_store.specs.Columns.{request_in}
+use Rattle.register_store.specs.Filed.{AreFiled}
 use Rattle.register_store.specs.Found.{has_texts}
-use Rattle.register_store.specs.Outcomes.{filings_by}
+use Rattle.register_store.specs.Outcomes.{filings_by, outcome_of}
 use Rattle.register_store.specs.Reads.{has_number}
-use Rattle.register_store.specs.Register.{IsCompleted, kept_row, finding_row, finding_rows, findings_of, filing_rows, filing_rows_by, fact_row, fact_rows, fact_rows_by, joined_from}
-use Rattle.register_store.specs.Schema.{kept_table, finding_table, filing_table, fact_table}
-use Rattle.register_store.specs.Walk.{rows_in, Beyond, Picks, CountsTo, Finds, Passes, HasLeft, Walked, judged_as}
+use Rattle.register_store.specs.Register.{IsCompleted, kept_row, finding_row, finding_rows, findings_of, filing_rows, filing_rows_by, fact_row, fact_rows, fact_rows_by, amends_rows, amends_rows_by, joined_from}
+use Rattle.register_store.specs.Schema.{HasCommon, kept_table, finding_table, filing_table, fact_table}
+use Rattle.register_store.specs.Walk.{rows_in, Beyond, Picks, CountsTo, Finds, Passes, HasLeft, Walked}
 use Rattle.register_store.proofs.AuditSteps.{joined_append, counted_append, one_filing}
 use Rattle.register_store.proofs.FindLemmas.{has_its}
 use Rattle.register_store.proofs.MoreRequests.{kept_length, registered_more}
@@ -150,8 +154,8 @@ same_as_itself r = rw ((bytes_eq-Decides r.filer r.filer).1 refl, (bytes_eq-Deci
 none_has : (r : Request) (at : ℕ) (ks : List Kept) → length (filter (has_texts r.filer r.key) (counted_from kept_row at ks)) ≡ 0 → has_key (map (λ (k : Kept). k.request) ks) r ≡ false
 none_has r at [] none = refl
 none_has r at (k ∷ ks) none = ⊎_elim
-    (λ (is : same_key k.request r ≡ true). absurd (let some : suc (length (filter (has_texts r.filer r.key) (counted_from kept_row (at + 1) ks))) ≡ 0 = rw (has_its r.filer r.key r.body at k ∙ is) at none in omega (arith, some)))
-    (λ (is : same_key k.request r ≡ false). rw is (none_has r (at + 1) ks (rw (has_its r.filer r.key r.body at k ∙ is) at none)))
+    (λ (is : same_key k.request r ≡ true). absurd (let some : suc (length (filter (has_texts r.filer r.key) (counted_from kept_row (at + 1) ks))) ≡ 0 = rw (has_its r.filer r.key r.target r.body at k ∙ is) at none in omega (arith, some)))
+    (λ (is : same_key k.request r ≡ false). rw is (none_has r (at + 1) ks (rw (has_its r.filer r.key r.target r.body at k ∙ is) at none)))
     (cases_Bool (same_key k.request r))
 
 -- where the request's row is the only one with its filer and key, none before it has them
@@ -161,7 +165,7 @@ is_new r seq k ks all more is are one =
     let p = has_texts r.filer r.key in
     let J = counted_from kept_row 1 ks in
     let row = kept_row seq k in
-    let here : p row ≡ true = has_its r.filer r.key r.body seq k ∙ ap (λ q. same_key q r) is ∙ same_as_itself r in
+    let here : p row ≡ true = has_its r.filer r.key r.target r.body seq k ∙ ap (λ q. same_key q r) is ∙ same_as_itself r in
     let single : filter p (row ∷ []) ≡ row ∷ [] = rw here refl in
     let parts : filter p ((J ++ row ∷ []) ++ more) ≡ (filter p J ++ row ∷ []) ++ filter p more = filter-append p (J ++ row ∷ []) more ∙ ap (λ l. l ++ filter p more) (filter-append p J (row ∷ []) ∙ ap (λ l. filter p J ++ l) single) in
     let long : length (filter p all) ≡ length (filter p ((J ++ row ∷ []) ++ more)) = length_permutation (filter p ((J ++ row ∷ []) ++ more)) (filter p all) (IsPermutation-filter p ((J ++ row ∷ []) ++ more) all are) in
@@ -172,22 +176,10 @@ is_new r seq k ks all more is are one =
 
 -- ---- one kept request more
 
-judged_is : (F : List Request) (r : Request) → judged_as r (suc (length (register F))) ≡ judged (kept F) r
-unfolding verdict
-judged_is F r = refl
-
-module _ (total count : ℕ) (left tail : Left) (db : Database) (was : Walked total count left db) (now : Passes (count + 1) left tail db) where
-  abbrev F : List Request
-  F = was.requests
-
-  abbrev r : Request
-  r = now.request
-
+module _ (amends_are : List Row) (total count : ℕ) (left tail : Left) (db : Database) (F : List Request) (r : Request)
+    (was : Walked amends_are total count left db F) (now : Passes F (count + 1) left tail db r) where
   abbrev k : Kept
-  k = judged_as r left.number
-
-  k_is : k ≡ judged (kept F) r
-  k_is = ap (judged_as r) was.number_is ∙ judged_is F r
+  k = judged (kept F) r
 
   many_kept : length (kept F) ≡ count
   many_kept = kept_length F was.distinct ∙ was.many
@@ -200,7 +192,7 @@ module _ (total count : ℕ) (left tail : Left) (db : Database) (was : Walked to
   new = ap (λ G. has_key G r) (sym (requests_of_kept F ∙ was.distinct)) ∙ is_new r (count + 1) k (kept F) (rows_in db kept_table) out.0 refl out.1 now.alone
 
   kept_are : kept (F ++ r ∷ []) ≡ kept F ++ k ∷ []
-  kept_are = kept_new F r new ∙ ap (λ x. kept F ++ x ∷ []) (sym k_is)
+  kept_are = kept_new F r new
 
   place : 1 + length (kept F) ≡ count + 1
   place = let m = many_kept in omega (arith, m)
@@ -216,16 +208,16 @@ module _ (total count : ℕ) (left tail : Left) (db : Database) (was : Walked to
   lower : AllByRecursion (λ (x : Kept). Below left.number x.outcome) (kept F)
   lower = subst (λ n. AllByRecursion (λ (x : Kept). Below n x.outcome) (kept F)) (sym was.number_is) (all_below F)
 
-  filed : length (register (F ++ r ∷ [])) ≡ length (register F) + filings_by k.outcome
-  filed = registered_more F r new ∙ ap (λ (x : Kept). length (register F) + filings_by x.outcome) (sym k_is)
+  filings_more : length (register (F ++ r ∷ [])) ≡ length (register F) + filings_by k.outcome
+  filings_more = registered_more F r new
 
-  pub walked_on : Walked total (count + 1) tail db
+  pub walked_on : Walked amends_are total (count + 1) tail db (F ++ r ∷ [])
   walked_on =
       let m = many_kept in
       let long = out.2 in
       let were = was.kept_is.many in
       let all = was.in_all in
-      let more = filed in
+      let more = filings_more in
       let one = one_filing k.outcome in
       let had = was.number_is in
       let few = was.fewer in
@@ -233,7 +225,6 @@ module _ (total count : ℕ) (left tail : Left) (db : Database) (was : Walked to
       let size = length-append F (r ∷ []) in
       let counted = was.many in
       record {
-        requests = F ++ r ∷ [];
         many = omega (arith, size, counted);
         number_is = omega (arith, more, had, next);
         fewer = omega (arith, more, one, few);
@@ -249,13 +240,19 @@ module _ (total count : ℕ) (left tail : Left) (db : Database) (was : Walked to
         finding_is = left_of finding_table (has_number (count + 1)) finding_rows left.findings tail.findings was.finding_is (no_finding (count + 1) 1 (kept F) (omega (arith, m))) now.beyond.finding_is now.beyond.findings_left;
         filing_is = left_of filing_table (has_number left.number) filing_rows left.filings tail.filings was.filing_is (no_filing left.number 1 (kept F) lower) now.beyond.filing_is now.beyond.filings_left;
         fact_is = left_of fact_table (has_number left.number) fact_rows left.facts tail.facts was.fact_is (no_fact left.number 1 (kept F) lower) now.beyond.fact_is now.beyond.facts_left;
+        amends_is = was.amends_is ∙ ap (λ l. joined_from amends_rows 1 (kept F) ++ l) now.amends_is
+            ∙ sym (append_assoc (joined_from amends_rows 1 (kept F)) (amends_rows (count + 1) k) tail.amends.now) ∙ ap (λ l. l ++ tail.amends.now) (sym (joined_is amends_rows));
       }
 
+  -- the filings are those of the requests with this one
+  pub filed_on : (filed : Filed) → AreFiled (filings (kept F ++ judged (kept F) r ∷ [])) filed → AreFiled (register (F ++ r ∷ [])) filed
+  filed_on filed are = subst (λ ks. AreFiled (filings ks) filed) (sym kept_are) are
+
 -- before the first
-pub none_walked : (total : ℕ) (left : Left) (db : Database) → left.number ≡ 1 → CountsTo kept_table total db → CountsTo finding_table left.findings db → CountsTo filing_table left.filings db → CountsTo fact_table left.facts db → Walked total 0 left db
+pub none_walked : (amends_are : List Row) (total : ℕ) (left : Left) (db : Database) → left.number ≡ 1 → left.amends.now ≡ amends_are → CountsTo kept_table total db
+    → CountsTo finding_table left.findings db → CountsTo filing_table left.filings db → CountsTo fact_table left.facts db → Walked amends_are total 0 left db []
 unfolding firsts kept_after filings
-none_walked total left db first kept_are findings_are filings_are facts_are = record {
-  requests = [];
+none_walked amends_are total left db first same kept_are findings_are filings_are facts_are = record {
   many = refl;
   number_is = first;
   fewer = omega arith;
@@ -267,12 +264,17 @@ none_walked total left db first kept_are findings_are filings_are facts_are = re
   finding_is = none_taken finding_table db left.findings findings_are;
   filing_is = none_taken filing_table db left.filings filings_are;
   fact_is = none_taken fact_table db left.facts facts_are;
+  amends_is = sym same;
 }
+
+pub none_filed : (filed : Filed) → AreFiled [] filed → AreFiled (register []) filed
+unfolding firsts kept_after filings
+none_filed filed are = are
 
 -- ---- what is passed by
 
 pub beyond_refused : (seq : ℕ) (left : Left) (found : Option Left) (fs : List Pair) (db : Database) → Picks finding_table (has_number seq) (counted_from (finding_row seq) 1 fs) db
-    → IfSome found (λ tail. (left.findings ≡ tail.findings + length fs) × (tail.filings ≡ left.filings) × (tail.facts ≡ left.facts) × (tail.number ≡ left.number))
+    → IfSome found (λ tail. (left.findings ≡ tail.findings + length fs) × (tail.filings ≡ left.filings) × (tail.facts ≡ left.facts) × (tail.number ≡ left.number) × (tail.amends.now ≡ left.amends.now))
     → IfSome found (λ tail. (k : Kept) → k.outcome ≡ Refused fs → Beyond seq k left tail db)
 beyond_refused seq left None fs db picked says = tt
 beyond_refused seq left (Some tail) fs db picked says = λ k is.
@@ -296,7 +298,8 @@ beyond_refused seq left (Some tail) fs db picked says = λ k is.
 
 pub beyond_registered : (seq : ℕ) (left : Left) (found : Option Left) (all : List FactRecord) (db : Database) → Picks filing_table (has_number left.number) ((Int (pos left.number) ∷ Int (pos seq) ∷ []) ∷ []) db
     → Picks fact_table (has_number left.number) (counted_from (fact_row left.number) 1 all) db
-    → IfSome found (λ tail. (tail.findings ≡ left.findings) × (left.filings ≡ tail.filings + 1) × (left.facts ≡ tail.facts + length all) × (tail.number ≡ left.number + 1))
+    → IfSome found (λ tail. (tail.findings ≡ left.findings) × (left.filings ≡ tail.filings + 1) × (left.facts ≡ tail.facts + length all) × (tail.number ≡ left.number + 1)
+    × (tail.amends.now ≡ left.amends.now))
     → IfSome found (λ tail. (k : Kept) → k.outcome ≡ Registered left.number → all ≡ facts k.request.body → Beyond seq k left tail db)
 beyond_registered seq left None all db here picked says = tt
 beyond_registered seq left (Some tail) all db here picked says = λ k is same.
@@ -333,26 +336,86 @@ one_row [] row one is = absurd (omega (arith, one))
 one_row (x ∷ []) row one is = ap (λ r. r ∷ []) (sym is)
 one_row (x ∷ y ∷ rows) row one is = absurd (omega (arith, one))
 
-pub passes_all : (seq : ℕ) (left : Left) (row : Row) (db : Database) → Picks kept_table (has_number seq) (row ∷ []) db → length (filter (has_texts (request_in row).filer (request_in row).key) (rows_in db kept_table)) ≡ 1
-    → (result : Result (Option Left) Error) → IfOk result (λ passed. IfSome passed (λ tail. IsCompleted (request_in row) × (row ≡ kept_row seq (judged_as (request_in row) left.number))))
-    → IfOk result (λ passed. IfSome passed (λ tail. Beyond seq (judged_as (request_in row) left.number) left tail db)) → IfOk result (λ passed. IfSome passed (λ tail. Passes seq left tail db))
-passes_all seq left row db picked alone (Ok None) rows beyond = tt
-passes_all seq left row db picked alone (Ok (Some tail)) rows beyond = record {
-  request = request_in row;
-  completed = rows.0;
-  kept_is = subst (λ x. Picks kept_table (has_number seq) (x ∷ []) db) rows.1 picked;
-  alone = alone;
-  beyond = beyond;
+-- ---- a kept row, judged after these requests
+
+-- a request that was judged so is the next of them
+pub judged_so : (F : List Request) (r : Request) (j : Judged) (number : ℕ) → number ≡ suc (length (register F))
+    → (judged (kept F) r).outcome ≡ outcome_of (suc (length (register F))) j → request_outcome r (outcome_of number j) ≡ judged (kept F) r
+judged_so F r j number is told = ap (request_outcome r) (ap (λ n. outcome_of n j) is ∙ sym told)
+
+-- as many rows are left, but for those of `amends`, and the next filing has the same number
+abbrev LeavesAsMany : Left → Left → Type 0
+LeavesAsMany left other = (left.findings ≡ other.findings) × (left.filings ≡ other.filings) × (left.facts ≡ other.facts) × (other.number ≡ left.number)
+
+beyond_both : (seq : ℕ) (k : Kept) (left other tail : Left) (db : Database) → LeavesAsMany left other → Beyond seq k other tail db → Beyond seq k left tail db
+beyond_both seq k left other tail db same past = record {
+  finding_is = past.finding_is;
+  filing_is = subst (λ n. Finds filing_table (has_number n) (filing_rows seq k) db) same.3 past.filing_is;
+  fact_is = subst (λ n. Finds fact_table (has_number n) (fact_rows seq k) db) same.3 past.fact_is;
+  findings_left = same.0 ∙ past.findings_left;
+  filings_left = same.1 ∙ past.filings_left;
+  facts_left = same.2 ∙ past.facts_left;
+  number_is = past.number_is ∙ ap (λ n. n + filings_by k.outcome) same.3;
 }
-passes_all seq left row db picked alone (Err e) rows beyond = tt
+
+module _ (F : List Request) (seq : ℕ) (left : Left) (row : Row) (held : Filed) where
+  abbrev next : Option ℕ → Kept
+  next target = judged (kept F) (request_in target row)
+
+  -- the row is the next one's, and the filings that are held are those with it
+  abbrev IsNext : Option ℕ → Type 0
+  IsNext target = (row ≡ kept_row seq (next target)) × AreFiled (filings (kept F ++ next target ∷ [])) held
+
+  -- so it is, behind its row of `amends`, and beyond the other rows where the disk is clean
+  abbrev IsPassed : Type 0 → Database → Left → Type 0
+  IsPassed Clean db tail = (target : Option ℕ) × IsCompleted (request_in target row) × (row ≡ kept_row seq (next target))
+      × (left.amends.now ≡ amends_rows_by seq target ++ tail.amends.now) × AreFiled (filings (kept F ++ next target ∷ [])) held
+      × (Clean → HasCommon db.schema → Beyond seq (next target) left tail db)
+
+  pub judged_passes : (Clean : Type 0) (db : Database) (target : Option ℕ) (other : Left) → LeavesAsMany left other → IsCompleted (request_in target row)
+      → left.amends.now ≡ amends_rows_by seq target ++ other.amends.now → (result : Result (Option Left) Error) → IfOk result (λ passed. IfSome passed (λ tail. IsNext target))
+      → (Clean → HasCommon db.schema → IfOk result (λ passed. IfSome passed (λ tail. Beyond seq (next target) other tail db)))
+      → IfOk result (λ passed. IfSome passed (λ tail. (tail.number ≤ other.number + 1) × (tail.amends.now ≡ other.amends.now)))
+      → IfOk result (λ passed. IfSome passed (IsPassed Clean db))
+  judged_passes Clean db target other same completed begins (Ok None) is past rest = tt
+  judged_passes Clean db target other same completed begins (Ok (Some tail)) is past rest = (
+    target,
+    completed,
+    is.0,
+    begins ∙ ap (λ l. amends_rows_by seq target ++ l) (sym rest.1),
+    is.1,
+    λ clean d. beyond_both seq (next target) left other tail db same (past clean d),
+  )
+  judged_passes Clean db target other same completed begins (Err e) is past rest = tt
+
+  pub passes_all : (Clean : Type 0) (seen db : Database) → Clean → HasCommon seen.schema → seen ≡ db → Picks kept_table (has_number seq) (row ∷ []) db
+      → length (filter (has_texts (request_in None row).filer (request_in None row).key) (rows_in db kept_table)) ≡ 1
+      → (result : Result (Option Left) Error) → IfOk result (λ passed. IfSome passed (IsPassed Clean seen))
+      → IfOk result (λ passed. IfSome passed (λ tail. (r : Request) × Passes F seq left tail db r × AreFiled (filings (kept F ++ judged (kept F) r ∷ [])) held))
+  passes_all Clean seen db clean there same picked alone (Ok None) is = tt
+  passes_all Clean seen db clean there same picked alone (Ok (Some tail)) is = (
+    request_in is.0 row,
+    record {
+      completed = is.1;
+      kept_is = subst (λ x. Picks kept_table (has_number seq) (x ∷ []) db) is.2 picked;
+      alone = alone;
+      beyond = subst (Beyond seq (next is.0) left tail) same (is.5 clean there);
+      amends_is = is.3;
+    },
+    is.4,
+  )
+  passes_all Clean seen db clean there same picked alone (Err e) is = tt
 
 -- ---- the counts that the walk begins with
 
-pub start_of : (kept_count findings filings_count facts_count : Option ℕ) (db : Database) → IfSome kept_count (λ n. CountsTo kept_table n db) → IfSome findings (λ n. CountsTo finding_table n db)
+pub start_of : (amends_are : List Row) (kept_count findings filings_count facts_count : Option ℕ) (db : Database)
+    → IfSome kept_count (λ n. CountsTo kept_table n db) → IfSome findings (λ n. CountsTo finding_table n db)
     → IfSome filings_count (λ n. CountsTo filing_table n db) → IfSome facts_count (λ n. CountsTo fact_table n db) → (sizes : Option Sizes)
-    → IfSome sizes (λ s. (kept_count ≡ Some s.kept) × (findings ≡ Some s.others.findings) × (filings_count ≡ Some s.others.filings) × (facts_count ≡ Some s.others.facts) × (s.others.number ≡ 1))
-    → IfSome sizes (λ s. Walked s.kept 0 s.others db)
-start_of k f g a db one two three four None says = tt
-start_of k f g a db one two three four (Some s) says =
-    none_walked s.kept s.others db says.4 (subst (λ o. IfSome o (λ n. CountsTo kept_table n db)) says.0 one) (subst (λ o. IfSome o (λ n. CountsTo finding_table n db)) says.1 two)
+    → IfSome sizes (λ s. (kept_count ≡ Some s.kept) × (findings ≡ Some s.others.findings) × (filings_count ≡ Some s.others.filings)
+    × (facts_count ≡ Some s.others.facts) × (s.others.number ≡ 1) × (s.others.amends.now ≡ amends_are))
+    → IfSome sizes (λ s. Walked amends_are s.kept 0 s.others db [])
+start_of amends_are k f g a db one two three four None says = tt
+start_of amends_are k f g a db one two three four (Some s) says =
+    none_walked amends_are s.kept s.others db says.4 says.5
+    (subst (λ o. IfSome o (λ n. CountsTo kept_table n db)) says.0 one) (subst (λ o. IfSome o (λ n. CountsTo finding_table n db)) says.1 two)
     (subst (λ o. IfSome o (λ n. CountsTo filing_table n db)) says.2 three) (subst (λ o. IfSome o (λ n. CountsTo fact_table n db)) says.3 four)

@@ -26,18 +26,16 @@ use Rattle.table_rows.proofs.TextLemmas.{IsQueryText, no_returning}
 use Rattle.register_store.specs.declared.opening.Counts.{Counts}
 use Rattle.register_store.specs.declared.audit.Verdict.TheVariants.{Sound}
 use Rattle.register_store.specs.Audit.{Others, AreRowsOf, IsVerdict}
-use Rattle.register_store.specs.Columns.{request_in}
-use Rattle.filing_model.proofs.Lists.{length-map}
 use Rattle.register_store.specs.Opening.{all_kept, row_texts, Later, SaysEarly, IsRead, AreRead, StopsFor}
 use Rattle.register_store.specs.Reads.{by_first, has_number}
-use Rattle.register_store.specs.Register.{meta_row, kept_row}
+use Rattle.register_store.specs.Register.{meta_row, kept_row, amends_rows, joined_from}
 use Rattle.register_store.specs.Schema.{IsDeclared, meta_table, kept_table, finding_table, filing_table, fact_table, migrated_table, amends_table}
 use Rattle.register_store.specs.Store.{IsRegisterOf}
 use Rattle.register_store.specs.Walk.{AreCounted, AreAllOf, IsStopped}
-use Rattle.register_store.proofs.AuditSteps.{requests_first}
-use Rattle.register_store.proofs.OpenLemmas.{Gets, Four, Two, is_read, says_early, same_early}
+use Rattle.register_store.proofs.OpenLemmas.{Gets, Four, Two, is_read, rows_many, are_amends, says_early, same_early}
 use Rattle.register_store.proofs.PickLemmas.{failed_after}
 use Rattle.register_store.proofs.ReadTexts.{query_kept}
+use Rattle.register_store.proofs.StepsOfTargets.{same_requests}
 
 -- ---- why the walk stopped
 
@@ -148,7 +146,7 @@ one_order at (k ∷ ks) (j ∷ js) same =
 -- ---- a database that was counted
 
 -- rows that were read whole
-pub all_of : (F : List Request) (db : Database) (kept_are : List Row) (others : Others) → Four kept_are others db → AreRowsOf kept_are others F → AreAllOf F db
+pub all_of : (F : List Request) (db : Database) (kept_are : List Row) (others : Others) → Four kept_are others db → AreRowsOf kept_are others F → AreAllOf F others.amends db
 all_of F db kept_are others four are = record {
   distinct = are.distinct;
   completed = are.completed;
@@ -156,24 +154,25 @@ all_of F db kept_are others four are = record {
   finding_is = subst (Holds db finding_table) are.finding_is four.finding_is.held;
   filing_is = subst (Holds db filing_table) are.filing_is four.filing_is.held;
   fact_is = subst (Holds db fact_table) are.fact_is four.fact_is.held;
+  amends_is = are.amends_is;
 }
 
-pub counted_whole : (counts : Counts) (later : Later) (db : Database) (kept_are : List Row) (others : Others) → Four kept_are others db → counts.kept ≡ length kept_are → SaysEarly counts.kept counts.early later
-    → IsVerdict kept_are others (Sound counts.filings) → AreCounted counts later db
-counted_whole counts later db kept_are others four many says is = record {
+pub counted_whole : (counts : Counts) (later : Later) (db : Database) (kept_are : List Row) (others : Others) → others.amends ≡ later.amends → Four kept_are others db → counts.kept ≡ length kept_are
+    → SaysEarly counts.kept counts.early later → IsVerdict kept_are others (Sound counts.filings) → AreCounted counts later db
+counted_whole counts later db kept_are others same four many says is = record {
   requests = is.0;
-  are = all_of is.0 db kept_are others four is.1;
-  kept_is = many ∙ sym (length-map request_in kept_are) ∙ ap length (requests_first kept_are is.0 is.1.distinct is.1.kept_is);
+  are = subst (λ l. AreAllOf is.0 l db) same (all_of is.0 db kept_are others four is.1);
+  kept_is = many ∙ rows_many kept_are is.0 is.1.distinct is.1.kept_is;
   filings_is = is.2;
   early_is = says;
 }
 
 -- it stands for no others
-pub only_these : (F : List Request) (db : Database) → AreAllOf F db → (G : List Request) → firsts G ≡ G → Holds db kept_table (counted_from kept_row 1 (kept G)) → F ≡ G
-only_these F db are G distinct held =
-    let K = counted_from kept_row 1 (kept G) in
+pub only_these : (F : List Request) (amends : List Row) (db : Database) → AreAllOf F amends db → (G : List Request) → firsts G ≡ G → Holds db kept_table (counted_from kept_row 1 (kept G))
+    → amends ≡ joined_from amends_rows 1 (kept G) → F ≡ G
+only_these F amends db are G distinct held targets =
     let same = one_order 1 (kept G) (kept F) (IsPermutation-trans _ _ _ held (IsPermutation-sym _ _ are.kept_is)) in
-    sym (requests_first K F are.distinct (sym same)) ∙ requests_first K G distinct refl
+    same_requests F G are.distinct distinct same (sym are.amends_is ∙ targets)
 
 module _ (db : Database) (counts : Counts) (later : Later) (counted : AreCounted counts later db) where
   pub counted_register : IsDatabase db → IsDeclared db.schema → Gets meta_table by_first (meta_row ∷ []) db → Two later db → IsRegisterOf counts.early counted.requests db
@@ -191,7 +190,7 @@ module _ (db : Database) (counts : Counts) (later : Later) (counted : AreCounted
         filing_is = counted.are.filing_is;
         fact_is = counted.are.fact_is;
         migrated_is = subst (Holds db migrated_table) counted.early_is.migrated_is two.migrated_is.held;
-        amends_is = subst (Holds db amends_table) counted.early_is.amends_is two.amends_is.held;
+        amends_is = subst (Holds db amends_table) counted.are.amends_is two.amends_is.held;
       };
     };
   }
@@ -199,5 +198,5 @@ module _ (db : Database) (counts : Counts) (later : Later) (counted : AreCounted
   pub counted_only : Two later db → (early : ℕ) (F : List Request) → IsRegisterOf early F db → (counts.early ≡ early) × (counted.requests ≡ F)
   counted_only two early F is = (
     same_early counts.early early counts.kept (length F) later counted.early_is (says_early early F db is later two),
-    only_these counted.requests db counted.are F is.rows.distinct is.rows.rows.kept_is,
+    only_these counted.requests later.amends db counted.are F is.rows.distinct is.rows.rows.kept_is (are_amends early F db is later two),
   )

@@ -1,52 +1,54 @@
 -- What an audit asks of the rows of a register.
-use Rattle.std.specs.Prelude.{◌≡◌, ◌⊎◌, ◌<◌, ℕ, suc, Bool, false, ◌||◌, pos, List, [], ◌∷◌, ◌++◌, length, map, filter, take, get_or}
+use Rattle.std.specs.Prelude.{◌≡◌, ◌⊎◌, ◌<◌, ℕ, suc, Bool, false, ◌||◌, pos, List, [], ◌∷◌, ◌++◌, length, map, filter, take, get_or, Option, None, MatchOption, ◌+◌}
 use Rattle.std.specs.List.{AllByRecursion}
 use Rattle.std.specs.Ordering.{int_eq}
 use Rattle.sqlite.specs.declared.types.Value.{Value}
 use Rattle.sqlite.specs.declared.types.Value.TheVariants.{Int}
 use Rattle.sqlite.specs.Order.{Row, column}
-use Rattle.xbrl_report.specs.Findings.{findings as found_in}
 use Rattle.filing_model.specs.Request.{Request, firsts, has_key}
-use Rattle.filing_model.specs.Register.{Outcome, Kept, outcome_by, kept, register}
+use Rattle.filing_model.specs.Register.{Outcome, Kept, judged, kept, register}
 use Rattle.table_rows.specs.Rows.{counted_from}
 use Rattle.register_store.specs.declared.audit.Rest.{Rest}
 use Rattle.register_store.specs.declared.audit.Verdict.{Verdict}
 use Rattle.register_store.specs.declared.damage.Beside.{Beside}
 use Rattle.register_store.specs.declared.audit.Verdict.TheVariants.{Sound, Damaged}
 use Rattle.register_store.specs.Columns.{request_in}
-use Rattle.register_store.specs.Register.{IsCompleted, kept_row, finding_rows, filing_rows, fact_rows, joined_from}
+use Rattle.register_store.specs.Outcomes.{filings_by}
+use Rattle.register_store.specs.Register.{IsCompleted, kept_row, finding_rows, filing_rows, fact_rows, amends_rows, amends_rows_by, joined_from}
 
 -- the rows of the tables beside `kept`
 pub record Others : Type 0 where
   pub finding : List Row
   pub filing : List Row
   pub fact : List Row
+  pub amends : List Row
 
 -- these begin with the rows of the kept request, and the rest follows
 pub record Begins (seq : ℕ) (k : Kept) (all rest : Others) : Type 0 where
   pub finding : all.finding ≡ finding_rows seq k ++ rest.finding
   pub filing : all.filing ≡ filing_rows seq k ++ rest.filing
   pub fact : all.fact ≡ fact_rows seq k ++ rest.fact
+  pub amends : all.amends ≡ amends_rows seq k ++ rest.amends
 
 -- as code holds them
 abbrev pub view_beside : Beside → Others
-view_beside b = record { finding = b.findings.now; filing = b.filings.now; fact = b.facts.now }
+view_beside b = record { finding = b.findings.now; filing = b.filings.now; fact = b.facts.now; amends = b.amends.now }
 
 -- what is left of them, as code holds it
 abbrev pub view_rest : Rest → Others
-view_rest r = record { finding = r.findings.now; filing = r.filings.now; fact = r.facts.now }
+view_rest r = record { finding = r.findings.now; filing = r.filings.now; fact = r.facts.now; amends = r.amends.now }
 
--- the request of the row with this outcome
-abbrev pub request_outcome : Row → Outcome → Kept
-request_outcome row outcome = record { request = request_in row; outcome = outcome }
+-- with a row of `amends` before them where the request at this place is to replace a filing
+abbrev pub with_target : ℕ → Option ℕ → Others → Others
+with_target seq target rest = record { finding = rest.finding; filing = rest.filing; fact = rest.fact; amends = amends_rows_by seq target ++ rest.amends }
 
--- the request of the row, judged, where the next filing has this number
-abbrev pub kept_in : Row → ℕ → Kept
-kept_in row number = request_outcome row (outcome_by (found_in (request_in row).filer (request_in row).body) number)
+-- the request with this outcome
+abbrev pub request_outcome : Request → Outcome → Kept
+request_outcome r outcome = record { request = r; outcome = outcome }
 
 -- one of the earlier rows has the filer and key of the row at this place, counted from 0
 abbrev pub is_repeated_at : List Row → ℕ → Bool
-is_repeated_at rows at = has_key (map request_in (take at rows)) (request_in (get_or rows at []))
+is_repeated_at rows at = has_key (map (request_in None) (take at rows)) (request_in None (get_or rows at []))
 
 -- the column is this number
 abbrev pub is_number : ℕ → Value → Bool
@@ -64,18 +66,25 @@ has_more_facts (Outcome.Refused findings) rows = false
 
 -- what is left, of rows in the order of the keys, begins with another row of the request at this place with this outcome
 abbrev pub has_more : ℕ → Outcome → Others → Bool
-has_more seq outcome rest = begins_with 0 seq rest.finding || (begins_with 1 seq rest.filing || has_more_facts outcome rest.fact)
+has_more seq outcome rest = begins_with 0 seq rest.finding || (begins_with 1 seq rest.filing || (has_more_facts outcome rest.fact || begins_with 0 seq rest.amends))
 
--- the row is the next after these, of rows in the order of the keys: its request is one that may be completed, its filer and key are new,
--- and its place, its outcome and its rows in the other tables are what judging it gives, and no others
-pub record IsNext (earlier : List Row) (seq number : ℕ) (row : Row) (all rest : Others) : Type 0 where
-  pub completed : IsCompleted (request_in row)
-  pub fresh : has_key (map request_in earlier) (request_in row) ≡ false
-  pub row_is : row ≡ kept_row seq (kept_in row number)
-  pub begins : Begins seq (kept_in row number) all rest
-  pub ends : has_more seq (kept_in row number).outcome rest ≡ false
+-- what is left behind the rows of a request with this outcome that is to replace this filing, if any, where its row of `amends` was read
+abbrev pub IsAfter : ℕ → Row → Option ℕ → Outcome → Rest → Option Rest → Type 0
+IsAfter seq row target o rest next = MatchOption next
+    ((tail : Others) → row ≡ kept_row seq (request_outcome (request_in target row) o) → Begins seq (request_outcome (request_in target row) o) (with_target seq target (view_rest rest)) tail → ⊥)
+    (λ tail. (row ≡ kept_row seq (request_outcome (request_in target row) o)) × Begins seq (request_outcome (request_in target row) o) (with_target seq target (view_rest rest)) (view_rest tail)
+    × (tail.number ≡ rest.number + filings_by o))
 
--- the rows of the four tables are those of these requests
+-- the row is the next after those of these requests, of rows in the order of the keys: its request is one that may be completed, its filer
+-- and key are new, and its place, its outcome and its rows in the other tables are what judging it gives, and no others
+pub record IsNext (before : List Request) (seq : ℕ) (row : Row) (target : Option ℕ) (all rest : Others) : Type 0 where
+  pub completed : IsCompleted (request_in target row)
+  pub fresh : has_key before (request_in target row) ≡ false
+  pub row_is : row ≡ kept_row seq (judged (kept before) (request_in target row))
+  pub begins : Begins seq (judged (kept before) (request_in target row)) all rest
+  pub ends : has_more seq (judged (kept before) (request_in target row)).outcome rest ≡ false
+
+-- the rows of the five tables are those of these requests
 pub record AreRowsOf (kept_are : List Row) (others : Others) (F : List Request) : Type 0 where
   pub distinct : firsts F ≡ F
   pub completed : AllByRecursion IsCompleted F
@@ -83,6 +92,7 @@ pub record AreRowsOf (kept_are : List Row) (others : Others) (F : List Request) 
   pub finding_is : others.finding ≡ joined_from finding_rows 1 (kept F)
   pub filing_is : others.filing ≡ joined_from filing_rows 1 (kept F)
   pub fact_is : others.fact ≡ joined_from fact_rows 1 (kept F)
+  pub amends_is : others.amends ≡ joined_from amends_rows 1 (kept F)
 
 -- ---- which kept row is told
 
@@ -101,29 +111,31 @@ pub record IsKeptAs (seq : ℕ) (k : Kept) (row : Row) (others : Others) : Type 
   pub finding_is : with_number 0 seq others.finding ≡ finding_rows seq k
   pub filing_is : with_number 1 seq others.filing ≡ filing_rows seq k
   pub fact_is : facts_under k.outcome others.fact ≡ fact_rows seq k
+  pub amends_is : with_number 0 seq others.amends ≡ amends_rows seq k
 
--- the number of the next filing after so many rows
-abbrev pub number_after : ℕ → List Row → ℕ
-number_after count kept_are = suc (length (register (map request_in (take count kept_are))))
+-- the kept row behind those of these requests is sound as this one's: it may be completed, no earlier one has its filer and key, and its
+-- place, its outcome and its rows in the other tables are what judging it after them gives
+pub record IsSound (kept_are : List Row) (others : Others) (before : List Request) (r : Request) : Type 0 where
+  pub completed : IsCompleted r
+  pub fresh : has_key before r ≡ false
+  pub kept_as : IsKeptAs (suc (length before)) (judged (kept before) r) (get_or kept_are (length before) []) others
 
--- the kept row at this place, counted from 0, is sound: its request is one that may be completed, no earlier row has its filer and key,
--- and its place, its outcome and its rows in the other tables are what judging it after the rows before gives
-pub record IsSoundAt (kept_are : List Row) (others : Others) (at : ℕ) : Type 0 where
-  pub completed : IsCompleted (request_in (get_or kept_are at []))
-  pub fresh : is_repeated_at kept_are at ≡ false
-  pub kept_as : IsKeptAs (suc at) (kept_in (get_or kept_are at []) (number_after at kept_are)) (get_or kept_are at []) others
+-- so is each of the rows of these, behind those before them
+abbrev pub AreSound : List Row → Others → List Request → List Request → Type 0
+AreSound kept_are others before [] = Unit {0}
+AreSound kept_are others before (r ∷ requests) = IsSound kept_are others before r × AreSound kept_are others (before ++ r ∷ []) requests
 
 -- the kept row at this place, counted from 1, is the first that is not sound
 pub record IsFirstUnsound (kept_are : List Row) (others : Others) (row : ℕ) : Type 0 where
-  pub before : ℕ
-  pub place : row ≡ suc before
-  pub within : before < length kept_are
-  pub sound : (at : ℕ) → at < before → IsSoundAt kept_are others at
-  pub unsound : IsSoundAt kept_are others before → ⊥
+  pub before : List Request
+  pub place : row ≡ suc (length before)
+  pub within : length before < length kept_are
+  pub sound : AreSound kept_are others [] before
+  pub unsound : (r : Request) → IsSound kept_are others before r → ⊥
 
 -- this row is told: the first that is not sound, or 0 where each one is
 abbrev pub IsTold : List Row → Others → ℕ → Type 0
-IsTold kept_are others row = IsFirstUnsound kept_are others row ⊎ ((row ≡ 0) × ((at : ℕ) → at < length kept_are → IsSoundAt kept_are others at))
+IsTold kept_are others row = IsFirstUnsound kept_are others row ⊎ ((row ≡ 0) × ((F : List Request) × (length F ≡ length kept_are) × AreSound kept_are others [] F))
 
 -- the rows stand for no requests
 abbrev pub StandForNone : List Row → Others → Type 0

@@ -8,11 +8,11 @@ use Rattle.sqlite.specs.State.{State}
 use Rattle.filing_model.specs.Register.{Kept}
 use Rattle.table_rows.specs.Rows.{GainsInside}
 use Rattle.register_store.specs.Schema.{IsDeclared, register_tables}
-use Rattle.register_store.specs.Register.{HasRows, kept_row, finding_rows, filing_rows, fact_rows}
+use Rattle.register_store.specs.Register.{HasRows, kept_row, finding_rows, filing_rows, fact_rows, amends_rows}
 
 -- inside a transaction, which goes on, there are the tables of a register with no request
 pub record MakesTables (old new : State) : Type 0 where
-  pub rows : HasRows new.now 0 [] [] [] []
+  pub rows : HasRows new.now 0 [] [] [] [] []
   pub sound : IsDatabase new.now
   pub committed : new.committed ≡ old.committed
 
@@ -22,8 +22,8 @@ GainsRows = GainsInside register_tables
 
 -- the tables gain the rows of the kept request at this place, whatever their rows were
 pub record AddsRows (seq : ℕ) (k : Kept) (old new : Database) : Type 0 where
-  pub rows : (early : ℕ) (ks fs gs hs : List Row) → HasRows old early ks fs gs hs
-      → HasRows new early (ks ++ kept_row seq k ∷ []) (fs ++ finding_rows seq k) (gs ++ filing_rows seq k) (hs ++ fact_rows seq k)
+  pub rows : (early : ℕ) (ks fs gs hs ts : List Row) → HasRows old early ks fs gs hs ts
+      → HasRows new early (ks ++ kept_row seq k ∷ []) (fs ++ finding_rows seq k) (gs ++ filing_rows seq k) (hs ++ fact_rows seq k) (ts ++ amends_rows seq k)
   pub sound : IsDeclared old.schema → IsDatabase old → IsDatabase new
 
 -- so they do inside a transaction, which goes on

@@ -1,11 +1,10 @@
 -- What the columns of a row say.
-use Rattle.std.specs.Prelude.{ℕ, ℤ, pos, List, [], Option, Some, None, option_map}
+use Rattle.std.specs.Prelude.{ℕ, ℤ, pos, List, [], Option, Some, None}
 use Rattle.sqlite.specs.declared.types.Value.{Value}
 use Rattle.sqlite.specs.declared.types.Value.TheVariants.{Int, Text, Blob}
 use Rattle.sqlite.specs.Order.{Row, column}
 use Rattle.xbrl_report.specs.FactRecord.{FactRecord}
 use Rattle.filing_model.specs.Request.{Request}
-use Rattle.filing_model.specs.Register.{Filing}
 
 -- the bytes of a text, none where the value is no text
 abbrev pub text_in : Value → List ℕ
@@ -22,12 +21,9 @@ abbrev pub number_in : Value → Option ℕ
 number_in (Int (pos n)) = Some n
 number_in _ = None
 
--- of the columns `seq`, `filer`, `idem`, `body`, `number`
-abbrev pub request_in : Row → Request
-request_in row = record { filer = text_in (column row 1); key = text_in (column row 2); body = bytes_in (column row 3) }
-
-abbrev pub filing_in : Row → Option Filing
-filing_in row = option_map (λ n. record { number = n; request = request_in row }) (number_in (column row 4))
+-- of the columns `seq`, `filer`, `idem`, `body`, `number`, where the request is to replace this filing, if any
+abbrev pub request_in : Option ℕ → Row → Request
+request_in target row = record { filer = text_in (column row 1); key = text_in (column row 2); target = target; body = bytes_in (column row 3) }
 
 -- the bytes of a blob, where the value is one
 abbrev pub maybe_bytes_in : Value → Option (List ℕ)

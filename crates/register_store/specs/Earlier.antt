@@ -48,11 +48,11 @@ abbrev pub HasEarly : Earlier → Database → ℕ → ℕ → Type 0
 HasEarly Second db early kept = early ≡ kept
 HasEarly Third db early kept = Holds db migrated_table (migrated_row early ∷ []) × (early ≤ kept)
 
--- the rows stand for these requests, in this form
+-- the rows stand for these requests, in this form; none is to replace a filing, as there is no `amends`
 pub record StandsForEarlier (form : Earlier) (db : Database) (early : ℕ) (F : List Request) : Type 0 where
   pub declared : BeginsWith (tables_of form) db.schema
   pub meta_is : Holds db meta_table (form_row (form_number form) ∷ [])
-  pub are : AreAllOf F db
+  pub are : AreAllOf F [] db
   pub early_is : HasEarly form db early (length F)
 
 -- a database, as SQLite's files have one, whose rows do

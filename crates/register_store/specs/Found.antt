@@ -10,7 +10,7 @@ use Rattle.sqlite_sql.specs.declared.ops.CompareOp.TheVariants.{Eq}
 use Rattle.sqlite.specs.Collation.TheVariants.{Binary}
 use Rattle.xbrl_report.specs.Pair.{Pair}
 use Rattle.xbrl_report.specs.declared.code.Code.{Code}
-use Rattle.xbrl_report.specs.declared.code.Code.TheVariants.{NotJson, NotObject, DocumentInfo, DocumentType, Namespaces, NamespaceUri, Taxonomy, Facts, Fact, Value as ValueCode, Decimals, Dimensions, ConceptMissing, EntityMissing, DimensionValue, Name, UnboundPrefix, NotTheFiler, Period, PeriodOrder, UnitForm, Number, Language, UnknownDimension, TooMany}
+use Rattle.xbrl_report.specs.declared.code.Code.TheVariants.{NotJson, NotObject, DocumentInfo, DocumentType, Namespaces, NamespaceUri, Taxonomy, Facts, Fact, Value as ValueCode, Decimals, Dimensions, ConceptMissing, EntityMissing, DimensionValue, Name, UnboundPrefix, NotTheFiler, Period, PeriodOrder, UnitForm, Number, Language, UnknownDimension, TooMany, NotReplaceable}
 use Rattle.xbrl_report.specs.CodeNumber.{number_of as code_number}
 use Rattle.filing_model.specs.Request.{Request}
 use Rattle.filing_model.specs.Register.{Kept, kept}
@@ -24,7 +24,7 @@ use Rattle.register_store.specs.Register.{number_of}
 abbrev pub has_texts : List ℕ → List ℕ → Row → Bool
 has_texts filer key row = is_true (binary (Compare Eq Binary) (column row 1) (Text filer)) && (is_true (binary (Compare Eq Binary) (column row 2) (Text key)) && true)
 
--- the column `seq` of `finding` equals this number, as SQL compares
+-- the column `seq` of `finding` or of `amends` equals this number, as SQL compares
 abbrev pub has_seq : ℤ → Row → Bool
 has_seq seq row = is_true (binary (Compare Eq Binary) (column row 0) (Int seq)) && true
 
@@ -40,13 +40,17 @@ found_in row = column row 0 ∷ column row 3 ∷ column row 4 ∷ []
 abbrev pub pair_in : Row → Row
 pair_in row = column row 2 ∷ column row 3 ∷ []
 
--- the same of a kept request at its place
+-- the column `target` of a row of `amends`
+abbrev pub target_alone : Row → Row
+target_alone row = column row 1 ∷ []
+
+-- the columns `seq`, `body` and `number` of a kept request at its place
 abbrev pub found_row : ℕ → Kept → Row
 found_row seq k = Int (pos seq) ∷ Blob k.request.body ∷ or_null (λ n. Int (pos n)) (number_of k.outcome) ∷ []
 
 -- the codes, by number
 abbrev pub all_codes : List Code
-all_codes = NotJson ∷ NotObject ∷ DocumentInfo ∷ DocumentType ∷ Namespaces ∷ NamespaceUri ∷ Taxonomy ∷ Facts ∷ Fact ∷ ValueCode ∷ Decimals ∷ Dimensions ∷ ConceptMissing ∷ EntityMissing ∷ DimensionValue ∷ Name ∷ UnboundPrefix ∷ NotTheFiler ∷ Period ∷ PeriodOrder ∷ UnitForm ∷ Number ∷ Language ∷ UnknownDimension ∷ TooMany ∷ []
+all_codes = NotJson ∷ NotObject ∷ DocumentInfo ∷ DocumentType ∷ Namespaces ∷ NamespaceUri ∷ Taxonomy ∷ Facts ∷ Fact ∷ ValueCode ∷ Decimals ∷ Dimensions ∷ ConceptMissing ∷ EntityMissing ∷ DimensionValue ∷ Name ∷ UnboundPrefix ∷ NotTheFiler ∷ Period ∷ PeriodOrder ∷ UnitForm ∷ Number ∷ Language ∷ UnknownDimension ∷ TooMany ∷ NotReplaceable ∷ []
 
 -- whether the value is this whole number
 abbrev pub is_whole : Value → ℕ → Bool
@@ -71,14 +75,14 @@ pub record IsFound (filer key : List ℕ) (F : List Request) (found : Found) : T
   pub k : Kept
   pub seq : ℕ
   pub placed : IsPlaced 1 seq (kept F) k
-  pub is : (body : List ℕ) → kept_for (kept F) (the_request filer key body) ≡ Some k
-  pub request : k.request ≡ the_request filer key found.body.items
+  pub is : (target : Option ℕ) (body : List ℕ) → kept_for (kept F) (the_request filer key target body) ≡ Some k
+  pub request : k.request ≡ the_request filer key k.request.target found.body.items
   pub seq_is : found.seq ≡ pos seq
   pub number_is : found.number ≡ number_of k.outcome
 
 -- so is an answer, also where nothing is kept of them
 abbrev pub IsLookUp : List ℕ → List ℕ → List Request → Option Found → Type 0
-IsLookUp filer key F None = (body : List ℕ) → kept_for (kept F) (the_request filer key body) ≡ None
+IsLookUp filer key F None = (target : Option ℕ) (body : List ℕ) → kept_for (kept F) (the_request filer key target body) ≡ None
 IsLookUp filer key F (Some found) = IsFound filer key F found
 
 -- what was read of rows, of which there is one at most
@@ -86,3 +90,8 @@ abbrev pub IsReading : List Row → Option Found → Type 0
 IsReading rows None = rows ≡ []
 IsReading rows (Some found) = (rows ≢ []) × ((seq : ℕ) (k : Kept) → rows ≡ found_row seq k ∷ []
     → (found.seq ≡ pos seq) × (found.body.items ≡ k.request.body) × (found.number ≡ number_of k.outcome))
+
+-- the place of the filing of this number, or none where there is none
+abbrev pub IsPlaceOf : ℕ → List Request → Option ℤ → Type 0
+IsPlaceOf number F None = (k : Kept) (seq : ℕ) → IsPlaced 1 seq (kept F) k → number_of k.outcome ≡ Some number → ⊥
+IsPlaceOf number F (Some place) = (k : Kept) × (seq : ℕ) × IsPlaced 1 seq (kept F) k × (number_of k.outcome ≡ Some number) × (place ≡ pos seq)

@@ -4,6 +4,7 @@ pub mod Changes
 pub mod Columns
 pub mod Earlier
 pub mod Faults
+pub mod Filed
 pub mod Files
 pub mod Found
 pub mod Making

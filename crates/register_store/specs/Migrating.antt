@@ -36,7 +36,7 @@ use Rattle.register_store.specs.Walk.{Amounts}
 -- the four tables stand for requests, of which so many are kept and registered, and nothing was written
 pub record AreTotals (totals : Totals) (old new : State) : Type 0 where
   pub same : IsUnchanged old new
-  pub amounts : HasCommon old.now.schema → Amounts totals old.now
+  pub amounts : HasCommon old.now.schema → Amounts totals [] old.now
 
 -- of so many kept requests these were kept before there were problem details: all, or as many as the row of `migrated` says that was read
 abbrev pub ReadsEarly : {S : Type 0} → Ghosts S → Earlier → ℕ → ℕ → Held S → Held S → Type 0
@@ -70,7 +70,7 @@ abbrev pub HasNoTotals : {S : Type 0} → Ghosts S → OpenFault → Held S → 
 HasNoTotals g fault.NotOurs old new = ⊥
 HasNoTotals g (fault.Damaged row) old new =
     ((row ≡ 0) × StopsFor g cause.Other row_texts old new)
-    ⊎ ((kept : List Row) × (others : Others) × AreRead g row_texts old new (kept ∷ others.finding ∷ others.filing ∷ others.fact ∷ []) × IsVerdict kept others (verdict.Damaged row))
+    ⊎ ((kept : List Row) × (others : Others) × AreRead g row_texts old new (kept ∷ others.finding ∷ others.filing ∷ others.fact ∷ []) × (others.amends ≡ []) × IsVerdict kept others (verdict.Damaged row))
 HasNoTotals g fault.Memory old new = StopsFor g cause.Memory row_texts old new ⊎ ((rows : List (List Row)) × AreRead g row_texts old new rows)
 HasNoTotals g fault.Disk old new = StopsFor g cause.Disk row_texts old new
 

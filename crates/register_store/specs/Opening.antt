@@ -69,22 +69,21 @@ StopsFor {S} g why (text ∷ texts) old new =
 
 -- ---- the rows beside those of kept requests
 
--- the rows of `migrated` and of `amends`
+-- the rows of the tables that an earlier form did not have
 pub record Later : Type 0 where
   pub migrated : List Row
   pub amends : List Row
 
--- of so many kept requests the first `early` are told what they were told before, and none replaces a filing
+-- of so many kept requests the first `early` are told what they were told before
 pub record SaysEarly (kept early : ℕ) (later : Later) : Type 0 where
   pub migrated_is : later.migrated ≡ migrated_row early ∷ []
-  pub amends_is : later.amends ≡ []
   pub within : early ≤ kept
 
 -- so it is of no number
 abbrev pub SaysNothing : ℕ → Later → Type 0
 SaysNothing kept later = (early : ℕ) → SaysEarly kept early later → ⊥
 
--- why the rows stand for no register: the first kept row that is not sound, or 0; and 0 where the four tables are sound, but not these
+-- why the rows stand for no register: the first kept row that is not sound, or 0; and 0 where the five tables are sound, but not `migrated`
 abbrev pub AreDamaged : List Row → Others → Later → ℕ → Type 0
 AreDamaged kept others later row =
     IsVerdict kept others (verdict.Damaged row) ⊎ ((row ≡ 0) × ((filings : ℕ) × IsVerdict kept others (verdict.Sound filings)) × SaysNothing (length kept) later)
@@ -100,7 +99,7 @@ abbrev pub IsDamagedAt : {S : Type 0} → Ghosts S → ℕ → Held S → Held S
 IsDamagedAt g row old new =
     ((row ≡ 0) × StopsFor g cause.Other table_texts old new)
     ⊎ ((later : Later) × (kept : List Row) × (others : Others)
-    × AreRead g table_texts old new (later.migrated ∷ later.amends ∷ kept ∷ others.finding ∷ others.filing ∷ others.fact ∷ []) × AreDamaged kept others later row)
+    × AreRead g table_texts old new (later.migrated ∷ later.amends ∷ kept ∷ others.finding ∷ others.filing ∷ others.fact ∷ []) × (others.amends ≡ later.amends) × AreDamaged kept others later row)
 
 -- so it is where the rows of `intake_meta` are the one row
 abbrev pub IsDamaged : {S : Type 0} → Ghosts S → ℕ → Held S → Held S → Type 0
@@ -111,7 +110,7 @@ abbrev pub IsRefusedAfter : {S : Type 0} → Ghosts S → Later → OpenFault �
 IsRefusedAfter g later fault.NotOurs old new = ⊥
 IsRefusedAfter g later (fault.Damaged row) old new =
     ((row ≡ 0) × StopsFor g cause.Other row_texts old new)
-    ⊎ ((kept : List Row) × (others : Others) × AreRead g row_texts old new (kept ∷ others.finding ∷ others.filing ∷ others.fact ∷ []) × AreDamaged kept others later row)
+    ⊎ ((kept : List Row) × (others : Others) × AreRead g row_texts old new (kept ∷ others.finding ∷ others.filing ∷ others.fact ∷ []) × (others.amends ≡ later.amends) × AreDamaged kept others later row)
 IsRefusedAfter g later fault.Memory old new = StopsFor g cause.Memory row_texts old new ⊎ ((rows : List (List Row)) × AreRead g row_texts old new rows)
 IsRefusedAfter g later fault.Disk old new = StopsFor g cause.Disk row_texts old new
 

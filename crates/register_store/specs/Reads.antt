@@ -1,17 +1,21 @@
 -- What the SELECTs of a register read.
 use Rattle.std.specs.Prelude.{Bool, true, pos, ℕ, ◌&&◌, List, [], ◌∷◌, IsTrue}
-use Rattle.sqlite.specs.declared.types.Value.TheVariants.{Int, Text}
+use Rattle.sqlite.specs.declared.types.Value.TheVariants.{Int}
 use Rattle.sqlite.specs.Collation.TheVariants.{Binary}
 use Rattle.sqlite.specs.Order.{Row, column}
 use Rattle.sqlite.specs.Ops.{binary, is_true}
 use Rattle.sqlite_sql.specs.declared.ops.BinaryOp.TheVariants.{Compare}
 use Rattle.sqlite_sql.specs.declared.ops.CompareOp.TheVariants.{Eq}
 use Rattle.sqlite.specs.State.{State}
-use Rattle.register_store.specs.Schema.{HasCommon}
+use Rattle.register_store.specs.Schema.{IsDeclared, HasCommon}
 
 -- while the connection is open, the tables of every form are declared as ours
 abbrev pub Knows : State → Type 0
 Knows s = IsTrue s.is_open → HasCommon s.now.schema
+
+-- so is `amends`
+abbrev pub KnowsAll : State → Type 0
+KnowsAll s = IsTrue s.is_open → IsDeclared s.now.schema
 
 abbrev pub every : Row → Bool
 every _ = true
@@ -28,17 +32,29 @@ by_second row = column row 1 ∷ []
 abbrev pub by_both : Row → Row
 by_both row = column row 0 ∷ column row 1 ∷ []
 
--- the column `filer` of `kept` equals this text, as SQL compares
-abbrev pub has_filer : List ℕ → Row → Bool
-has_filer filer row = is_true (binary (Compare Eq Binary) (column row 1) (Text filer)) && true
-
--- the column `number` of `fact` equals this number, as SQL compares
+-- the first column equals this number, as SQL compares
 abbrev pub has_number : ℕ → Row → Bool
 has_number number row = is_true (binary (Compare Eq Binary) (column row 0) (Int (pos number))) && true
 
--- the column `number` of a kept row
+-- the second column equals this number, as SQL compares
+abbrev pub has_second : ℕ → Row → Bool
+has_second number row = is_true (binary (Compare Eq Binary) (column row 1) (Int (pos number))) && true
+
+-- the columns `seq`, `filer` and `number` of a kept row
+abbrev pub filer_and_number : Row → Row
+filer_and_number row = column row 0 ∷ column row 1 ∷ column row 4 ∷ []
+
+-- of a kept row its filer
+abbrev pub filer_alone : Row → Row
+filer_alone row = column row 1 ∷ []
+
+-- of a kept row its number
 abbrev pub number_alone : Row → Row
 number_alone row = column row 4 ∷ []
+
+-- of a row of `filing` or of `amends` its second column
+abbrev pub second_alone : Row → Row
+second_alone row = column row 1 ∷ []
 
 -- of a fact row, its place
 abbrev pub place_alone : Row → Row

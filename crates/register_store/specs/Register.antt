@@ -8,6 +8,7 @@ use Rattle.sqlite.specs.Effect.{Database}
 use Rattle.key_string.specs.Filer.{is_filer}
 use Rattle.key_string.specs.Key.{IsKey}
 use Rattle.http_wire.specs.Head.{max_body_len}
+use Rattle.http_wire.specs.Posting.{IsTarget}
 use Rattle.xbrl_report.specs.CodeNumber.{number_of as code_number}
 use Rattle.xbrl_report.specs.FactRecord.{FactRecord}
 use Rattle.xbrl_report.specs.Pair.{Pair}
@@ -71,6 +72,14 @@ fact_rows_by all (Refused findings) = []
 abbrev pub fact_rows : ℕ → Kept → List Row
 fact_rows seq k = fact_rows_by (facts k.request.body) k.outcome
 
+abbrev pub amends_rows_by : ℕ → Option ℕ → List Row
+amends_rows_by seq None = []
+amends_rows_by seq (Some target) = (Int (pos seq) ∷ Int (pos target) ∷ []) ∷ []
+
+-- the filing that a kept request is to replace, whether it was registered or refused
+abbrev pub amends_rows : ℕ → Kept → List Row
+amends_rows seq k = amends_rows_by seq k.request.target
+
 -- the rows of several, one after another
 abbrev pub joined_from : (ℕ → Kept → List Row) → ℕ → List Kept → List Row
 joined_from rows seq [] = []
@@ -79,7 +88,7 @@ joined_from rows seq (k ∷ ks) = rows seq k ++ joined_from rows (seq + 1) ks
 -- ---- the tables
 
 -- the tables of a register have these rows, each once and in any order, and no others
-pub record HasRows (db : Database) (early : ℕ) (kept_are finding_are filing_are fact_are : List Row) : Type 0 where
+pub record HasRows (db : Database) (early : ℕ) (kept_are finding_are filing_are fact_are amends_are : List Row) : Type 0 where
   pub declared : IsDeclared db.schema
   pub meta_is : Holds db meta_table (meta_row ∷ [])
   pub kept_is : Holds db kept_table kept_are
@@ -87,12 +96,13 @@ pub record HasRows (db : Database) (early : ℕ) (kept_are finding_are filing_ar
   pub filing_is : Holds db filing_table filing_are
   pub fact_is : Holds db fact_table fact_are
   pub migrated_is : Holds db migrated_table (migrated_row early ∷ [])
-  pub amends_is : Holds db amends_table []
+  pub amends_is : Holds db amends_table amends_are
 
 -- a request as filers may complete one
 pub record IsCompleted (r : Request) : Type 0 where
   pub filer : is_filer r.filer ≡ true
   pub key : IsKey r.key
+  pub target : IsTarget r.target
   pub body : length r.body ≤ max_body_len
 
 -- The rows stand for these requests, each the first of its filer and key, in order and with its outcome. The first `early` of
@@ -102,3 +112,4 @@ pub record StandsFor (db : Database) (early : ℕ) (F : List Request) : Type 0 w
   pub completed : AllByRecursion IsCompleted F
   pub within : early ≤ length F
   pub rows : HasRows db early (counted_from kept_row 1 (kept F)) (joined_from finding_rows 1 (kept F)) (joined_from filing_rows 1 (kept F)) (joined_from fact_rows 1 (kept F))
+      (joined_from amends_rows 1 (kept F))

@@ -35,7 +35,7 @@ fact_table = paired (codes "fact") 7
 abbrev pub migrated_table : Table
 migrated_table = keyed (codes "migrated") 9 (optional (codes "id") Integer ∷ needed (codes "last") Integer ∷ []) [] []
 
--- the filings that kept requests are to replace; there is no such request yet
+-- the filings that kept requests are to replace, of those that are to replace one
 abbrev pub amends_table : Table
 amends_table = keyed (codes "amends") 10 (optional (codes "seq") Integer ∷ needed (codes "target") Integer ∷ []) [] []
 

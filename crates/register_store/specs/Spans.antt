@@ -15,14 +15,16 @@ pub record Covers (at n : ℕ) (rows : List Row) (count : ℕ) (span : Span) : T
 abbrev pub AreSpans : ℕ → List Row → ℕ → List Span → Type 0
 AreSpans at rows count spans = (n : ℕ) (d : Span) → n < length spans → Covers at n rows count (get_or spans n d)
 
--- these are the spans of the kept requests' rows in the tables beside `kept`: by place, by place and by number
+-- these are the spans of the kept requests' rows in the tables beside `kept`: by place, by place, by number and by place
 pub record AreSpansOf (others : Others) (spans : Spans) : Type 0 where
   pub finding : AreSpans 0 others.finding (length others.finding) spans.findings.items
   pub filing : AreSpans 1 others.filing (length others.filing) spans.filings.items
   pub fact : AreSpans 0 others.fact (length others.fact) spans.facts.items
+  pub amends : AreSpans 0 others.amends (length others.amends) spans.amends.items
 
 -- both have the same rows with the place, and with the number
 pub record AgreeAt (seq number : ℕ) (part whole : Others) : Type 0 where
   pub finding : with_number 0 seq part.finding ≡ with_number 0 seq whole.finding
   pub filing : with_number 1 seq part.filing ≡ with_number 1 seq whole.filing
   pub fact : with_number 0 number part.fact ≡ with_number 0 number whole.fact
+  pub amends : with_number 0 seq part.amends ≡ with_number 0 seq whole.amends

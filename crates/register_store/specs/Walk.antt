@@ -9,9 +9,8 @@ use Rattle.sqlite.specs.declared.error.Error.{Error}
 use Rattle.table_rows.specs.Rows.{Holds, shown, counted_from}
 use Rattle.table_rows.specs.Causes.{cause_of}
 use Rattle.table_rows.specs.declared.cause.Cause.TheVariants as cause
-use Rattle.xbrl_report.specs.Findings.{findings as found_in}
 use Rattle.filing_model.specs.Request.{Request, firsts}
-use Rattle.filing_model.specs.Register.{Kept, outcome_by, kept, register}
+use Rattle.filing_model.specs.Register.{Kept, judged, kept, register}
 use Rattle.register_store.specs.declared.walk.Totals.{Totals}
 use Rattle.register_store.specs.declared.walk.Left.{Left}
 use Rattle.register_store.specs.declared.opening.Counts.{Counts}
@@ -19,7 +18,7 @@ use Rattle.register_store.specs.Opening.{Later, SaysEarly}
 use Rattle.register_store.specs.Found.{has_texts}
 use Rattle.register_store.specs.Outcomes.{filings_by}
 use Rattle.register_store.specs.Reads.{has_number}
-use Rattle.register_store.specs.Register.{IsCompleted, kept_row, finding_rows, filing_rows, fact_rows, joined_from}
+use Rattle.register_store.specs.Register.{IsCompleted, kept_row, finding_rows, filing_rows, fact_rows, amends_rows, joined_from}
 use Rattle.register_store.specs.Schema.{kept_table, finding_table, filing_table, fact_table}
 
 -- the rows of the table, as SELECT * shows them
@@ -56,17 +55,13 @@ pub record Beyond (seq : ℕ) (k : Kept) (left tail : Left) (db : Database) : Ty
   pub facts_left : left.facts ≡ tail.facts + length (fact_rows seq k)
   pub number_is : tail.number ≡ left.number + filings_by k.outcome
 
--- the request, judged, where the next filing has this number
-abbrev pub judged_as : Request → ℕ → Kept
-judged_as r number = record { request = r; outcome = outcome_by (found_in r.filer r.body) number }
-
--- so are its own row, and no other has its filer and key
-pub record Passes (seq : ℕ) (left tail : Left) (db : Database) : Type 0 where
-  pub request : Request
+-- the request, judged after these, has its own row, no other row has its filer and key, and the rows beside `kept` are its own
+pub record Passes (before : List Request) (seq : ℕ) (left tail : Left) (db : Database) (request : Request) : Type 0 where
   pub completed : IsCompleted request
-  pub kept_is : Picks kept_table (has_number seq) (kept_row seq (judged_as request left.number) ∷ []) db
+  pub kept_is : Picks kept_table (has_number seq) (kept_row seq (judged (kept before) request) ∷ []) db
   pub alone : length (filter (has_texts request.filer request.key) (rows_in db kept_table)) ≡ 1
-  pub beyond : Beyond seq (judged_as request left.number) left tail db
+  pub beyond : Beyond seq (judged (kept before) request) left tail db
+  pub amends_is : left.amends.now ≡ amends_rows seq (judged (kept before) request) ++ tail.amends.now
 
 -- ---- all of them
 
@@ -76,9 +71,8 @@ pub record HasLeft (table : Table) (rows : List Row) (count : ℕ) (db : Databas
   pub all : IsPermutation (rows ++ rest) (rows_in db table)
   pub many : length rest ≡ count
 
--- so many of all kept requests were walked past, and their rows are those of these requests
-pub record Walked (total count : ℕ) (left : Left) (db : Database) : Type 0 where
-  pub requests : List Request
+-- so many of all kept requests were walked past, and their rows are those of these requests, where `amends` has these rows
+pub record Walked (amends_are : List Row) (total count : ℕ) (left : Left) (db : Database) (requests : List Request) : Type 0 where
   pub many : length requests ≡ count
   pub number_is : left.number ≡ suc (length (register requests))
   pub fewer : length (register requests) ≤ count
@@ -90,27 +84,29 @@ pub record Walked (total count : ℕ) (left : Left) (db : Database) : Type 0 whe
   pub finding_is : HasLeft finding_table (joined_from finding_rows 1 (kept requests)) left.findings db
   pub filing_is : HasLeft filing_table (joined_from filing_rows 1 (kept requests)) left.filings db
   pub fact_is : HasLeft fact_table (joined_from fact_rows 1 (kept requests)) left.facts db
+  pub amends_is : amends_are ≡ joined_from amends_rows 1 (kept requests) ++ left.amends.now
 
--- the four tables have the rows of these requests, each once and in any order, and no others
-pub record AreAllOf (requests : List Request) (db : Database) : Type 0 where
+-- the four tables have the rows of these requests, each once and in any order, and no others, and so has `amends` with these rows
+pub record AreAllOf (requests : List Request) (amends_are : List Row) (db : Database) : Type 0 where
   pub distinct : firsts requests ≡ requests
   pub completed : AllByRecursion IsCompleted requests
   pub kept_is : Holds db kept_table (counted_from kept_row 1 (kept requests))
   pub finding_is : Holds db finding_table (joined_from finding_rows 1 (kept requests))
   pub filing_is : Holds db filing_table (joined_from filing_rows 1 (kept requests))
   pub fact_is : Holds db fact_table (joined_from fact_rows 1 (kept requests))
+  pub amends_is : amends_are ≡ joined_from amends_rows 1 (kept requests)
 
 -- so they have, and so many requests are kept and registered
-pub record Amounts (counts : Totals) (db : Database) : Type 0 where
+pub record Amounts (counts : Totals) (amends_are : List Row) (db : Database) : Type 0 where
   pub requests : List Request
-  pub are : AreAllOf requests db
+  pub are : AreAllOf requests amends_are db
   pub kept_is : counts.kept ≡ length requests
   pub filings_is : counts.filings ≡ length (register requests)
 
 -- so it is of the rows that were counted, where those of the later tables say how many were kept before there were problem details
 pub record AreCounted (counts : Counts) (later : Later) (db : Database) : Type 0 where
   pub requests : List Request
-  pub are : AreAllOf requests db
+  pub are : AreAllOf requests later.amends db
   pub kept_is : counts.kept ≡ length requests
   pub filings_is : counts.filings ≡ length (register requests)
   pub early_is : SaysEarly counts.kept counts.early later

@@ -1,32 +1,38 @@
 //! Whether the rows of a register's tables stand for a list of requests. No SQL is known here.
 
-ghost use Rattle.std.specs.Prelude.{◌≡◌, ◌≢◌, ◌↔◌, ◌<◌, ◌≤◌, ◌^◌, ◌+◌, ◌&&◌, ℕ, suc, pos, List, [], ◌∷◌, ◌++◌, map, length, bytes_eq, take, get_or, Some, None, true, false, IsTrue, IfOk, IfSome, MatchOption};
+ghost use Rattle.std.specs.Prelude.{◌≡◌, ◌≢◌, ◌↔◌, ◌<◌, ◌≤◌, ◌^◌, ◌+◌, ◌&&◌, ℕ, suc, pos, List, [], ◌∷◌, ◌++◌, map, length, Option, bytes_eq, take, get_or, Some, None, true, false, IsTrue, IfOk, IfSome, MatchOption};
 ghost use Rattle.sqlite.specs.declared.types.Value.TheVariants.{Int, Text, Blob};
 ghost use Rattle.sqlite.specs.Order.{column};
 ghost use Rattle.sqlite.specs.Values.{or_null};
 ghost use Rattle.xbrl_report.specs.ReportParts.{facts as facts_of};
-ghost use Rattle.xbrl_report.specs.Judgement.{IsJudgement, HasFacts};
+ghost use Rattle.http_wire.specs.Posting.{IsTarget};
+ghost use Rattle.xbrl_report.specs.Judgement.{HasFacts};
 ghost use Rattle.filing_model.specs.Register.{Outcome, register};
 ghost use Rattle.filing_model.specs.Request.{Request, has_key};
-ghost use Rattle.register_store.specs.Audit.{Others, AreRowsOf, Begins, IsNext, IsVerdict, StandForNone, is_repeated_at, begins_with, has_more, view_rest, request_outcome, kept_in};
+ghost use Rattle.register_store.specs.Audit.{Others, AreRowsOf, IsAfter, IsNext, IsVerdict, StandForNone, is_repeated_at, begins_with, has_more, view_rest, with_target};
+ghost use Rattle.register_store.specs.Filed.{AreFiled};
 ghost use Rattle.register_store.specs.Cells.{value_of};
 ghost use Rattle.register_store.specs.Columns.{text_in, bytes_in, request_in};
-ghost use Rattle.register_store.specs.Outcomes.{outcome_of, filings_by};
-ghost use Rattle.register_store.specs.Register.{IsCompleted, kept_row};
+ghost use Rattle.register_store.specs.Outcomes.{outcome_of};
+ghost use Rattle.register_store.specs.Register.{IsCompleted};
 
 use crate::cells::{Cell, is_row};
 use crate::damage::{Beside, first_unsound};
-use crate::segments::{after_facts, after_filing, after_findings};
+use crate::filed::Filed;
+use crate::segments::{after_facts, after_filing, after_findings, target_of};
 use http_wire::MAX_BODY_LEN;
 use key_string::{is_key, read_filer};
 use sqlite::Row;
 use sqlite::types::ValueRef;
 use std::alloc::{AllocError, Global};
 use std::collections::BTreeSet;
-use xbrl_report::{Fact, Finding, Judged, judge};
+use xbrl_report::{Fact, Finding, Judged};
 
 /// The most requests that a register keeps.
 pub(crate) const MAX_KEPT: u64 = 1 << 62;
+
+/// The greatest number that a column holds.
+const MAX_TARGET: u64 = i64::MAX as u64;
 
 /// The rows of the tables beside `kept` that no kept row has accounted for, and the number of the next filing.
 #[derive(Clone, Copy)]
@@ -34,6 +40,7 @@ pub(crate) struct Rest<'a> {
     pub(crate) findings: &'a [Row],
     pub(crate) filings: &'a [Row],
     pub(crate) facts: &'a [Row],
+    pub(crate) amends: &'a [Row],
     pub(crate) number: u64,
 }
 
@@ -97,7 +104,7 @@ fn number_cell(number: Option<u64>) -> Cell<'static>
 pub(crate) fn is_kept_row(row: &Row, seq: u64, number: Option<u64>) -> bool
     requires seq { seq < 2 ^ 63 }
     requires number { IfSome number (λ n. n < 2 ^ 63) }
-    ensures { IsTrue result ↔ (row.now ≡ Int (pos seq) ∷ Text (request_in row.now).filer ∷ Text (request_in row.now).key ∷ Blob (request_in row.now).body ∷ or_null (λ n. Int (pos n)) number ∷ []) }
+    ensures { IsTrue result ↔ (row.now ≡ Int (pos seq) ∷ Text (request_in None row.now).filer ∷ Text (request_in None row.now).key ∷ Blob (request_in None row.now).body ∷ or_null (λ n. Int (pos n)) number ∷ []) }
 {
     is_row(
         row,
@@ -114,9 +121,7 @@ pub(crate) fn is_kept_row(row: &Row, seq: u64, number: Option<u64>) -> bool
 /// What is left behind the rows of a refused request, if they are there.
 fn after_refused<'a>(row: &Row, seq: u64, findings: &[Finding], rest: Rest<'a>) -> Option<Rest<'a>>
     requires { seq < 2 ^ 63 }
-    ensures { MatchOption result
-        ((tail : Others) → row.now ≡ kept_row seq (request_outcome row.now (Outcome.Refused findings.now)) → Begins seq (request_outcome row.now (Outcome.Refused findings.now)) (view_rest rest.entry) tail → ⊥)
-        (λ tail. (row.now ≡ kept_row seq (request_outcome row.now (Outcome.Refused findings.now))) × Begins seq (request_outcome row.now (Outcome.Refused findings.now)) (view_rest rest.entry) (view_rest tail) × (tail.number ≡ rest.entry.number)) }
+    ensures { (target : Option ℕ) → IsAfter seq row.now target (Outcome.Refused findings.now) rest.entry result }
 {
     if !is_kept_row(row, seq, None) {
         return None;
@@ -129,10 +134,8 @@ fn after_refused<'a>(row: &Row, seq: u64, findings: &[Finding], rest: Rest<'a>) 
 fn after_valid<'a>(row: &Row, seq: u64, facts: &[Fact], rest: Rest<'a>) -> Option<Rest<'a>>
     requires seq { seq < 2 ^ 63 }
     requires number { rest.number < 2 ^ 63 }
-    requires facts { facts.now ≡ facts_of (request_in row.now).body }
-    ensures { MatchOption result
-        ((tail : Others) → row.now ≡ kept_row seq (request_outcome row.now (Outcome.Registered rest.entry.number)) → Begins seq (request_outcome row.now (Outcome.Registered rest.entry.number)) (view_rest rest.entry) tail → ⊥)
-        (λ tail. (row.now ≡ kept_row seq (request_outcome row.now (Outcome.Registered rest.entry.number))) × Begins seq (request_outcome row.now (Outcome.Registered rest.entry.number)) (view_rest rest.entry) (view_rest tail) × (tail.number ≡ rest.entry.number + 1)) }
+    requires facts { facts.now ≡ facts_of (request_in None row.now).body }
+    ensures { (target : Option ℕ) → IsAfter seq row.now target (Outcome.Registered rest.entry.number) rest.entry result }
 {
     if !is_kept_row(row, seq, Some(rest.number)) {
         return None;
@@ -143,6 +146,7 @@ fn after_valid<'a>(row: &Row, seq: u64, facts: &[Fact], rest: Rest<'a>) -> Optio
         findings: rest.findings,
         filings,
         facts,
+        amends: rest.amends,
         number: rest.number + 1,
     })
 }
@@ -151,11 +155,8 @@ fn after_valid<'a>(row: &Row, seq: u64, facts: &[Fact], rest: Rest<'a>) -> Optio
 fn after_judged<'a>(row: &Row, seq: u64, judged: &Judged, rest: Rest<'a>) -> Option<Rest<'a>>
     requires seq { seq < 2 ^ 63 }
     requires number { rest.number < 2 ^ 63 }
-    requires facts { HasFacts (request_in row.now).body judged.now }
-    ensures { MatchOption result
-        ((tail : Others) → row.now ≡ kept_row seq (request_outcome row.now (outcome_of rest.entry.number judged.now)) → Begins seq (request_outcome row.now (outcome_of rest.entry.number judged.now)) (view_rest rest.entry) tail → ⊥)
-        (λ tail. (row.now ≡ kept_row seq (request_outcome row.now (outcome_of rest.entry.number judged.now))) × Begins seq (request_outcome row.now (outcome_of rest.entry.number judged.now)) (view_rest rest.entry) (view_rest tail)
-        × (tail.number ≡ rest.entry.number + filings_by (outcome_of rest.entry.number judged.now))) }
+    requires facts { HasFacts (request_in None row.now).body judged.now }
+    ensures { (target : Option ℕ) → IsAfter seq row.now target (outcome_of rest.entry.number judged.now) rest.entry result }
 {
     match judged {
         Judged::Valid(report) => after_valid(row, seq, report.facts(), rest),
@@ -189,11 +190,22 @@ fn has_more(seq: u64, judged: &Judged, number: u64, rest: Rest<'_>) -> bool
             Judged::Valid(_) => begins_with(rest.facts, 0, number),
             Judged::Refused(_) => false,
         }
+        || begins_with(rest.amends, 0, seq)
 }
 
-/// The filer of a row whose request may be completed.
+/// Whether there is no number, or one that a filing may have.
+pub(crate) fn is_target(target: Option<u64>) -> bool
+    ensures { IsTrue result ↔ IsTarget target }
+{
+    match target {
+        Some(number) => 1 <= number && number <= MAX_TARGET,
+        None => true,
+    }
+}
+
+/// The filer of a row whose request may be completed, where it is to replace such a filing.
 pub(crate) fn filer_of<'a>(row: &'a Row) -> Option<&'a str>
-    ensures { MatchOption result (IsCompleted (request_in row.now) → ⊥) (λ filer. (filer.now ≡ (request_in row.now).filer) × IsCompleted (request_in row.now)) }
+    ensures { (target : Option ℕ) → IsTarget target → MatchOption result (IsCompleted (request_in target row.now) → ⊥) (λ filer. (filer.now ≡ (request_in None row.now).filer) × IsCompleted (request_in target row.now)) }
 {
     let key = text_at(row, 2);
     let Some(filer) = read_filer(text_at(row, 1)) else {
@@ -208,11 +220,43 @@ pub(crate) fn filer_of<'a>(row: &'a Row) -> Option<&'a str>
     Some(filer)
 }
 
-/// Whether the kept row may come next after the earlier ones: what is left behind its rows in the other tables, or `None`.
+/// What is left behind the rows of a kept row of this filer, with the target read, or `None`. The error is want of memory.
+fn check_filed<'a>(
+    alloc: Global,
+    filed: &mut Filed,
+    filer: &str,
+    target: Option<u64>,
+    row: &Row,
+    seq: u64,
+    rest: Rest<'a>,
+) -> Result<Option<Rest<'a>>, AllocError>
+    requires seq { seq < 2 ^ 63 }
+    requires number { rest.number < 2 ^ 63 }
+    requires filer { filer.now ≡ (request_in None row.now).filer }
+    ensures { (F : List Request) → AreFiled (register F) filed.old → rest.entry.number ≡ suc (length (register F)) → IsCompleted (request_in target row.now) → has_key F (request_in target row.now) ≡ false
+        → IfOk result (λ next. MatchOption next ((tail : Others) → IsNext F seq row.now target (with_target seq target (view_rest rest.entry)) tail → ⊥)
+        (λ tail. IsNext F seq row.now target (with_target seq target (view_rest rest.entry)) (view_rest tail) × AreFiled (register (F ++ request_in target row.now ∷ [])) filed.new
+        × (tail.number ≡ suc (length (register (F ++ request_in target row.now ∷ [])))))) }
+{
+    let judged = filed.judge(alloc, filer, target, bytes_at(row, 3))?;
+    match after_judged(row, seq, &judged, rest) {
+        Some(tail) => {
+            if has_more(seq, &judged, rest.number, tail) {
+                Ok(None)
+            } else {
+                filed.note(alloc, filer, target, &judged)?;
+                Ok(Some(tail))
+            }
+        }
+        None => Ok(None),
+    }
+}
+
+/// Whether the kept row may come next after those before it: what is left behind its rows in the other tables, or `None`.
 /// The error is want of memory.
 fn check_next<'a>(
     alloc: Global,
-    earlier: &[Row],
+    filed: &mut Filed,
     is_repeated: bool,
     row: &Row,
     seq: u64,
@@ -220,30 +264,30 @@ fn check_next<'a>(
 ) -> Result<Option<Rest<'a>>, AllocError>
     requires seq { seq < 2 ^ 63 }
     requires number { rest.number < 2 ^ 63 }
-    requires repeated { is_repeated ≡ has_key (map request_in earlier.now) (request_in row.now) }
-    ensures { IfOk result (λ next. MatchOption next
-        ((tail : Others) → IsNext earlier.now seq rest.entry.number row.now (view_rest rest.entry) tail → ⊥)
-        (λ tail. IsNext earlier.now seq rest.entry.number row.now (view_rest rest.entry) (view_rest tail) × (tail.number ≡ rest.entry.number + filings_by (kept_in row.now rest.entry.number).outcome))) }
+    ensures { (F : List Request) → AreFiled (register F) filed.old → rest.entry.number ≡ suc (length (register F)) → is_repeated ≡ has_key F (request_in None row.now)
+        → IfOk result (λ next. MatchOption next ((target : Option ℕ) (tail : Others) → IsNext F seq row.now target (view_rest rest.entry) tail → ⊥)
+        (λ tail. (target : Option ℕ) × IsNext F seq row.now target (view_rest rest.entry) (view_rest tail) × AreFiled (register (F ++ request_in target row.now ∷ [])) filed.new
+        × (tail.number ≡ suc (length (register (F ++ request_in target row.now ∷ [])))))) }
 {
     if is_repeated {
+        return Ok(None);
+    }
+    let (target, amends) = target_of(rest.amends, seq);
+    if !is_target(target) {
         return Ok(None);
     }
     let Some(filer) = filer_of(row) else {
         return Ok(None);
     };
-    match judge(alloc, filer, bytes_at(row, 3)) {
-        Ok(judged) => match after_judged(row, seq, &judged, rest) {
-            Some(tail) => {
-                if has_more(seq, &judged, rest.number, tail) {
-                    Ok(None)
-                } else {
-                    Ok(Some(tail))
-                }
-            }
-            None => Ok(None),
-        },
-        Err(error) => Err(error),
-    }
+    check_filed(
+        alloc,
+        filed,
+        filer,
+        target,
+        row,
+        seq,
+        Rest { amends, ..rest },
+    )
 }
 
 /// Audits one kept row after the other, as the tables are in the order of their keys: how many filings the requests are that
@@ -254,26 +298,33 @@ fn audit_in_order(
     findings: &[Row],
     filings: &[Row],
     facts: &[Row],
+    amends: &[Row],
 ) -> Result<Option<u64>, AllocError>
     requires { length kept.now ≤ 2 ^ 62 }
-    ensures found { IfOk result (λ found. MatchOption found (StandForNone kept.now (record { finding = findings.now; filing = filings.now; fact = facts.now }))
-        (λ filings_are. IsVerdict kept.now (record { finding = findings.now; filing = filings.now; fact = facts.now }) (Verdict.Sound filings_are) × (filings_are ≤ length kept.now))) }
+    ensures found { IfOk result (λ found. MatchOption found (StandForNone kept.now (record { finding = findings.now; filing = filings.now; fact = facts.now; amends = amends.now }))
+        (λ filings_are. IsVerdict kept.now (record { finding = findings.now; filing = filings.now; fact = facts.now; amends = amends.now }) (Verdict.Sound filings_are) × (filings_are ≤ length kept.now))) }
 {
     let mut rest = Rest {
         findings,
         filings,
         facts,
+        amends,
         number: 1,
     };
+    let mut filed = Filed::new(alloc);
     let first = first_repeated(alloc, kept)?;
     for at in 0..kept.len() {
         let seq = at as u64 + 1;
-        match check_next(alloc, &kept[..at], at == first, &kept[at], seq, rest)? {
+        match check_next(alloc, &mut filed, at == first, &kept[at], seq, rest)? {
             Some(next) => rest = next,
             None => return Ok(None),
         }
     }
-    if rest.findings.is_empty() && rest.filings.is_empty() && rest.facts.is_empty() {
+    if rest.findings.is_empty()
+        && rest.filings.is_empty()
+        && rest.facts.is_empty()
+        && rest.amends.is_empty()
+    {
         Ok(Some(rest.number - 1))
     } else {
         Ok(None)
@@ -288,16 +339,17 @@ pub(crate) fn audit(
     findings: &[Row],
     filings: &[Row],
     facts: &[Row],
+    amends: &[Row],
 ) -> Result<Verdict, AllocError>
-    ensures verdict { IfOk result (λ verdict. IsVerdict kept.now (record { finding = findings.now; filing = filings.now; fact = facts.now }) verdict) }
-    ensures complete { IfOk result (λ verdict. (F : List Request) → AreRowsOf kept.now (record { finding = findings.now; filing = filings.now; fact = facts.now }) F
+    ensures verdict { IfOk result (λ verdict. IsVerdict kept.now (record { finding = findings.now; filing = filings.now; fact = facts.now; amends = amends.now }) verdict) }
+    ensures complete { IfOk result (λ verdict. (F : List Request) → AreRowsOf kept.now (record { finding = findings.now; filing = filings.now; fact = facts.now; amends = amends.now }) F
         → verdict ≡ Verdict.Sound (length (register F))) }
     ensures few { IfOk result (λ verdict. (filings : ℕ) → verdict ≡ Verdict.Sound filings → (filings ≤ length kept.now) × (length kept.now ≤ 2 ^ 62)) }
 {
     if kept.len() as u64 > MAX_KEPT {
         return Err(AllocError);
     }
-    match audit_in_order(alloc, kept, findings, filings, facts)? {
+    match audit_in_order(alloc, kept, findings, filings, facts, amends)? {
         Some(filings) => Ok(Verdict::Sound { filings }),
         None => {
             let row = first_unsound(
@@ -307,6 +359,7 @@ pub(crate) fn audit(
                     findings,
                     filings,
                     facts,
+                    amends,
                 },
             )?;
             Ok(Verdict::Damaged { row })

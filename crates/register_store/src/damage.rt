@@ -1,27 +1,31 @@
 //! Which kept row is told of a register whose rows stand for no requests. Each kept row is held against all rows of the other
 //! tables that have its place or its number, in any order of these tables; where they lie is looked up once for all.
 
-ghost use Rattle.std.specs.Prelude.{◌≡◌, ◌↔◌, ◌<◌, ◌≤◌, ◌^◌, ◌+◌, ℕ, suc, pos, List, [], ◌∷◌, length, map, IsTrue, IfOk, MatchOption, vec_len};
+ghost use Rattle.std.specs.Prelude.{◌≡◌, ◌↔◌, ◌<◌, ◌≤◌, ◌^◌, ◌+◌, ℕ, suc, pos, List, [], ◌∷◌, ◌++◌, length, map, IsTrue, IfOk, IfSome, MatchOption, Option, None, vec_len};
 ghost use Rattle.sqlite.specs.Order.{column};
 ghost use Rattle.sqlite.specs.declared.types.Value.TheVariants.{Int};
 ghost use Rattle.xbrl_report.specs.ReportParts.{facts as facts_of};
 ghost use Rattle.xbrl_report.specs.Judgement.{HasFacts};
-ghost use Rattle.filing_model.specs.Register.{Outcome};
+ghost use Rattle.filing_model.specs.Register.{Outcome, filings, judged, kept, register};
+ghost use Rattle.filing_model.specs.Request.{Request};
+ghost use Rattle.http_wire.specs.Posting.{IsTarget};
 ghost use Rattle.table_rows.specs.Rows.{counted_from};
-ghost use Rattle.register_store.specs.Audit.{Others, IsKeptAs, IsTold, is_number, with_number, view_beside, request_outcome, kept_in};
+ghost use Rattle.register_store.specs.Audit.{Others, IsKeptAs, IsTold, is_number, with_number, view_beside, request_outcome};
+ghost use Rattle.register_store.specs.Filed.{AreFiled};
 ghost use Rattle.register_store.specs.Columns.{request_in};
 ghost use Rattle.register_store.specs.Outcomes.{outcome_of, filings_by};
-ghost use Rattle.register_store.specs.Register.{IsCompleted, finding_row, fact_row};
+ghost use Rattle.register_store.specs.Register.{IsCompleted, finding_row, fact_row, amends_rows_by};
 ghost use Rattle.register_store.specs.Spans.{AreSpansOf, AgreeAt};
 
-use crate::audit::{bytes_at, filer_of, first_repeated, is_kept_row};
+use crate::audit::{bytes_at, filer_of, first_repeated, is_kept_row, is_target};
 use crate::cells::{Cell, is_row};
-use crate::segments::{is_fact_row, is_finding_row};
+use crate::filed::Filed;
+use crate::segments::{is_fact_row, is_finding_row, target_of};
 use crate::spans::{Span, spans_of};
 use sqlite::Row;
 use sqlite::types::ValueRef;
 use std::alloc::{AllocError, Global};
-use xbrl_report::{Fact, Finding, Judged, judge};
+use xbrl_report::{Fact, Finding, Judged};
 
 /// The rows of the tables beside `kept`.
 #[derive(Clone, Copy)]
@@ -29,6 +33,7 @@ pub(crate) struct Beside<'a> {
     pub(crate) findings: &'a [Row],
     pub(crate) filings: &'a [Row],
     pub(crate) facts: &'a [Row],
+    pub(crate) amends: &'a [Row],
 }
 
 /// Where the rows with each place and with each number lie in the tables beside `kept`.
@@ -37,6 +42,7 @@ struct Spans {
     findings: Vec<Span>,
     filings: Vec<Span>,
     facts: Vec<Span>,
+    amends: Vec<Span>,
 }
 
 impl Spans {
@@ -44,19 +50,20 @@ impl Spans {
     fn of(alloc: Global, beside: Beside<'_>, count: usize) -> Result<Spans, AllocError>
         requires { count < 2 ^ 63 }
         ensures long { IfOk result (λ spans. (vec_len spans.findings ≡ count) × (vec_len spans.filings ≡ count)
-            × (vec_len spans.facts ≡ count)) }
+            × (vec_len spans.facts ≡ count) × (vec_len spans.amends ≡ count)) }
         ensures covers { IfOk result (AreSpansOf (view_beside beside.entry)) }
     {
         Ok(Spans {
             findings: spans_of(alloc, beside.findings, 0, count)?,
             filings: spans_of(alloc, beside.filings, 1, count)?,
             facts: spans_of(alloc, beside.facts, 0, count)?,
+            amends: spans_of(alloc, beside.amends, 0, count)?,
         })
     }
 
     /// Rows among which are all that have the place or the number; in the order of the keys, these alone.
     fn part_of<'a>(&self, beside: Beside<'a>, seq: u64, number: u64) -> Beside<'a>
-        requires seq { (seq < vec_len self.now.findings) × (seq < vec_len self.now.filings) }
+        requires seq { (seq < vec_len self.now.findings) × (seq < vec_len self.now.filings) × (seq < vec_len self.now.amends) }
         requires number { number < vec_len self.now.facts }
         requires covers { AreSpansOf (view_beside beside) self.now }
         ensures { AgreeAt seq number (view_beside result) (view_beside beside.entry) }
@@ -65,6 +72,7 @@ impl Spans {
             findings: self.findings[seq as usize].part_of(beside.findings),
             filings: self.filings[seq as usize].part_of(beside.filings),
             facts: self.facts[number as usize].part_of(beside.facts),
+            amends: self.amends[seq as usize].part_of(beside.amends),
         }
     }
 }
@@ -151,10 +159,30 @@ fn has_filings(rows: &[Row], seq: u64, numbers: &[i64]) -> bool
     found == numbers.len()
 }
 
+/// The filing that the request at this place is to replace, if any, or `None` where its rows say no such thing.
+fn target_at(rows: &[Row], seq: u64) -> Option<Option<u64>>
+    requires { seq < 2 ^ 63 }
+    ensures some { IfSome result (λ target. IsTarget target × (with_number 0 seq rows.now ≡ amends_rows_by seq target)) }
+    ensures none { result ≡ None → (target : Option ℕ) → IsTarget target → with_number 0 seq rows.now ≡ amends_rows_by seq target → ⊥ }
+{
+    let mut found = None;
+    for at in 0..rows.len() {
+        if has_number(&rows[at], 0, seq) {
+            let (target, _) = target_of(&rows[at..], seq);
+            if found.is_some() || target.is_none() || !is_target(target) {
+                return None;
+            }
+            found = target;
+        }
+    }
+    Some(found)
+}
+
 /// Whether the row and those of the other tables are those of a refused request.
 fn is_refused(row: &Row, seq: u64, findings: &[Finding], beside: Beside<'_>) -> bool
     requires { seq < 2 ^ 63 }
-    ensures { IsTrue result ↔ IsKeptAs seq (request_outcome row.now (Outcome.Refused findings.now)) row.now (view_beside beside.entry) }
+    ensures { (target : Option ℕ) → with_number 0 seq beside.entry.amends.now ≡ amends_rows_by seq target
+        → IsTrue result ↔ IsKeptAs seq (request_outcome (request_in target row.now) (Outcome.Refused findings.now)) row.now (view_beside beside.entry) }
 {
     is_kept_row(row, seq, None)
         && has_findings(beside.findings, seq, findings)
@@ -165,8 +193,9 @@ fn is_refused(row: &Row, seq: u64, findings: &[Finding], beside: Beside<'_>) -> 
 fn is_registered(row: &Row, seq: u64, number: u64, facts: &[Fact], beside: Beside<'_>) -> bool
     requires seq { seq < 2 ^ 63 }
     requires number { number < 2 ^ 63 }
-    requires facts { facts.now ≡ facts_of (request_in row.now).body }
-    ensures { IsTrue result ↔ IsKeptAs seq (request_outcome row.now (Outcome.Registered number)) row.now (view_beside beside.entry) }
+    requires facts { facts.now ≡ facts_of (request_in None row.now).body }
+    ensures { (target : Option ℕ) → with_number 0 seq beside.entry.amends.now ≡ amends_rows_by seq target
+        → IsTrue result ↔ IsKeptAs seq (request_outcome (request_in target row.now) (Outcome.Registered number)) row.now (view_beside beside.entry) }
 {
     is_kept_row(row, seq, Some(number))
         && has_findings(beside.findings, seq, &[])
@@ -174,12 +203,13 @@ fn is_registered(row: &Row, seq: u64, number: u64, facts: &[Fact], beside: Besid
         && has_facts(beside.facts, number, facts)
 }
 
-/// Whether the row and those of the other tables are those of a request that was judged so.
+/// Whether the row and those of the other tables are those of a request that was judged so, where those of `amends` are.
 fn is_kept_as(row: &Row, seq: u64, number: u64, judged: &Judged, beside: Beside<'_>) -> bool
     requires seq { seq < 2 ^ 63 }
     requires number { number < 2 ^ 63 }
-    requires facts { HasFacts (request_in row.now).body judged.now }
-    ensures { IsTrue result ↔ IsKeptAs seq (request_outcome row.now (outcome_of number judged.now)) row.now (view_beside beside.entry) }
+    requires facts { HasFacts (request_in None row.now).body judged.now }
+    ensures { (target : Option ℕ) → with_number 0 seq beside.entry.amends.now ≡ amends_rows_by seq target
+        → IsTrue result ↔ IsKeptAs seq (request_outcome (request_in target row.now) (outcome_of number judged.now)) row.now (view_beside beside.entry) }
 {
     match judged {
         Judged::Valid(report) => is_registered(row, seq, number, report.facts(), beside),
@@ -197,10 +227,11 @@ fn filings_as_judged(judged: &Judged) -> u64
     }
 }
 
-/// How many filings the kept row's request is, or `None` where the row, whatever its filer and key are, is not sound. The
-/// error is want of memory.
+/// How many filings the request of the kept row is, which is to replace this filing, if any, or `None` where the row, whatever its
+/// filer and key are, is not sound. The error is want of memory.
 fn filings_if_sound(
     alloc: Global,
+    filed: &mut Filed,
     row: &Row,
     seq: u64,
     number: u64,
@@ -208,23 +239,24 @@ fn filings_if_sound(
 ) -> Result<Option<u64>, AllocError>
     requires seq { seq < 2 ^ 63 }
     requires number { number < 2 ^ 63 }
-    ensures { IfOk result (λ found. MatchOption found
-        (IsCompleted (request_in row.now) → IsKeptAs seq (kept_in row.now number) row.now (view_beside beside.entry) → ⊥)
-        (λ filings. IsCompleted (request_in row.now) × IsKeptAs seq (kept_in row.now number) row.now (view_beside beside.entry) × (filings ≡ filings_by (kept_in row.now number).outcome))) }
+    ensures { (F : List Request) → AreFiled (register F) filed.old → number ≡ suc (length (register F))
+        → IfOk result (λ found. MatchOption found
+        ((r : Request) → IsCompleted r → IsKeptAs seq (judged (kept F) r) row.now (view_beside beside.entry) → ⊥)
+        (λ more. (r : Request) × IsCompleted r × IsKeptAs seq (judged (kept F) r) row.now (view_beside beside.entry) × AreFiled (filings (kept F ++ judged (kept F) r ∷ [])) filed.new
+        × (more ≡ filings_by (judged (kept F) r).outcome))) }
 {
+    let Some(target) = target_at(beside.amends, seq) else {
+        return Ok(None);
+    };
     let Some(filer) = filer_of(row) else {
         return Ok(None);
     };
-    match judge(alloc, filer, bytes_at(row, 3)) {
-        Ok(judged) => {
-            if is_kept_as(row, seq, number, &judged, beside) {
-                Ok(Some(filings_as_judged(&judged)))
-            } else {
-                Ok(None)
-            }
-        }
-        Err(error) => Err(error),
+    let judged = filed.judge(alloc, filer, target, bytes_at(row, 3))?;
+    if !is_kept_as(row, seq, number, &judged, beside) {
+        return Ok(None);
     }
+    filed.note(alloc, filer, target, &judged)?;
+    Ok(Some(filings_as_judged(&judged)))
 }
 
 /// The place, from 1, of the first kept row that is not sound, or 0 where each one is. The error is want of memory.
@@ -238,6 +270,7 @@ pub(crate) fn first_unsound(
 {
     let first = first_repeated(alloc, kept)?;
     let spans = Spans::of(alloc, beside, kept.len() + 1)?;
+    let mut filed = Filed::new(alloc);
     let mut number = 1;
     for at in 0..kept.len() {
         let seq = at as u64 + 1;
@@ -245,7 +278,7 @@ pub(crate) fn first_unsound(
             return Ok(seq);
         }
         let part = spans.part_of(beside, seq, number);
-        match filings_if_sound(alloc, &kept[at], seq, number, part)? {
+        match filings_if_sound(alloc, &mut filed, &kept[at], seq, number, part)? {
             Some(filings) => number += filings,
             None => return Ok(seq),
         }

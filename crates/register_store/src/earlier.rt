@@ -102,11 +102,11 @@ fn totals_in(
     filings: &[Row],
     facts: &[Row],
 ) -> Result<Totals, OpenFault>
-    ensures counted { IfOk result (λ totals. (totals.kept ≡ length kept.now) × IsVerdict kept.now (record { finding = findings.now; filing = filings.now; fact = facts.now }) (Verdict.Sound totals.filings)) }
+    ensures counted { IfOk result (λ totals. (totals.kept ≡ length kept.now) × IsVerdict kept.now (record { finding = findings.now; filing = filings.now; fact = facts.now; amends = [] }) (Verdict.Sound totals.filings)) }
     ensures few { IfOk result (λ totals. (totals.kept ≤ 2 ^ 62) × (totals.filings ≤ totals.kept)) }
-    ensures refused { IfErr result (λ fault. (fault ≡ OpenFault.Memory) ⊎ ((row : ℕ) × (fault ≡ OpenFault.Damaged row) × IsVerdict kept.now (record { finding = findings.now; filing = filings.now; fact = facts.now }) (Verdict.Damaged row))) }
+    ensures refused { IfErr result (λ fault. (fault ≡ OpenFault.Memory) ⊎ ((row : ℕ) × (fault ≡ OpenFault.Damaged row) × IsVerdict kept.now (record { finding = findings.now; filing = filings.now; fact = facts.now; amends = [] }) (Verdict.Damaged row))) }
 {
-    match audit(alloc, kept, findings, filings, facts) {
+    match audit(alloc, kept, findings, filings, facts, &[]) {
         Ok(Verdict::Sound { filings }) => Ok(Totals {
             kept: kept.len() as u64,
             filings,
@@ -148,7 +148,7 @@ fn count_walked<S: Alter>(
     ensures mode { conn.old.in_transaction ≡ false → conn.new.in_transaction ≡ false }
     ensures survives { Survives (state S.Store conn.old) (state S.Store conn.new) (λ _. ⊥) }
 {
-    match count_by_walk(alloc, conn) {
+    match count_by_walk(alloc, conn, &[]) {
         Ok(found) => Ok(found),
         Err(error) => match Cause::from(error) {
             Cause::Memory => Err(OpenFault::Memory),

@@ -1,8 +1,8 @@
 //! The facts of a filing, as the rows have them.
 
-ghost use Rattle.std.specs.Prelude.{◌≡◌, map, filter_map, option_map, string_bytes, IfOk};
+ghost use Rattle.std.specs.Prelude.{◌≡◌, map, option_map, string_bytes, IfOk};
 ghost use Rattle.sqlite.specs.Order.{column};
-ghost use Rattle.register_store.specs.Columns.{bytes_in, maybe_bytes_in, number_in, fact_in};
+ghost use Rattle.register_store.specs.Columns.{bytes_in, maybe_bytes_in, fact_in};
 
 use crate::fault::StoreFault;
 use sqlite::Row;
@@ -62,26 +62,6 @@ pub(crate) fn read_facts(alloc: Global, rows: &[Row]) -> Result<Vec<Fact>, Store
     let mut list = Vec::new(alloc);
     for row in rows {
         list.push(read_fact(row)?)?;
-    }
-    Ok(list)
-}
-
-/// The number in the first column of the row, if it has one.
-fn read_number(row: &Row) -> Result<Option<u64>, StoreFault>
-    ensures { IfOk result (λ number. number ≡ number_in (column row.now 0)) }
-{
-    Ok(row.get(0)?)
-}
-
-/// The numbers in the first columns of the rows, where they have one.
-pub(crate) fn read_numbers(alloc: Global, rows: &[Row]) -> Result<Vec<u64>, StoreFault>
-    ensures { IfOk result (λ list. list.items ≡ filter_map (λ row. number_in (column row 0)) rows.now) }
-{
-    let mut list = Vec::new(alloc);
-    for row in rows {
-        if let Some(number) = read_number(row)? {
-            list.push(number)?;
-        }
     }
     Ok(list)
 }

@@ -1,6 +1,6 @@
 //! What is kept of a filer and key: its row, and the findings where it was refused.
 
-ghost use Rattle.std.specs.Prelude.{◌≡◌, ℕ, pos, false, List, map, take, option_map, IsTrue, IfOk, IfSome, OnOk};
+ghost use Rattle.std.specs.Prelude.{◌≡◌, ℕ, pos, false, List, map, take, option_map, Option, IsTrue, IfOk, IfSome, OnOk};
 ghost use Rattle.sqlite.specs.Held.{state};
 ghost use Rattle.sqlite.specs.State.{HasCleanDisk, Survives};
 ghost use Rattle.filing_model.specs.Request.{Request};
@@ -9,16 +9,16 @@ ghost use Rattle.filing_model.specs.Answer.{kept_for};
 ghost use Rattle.filing_model.specs.Style.{style_of};
 ghost use Rattle.filing_model.specs.Views.{the_request};
 ghost use Rattle.table_rows.specs.Standing.{Stands};
-ghost use Rattle.register_store.specs.Register.{findings_of, number_of};
+ghost use Rattle.register_store.specs.Register.{amends_rows_by, findings_of, number_of};
 ghost use Rattle.xbrl_report.specs.CodeNumber.{number_of as code_number};
 ghost use Rattle.register_store.specs.Store.{IsRegisterOf};
 ghost use Rattle.register_store.specs.Outcomes.{kept_as, style_at};
-ghost use Rattle.register_store.specs.Found.{IsFound, IsLookUp, IsPlaced, IsReading, found_row, finding_in};
+ghost use Rattle.register_store.specs.Found.{IsFound, IsLookUp, IsPlaced, IsReading, found_row, finding_in, target_alone};
 
 use crate::facts::read_text;
 use crate::fault::StoreFault;
 use crate::outcome::{KeptRow, Outcome};
-use crate::rows::{rows_of_findings, rows_with_key};
+use crate::rows::{rows_of_findings, rows_of_target, rows_with_key};
 use filing_model::Style;
 use sqlite::{Alter, Connection, Row};
 use std::alloc::Global;
@@ -131,6 +131,31 @@ fn findings_at<S: Alter>(
     }
 }
 
+/// The number in such a row's one column, if there is a row.
+fn read_target(rows: &[Row]) -> Result<Option<u64>, StoreFault>
+    ensures { IfOk result (λ target. (seq : ℕ) (wanted : Option ℕ) → rows.now ≡ map target_alone (amends_rows_by seq wanted) → target ≡ wanted) }
+{
+    match rows.first() {
+        None => Ok(None),
+        Some(row) => Ok(Some(row.get(0)?)),
+    }
+}
+
+/// The filing that the request at this place is to replace, if any.
+fn target_at<S: Alter>(conn: &mut Connection<S>, seq: i64) -> Result<Option<u64>, StoreFault>
+    ensures found { HasCleanDisk (state S.Store conn.new) → (early : ℕ) (F : List Request) → Stands (IsRegisterOf early F) (state S.Store conn.old)
+        → (n : ℕ) (k : Kept) → seq ≡ pos n → IsPlaced 1 n (kept F) k → IfOk result (λ target. target ≡ k.request.target) }
+    ensures same { HasCleanDisk (state S.Store conn.new) → (early : ℕ) (F : List Request) → Stands (IsRegisterOf early F) (state S.Store conn.old) → Stands (IsRegisterOf early F) (state S.Store conn.new) }
+    ensures open { HasCleanDisk (state S.Store conn.new) → (early : ℕ) (F : List Request) → Stands (IsRegisterOf early F) (state S.Store conn.old) → OnOk result (IsTrue (state S.Store conn.new).is_open) }
+    ensures mode { conn.old.in_transaction ≡ false → conn.new.in_transaction ≡ false }
+    ensures survives { Survives (state S.Store conn.old) (state S.Store conn.new) (λ _. ⊥) }
+{
+    match rows_of_target(conn, seq) {
+        Ok(rows) => read_target(&rows),
+        Err(error) => Err(StoreFault::from(error)),
+    }
+}
+
 /// The style in which the request at this place is answered, where the first so many are answered as before.
 fn style_at(early: u64, seq: i64) -> Style
     ensures { (place : ℕ) → seq ≡ pos place → result ≡ style_at early place }
@@ -141,8 +166,45 @@ fn style_at(early: u64, seq: i64) -> Style
     }
 }
 
-/// A kept row whole: with its number, or with its findings where it has none.
+/// A kept row whole, with the filing that it is to replace, if any: with its number, or with its findings where it has none.
 fn complete<S: Alter>(
+    conn: &mut Connection<S>,
+    alloc: Global,
+    early: u64,
+    target: Option<u64>,
+    found: Found,
+) -> Result<KeptRow, StoreFault>
+    ensures found { HasCleanDisk (state S.Store conn.new) → (filer key : List ℕ) (n : ℕ) (F : List Request) → Stands (IsRegisterOf n F) (state S.Store conn.old)
+        → (is : IsFound filer key F found) → target ≡ is.k.request.target → IfOk result (λ row. kept_as filer key row ≡ is.k) }
+    ensures style { (place : ℕ) → found.seq ≡ pos place → IfOk result (λ row. row.style ≡ style_at early place) }
+    ensures same { HasCleanDisk (state S.Store conn.new) → (n : ℕ) (F : List Request) → Stands (IsRegisterOf n F) (state S.Store conn.old) → Stands (IsRegisterOf n F) (state S.Store conn.new) }
+    ensures open { HasCleanDisk (state S.Store conn.new) → (n : ℕ) (F : List Request) → Stands (IsRegisterOf n F) (state S.Store conn.old) → IsTrue (state S.Store conn.old).is_open → OnOk result (IsTrue (state S.Store conn.new).is_open) }
+    ensures mode { conn.old.in_transaction ≡ false → conn.new.in_transaction ≡ false }
+    ensures survives { Survives (state S.Store conn.old) (state S.Store conn.new) (λ _. ⊥) }
+{
+    let Found { seq, body, number } = found;
+    let style = style_at(early, seq);
+    match number {
+        Some(number) => Ok(KeptRow {
+            target,
+            body,
+            outcome: Outcome::Registered(number),
+            style,
+        }),
+        None => match findings_at(conn, alloc, seq) {
+            Ok(findings) => Ok(KeptRow {
+                target,
+                body,
+                outcome: Outcome::Refused(findings),
+                style,
+            }),
+            Err(fault) => Err(fault),
+        },
+    }
+}
+
+/// A kept row whole.
+fn complete_found<S: Alter>(
     conn: &mut Connection<S>,
     alloc: Global,
     early: u64,
@@ -156,22 +218,9 @@ fn complete<S: Alter>(
     ensures mode { conn.old.in_transaction ≡ false → conn.new.in_transaction ≡ false }
     ensures survives { Survives (state S.Store conn.old) (state S.Store conn.new) (λ _. ⊥) }
 {
-    let Found { seq, body, number } = found;
-    let style = style_at(early, seq);
-    match number {
-        Some(number) => Ok(KeptRow {
-            body,
-            outcome: Outcome::Registered(number),
-            style,
-        }),
-        None => match findings_at(conn, alloc, seq) {
-            Ok(findings) => Ok(KeptRow {
-                body,
-                outcome: Outcome::Refused(findings),
-                style,
-            }),
-            Err(fault) => Err(fault),
-        },
+    match target_at(conn, found.seq) {
+        Ok(target) => complete(conn, alloc, early, target, found),
+        Err(fault) => Err(fault),
     }
 }
 
@@ -184,16 +233,16 @@ pub fn find_kept<S: Alter>(
     key: &str,
 ) -> Result<Option<KeptRow>, StoreFault>
     ensures found { HasCleanDisk (state S.Store conn.new) → (n : ℕ) (F : List Request) → Stands (IsRegisterOf n F) (state S.Store conn.old)
-        → (body : List ℕ) → IfOk result (λ row. option_map (kept_as filer.now key.now) row ≡ kept_for (kept F) (the_request filer.now key.now body)) }
+        → (target : Option ℕ) (body : List ℕ) → IfOk result (λ row. option_map (kept_as filer.now key.now) row ≡ kept_for (kept F) (the_request filer.now key.now target body)) }
     ensures style { HasCleanDisk (state S.Store conn.new) → (F : List Request) → Stands (IsRegisterOf early F) (state S.Store conn.old)
-        → (body : List ℕ) → IfOk result (λ row. IfSome row (λ r. r.style ≡ style_of (take early F) (the_request filer.now key.now body))) }
+        → (target : Option ℕ) (body : List ℕ) → IfOk result (λ row. IfSome row (λ r. r.style ≡ style_of (take early F) (the_request filer.now key.now target body))) }
     ensures same { HasCleanDisk (state S.Store conn.new) → (n : ℕ) (F : List Request) → Stands (IsRegisterOf n F) (state S.Store conn.old) → Stands (IsRegisterOf n F) (state S.Store conn.new) }
     ensures open { HasCleanDisk (state S.Store conn.new) → (n : ℕ) (F : List Request) → Stands (IsRegisterOf n F) (state S.Store conn.old) → OnOk result (IsTrue (state S.Store conn.new).is_open) }
     ensures mode { conn.old.in_transaction ≡ false → conn.new.in_transaction ≡ false }
     ensures crash { Survives (state S.Store conn.old) (state S.Store conn.new) (λ _. ⊥) }
 {
     match look_up(conn, filer, key) {
-        Ok(Some(found)) => match complete(conn, alloc, early, found) {
+        Ok(Some(found)) => match complete_found(conn, alloc, early, found) {
             Ok(row) => Ok(Some(row)),
             Err(fault) => Err(fault),
         },

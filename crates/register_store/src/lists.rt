@@ -1,14 +1,18 @@
 //! What a store lists: the kept requests, the filings and their facts.
 
-ghost use Rattle.std.specs.Prelude.{◌≡◌, List, IsTrue, IfOk, OnOk, map, option_map};
+ghost use Rattle.std.specs.Prelude.{◌≡◌, ℕ, false, List, IsTrue, IfOk, OnOk, None, map, option_map};
 ghost use Rattle.filing_model.specs.Listing.{listings};
 ghost use Rattle.filing_model.specs.Views.{view_row};
-ghost use Rattle.filing_model.specs.Request.{Request};
-ghost use Rattle.filing_model.specs.Register.{register};
+ghost use Rattle.filing_model.specs.Request.{Request, firsts};
+ghost use Rattle.filing_model.specs.Register.{kept, register};
+ghost use Rattle.sqlite.specs.Held.{state};
+ghost use Rattle.table_rows.specs.Rows.{counted_from};
+ghost use Rattle.table_rows.specs.Standing.{Stands};
+ghost use Rattle.register_store.specs.Register.{kept_row, amends_rows, joined_from};
 ghost use Rattle.sqlite.specs.State.{HasCleanDisk, Survives};
 ghost use Rattle.sqlite.specs.Tree.{Trees};
 ghost use Rattle.register_store.specs.Numbered.{facts_numbered};
-ghost use Rattle.register_store.specs.Store.{shows, HasRequests, Leaves};
+ghost use Rattle.register_store.specs.Store.{IsRegisterOf, shows, HasRequests, Leaves};
 
 use crate::completed::{Completed, Registered, read_filings, read_requests};
 use crate::counts::filings_of;
@@ -17,8 +21,32 @@ use crate::fault::StoreFault;
 use crate::reads;
 use crate::store::Store;
 use filing_model::FilingRow;
-use sqlite::Alter;
+use sqlite::{Alter, Connection, Row};
 use xbrl_report::Fact;
+
+/// The rows of `kept` and of `amends`, each in the order of the places.
+#[derive(Drop)]
+struct Both {
+    kept: Vec<Row>,
+    amends: Vec<Row>,
+}
+
+fn read_both<S: Alter>(conn: &mut Connection<S>) -> Result<Both, StoreFault>
+    ensures read { HasCleanDisk (state S.Store conn.new) → (early : ℕ) (F : List Request) → Stands (IsRegisterOf early F) (state S.Store conn.old)
+        → IfOk result (λ both. (firsts F ≡ F) × (both.kept.items ≡ counted_from kept_row 1 (kept F)) × (both.amends.items ≡ joined_from amends_rows 1 (kept F))) }
+    ensures same { HasCleanDisk (state S.Store conn.new) → (early : ℕ) (F : List Request) → Stands (IsRegisterOf early F) (state S.Store conn.old) → Stands (IsRegisterOf early F) (state S.Store conn.new) }
+    ensures open { HasCleanDisk (state S.Store conn.new) → (early : ℕ) (F : List Request) → Stands (IsRegisterOf early F) (state S.Store conn.old) → OnOk result (IsTrue (state S.Store conn.new).is_open) }
+    ensures mode { conn.old.in_transaction ≡ false → conn.new.in_transaction ≡ false }
+    ensures survives { Survives (state S.Store conn.old) (state S.Store conn.new) (λ _. ⊥) }
+{
+    match reads::kept_rows(conn) {
+        Ok(kept) => match reads::amends_rows(conn) {
+            Ok(amends) => Ok(Both { kept, amends }),
+            Err(error) => Err(StoreFault::from(error)),
+        },
+        Err(error) => Err(StoreFault::from(error)),
+    }
+}
 
 // Of each call: the rows are those of before, whatever the answer is, and a crash leaves what it could leave before.
 impl<S: Alter> Store<S> {
@@ -32,9 +60,9 @@ impl<S: Alter> Store<S> {
         ensures durable { HasCleanDisk (shows S.Store self.new) → (F : List Request) → HasRequests S.Store self.old F
             → OnOk result (IsTrue (shows S.Store self.new).is_open × ((trees : Trees) → (shows S.Store self.new).may_leave trees → Leaves self.old.early F trees)) }
     {
-        match reads::kept_rows(&mut self.conn) {
-            Ok(rows) => read_requests(self.alloc, &rows),
-            Err(error) => Err(StoreFault::from(error)),
+        match read_both(&mut self.conn) {
+            Ok(both) => read_requests(self.alloc, &both.kept, &both.amends),
+            Err(fault) => Err(fault),
         }
     }
 
@@ -48,15 +76,16 @@ impl<S: Alter> Store<S> {
         ensures durable { HasCleanDisk (shows S.Store self.new) → (F : List Request) → HasRequests S.Store self.old F
             → OnOk result (IsTrue (shows S.Store self.new).is_open × ((trees : Trees) → (shows S.Store self.new).may_leave trees → Leaves self.old.early F trees)) }
     {
-        match reads::kept_rows(&mut self.conn) {
-            Ok(rows) => read_filings(self.alloc, &rows),
-            Err(error) => Err(StoreFault::from(error)),
+        match read_both(&mut self.conn) {
+            Ok(both) => read_filings(self.alloc, &both.kept, &both.amends),
+            Err(fault) => Err(fault),
         }
     }
 
-    /// The filings of a filer, each with how many facts it has, ascending by number. A filer that never came has none.
+    /// The filings of a filer, each with how many facts it has, which filing it replaces and which one replaces it, ascending by number.
+    /// A filer that never came has none.
     pub fn filings(&mut self, filer: &str) -> Result<Vec<FilingRow>, StoreFault>
-        ensures rows { HasCleanDisk (shows S.Store self.new) → (F : List Request) → HasRequests S.Store self.old F → IfOk result (λ rows. map view_row rows.items ≡ listings filer.now (register F)) }
+        ensures rows { HasCleanDisk (shows S.Store self.new) → (F : List Request) → HasRequests S.Store self.old F → IfOk result (λ rows. map view_row rows.items ≡ listings filer.now None (register F)) }
         ensures same { HasCleanDisk (shows S.Store self.new) → (F : List Request) → HasRequests S.Store self.old F → HasRequests S.Store self.new F }
         ensures counts { (self.new.kept ≡ self.old.kept) × (self.new.filings ≡ self.old.filings) }
         ensures early { self.new.early ≡ self.old.early }

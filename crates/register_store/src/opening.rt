@@ -150,7 +150,7 @@ pub struct Counts {
 }
 
 /// The number in the second column of the row.
-fn last_in(row: &Row) -> Option<u64>
+pub(crate) fn last_in(row: &Row) -> Option<u64>
     ensures some { IfSome result (λ last. (last < 2 ^ 63) × (column row.now 1 ≡ Int (pos last))) }
     ensures none { result ≡ None → (last : ℕ) → 1 < length row.now → column row.now 1 ≡ Int (pos last) → ⊥ }
 {
@@ -172,13 +172,13 @@ pub(crate) fn number_of(row: &Row, kept: u64) -> Option<u64>
     }
 }
 
-/// The number in the row of `migrated`, where it is one of so many kept requests, and no request replaces a filing.
+/// The number in the row of `migrated`, where it is one of so many kept requests.
 fn early_in(kept: u64, later: &Later) -> Option<u64>
     ensures some { IfSome result (λ early. SaysEarly kept early (record { migrated = later.now.migrated.items; amends = later.now.amends.items })) }
     ensures none { result ≡ None → SaysNothing kept (record { migrated = later.now.migrated.items; amends = later.now.amends.items }) }
 {
     match later.migrated.as_slice() {
-        [row] if later.amends.is_empty() => number_of(row, kept),
+        [row] => number_of(row, kept),
         _ => None,
     }
 }
@@ -192,11 +192,11 @@ fn count(
     facts: &[Row],
     later: &Later,
 ) -> Result<Counts, OpenFault>
-    ensures counted { IfOk result (λ counts. (counts.kept ≡ length kept.now) × SaysEarly counts.kept counts.early (record { migrated = later.now.migrated.items; amends = later.now.amends.items }) × IsVerdict kept.now (record { finding = findings.now; filing = filings.now; fact = facts.now }) (Verdict.Sound counts.filings)) }
+    ensures counted { IfOk result (λ counts. (counts.kept ≡ length kept.now) × SaysEarly counts.kept counts.early (record { migrated = later.now.migrated.items; amends = later.now.amends.items }) × IsVerdict kept.now (record { finding = findings.now; filing = filings.now; fact = facts.now; amends = later.now.amends.items }) (Verdict.Sound counts.filings)) }
     ensures few { IfOk result (λ counts. (counts.kept ≤ 2 ^ 62) × (counts.filings ≤ counts.kept) × (counts.early ≤ counts.kept)) }
-    ensures refused { IfErr result (λ fault. (fault ≡ OpenFault.Memory) ⊎ ((row : ℕ) × (fault ≡ OpenFault.Damaged row) × AreDamaged kept.now (record { finding = findings.now; filing = filings.now; fact = facts.now }) (record { migrated = later.now.migrated.items; amends = later.now.amends.items }) row)) }
+    ensures refused { IfErr result (λ fault. (fault ≡ OpenFault.Memory) ⊎ ((row : ℕ) × (fault ≡ OpenFault.Damaged row) × AreDamaged kept.now (record { finding = findings.now; filing = filings.now; fact = facts.now; amends = later.now.amends.items }) (record { migrated = later.now.migrated.items; amends = later.now.amends.items }) row)) }
 {
-    match audit(alloc, kept, findings, filings, facts) {
+    match audit(alloc, kept, findings, filings, facts, &later.amends) {
         Ok(Verdict::Sound { filings }) => match early_in(kept.len() as u64, later) {
             Some(early) => Ok(Counts {
                 kept: kept.len() as u64,
@@ -237,7 +237,7 @@ fn count_one_by_one<S: Alter>(
     ensures mode { conn.old.in_transaction ≡ false → conn.new.in_transaction ≡ false }
     ensures survives { Survives (state S.Store conn.old) (state S.Store conn.new) (λ _. ⊥) }
 {
-    match count_by_walk(alloc, conn) {
+    match count_by_walk(alloc, conn, &later.amends) {
         Ok(Some(totals)) => Ok(counts_of(totals, later)),
         Ok(None) => Ok(None),
         Err(error) => match Cause::from(error) {

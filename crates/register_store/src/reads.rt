@@ -5,9 +5,10 @@ ghost use Rattle.sqlite.specs.Held.{state};
 ghost use Rattle.sqlite.specs.State.{HasCleanDisk, FailsToQuery, Shown, Survives};
 ghost use Rattle.table_rows.specs.Reading.{ReadsRows};
 ghost use Rattle.table_rows.specs.Standing.{Keeps};
-ghost use Rattle.register_store.specs.Schema.{kept_table, fact_table};
+ghost use Rattle.register_store.specs.Schema.{kept_table, filing_table, fact_table, amends_table};
 ghost use Rattle.register_store.specs.Opening.{all_meta, all_kept, all_findings, all_filings, all_facts, all_migrated, all_amends};
-ghost use Rattle.register_store.specs.Reads.{Knows, every, whole, by_first, by_second, has_filer, has_number, number_alone, place_alone, said};
+ghost use Rattle.register_store.specs.Found.{has_seq};
+ghost use Rattle.register_store.specs.Reads.{Knows, KnowsAll, every, whole, by_first, by_second, has_number, has_second, filer_and_number, filer_alone, number_alone, second_alone, place_alone, said};
 
 use sqlite::{Alter, Connection, Error, Row, params};
 
@@ -26,19 +27,73 @@ pub(crate) fn kept_rows<S: Alter>(conn: &mut Connection<S>) -> Result<Vec<Row>, 
     )
 }
 
-/// The column `number` of the filer's kept rows, by `seq`.
-pub(crate) fn numbers_of_filer<S: Alter>(
+/// The columns `seq`, `filer` and `number` of all kept rows, by `seq`.
+pub(crate) fn filers_and_numbers<S: Alter>(conn: &mut Connection<S>) -> Result<Vec<Row>, Error>
+    ensures read { HasCleanDisk (state S.Store conn.new) → Knows (state S.Store conn.old) → IfOk result (λ rows. ReadsRows kept_table every by_first filer_and_number rows.items (state S.Store conn.old) (state S.Store conn.new)) }
+    ensures keeps { HasCleanDisk (state S.Store conn.new) → Keeps (state S.Store conn.old) (state S.Store conn.new) }
+    ensures mode { conn.old.in_transaction ≡ false → conn.new.in_transaction ≡ false }
+    ensures survives { Survives (state S.Store conn.old) (state S.Store conn.new) (λ _. ⊥) }
+{
+    conn.query_all("SELECT seq, filer, number FROM kept ORDER BY seq", &[])
+}
+
+/// The place of the filing of this number.
+pub(crate) fn place_of_filing<S: Alter>(
     conn: &mut Connection<S>,
-    filer: &str,
+    number: u64,
 ) -> Result<Vec<Row>, Error>
-    ensures read { HasCleanDisk (state S.Store conn.new) → Knows (state S.Store conn.old) → IfOk result (λ rows. ReadsRows kept_table (has_filer filer.now) by_first number_alone rows.items (state S.Store conn.old) (state S.Store conn.new)) }
+    requires { number < 2 ^ 63 }
+    ensures read { HasCleanDisk (state S.Store conn.new) → Knows (state S.Store conn.old) → IfOk result (λ rows. ReadsRows filing_table (has_number number) by_first second_alone rows.items (state S.Store conn.old) (state S.Store conn.new)) }
     ensures keeps { HasCleanDisk (state S.Store conn.new) → Keeps (state S.Store conn.old) (state S.Store conn.new) }
     ensures mode { conn.old.in_transaction ≡ false → conn.new.in_transaction ≡ false }
     ensures survives { Survives (state S.Store conn.old) (state S.Store conn.new) (λ _. ⊥) }
 {
     conn.query_all(
-        "SELECT number FROM kept WHERE filer = ?1 ORDER BY seq",
-        params![filer],
+        "SELECT seq FROM filing WHERE number = ?1 ORDER BY number",
+        params![number as i64],
+    )
+}
+
+/// The filer of the kept row at this place.
+pub(crate) fn filer_at<S: Alter>(conn: &mut Connection<S>, seq: i64) -> Result<Vec<Row>, Error>
+    ensures read { HasCleanDisk (state S.Store conn.new) → Knows (state S.Store conn.old) → IfOk result (λ rows. ReadsRows kept_table (has_seq seq) by_first filer_alone rows.items (state S.Store conn.old) (state S.Store conn.new)) }
+    ensures keeps { HasCleanDisk (state S.Store conn.new) → Keeps (state S.Store conn.old) (state S.Store conn.new) }
+    ensures mode { conn.old.in_transaction ≡ false → conn.new.in_transaction ≡ false }
+    ensures survives { Survives (state S.Store conn.old) (state S.Store conn.new) (λ _. ⊥) }
+{
+    conn.query_all(
+        "SELECT filer FROM kept WHERE seq = ?1 ORDER BY seq",
+        params![seq],
+    )
+}
+
+/// The number of the kept row at this place.
+pub(crate) fn number_at<S: Alter>(conn: &mut Connection<S>, seq: i64) -> Result<Vec<Row>, Error>
+    ensures read { HasCleanDisk (state S.Store conn.new) → Knows (state S.Store conn.old) → IfOk result (λ rows. ReadsRows kept_table (has_seq seq) by_first number_alone rows.items (state S.Store conn.old) (state S.Store conn.new)) }
+    ensures keeps { HasCleanDisk (state S.Store conn.new) → Keeps (state S.Store conn.old) (state S.Store conn.new) }
+    ensures mode { conn.old.in_transaction ≡ false → conn.new.in_transaction ≡ false }
+    ensures survives { Survives (state S.Store conn.old) (state S.Store conn.new) (λ _. ⊥) }
+{
+    conn.query_all(
+        "SELECT number FROM kept WHERE seq = ?1 ORDER BY seq",
+        params![seq],
+    )
+}
+
+/// The places of the kept requests that are to replace the filing of this number.
+pub(crate) fn places_with_target<S: Alter>(
+    conn: &mut Connection<S>,
+    target: u64,
+) -> Result<Vec<Row>, Error>
+    requires { target < 2 ^ 63 }
+    ensures read { HasCleanDisk (state S.Store conn.new) → KnowsAll (state S.Store conn.old) → IfOk result (λ rows. ReadsRows amends_table (has_second target) by_first by_first rows.items (state S.Store conn.old) (state S.Store conn.new)) }
+    ensures keeps { HasCleanDisk (state S.Store conn.new) → Keeps (state S.Store conn.old) (state S.Store conn.new) }
+    ensures mode { conn.old.in_transaction ≡ false → conn.new.in_transaction ≡ false }
+    ensures survives { Survives (state S.Store conn.old) (state S.Store conn.new) (λ _. ⊥) }
+{
+    conn.query_all(
+        "SELECT seq FROM amends WHERE target = ?1 ORDER BY seq",
+        params![target as i64],
     )
 }
 
@@ -136,6 +191,8 @@ pub(crate) fn migrated_rows<S: Alter>(conn: &mut Connection<S>) -> Result<Vec<Ro
 pub(crate) fn amends_rows<S: Alter>(conn: &mut Connection<S>) -> Result<Vec<Row>, Error>
     ensures shown { HasCleanDisk (state S.Store conn.new) → IfOk result (λ rows. Shown all_amends [] (state S.Store conn.old) (state S.Store conn.new) rows.items) }
     ensures failed { HasCleanDisk (state S.Store conn.new) → IfErr result (FailsToQuery all_amends [] (state S.Store conn.old) (state S.Store conn.new)) }
+    ensures read { HasCleanDisk (state S.Store conn.new) → KnowsAll (state S.Store conn.old) → IfOk result (λ rows. ReadsRows amends_table every by_first whole rows.items (state S.Store conn.old) (state S.Store conn.new)) }
+    ensures keeps { HasCleanDisk (state S.Store conn.new) → Keeps (state S.Store conn.old) (state S.Store conn.new) }
     ensures mode { conn.old.in_transaction ≡ false → conn.new.in_transaction ≡ false }
     ensures survives { Survives (state S.Store conn.old) (state S.Store conn.new) (λ _. ⊥) }
 {

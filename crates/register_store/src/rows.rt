@@ -8,9 +8,9 @@ ghost use Rattle.sqlite.specs.State.{HasCleanDisk, KeepsCommit, Survives};
 ghost use Rattle.table_rows.specs.Rows.{counted_from};
 ghost use Rattle.table_rows.specs.Reading.{ReadsRows};
 ghost use Rattle.table_rows.specs.Standing.{Keeps};
-ghost use Rattle.register_store.specs.Reads.{Knows, by_second};
-ghost use Rattle.register_store.specs.Found.{has_texts, has_seq, unsorted, found_in, pair_in};
-ghost use Rattle.register_store.specs.Schema.{kept_table, finding_table, filing_table, fact_table};
+ghost use Rattle.register_store.specs.Reads.{Knows, KnowsAll, by_second};
+ghost use Rattle.register_store.specs.Found.{has_texts, has_seq, unsorted, found_in, pair_in, target_alone};
+ghost use Rattle.register_store.specs.Schema.{kept_table, finding_table, filing_table, fact_table, amends_table};
 ghost use Rattle.key_string.specs.Key.{IsKey};
 ghost use Rattle.register_store.specs.Changes.{GainsRows};
 ghost use Rattle.register_store.specs.Register.{finding_row, fact_row};
@@ -73,6 +73,27 @@ pub fn insert_filing<S: Alter>(
     tx.execute(
         "INSERT INTO filing VALUES (?1, ?2)",
         params![number as i64, seq as i64],
+    )?;
+    Ok(())
+}
+
+/// Adds the row that says which filing the request at this place is to replace.
+pub fn insert_amends<S: Alter>(
+    tx: &mut Transaction<'_, S>,
+    seq: u64,
+    target: u64,
+) -> Result<(), Error>
+    requires seq { seq < 2 ^ 63 }
+    requires target { target < 2 ^ 63 }
+    ensures same_reference { tx.new.conn.ghost_name ≡ tx.old.conn.ghost_name }
+    ensures was_inside { OnOk result (IsTrue (state S.Store tx.old.conn.now).in_transaction) }
+    ensures gains { HasCleanDisk (state S.Store tx.new.conn.now) → OnOk result (GainsRows amends_table ((Int (pos seq) ∷ Int (pos target) ∷ []) ∷ []) (state S.Store tx.old.conn.now) (state S.Store tx.new.conn.now)) }
+    ensures keeps { HasCleanDisk (state S.Store tx.new.conn.now) → KeepsCommit (state S.Store tx.old.conn.now) (state S.Store tx.new.conn.now) }
+    ensures survives { Survives (state S.Store tx.old.conn.now) (state S.Store tx.new.conn.now) (λ _. ⊥) }
+{
+    tx.execute(
+        "INSERT INTO amends VALUES (?1, ?2)",
+        params![seq as i64, target as i64],
     )?;
     Ok(())
 }
@@ -215,4 +236,14 @@ pub fn rows_of_findings<S: Alter>(conn: &mut Connection<S>, seq: i64) -> Result<
         "SELECT code, place FROM finding WHERE seq = ?1 ORDER BY pos",
         params![seq],
     )
+}
+
+/// The column `target` of the rows of `amends` with this place.
+pub fn rows_of_target<S: Alter>(conn: &mut Connection<S>, seq: i64) -> Result<Vec<Row>, Error>
+    ensures read { HasCleanDisk (state S.Store conn.new) → KnowsAll (state S.Store conn.old) → IfOk result (λ rows. ReadsRows amends_table (has_seq seq) unsorted target_alone rows.items (state S.Store conn.old) (state S.Store conn.new)) }
+    ensures keeps { HasCleanDisk (state S.Store conn.new) → Keeps (state S.Store conn.old) (state S.Store conn.new) }
+    ensures mode { conn.old.in_transaction ≡ false → conn.new.in_transaction ≡ false }
+    ensures survives { Survives (state S.Store conn.old) (state S.Store conn.new) (λ _. ⊥) }
+{
+    conn.query_all("SELECT target FROM amends WHERE seq = ?1", params![seq])
 }

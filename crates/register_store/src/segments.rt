@@ -1,14 +1,16 @@
 //! Whether rows begin with those that a kept request puts into a table.
 
-ghost use Rattle.std.specs.Prelude.{◌≡◌, ◌↔◌, ◌<◌, ◌^◌, pos, List, [], ◌∷◌, ◌++◌, IsTrue, MatchOption, option_map, string_bytes};
+ghost use Rattle.std.specs.Prelude.{◌≡◌, ◌↔◌, ◌<◌, ◌^◌, ℕ, pos, false, List, [], ◌∷◌, ◌++◌, IsTrue, IfSome, MatchOption, Option, None, option_map, string_bytes};
 ghost use Rattle.sqlite.specs.Order.{Row};
 ghost use Rattle.sqlite.specs.declared.types.Value.TheVariants.{Int, Blob};
 ghost use Rattle.sqlite.specs.Values.{or_null};
 ghost use Rattle.table_rows.specs.Rows.{counted_from};
 ghost use Rattle.register_store.specs.Cells.{value_of};
-ghost use Rattle.register_store.specs.Register.{finding_row, fact_row};
+ghost use Rattle.register_store.specs.Register.{finding_row, fact_row, amends_rows_by};
+ghost use Rattle.register_store.specs.Audit.{begins_with};
 
 use crate::cells::{Cell, is_row};
+use crate::opening::last_in;
 use sqlite::Row;
 use xbrl_report::{Fact, Finding};
 
@@ -116,5 +118,37 @@ pub(crate) fn after_filing<'a>(rows: &'a [Row], number: u64, seq: u64) -> Option
             }
         }
         [] => None,
+    }
+}
+
+/// The number of the filing that the request at this place is to replace, where the row says one.
+fn target_in(row: &Row, seq: u64) -> Option<u64>
+    requires { seq < 2 ^ 63 }
+    ensures some { IfSome result (λ target. row.now ≡ Int (pos seq) ∷ Int (pos target) ∷ []) }
+    ensures few { IfSome result (λ target. target < 2 ^ 63) }
+    ensures none { result ≡ None → (target : ℕ) → row.now ≡ Int (pos seq) ∷ Int (pos target) ∷ [] → ⊥ }
+{
+    match last_in(row) {
+        Some(target) if is_row(row, &[Cell::Int(seq as i64), Cell::Int(target as i64)]) => Some(
+            target,
+        ),
+        _ => None,
+    }
+}
+
+/// The number of the filing that the request at this place is to replace, if the first of the rows says one, and the rows behind.
+pub(crate) fn target_of<'a>(rows: &'a [Row], seq: u64) -> (Option<u64>, &'a [Row])
+    requires { seq < 2 ^ 63 }
+    ensures begins { rows.now ≡ amends_rows_by seq result.0 ++ result.1.now }
+    ensures few { IfSome result.0 (λ target. target < 2 ^ 63) }
+    ensures only { (target : Option ℕ) (tail : List Row) → rows.now ≡ amends_rows_by seq target ++ tail → begins_with 0 seq tail ≡ false
+        → (target ≡ result.0) × (tail ≡ result.1.now) }
+{
+    match rows {
+        [first, rest @ ..] => match target_in(first, seq) {
+            Some(target) => (Some(target), rest),
+            None => (None, rows),
+        },
+        [] => (None, rows),
     }
 }

@@ -1,11 +1,12 @@
 //! The store of a register: its connection, and how much it holds.
 
-ghost use Rattle.std.specs.Prelude.{◌≡◌, ◌≢◌, ◌≤◌, ◌<◌, ◌^◌, ◌+◌, ◌↔◌, ◌⊎◌, ℕ, true, false, List, [], ◌∷◌, ◌++◌, length, option_map, take, None, Ok, Err, IsTrue, IfOk, IfErr, IfSome, OnOk, OnErr};
+ghost use Rattle.std.specs.Prelude.{◌≡◌, ◌≢◌, ◌≤◌, ◌<◌, ◌^◌, ◌+◌, ◌↔◌, ◌⊎◌, ℕ, true, false, List, [], ◌∷◌, ◌++◌, length, option_map, take, Option, None, Ok, Err, IsTrue, IfOk, IfErr, IfSome, OnOk, OnErr};
 ghost use Rattle.key_string.specs.Filer.{is_filer};
 ghost use Rattle.http_wire.specs.Head.{max_body_len};
-ghost use Rattle.xbrl_report.specs.Judgement.{IsJudgement, HasFacts};
+ghost use Rattle.http_wire.specs.Posting.{IsTarget};
+ghost use Rattle.xbrl_report.specs.Judgement.{IsAmendmentJudgement, HasFacts};
 ghost use Rattle.filing_model.specs.Request.{Request, has_key};
-ghost use Rattle.filing_model.specs.Register.{kept, judged};
+ghost use Rattle.filing_model.specs.Register.{is_free, kept, judged, register};
 ghost use Rattle.filing_model.specs.Answer.{kept_for};
 ghost use Rattle.filing_model.specs.Style.{style_of};
 ghost use Rattle.filing_model.specs.Views.{the_request};
@@ -162,11 +163,11 @@ impl<S: Alter> Store<S> {
     /// What is kept of this filer and key: the first request with its outcome, or `None` where they are new.
     pub fn find(&mut self, filer: &str, key: &KeyText) -> Result<Option<KeptRow>, StoreFault>
         ensures found { HasCleanDisk (shows S.Store self.new) → (F : List Request) → HasRequests S.Store self.old F
-            → (body : List ℕ) → IfOk result (λ row. option_map (kept_as filer.now key.now) row ≡ kept_for (kept F) (the_request filer.now key.now body)) }
+            → (target : Option ℕ) (body : List ℕ) → IfOk result (λ row. option_map (kept_as filer.now key.now) row ≡ kept_for (kept F) (the_request filer.now key.now target body)) }
 
         // It is answered in the style of before where it is among the first that were kept then.
         ensures style { HasCleanDisk (shows S.Store self.new) → (F : List Request) → HasRequests S.Store self.old F
-            → (body : List ℕ) → IfOk result (λ row. IfSome row (λ r. r.style ≡ style_of (take self.old.early F) (the_request filer.now key.now body))) }
+            → (target : Option ℕ) (body : List ℕ) → IfOk result (λ row. IfSome row (λ r. r.style ≡ style_of (take self.old.early F) (the_request filer.now key.now target body))) }
 
         // The rows are those of before, whatever the answer is, and a crash leaves what it could leave before.
         ensures same { HasCleanDisk (shows S.Store self.new) → (F : List Request) → HasRequests S.Store self.old F → HasRequests S.Store self.new F }
@@ -180,17 +181,18 @@ impl<S: Alter> Store<S> {
     }
 
     /// Keeps a request, in one transaction, and answers its outcome: a valid report takes the next number, and another
-    /// is refused with all its findings. The filer and key are not kept yet.
+    /// is refused with all its findings. The filer and key are not kept yet, and it was judged by whether the filing that it is to
+    /// replace, if any, is free after the kept requests.
     pub fn add(&mut self, row: &NewRow<'_>) -> Result<Outcome, StoreFault>
         requires filer { is_filer row.now.filer.now ≡ true }
         requires body { length row.now.body.now ≤ max_body_len }
-        requires judged { IsJudgement row.now.filer.now row.now.body.now row.now.judged.now }
+        requires target { IsTarget row.now.target }
         requires facts { HasFacts row.now.body.now row.now.judged.now }
         requires few { self.old.kept < 2 ^ 62 }
         ensures added { HasCleanDisk (shows S.Store self.new) → (F : List Request) → HasRequests S.Store self.old F
-            → has_key F (the_request row.now.filer.now row.now.key.now row.now.body.now) ≡ false
-            → IfOk result (λ outcome. (view_outcome outcome ≡ (judged (kept F) (the_request row.now.filer.now row.now.key.now row.now.body.now)).outcome)
-            × HasRequests S.Store self.new (F ++ the_request row.now.filer.now row.now.key.now row.now.body.now ∷ [])) }
+            → has_key F (the_request row.now.filer.now row.now.key.now row.now.target row.now.body.now) ≡ false → IsAmendmentJudgement row.now.filer.now row.now.body.now (is_free (register F) row.now.filer.now row.now.target) row.now.judged.now
+            → IfOk result (λ outcome. (view_outcome outcome ≡ (judged (kept F) (the_request row.now.filer.now row.now.key.now row.now.target row.now.body.now)).outcome)
+            × HasRequests S.Store self.new (F ++ the_request row.now.filer.now row.now.key.now row.now.target row.now.body.now ∷ [])) }
 
         // A refusal changes nothing.
         ensures same { HasCleanDisk (shows S.Store self.new) → (F : List Request) → HasRequests S.Store self.old F → OnErr result (HasRequests S.Store self.new F) }
@@ -200,12 +202,12 @@ impl<S: Alter> Store<S> {
 
         // A crash leaves what one before the call could leave, or the rows with this request, and after Ok these alone.
         ensures crash { Survives (shows S.Store self.old) (shows S.Store self.new) (λ trees. (F : List Request) → HasRequests S.Store self.old F → IsTrue (shows S.Store self.old).is_open
-            → has_key F (the_request row.now.filer.now row.now.key.now row.now.body.now) ≡ false
-            → Leaves self.old.early (F ++ the_request row.now.filer.now row.now.key.now row.now.body.now ∷ []) trees) }
+            → has_key F (the_request row.now.filer.now row.now.key.now row.now.target row.now.body.now) ≡ false → IsAmendmentJudgement row.now.filer.now row.now.body.now (is_free (register F) row.now.filer.now row.now.target) row.now.judged.now
+            → Leaves self.old.early (F ++ the_request row.now.filer.now row.now.key.now row.now.target row.now.body.now ∷ []) trees) }
         ensures durable { HasCleanDisk (shows S.Store self.new) → (F : List Request) → HasRequests S.Store self.old F
-            → has_key F (the_request row.now.filer.now row.now.key.now row.now.body.now) ≡ false
+            → has_key F (the_request row.now.filer.now row.now.key.now row.now.target row.now.body.now) ≡ false → IsAmendmentJudgement row.now.filer.now row.now.body.now (is_free (register F) row.now.filer.now row.now.target) row.now.judged.now
             → OnOk result (IsTrue (shows S.Store self.new).is_open × ((trees : Trees) → (shows S.Store self.new).may_leave trees
-            → Leaves self.old.early (F ++ the_request row.now.filer.now row.now.key.now row.now.body.now ∷ []) trees)) }
+            → Leaves self.old.early (F ++ the_request row.now.filer.now row.now.key.now row.now.target row.now.body.now ∷ []) trees)) }
     {
         let number = self.filings + 1;
         let outcome = Outcome::of(self.alloc, row.judged, number)?;

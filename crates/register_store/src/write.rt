@@ -1,10 +1,11 @@
 //! A request is kept: its row, and those of its findings or of its filing and its facts, in one transaction.
 
-ghost use Rattle.std.specs.Prelude.{◌≡◌, ◌<◌, ◌^◌, ◌-◌, false, OnOk, OnErr};
+ghost use Rattle.std.specs.Prelude.{◌≡◌, ◌<◌, ◌^◌, ◌-◌, false, None, Some, OnOk, OnErr};
 ghost use Rattle.sqlite.specs.Held.{state};
 ghost use Rattle.sqlite.specs.Tree.{Trees};
 ghost use Rattle.sqlite.specs.State.{HasCleanDisk, KeepsCommit, Survives};
 ghost use Rattle.key_string.specs.Key.{IsKey};
+ghost use Rattle.http_wire.specs.Posting.{IsTarget};
 ghost use Rattle.xbrl_report.specs.Judgement.{HasFacts};
 ghost use Rattle.xbrl_report.specs.ReportParts.{facts as facts_of};
 ghost use Rattle.filing_model.specs.Register.{Outcome};
@@ -13,11 +14,11 @@ ghost use Rattle.register_store.specs.Outcomes.{outcome_of};
 ghost use Rattle.register_store.specs.Changes.{Adds, AddsInside, AddsTo, AddsNothing};
 
 use crate::outcome::NewRow;
-use crate::rows::{insert_facts, insert_filing, insert_findings, insert_kept};
+use crate::rows::{insert_amends, insert_facts, insert_filing, insert_findings, insert_kept};
 use sqlite::{Alter, Connection, Error, Transaction};
 use xbrl_report::{Fact, Finding, Judged};
 
-/// Writes a refused request at its place, with its findings.
+/// Writes a refused request at its place, with its findings, beside the filing that it is to replace.
 fn write_refused<S: Alter>(
     tx: &mut Transaction<'_, S>,
     seq: u64,
@@ -28,7 +29,7 @@ fn write_refused<S: Alter>(
     ensures key { IsKey row.now.key.now }
     ensures same_reference { tx.new.conn.ghost_name ≡ tx.old.conn.ghost_name }
     ensures adds { HasCleanDisk (state S.Store tx.new.conn.now) → OnOk result (AddsInside seq
-        (record { request = the_request row.now.filer.now row.now.key.now row.now.body.now; outcome = Outcome.Refused findings.now })
+        (record { request = the_request row.now.filer.now row.now.key.now None row.now.body.now; outcome = Outcome.Refused findings.now })
         (state S.Store tx.old.conn.now) (state S.Store tx.new.conn.now)) }
     ensures keeps { HasCleanDisk (state S.Store tx.new.conn.now) → KeepsCommit (state S.Store tx.old.conn.now) (state S.Store tx.new.conn.now) }
     ensures survives { Survives (state S.Store tx.old.conn.now) (state S.Store tx.new.conn.now) (λ _. ⊥) }
@@ -37,7 +38,8 @@ fn write_refused<S: Alter>(
     insert_findings(tx, seq, findings)
 }
 
-/// Writes a registered request at its place, with its filing of this number and the facts of its report.
+/// Writes a registered request at its place, with its filing of this number and the facts of its report, beside the filing that it is
+/// to replace.
 fn write_accepted<S: Alter>(
     tx: &mut Transaction<'_, S>,
     seq: u64,
@@ -51,7 +53,7 @@ fn write_accepted<S: Alter>(
     ensures key { IsKey row.now.key.now }
     ensures same_reference { tx.new.conn.ghost_name ≡ tx.old.conn.ghost_name }
     ensures adds { HasCleanDisk (state S.Store tx.new.conn.now) → OnOk result (AddsInside seq
-        (record { request = the_request row.now.filer.now row.now.key.now row.now.body.now; outcome = Outcome.Registered number })
+        (record { request = the_request row.now.filer.now row.now.key.now None row.now.body.now; outcome = Outcome.Registered number })
         (state S.Store tx.old.conn.now) (state S.Store tx.new.conn.now)) }
     ensures keeps { HasCleanDisk (state S.Store tx.new.conn.now) → KeepsCommit (state S.Store tx.old.conn.now) (state S.Store tx.new.conn.now) }
     ensures survives { Survives (state S.Store tx.old.conn.now) (state S.Store tx.new.conn.now) (λ _. ⊥) }
@@ -61,8 +63,8 @@ fn write_accepted<S: Alter>(
     insert_facts(tx, number, facts)
 }
 
-/// Writes a request as it was judged; `number` is that of the next filing.
-fn write<S: Alter>(
+/// Writes a request as it was judged, beside the filing that it is to replace; `number` is that of the next filing.
+fn write_judged<S: Alter>(
     tx: &mut Transaction<'_, S>,
     seq: u64,
     number: u64,
@@ -74,7 +76,7 @@ fn write<S: Alter>(
     ensures key { IsKey row.now.key.now }
     ensures same_reference { tx.new.conn.ghost_name ≡ tx.old.conn.ghost_name }
     ensures adds { HasCleanDisk (state S.Store tx.new.conn.now) → OnOk result (AddsInside seq
-        (record { request = the_request row.now.filer.now row.now.key.now row.now.body.now; outcome = outcome_of number row.now.judged.now })
+        (record { request = the_request row.now.filer.now row.now.key.now None row.now.body.now; outcome = outcome_of number row.now.judged.now })
         (state S.Store tx.old.conn.now) (state S.Store tx.new.conn.now)) }
     ensures keeps { HasCleanDisk (state S.Store tx.new.conn.now) → KeepsCommit (state S.Store tx.old.conn.now) (state S.Store tx.new.conn.now) }
     ensures survives { Survives (state S.Store tx.old.conn.now) (state S.Store tx.new.conn.now) (λ _. ⊥) }
@@ -82,6 +84,56 @@ fn write<S: Alter>(
     match row.judged {
         Judged::Valid(report) => write_accepted(tx, seq, number, row, report.facts()),
         Judged::Refused(findings) => write_refused(tx, seq, row, findings.list()),
+    }
+}
+
+/// Writes a request that is to replace the filing of this number, as it was judged; `number` is that of the next filing.
+fn write_amendment<S: Alter>(
+    tx: &mut Transaction<'_, S>,
+    seq: u64,
+    number: u64,
+    target: u64,
+    row: &NewRow<'_>,
+) -> Result<(), Error>
+    requires seq { seq < 2 ^ 63 }
+    requires number { number < 2 ^ 63 }
+    requires target { target < 2 ^ 63 }
+    requires facts { HasFacts row.now.body.now row.now.judged.now }
+    ensures key { IsKey row.now.key.now }
+    ensures same_reference { tx.new.conn.ghost_name ≡ tx.old.conn.ghost_name }
+    ensures adds { HasCleanDisk (state S.Store tx.new.conn.now) → OnOk result (AddsInside seq
+        (record { request = the_request row.now.filer.now row.now.key.now (Some target) row.now.body.now; outcome = outcome_of number row.now.judged.now })
+        (state S.Store tx.old.conn.now) (state S.Store tx.new.conn.now)) }
+    ensures keeps { HasCleanDisk (state S.Store tx.new.conn.now) → KeepsCommit (state S.Store tx.old.conn.now) (state S.Store tx.new.conn.now) }
+    ensures survives { Survives (state S.Store tx.old.conn.now) (state S.Store tx.new.conn.now) (λ _. ⊥) }
+{
+    let _key = row.key.as_str();
+    insert_amends(tx, seq, target)?;
+    write_judged(tx, seq, number, row)
+}
+
+/// Writes a request as it was judged; `number` is that of the next filing.
+fn write<S: Alter>(
+    tx: &mut Transaction<'_, S>,
+    seq: u64,
+    number: u64,
+    row: &NewRow<'_>,
+) -> Result<(), Error>
+    requires seq { seq < 2 ^ 63 }
+    requires number { number < 2 ^ 63 }
+    requires target { IsTarget row.now.target }
+    requires facts { HasFacts row.now.body.now row.now.judged.now }
+    ensures key { IsKey row.now.key.now }
+    ensures same_reference { tx.new.conn.ghost_name ≡ tx.old.conn.ghost_name }
+    ensures adds { HasCleanDisk (state S.Store tx.new.conn.now) → OnOk result (AddsInside seq
+        (record { request = the_request row.now.filer.now row.now.key.now row.now.target row.now.body.now; outcome = outcome_of number row.now.judged.now })
+        (state S.Store tx.old.conn.now) (state S.Store tx.new.conn.now)) }
+    ensures keeps { HasCleanDisk (state S.Store tx.new.conn.now) → KeepsCommit (state S.Store tx.old.conn.now) (state S.Store tx.new.conn.now) }
+    ensures survives { Survives (state S.Store tx.old.conn.now) (state S.Store tx.new.conn.now) (λ _. ⊥) }
+{
+    match row.target {
+        Some(target) => write_amendment(tx, seq, number, target, row),
+        None => write_judged(tx, seq, number, row),
     }
 }
 
@@ -95,16 +147,17 @@ pub fn keep<S: Alter>(
     requires autocommit { conn.old.in_transaction ≡ false }
     requires seq { seq < 2 ^ 63 }
     requires number { number < 2 ^ 63 }
+    requires target { IsTarget row.now.target }
     requires facts { HasFacts row.now.body.now row.now.judged.now }
     ensures key { IsKey row.now.key.now }
     ensures autocommit { conn.new.in_transaction ≡ false }
     ensures adds { HasCleanDisk (state S.Store conn.new) → OnOk result (Adds seq
-        (record { request = the_request row.now.filer.now row.now.key.now row.now.body.now; outcome = outcome_of number row.now.judged.now })
+        (record { request = the_request row.now.filer.now row.now.key.now row.now.target row.now.body.now; outcome = outcome_of number row.now.judged.now })
         (state S.Store conn.old) (state S.Store conn.new)) }
     ensures durable { HasCleanDisk (state S.Store conn.new) → OnOk result ((trees : Trees) → (state S.Store conn.new).may_leave trees → trees ≡ (state S.Store conn.new).now.trees) }
     ensures neither { HasCleanDisk (state S.Store conn.new) → OnErr result (AddsNothing (state S.Store conn.old) (state S.Store conn.new)) }
     ensures crash { Survives (state S.Store conn.old) (state S.Store conn.new) (AddsTo seq
-        (record { request = the_request row.now.filer.now row.now.key.now row.now.body.now; outcome = outcome_of number row.now.judged.now })
+        (record { request = the_request row.now.filer.now row.now.key.now row.now.target row.now.body.now; outcome = outcome_of number row.now.judged.now })
         (state S.Store conn.old).now) }
 {
     let mut tx = conn.transaction();

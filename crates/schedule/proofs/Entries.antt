@@ -76,18 +76,18 @@ used key id (e ∷ es) n some = ⊎_elim
     (λ (is : bytes_eq e.key key ≡ false). rw is (used key (suc id) es n (rw is at some)))
     (cases_Bool (bytes_eq e.key key))
 
-module _ (filer : List ℕ) (entries : List Entry) (key body : List ℕ) where
-  pub takes_new : length body ≤ max_body_len → find (has_text key) (with_ids entries) ≡ None → takes (up_with filer entries) (opened key body) ≡ true
+module _ (filer : List ℕ) (entries : List Entry) (key : List ℕ) (target : Option ℕ) (body : List ℕ) where
+  pub takes_new : length body ≤ max_body_len → find (has_text key) (with_ids entries) ≡ None → takes (up_with filer entries) (opened key target body) ≡ true
   takes_new short none =
       let fits : nat_le (length body) max_body_len ≡ true = grind (arith, nat_tests, short) in
       rw (fits, unused key 1 entries none) refl
 
-  pub takes_no_long : max_body_len < length body → takes (up_with filer entries) (opened key body) ≡ false
+  pub takes_no_long : max_body_len < length body → takes (up_with filer entries) (opened key target body) ≡ false
   takes_no_long long =
       let over : nat_le (length body) max_body_len ≡ false = grind (arith, nat_tests, long) in
       rw over refl
 
-  pub takes_no_used : (n : ℕ) → option_map (λ x. x.0) (find (has_text key) (with_ids entries)) ≡ Some n → takes (up_with filer entries) (opened key body) ≡ false
+  pub takes_no_used : (n : ℕ) → option_map (λ x. x.0) (find (has_text key) (with_ids entries)) ≡ Some n → takes (up_with filer entries) (opened key target body) ≡ false
   takes_no_used n some = ⊎_elim
       (λ (is : nat_le (length body) max_body_len ≡ true). rw (is, used key 1 entries n some) refl)
       (λ (is : nat_le (length body) max_body_len ≡ false). rw is refl)

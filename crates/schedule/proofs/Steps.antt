@@ -3,6 +3,7 @@ use Rattle.std.proofs.Common.{◌≡◌, ℕ, zero, suc, true, false, List, [], 
 use Rattle.std.proofs.lemmas.Option.{slice_get-get_or, slice_get_past, get_or_from_slice_get}
 use Rattle.key_string.specs.Key.{IsKey}
 use Rattle.http_wire.specs.Reply.{ReplyParts}
+use Rattle.http_wire.specs.Posting.{IsTarget}
 use Rattle.filing_model.specs.Outbox.{Entry, request_of, bytes_of}
 use Rattle.filing_model.specs.Stopping.{Crash}
 use Rattle.filing_world.specs.World.{Outbox, Sent, Output, numbered, renewed}
@@ -47,16 +48,17 @@ module _ (boxes : List Outbox) (at number : ℕ) (is : number ≡ suc at) (box :
   set : (new : Outbox) → slice_set boxes at new ≡ renewed boxes number new
   set new = written boxes at new ∙ ap (λ n. renewed boxes n new) (sym is)
 
-  pub put_step : box.up ≡ true → (entry : Entry) (new : Outbox) (result : Result (Unit {0}) Cause) → OnOk result (new ≡ with_entry box entry) → OnOk result (IsKey entry.key)
+  pub put_step : box.up ≡ true → (entry : Entry) (new : Outbox) (result : Result (Unit {0}) Cause) → OnOk result (new ≡ with_entry box entry) → OnOk result (IsKey entry.key) → IsTarget entry.target
       → OnOk result ((server : Served) (sent : List Sent) (outputs : List Output) → Puts (world_of server sent outputs boxes) number entry (world_of server sent outputs (slice_set boxes at new)))
-  put_step up entry new (Ok u) becomes key = λ server sent outputs. record {
+  put_step up entry new (Ok u) becomes key target = λ server sent outputs. record {
     is_key = key;
+    is_target = target;
     box = box;
     here = named boxes number at box is here;
     up = up;
     becomes = ap (world_of server sent outputs) (set new ∙ ap (renewed boxes number) becomes);
   }
-  put_step up entry new (Err e) becomes key = tt
+  put_step up entry new (Err e) becomes key target = tt
 
   pub send_step : box.up ≡ true → (entry : ℕ) (text : List ℕ) (sent more : List Sent) (new : Outbox) → IsRequest box entry text → new ≡ box → more ≡ sent ++ record { from = Some (number, entry); bytes = text } ∷ []
       → (server : Served) (outputs : List Output) → Sends (world_of server sent outputs boxes) number entry (world_of server more outputs (slice_set boxes at new))

@@ -10,6 +10,7 @@ ghost use Rattle.filing_world.specs.World.{numbered, new_outbox};
 ghost use Rattle.filing_world.specs.Step.{with_entry, Hears, box_after};
 ghost use Rattle.filing_world.specs.Headline.{states_of};
 ghost use Rattle.sqlite.specs.Files.{over_files};
+ghost use Rattle.http_wire.specs.Posting.{IsTarget};
 ghost use Rattle.outbox_core.specs.Box.{HasEntries};
 ghost use Rattle.outbox_core.specs.Entries.{opened};
 ghost use Rattle.event_script.specs.Events.{view_crash};
@@ -138,18 +139,24 @@ impl<D: Honest> Filer<D> {
 
     /// Puts a report into the outbox. One whose body is too long, or whose key is used, is not taken, and
     /// that is no error. `Store` comes where the outbox refused for another cause than memory.
-    pub(crate) fn put(&mut self, key: &KeyText, body: &[u8]) -> Result<(), Cause>
-        requires { self.old.up ≡ true }
-        ensures put { OnOk result (self.new ≡ with_entry self.old (opened key.now body.now)) }
+    pub(crate) fn put(
+        &mut self,
+        key: &KeyText,
+        target: Option<u64>,
+        body: &[u8],
+    ) -> Result<(), Cause>
+        requires up { self.old.up ≡ true }
+        requires target { IsTarget target }
+        ensures put { OnOk result (self.new ≡ with_entry self.old (opened key.now target body.now)) }
         ensures key { OnOk result (IsKey key.now) }
         ensures other { result ≢ Err Cause.NoSuch }
     {
-        let report = Report::open(self.alloc, key, body)?;
+        let report = Report::open(self.alloc, key, target, body)?;
         self.entries.reserve(1)?;
         let OutboxPlace::Up(outbox) = &mut self.place else {
             return Err(Cause::Store);
         };
-        if put_into(self.alloc, outbox, key, body)? {
+        if put_into(self.alloc, outbox, key, target, body)? {
             self.entries.push_reserved(report);
         }
         Ok(())

@@ -10,6 +10,7 @@ ghost use Rattle.filing_world.specs.Step.{takes, Hears, heard_by};
 ghost use Rattle.filing_world.specs.Headline.{states_of};
 ghost use Rattle.sqlite.specs.Files.{over_files};
 ghost use Rattle.sqlite.specs.Held.{state};
+ghost use Rattle.http_wire.specs.Posting.{IsTarget};
 ghost use Rattle.outbox_core.specs.Box.{contents, HasEntries};
 ghost use Rattle.outbox_core.specs.Entries.{Contents, opened};
 ghost use Rattle.outbox_core.specs.Files.{HoldOutbox};
@@ -94,19 +95,21 @@ pub(crate) fn outbox_in<D: Honest>(
     open_outbox(alloc, open(alloc, files)?)
 }
 
-/// Puts copies of a key and a body into an outbox, and answers whether they were taken: not where the
+/// Puts copies of a key and a body into an outbox, to replace the filing of this number, if there is one, and answers whether they were taken: not where the
 /// body is too long or the key is used.
 pub(crate) fn put_into<S: Faithful>(
     alloc: Global,
     outbox: &mut Outbox<S>,
     key: &KeyText,
+    target: Option<u64>,
     body: &[u8],
 ) -> Result<bool, Cause>
+    requires { IsTarget target }
     ensures taken { (entries : List Item) → HasEntries S.Store outbox.old entries
-        → IfOk result (λ is_taken. is_taken ≡ takes (up_with outbox.old.filer entries) (opened key.now body.now)) }
+        → IfOk result (λ is_taken. is_taken ≡ takes (up_with outbox.old.filer entries) (opened key.now target body.now)) }
     ensures rows { (entries : List Item) → HasEntries S.Store outbox.old entries
         → IfOk result (λ is_taken.
-        HasEntries S.Store outbox.new (if is_taken then entries ++ opened key.now body.now ∷ [] else entries)) }
+        HasEntries S.Store outbox.new (if is_taken then entries ++ opened key.now target body.now ∷ [] else entries)) }
     ensures kept { (entries : List Item) → HasEntries S.Store outbox.old entries
         → OnErr result (HasEntries S.Store outbox.new entries) }
     ensures filer { outbox.new.filer ≡ outbox.old.filer }
@@ -114,7 +117,7 @@ pub(crate) fn put_into<S: Faithful>(
 {
     let key = copy_key(alloc, key)?;
     let body = Vec::from_slice(alloc, body)?;
-    match outbox.put(key, body) {
+    match outbox.put(key, target, body) {
         Ok(_id) => Ok(true),
         Err(PutFault::TooLarge) => Ok(false),
         Err(PutFault::KeyUsed { .. }) => Ok(false),

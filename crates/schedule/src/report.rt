@@ -14,6 +14,7 @@ use std::marker::Model;
 #[derive(Drop)]
 pub(crate) struct Report {
     key: KeyText,
+    target: Option<u64>,
     body: Vec<u8>,
     state: State,
 }
@@ -24,16 +25,22 @@ impl Model for Report {
 
     ghost Value = { Entry };
 
-    ghost view = { λ r. record { key = r.key; body = r.body.items; state = view_state r.state } };
+    ghost view = { λ r. record { key = r.key; target = r.target; body = r.body.items; state = view_state r.state } };
 }
 
 impl Report {
     /// A report of which nothing is known yet, with copies of its key and its body.
-    pub(crate) fn open(alloc: Global, key: &KeyText, body: &[u8]) -> Result<Report, AllocError>
-        ensures { IfOk result (λ report. report ≡ opened key.now body.now) }
+    pub(crate) fn open(
+        alloc: Global,
+        key: &KeyText,
+        target: Option<u64>,
+        body: &[u8],
+    ) -> Result<Report, AllocError>
+        ensures { IfOk result (λ report. report ≡ opened key.now target body.now) }
     {
         Ok(Report {
             key: copy_key(alloc, key)?,
+            target,
             body: Vec::from_slice(alloc, body)?,
             state: State::Open,
         })

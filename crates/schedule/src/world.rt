@@ -1,7 +1,7 @@
 //! The world: the intake, the outboxes, and what was sent and written so far.
 
 ghost use Rattle.std.specs.Prelude.{◌≡◌, ◌≢◌, ◌≤◌, ◌^◌, ℕ, map, true, false, Some, None, Err, IsSome, IfOk, IfErr, IfSome, OnOk, ◌↔◌};
-ghost use Rattle.event_script.specs.Events.{view_event};
+ghost use Rattle.event_script.specs.Events.{view_event, HasTarget, HaveTargets};
 ghost use Rattle.filing_model.specs.Request.{firsts};
 ghost use Rattle.filing_model.specs.Register.{register};
 ghost use Rattle.filing_world.specs.World.{new_outbox};
@@ -84,6 +84,7 @@ fn play_on<D: Honest>(
     outputs: &mut Vec<Output>,
     event: &Event,
 ) -> Result<(), Cause>
+    requires { HasTarget (view_event event.now) }
     ensures step { OnOk result (AllOwn filers.old.items sent.old.items
         → Step (world_of server.old sent.old.items outputs.old.items filers.old.items) (view_event event.now)
         (world_of server.new sent.new.items outputs.new.items filers.new.items)) }
@@ -91,7 +92,12 @@ fn play_on<D: Honest>(
         → CannotPlay (world_of server.old sent.old.items outputs.old.items filers.old.items) (view_event event.now) }
 {
     match event {
-        Event::Put { outbox, key, body } => put(filers, *outbox, key, body),
+        Event::Put {
+            outbox,
+            key,
+            target,
+            body,
+        } => put(filers, *outbox, key, *target, body),
         Event::Send { outbox, entry } => send(filers, sent, *outbox, *entry),
         Event::Stranger { bytes } => Ok(send_bytes(alloc, sent, bytes)?),
         Event::Deliver { item, bytes, crash } => {
@@ -170,6 +176,7 @@ impl<D: Honest> World<D> {
 
     /// Plays the next event. Its fault tells its number. After a fault each later call answers it again.
     pub fn play(&mut self, event: &Event) -> Result<(), Fault>
+        requires { HasTarget (view_event event.now) }
         ensures step { OnOk result (Step self.old.world (view_event event.now) self.new.world) }
         ensures holds { OnOk result (Holds self.new.world) }
         ensures no_such { (n : ℕ) → result ≡ Err (Fault.NoSuch n) → self.old.fault ≡ None
@@ -282,6 +289,7 @@ pub fn run<D: Honest>(
 ) -> Result<World<D>, Fault>
     requires filers { AreFilers (map (λ f. f.now) filers.now) }
     requires limit { limit ≤ 2 ^ 62 }
+    requires targets { HaveTargets (map view_event events.now) }
     ensures run { IfOk result (λ w.
         Run (start (map (λ f. f.now) filers.now) limit) (map view_event events.now) w.world) }
     ensures holds { IfOk result (λ w. Holds w.world) }

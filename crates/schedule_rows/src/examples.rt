@@ -12,6 +12,10 @@ pub(crate) const REPORT: &str =
 pub(crate) const REGISTERED: &str =
     "HTTP/1.1 201 Created\r\nContent-Type: application/json\r\nContent-Length: 34\r\nConnection: close\r\n\r\n{\"number\":1,\"status\":\"registered\"}";
 
+/// The same to the second registered report.
+pub(crate) const REGISTERED_SECOND: &str =
+    "HTTP/1.1 201 Created\r\nContent-Type: application/json\r\nContent-Length: 34\r\nConnection: close\r\n\r\n{\"number\":2,\"status\":\"registered\"}";
+
 /// The reply where the key was used for another body, and the connection closes.
 pub(crate) const KEY_REUSED: &str =
     "HTTP/1.1 422 Unprocessable Content\r\nContent-Type: application/problem+json\r\nContent-Length: 89\r\nConnection: close\r\n\r\n{\"reason\":\"key-reused\",\"status\":422,\"title\":\"Unprocessable Content\",\"type\":\"about:blank\"}";

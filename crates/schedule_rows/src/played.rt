@@ -1,6 +1,7 @@
 //! Scripts that are read and played, on disks of any type.
 
 ghost use Rattle.std.specs.Prelude.{◌≡◌, ◌≤◌, ◌^◌, map, string_bytes, IfOk};
+ghost use Rattle.event_script.specs.Events.{view_event, HasTarget, HaveTargets};
 ghost use Rattle.filing_world.specs.Headline.{AreFilers};
 
 use crate::fault::Fault;
@@ -12,6 +13,7 @@ use std::alloc::{AllocError, Global};
 pub fn read(alloc: Global, text: &str) -> Result<Script, Fault>
     ensures filers { IfOk result (λ script. AreFilers (map string_bytes script.filers.items)) }
     ensures limit { IfOk result (λ script. script.limit ≤ 2 ^ 62) }
+    ensures targets { IfOk result (λ script. HaveTargets (map view_event script.events.items)) }
 {
     Ok(read_script(alloc, text)?)
 }
@@ -35,6 +37,7 @@ pub fn new_world<D: Honest>(alloc: Global, script: &Script) -> Result<World<D>, 
 pub(crate) fn played<D: Honest>(alloc: Global, script: &Script) -> Result<World<D>, Fault>
     requires filers { AreFilers (map string_bytes script.now.filers.items) }
     requires limit { script.now.limit ≤ 2 ^ 62 }
+    requires targets { HaveTargets (map view_event script.now.events.items) }
 {
     let mut world = after_events(alloc, script)?;
     start_all(&mut world, script.filers.len())?;
@@ -45,6 +48,7 @@ pub(crate) fn played<D: Honest>(alloc: Global, script: &Script) -> Result<World<
 fn after_events<D: Honest>(alloc: Global, script: &Script) -> Result<World<D>, Fault>
     requires filers { AreFilers (map string_bytes script.now.filers.items) }
     requires limit { script.now.limit ≤ 2 ^ 62 }
+    requires targets { HaveTargets (map view_event script.now.events.items) }
 {
     let filers = filer_codes(alloc, script.filers.as_slice())?;
     Ok(run(
@@ -66,6 +70,8 @@ fn start_all<D: Honest>(world: &mut World<D>, outboxes: usize) -> Result<(), Fau
 }
 
 /// Plays one event more.
-fn play_event<D: Honest>(world: &mut World<D>, event: &Event) -> Result<(), Fault> {
+fn play_event<D: Honest>(world: &mut World<D>, event: &Event) -> Result<(), Fault>
+    requires { HasTarget (view_event event.now) }
+{
     Ok(world.play(event)?)
 }

@@ -25,13 +25,17 @@ pub(crate) fn report(
     Ok(text)
 }
 
-/// `filing N FILER KEY`, where KEY is the key's spelling.
+/// `filing N FILER KEY`, where KEY is the key's spelling, with `replaces K` behind it where the filing replaces one.
 fn append_filing(alloc: Global, filing: &Registered, text: &mut Vec<u8>) -> Result<(), Fault> {
     let key = KeyText::new(alloc, filing.key.as_str())?;
     let start = format!(in alloc; "filing {} {} ", filing.number, filing.filer)?;
     text.extend_from_slice(start.as_bytes())?;
     append_key(&key, text)?;
-    text.extend_from_slice(b"\n")?;
+    let end = match filing.replaces {
+        Some(number) => format!(in alloc; " replaces {number}\n")?,
+        None => format!(in alloc; "\n")?,
+    };
+    text.extend_from_slice(end.as_bytes())?;
     Ok(())
 }
 

@@ -1,17 +1,18 @@
 //! The vectors of schedules by their numbers.
 
-use crate::examples::{KEY_REUSED, REGISTERED, REPORT, SMALLEST};
+use crate::examples::{KEY_REUSED, REGISTERED, REGISTERED_SECOND, REPORT, SMALLEST};
 use crate::fault::Fault;
 use crate::outcome::{Outcome, play};
 use std::alloc::{AllocError, Global};
 
-/// Runs the vector of this number, of 24 its end, and tells whether it passed. A number that is none of schedules fails.
+/// Runs the vector of this number, of 24 its end, of 27 its beginning, and tells whether it passed. A number that is none of schedules fails.
 /// Want of memory is answered where memory was refused.
 pub fn run(alloc: Global, number: u32) -> Result<bool, AllocError> {
     let passed = match number {
         15 => stopped_after_keeping(alloc),
         16 => two_outboxes(alloc),
         24 => nothing_to_deliver(alloc),
+        27 => a_report_replaced(alloc),
         _ => Ok(false),
     };
     match passed {
@@ -92,6 +93,36 @@ done 2
         ..open
     };
     Ok(open.holds(alloc)? && confirmed.holds(alloc)?)
+}
+
+/// The beginning of vector 27: a report replaces one that was filed before, and the intake stops after it is kept.
+fn a_report_replaced(alloc: Global) -> Result<bool, Fault> {
+    let script = format!(in alloc;
+        r#"outbox ACME
+put 1 "k-1" {REPORT}
+amend 1 1 "k-2" {SMALLEST}
+send 1 1
+send 1 2
+deliver 1 all
+deliver 2 all after 1
+restart server
+deliver 2 all
+hand 3 all
+hand 1 all
+"#
+    )?;
+    let scene = Scene {
+        script: &script,
+        shown: r#"filing 1 ACME "k-1"
+filing 2 ACME "k-2" replaces 1
+entry 1 1 confirmed 1
+entry 1 2 confirmed 2
+done 3
+"#,
+        bodies: &[REPORT, SMALLEST],
+        written: &[REGISTERED, "", REGISTERED_SECOND],
+    };
+    scene.holds(alloc)
 }
 
 /// Vector 16: two outboxes of a filer send under one key, and what is delivered first is kept.

@@ -8,3 +8,5 @@ mod databases;
 mod outbox;
 #[cfg(test)]
 mod register;
+#[cfg(test)]
+mod targets;

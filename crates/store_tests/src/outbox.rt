@@ -10,24 +10,27 @@ use std::test::Fail;
 
 mod calls;
 mod memory;
+mod migration;
 mod stops;
 
 const BODY: &[u8] = b"{\"facts\":{}}";
 
-/// What a put of these answers.
+/// What a put of these answers, of a report that is to replace filing 1 or none.
 fn put<S: Alter>(
     alloc: Global,
     outbox: &mut Outbox<S>,
     key: &str,
+    replaces: bool,
     body: &[u8],
 ) -> Result<Result<u64, PutFault>, Fail> {
-    Ok(calls::put(outbox, KeyText::new(alloc, key)?, body.to_vec(alloc)?))
+    let key = KeyText::new(alloc, key)?;
+    Ok(calls::put(outbox, key, replaces, body.to_vec(alloc)?))
 }
 
 /// An outbox on this database, with one entry, which is open.
 fn with_entry<S: Alter + Drop>(alloc: Global, conn: Connection<S>) -> Result<Outbox<S>, Fail> {
     let mut outbox = calls::create(alloc, conn, "ACME")??;
-    put(alloc, &mut outbox, "k-1", BODY)??;
+    put(alloc, &mut outbox, "k-1", false, BODY)??;
     Ok(outbox)
 }
 
@@ -60,7 +63,7 @@ fn fault_after<S: Fresh>(alloc: Global, sql: &str) -> Result<Option<OutboxFault>
 }
 
 /// A statement on the tables of an outbox with one entry, and what an opening answers after it.
-static CHANGES: [(&str, Option<OutboxFault>); 10] = [
+static CHANGES: [(&str, Option<OutboxFault>); 20] = [
     (
         "UPDATE entry SET state = 7",
         Some(OutboxFault::Damaged { row: 1 }),
@@ -87,11 +90,42 @@ static CHANGES: [(&str, Option<OutboxFault>); 10] = [
         Some(OutboxFault::NotOurs),
     ),
     (
-        "UPDATE outbox_meta SET form = 2",
+        "UPDATE outbox_meta SET form = 1",
+        Some(OutboxFault::NotOurs),
+    ),
+    (
+        "UPDATE outbox_meta SET form = 3",
         Some(OutboxFault::NotOurs),
     ),
     ("DROP TABLE outbox_meta", Some(OutboxFault::NotOurs)),
     ("UPDATE entry SET state = 1, number = 5", None),
+    ("DROP TABLE target", Some(OutboxFault::Damaged { row: 0 })),
+    (
+        "UPDATE entry SET state = 7; DROP TABLE target",
+        Some(OutboxFault::Damaged { row: 0 }),
+    ),
+    (
+        "INSERT INTO target VALUES (1, 0)",
+        Some(OutboxFault::Damaged { row: 1 }),
+    ),
+    (
+        "INSERT INTO target VALUES (1, -1)",
+        Some(OutboxFault::Damaged { row: 1 }),
+    ),
+    (
+        "INSERT INTO target VALUES (2, 1)",
+        Some(OutboxFault::Damaged { row: 0 }),
+    ),
+    (
+        "INSERT INTO target VALUES (0, 1)",
+        Some(OutboxFault::Damaged { row: 0 }),
+    ),
+    (
+        "INSERT INTO target VALUES (2, 1); UPDATE entry SET state = 7",
+        Some(OutboxFault::Damaged { row: 1 }),
+    ),
+    ("INSERT INTO target VALUES (1, 1)", None),
+    ("INSERT INTO target VALUES (1, 9223372036854775807)", None),
 ];
 
 #[test]

@@ -1,12 +1,13 @@
 //! Registers, from outside.
 
-use calls::{add_short, create};
+use calls::{add_replacing, add_short, create, replaceable};
 use key_string::KeyText;
 use register_store::{Outcome, Store, StoreFault};
 use sqlite::{Alter, Connection};
 use std::alloc::Global;
 use std::test::Fail;
 
+mod amendments;
 mod calls;
 mod damage;
 mod memory;
@@ -37,12 +38,31 @@ fn add<S: Alter>(
     add_short(alloc, store, &key, body)
 }
 
+/// The same of one that is to replace filing 1.
+fn replace<S: Alter>(
+    alloc: Global,
+    store: &mut Store<S>,
+    (key, body): Request,
+) -> Result<Result<Outcome, StoreFault>, Fail> {
+    let key = KeyText::new(alloc, key)?;
+    let free = replaceable(store, "ACME", 1)?;
+    add_replacing(alloc, store, &key, body, free)
+}
+
 /// Keeps the requests.
 fn fill<S: Alter>(alloc: Global, store: &mut Store<S>, requests: &[Request]) -> Result<(), Fail> {
     for &request in requests {
         add(alloc, store, request)??;
     }
     Ok(())
+}
+
+/// A new register with the report, one that replaces it, and another one.
+fn amended<S: Alter + Drop>(alloc: Global, conn: Connection<S>) -> Result<Store<S>, Fail> {
+    let mut store = made(alloc, conn, &ONE)?;
+    replace(alloc, &mut store, ("k-2", REPORT))??;
+    add(alloc, &mut store, ("k-3", VALID))??;
+    Ok(store)
 }
 
 /// A new register with these requests.

@@ -3,7 +3,7 @@
 ghost use Rattle.std.specs.Prelude.{◌≡◌, false, None, IfOk, IsTrue};
 
 use crate::stop::Stop;
-use sqlite::{Connection, FileStore, Files, Options};
+use sqlite::{Alter, Connection, FileStore, Files, Options};
 use sqlite_disk::{Disk, Memory};
 use std::alloc::Global;
 
@@ -33,6 +33,12 @@ pub(crate) fn connect<D: Disk + Drop>(
         Ok(conn) => Ok(conn),
         Err((error, _)) => Err(Stop::from(error)),
     }
+}
+
+/// Runs a statement.
+pub(crate) fn execute<S: Alter>(conn: &mut Connection<S>, text: &str) -> Result<(), Stop> {
+    conn.execute(text, &[])?;
+    Ok(())
 }
 
 /// The files of a connection.

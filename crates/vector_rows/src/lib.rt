@@ -2,6 +2,7 @@
 //! what is to come. What may live here: the examples as data, written out by hand, and what runs and compares them.
 #![tactic(auto)]
 
+mod amendments;
 mod connection;
 mod examples;
 mod files;
@@ -9,6 +10,7 @@ mod history;
 mod keys;
 mod migration;
 mod outbox;
+mod outbox_migration;
 mod register;
 mod replies;
 mod reports;

@@ -4,7 +4,7 @@ ghost use Rattle.std.specs.Prelude.{◌≡◌, false, None, IfOk, IfSome, IsTrue
 ghost use Rattle.sqlite_disk.specs.Memory.{memory_is_usable};
 
 use crate::examples::{NOT_JSON, REQUEST, filing};
-use crate::files::{close, connect, connect_new};
+use crate::files::{close, connect, connect_new, execute};
 use crate::history::{self, served};
 use crate::stop::{Stop, refusal};
 use gateway_server::{Ended, Mark};
@@ -55,11 +55,6 @@ fn earlier_files(alloc: Global) -> Result<Files<Memory>, Stop>
     }
     keep_empty_body(&mut conn)?;
     close(conn)
-}
-
-fn execute<S: Alter>(conn: &mut Connection<S>, text: &str) -> Result<(), Stop> {
-    conn.execute(text, &[])?;
-    Ok(())
 }
 
 /// Puts in the rows of an empty body, which is no JSON text.

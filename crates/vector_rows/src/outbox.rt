@@ -77,7 +77,7 @@ fn put<S: Alter>(
 ) -> Result<Result<u64, PutFault>, Stop> {
     let key = KeyText::new(alloc, key)?;
     let body = body.as_bytes().to_vec(alloc)?;
-    Ok(outbox.put(key, body))
+    Ok(outbox.put(key, None, body))
 }
 
 /// Whether the first body is put, and no other under its key, nor one that is too large.

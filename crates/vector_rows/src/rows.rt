@@ -1,7 +1,10 @@
 //! The vectors by their numbers.
 
 use crate::stop::Stop;
-use crate::{connection, history, keys, migration, outbox, register, replies, reports};
+use crate::{
+    amendments, connection, history, keys, migration, outbox, outbox_migration, register, replies,
+    reports,
+};
 use std::alloc::{AllocError, Global};
 
 /// Runs the vector of this number over databases of its own in memory, and tells whether it passed. A number that is
@@ -40,6 +43,8 @@ fn run_row(alloc: Global, number: u32) -> Result<bool, Stop> {
         23 => register::reopened(alloc),
         24 => outbox::exchanges(alloc),
         25 => migration::migrated(alloc),
+        26 => amendments::amended(alloc),
+        27 => outbox_migration::migrated(alloc),
         _ => Ok(false),
     }
 }

@@ -15,8 +15,9 @@ pub struct VectorReport {
 }
 
 /// The numbers of the vectors.
-pub const NUMBERS: [u32; 25] = [
-    1, 2, 3, 4, 5, 6, 7, 8, 9, 10, 11, 12, 13, 14, 15, 16, 17, 18, 19, 20, 21, 22, 23, 24, 25,
+pub const NUMBERS: [u32; 27] = [
+    1, 2, 3, 4, 5, 6, 7, 8, 9, 10, 11, 12, 13, 14, 15, 16, 17, 18, 19, 20, 21, 22, 23, 24, 25, 26,
+    27,
 ];
 
 /// Runs all vectors, each over databases of its own in memory. Want of memory is answered where memory was refused.
@@ -45,11 +46,11 @@ fn run_each(alloc: Global, numbers: &[u32]) -> Result<VectorReport, AllocError>
     Ok(VectorReport { passed, failed })
 }
 
-/// Runs the vector of this number. Vectors 15 and 16 are schedules, and so is the end of vector 24.
+/// Runs the vector of this number. Vectors 15 and 16 are schedules, and so are the end of vector 24 and the beginning of vector 27.
 fn run(alloc: Global, number: u32) -> Result<bool, AllocError> {
     match number {
         15 | 16 => schedule_rows::run(alloc, number),
-        24 => Ok(vector_rows::run(alloc, number)? && schedule_rows::run(alloc, number)?),
+        24 | 27 => Ok(vector_rows::run(alloc, number)? && schedule_rows::run(alloc, number)?),
         _ => vector_rows::run(alloc, number),
     }
 }

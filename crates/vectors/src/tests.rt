@@ -5,7 +5,7 @@ use vector_rows::first_over;
 #[test]
 fn all_vectors_pass(rt: HostRuntime) -> Result<(), Fail> {
     let report = run_all(rt.alloc())?;
-    assert_eq!(rt; report.passed, 25);
+    assert_eq!(rt; report.passed, 27);
     assert!(rt; report.failed.is_empty());
     Ok(())
 }

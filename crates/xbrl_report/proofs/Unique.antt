@@ -11,12 +11,10 @@ use Rattle.std.proofs.lemmas.Cmp.{tied_itself}
 use Rattle.std.proofs.lemmas.List.Sums.{AllPass-from_list_all, list_all-from_AllPass}
 use Rattle.std.proofs.lemmas.List.Elements.{All-from_recursion, recursion_from_All}
 use Rattle.std.proofs.lemmas.Map.Made.{is_member-Decides, length-le_from_is_member}
-use Rattle.serde_json.specs.Data.{Data}
 use Rattle.xbrl_report.specs.declared.code.Code.{Code}
-use Rattle.xbrl_report.specs.declared.code.Code.TheVariants.{NotJson, NotObject, DocumentInfo, DocumentType, Namespaces, NamespaceUri, Taxonomy, Facts, Fact, Value, Decimals, Dimensions, ConceptMissing, EntityMissing, DimensionValue, Name, UnboundPrefix, NotTheFiler, Period, PeriodOrder, UnitForm, Number, Language, UnknownDimension, TooMany}
+use Rattle.xbrl_report.specs.declared.code.Code.TheVariants.{NotJson, NotObject, DocumentInfo, DocumentType, Namespaces, NamespaceUri, Taxonomy, Facts, Fact, Value, Decimals, Dimensions, ConceptMissing, EntityMissing, DimensionValue, Name, UnboundPrefix, NotTheFiler, Period, PeriodOrder, UnitForm, Number, Language, UnknownDimension, TooMany, NotReplaceable}
 use Rattle.xbrl_report.specs.CodeNumber.{number_of}
-use Rattle.xbrl_report.specs.Finding.{IsFinding}
-use Rattle.xbrl_report.specs.Findings.{IsFindings, IsAllFindings, HasTooMany}
+use Rattle.xbrl_report.specs.Findings.{AreFindings, IsAllFindings, HasTooMany}
 use Rattle.xbrl_report.specs.InOrder.{put_pair, in_order}
 use Rattle.xbrl_report.specs.Pair.{Pair, pair_cmp, fits, IsAscending}
 use Rattle.xbrl_report.proofs.Members.{In, in_from_contains, contains_from_in}
@@ -32,7 +30,7 @@ code_at n =
     cond (eqb n 6) NamespaceUri (cond (eqb n 7) Taxonomy (cond (eqb n 8) Facts (cond (eqb n 9) Fact (cond (eqb n 10) Value (
     cond (eqb n 11) Decimals (cond (eqb n 12) Dimensions (cond (eqb n 13) ConceptMissing (cond (eqb n 14) EntityMissing (cond (eqb n 15) DimensionValue (
     cond (eqb n 16) Name (cond (eqb n 17) UnboundPrefix (cond (eqb n 18) NotTheFiler (cond (eqb n 19) Period (cond (eqb n 20) PeriodOrder (
-    cond (eqb n 21) UnitForm (cond (eqb n 22) Number (cond (eqb n 23) Language (cond (eqb n 24) UnknownDimension TooMany)))))))))))))))))))))))
+    cond (eqb n 21) UnitForm (cond (eqb n 22) Number (cond (eqb n 23) Language (cond (eqb n 24) UnknownDimension (cond (eqb n 25) TooMany NotReplaceable))))))))))))))))))))))))
 
 code_at-number_of : (c : Code) → code_at (number_of c) ≡ c
 unfolding code_at
@@ -61,6 +59,7 @@ code_at-number_of Number = refl
 code_at-number_of Language = refl
 code_at-number_of UnknownDimension = refl
 code_at-number_of TooMany = refl
+code_at-number_of NotReplaceable = refl
 
 pub number_of-injective : (c e : Code) → number_of c ≡ number_of e → c ≡ e
 number_of-injective c e same = sym (code_at-number_of c) ∙ (ap code_at same ∙ code_at-number_of e)
@@ -206,21 +205,21 @@ distinct_ascending (x ∷ xs) up = (all_by _ xs (λ z i. let less = above_in x z
 pub in_order_fits : (xs : List Pair) → fits xs ≡ true → fits (in_order xs) ≡ true
 in_order_fits xs fit = fits_fewer (in_order xs) xs (distinct_ascending (in_order xs) (ascending_in_order xs)) (λ z i. (in_in_order z xs).0 i) fit
 
-module _ {filer : List ℕ} {d : Option Data} where
-  pub excluded : (xs : List Pair) → IsAllFindings filer d xs → fits xs ≡ true → HasTooMany filer d → ⊥
+module _ {IsSo : Pair → Type 0} where
+  pub excluded : (xs : List Pair) → IsAllFindings IsSo xs → fits xs ≡ true → HasTooMany IsSo → ⊥
   excluded xs all fit many =
-      let so = recursion_from_All (IsFinding filer d) many.some many.so in
-      let few = fits_fewer many.some xs many.distinct (λ z i. in_from_contains z xs ((all.exact z).1 (all_in (IsFinding filer d) many.some so z i))) fit in
+      let so = recursion_from_All IsSo many.some many.so in
+      let few = fits_fewer many.some xs many.distinct (λ z i. in_from_contains z xs ((all.exact z).1 (all_in IsSo many.some so z i))) fit in
       true≢false (sym few ∙ many.over)
 
   -- the statements leave one list
-  pub IsFindings-unique : (xs ys : List Pair) → IsFindings filer d xs → IsFindings filer d ys → xs ≡ ys
-  IsFindings-unique xs ys (inl a) (inl b) =
+  pub AreFindings-unique : (xs ys : List Pair) → AreFindings IsSo xs → AreFindings IsSo ys → xs ≡ ys
+  AreFindings-unique xs ys (inl a) (inl b) =
       same_ascending xs ys a.0.ascending b.0.ascending
       (λ z. (
         λ i. in_from_contains z ys ((b.0.exact z).1 ((a.0.exact z).0 (contains_from_in z xs i))),
         λ i. in_from_contains z xs ((a.0.exact z).1 ((b.0.exact z).0 (contains_from_in z ys i))),
       ))
-  IsFindings-unique xs ys (inl a) (inr b) = absurd (excluded xs a.0 a.1 b.0)
-  IsFindings-unique xs ys (inr a) (inl b) = absurd (excluded ys b.0 b.1 a.0)
-  IsFindings-unique xs ys (inr a) (inr b) = a.1 ∙ sym b.1
+  AreFindings-unique xs ys (inl a) (inr b) = absurd (excluded xs a.0 a.1 b.0)
+  AreFindings-unique xs ys (inr a) (inl b) = absurd (excluded ys b.0 b.1 a.0)
+  AreFindings-unique xs ys (inr a) (inr b) = a.1 ∙ sym b.1

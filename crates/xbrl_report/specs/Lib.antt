@@ -1,4 +1,5 @@
 pub mod Pointer
+pub mod Amendment
 pub mod CodeNumber
 pub mod Pair
 pub mod Paths

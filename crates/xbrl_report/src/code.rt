@@ -2,8 +2,8 @@
 ghost use Rattle.std.specs.Prelude.{◌≡◌, ◌↔◌, ℤ, pos, Some, IfSome, IsNone};
 ghost use Rattle.std.specs.Option.{IfNone};
 
-/// Why a report is refused at a place. Each variant's meaning is a line of `specs/Finding.antt`, or of
-/// `specs/Dimension.antt` for what is wrong with a dimension.
+/// Why a report is refused at a place. Each variant's meaning is a line of `specs/Finding.antt`, of
+/// `specs/Dimension.antt` for what is wrong with a dimension, or of `specs/Amendment.antt`.
 #[derive(Clone, Copy, PartialEq, Eq, PartialOrd, Ord, Debug)]
 pub enum Code {
     NotJson,
@@ -31,6 +31,7 @@ pub enum Code {
     Language,
     UnknownDimension,
     TooMany,
+    NotReplaceable,
 }
 
 impl Code {
@@ -66,6 +67,7 @@ impl Code {
             Code::Language => "language",
             Code::UnknownDimension => "unknown-dimension",
             Code::TooMany => "too-many",
+            Code::NotReplaceable => "not-replaceable",
         }
     }
 
@@ -107,6 +109,7 @@ impl Code {
             23 => Some(Code::Language),
             24 => Some(Code::UnknownDimension),
             25 => Some(Code::TooMany),
+            26 => Some(Code::NotReplaceable),
             _ => None,
         }
     }
@@ -142,6 +145,7 @@ impl Code {
             "language" => Some(Code::Language),
             "unknown-dimension" => Some(Code::UnknownDimension),
             "too-many" => Some(Code::TooMany),
+            "not-replaceable" => Some(Code::NotReplaceable),
             _ => None,
         }
     }

@@ -31,7 +31,7 @@ pub use code::Code;
 pub use fact::Fact;
 pub use finding::Finding;
 pub use findings::Findings;
-pub use judging::{Judged, judge};
+pub use judging::{Judged, judge, judge_amendment};
 pub use name::{split_entity, split_qname};
 pub use period::{Period, read_period};
 pub use report::Report;

@@ -3,6 +3,7 @@
 
 ghost use Rattle.std.specs.Prelude.{◌≡◌, None, false};
 
+use crate::outbox::options::Target;
 use filer_client::{ExchangeFault, exchange as exchange_entry};
 use http_wire::{Sink, Source};
 use key_string::KeyText;
@@ -39,13 +40,25 @@ pub fn close<D: Disk + Drop>(outbox: Outbox<FileStore<D>>) -> Result<(), StoreFa
     }
 }
 
+/// Makes an outbox of an earlier version one of this version.
+pub fn migrate<S: Alter + Drop>(
+    alloc: Global,
+    conn: Connection<S>,
+) -> Result<Outbox<S>, OutboxFault>
+    requires autocommit { conn.in_transaction ≡ false }
+    requires unlimited { conn.step_limit ≡ None }
+{
+    Outbox::migrate(alloc, conn)
+}
+
 /// Puts a report in.
 pub fn put<S: Alter + Drop>(
     outbox: &mut Outbox<S>,
     key: KeyText,
+    target: Target,
     body: Vec<u8>,
 ) -> Result<u64, PutFault> {
-    outbox.put(key, body)
+    outbox.put(key, target.number, body)
 }
 
 /// The entry of this id.

@@ -1,7 +1,7 @@
 //! Why a task is not done, in words and as a status.
 
 use crate::report::ReportFault;
-use command_line::CommandFault;
+use command_line::{CommandFault, DatabaseFault};
 use filer_client::ExchangeFault;
 use key_string::KeyFault;
 use outbox_core::{OutboxFault, PutFault, StoreFault, TakeFault};
@@ -9,6 +9,15 @@ use std::alloc::AllocError;
 use std::io;
 use std::io::Write;
 use thiserror::Error;
+
+/// What is wrong with a database that is to be an outbox.
+#[derive(Clone, Copy)]
+pub enum Verdict {
+    /// It is none.
+    NotOurs,
+    /// It is damaged at this row.
+    Damaged(u64),
+}
 
 /// Why a task was not done. Its text is one line.
 #[derive(Debug, Drop, Error)]
@@ -83,6 +92,24 @@ impl Fault<'_> {
             } => 2,
             Fault::NoEntry { .. } => 4,
             _ => 3,
+        }
+    }
+
+    /// What an opening or a migration finds wrong with the rows, where it is that.
+    pub fn verdict(&self) -> Option<Verdict> {
+        match self {
+            Fault::Outbox { fault, .. } => match fault {
+                OutboxFault::NotOurs => Some(Verdict::NotOurs),
+                OutboxFault::Damaged { row } => Some(Verdict::Damaged(*row)),
+                _ => None,
+            },
+            Fault::Command(
+                CommandFault::Database {
+                    fault: DatabaseFault::Missing | DatabaseFault::NotADatabase,
+                    ..
+                },
+            ) => Some(Verdict::NotOurs),
+            _ => None,
         }
     }
 

@@ -26,6 +26,39 @@ pub fn create<'a, D: Disk + Drop, P: Place<D>>(
     }
 }
 
+/// Beside a file that is none of ours nothing is left.
+fn leave<D: Disk + Drop, P: Place<D>>(
+    rt: &HostRuntime,
+    place: &P,
+    name: &str,
+    had_log: bool,
+    fault: OutboxFault,
+) {
+    if fault == OutboxFault::NotOurs {
+        remove_new_log(rt, place, name, had_log);
+    }
+}
+
+/// Makes the outbox of the file, which is one of an earlier version, one of this version.
+pub fn migrate<'a, D: Disk + Drop, P: Place<D>>(
+    rt: &HostRuntime,
+    place: &P,
+    name: &'a str,
+) -> Result<Outbox<FileStore<D>>, Fault<'a>> {
+    let had_log = place.has_log(rt, name);
+    let conn = match open_database(rt, place, name) {
+        Ok(conn) => conn,
+        Err(fault) => return Err(CommandFault::Database { name, fault }.into()),
+    };
+    match calls::migrate(rt.alloc(), conn) {
+        Ok(outbox) => Ok(outbox),
+        Err(fault) => {
+            leave(rt, place, name, had_log, fault);
+            Err(Fault::Outbox { name, fault })
+        }
+    }
+}
+
 /// Opens the outbox of the file. Beside a file that is none of ours nothing is left.
 pub fn open<'a, D: Disk + Drop, P: Place<D>>(
     rt: &HostRuntime,
@@ -40,9 +73,7 @@ pub fn open<'a, D: Disk + Drop, P: Place<D>>(
     match calls::open(rt.alloc(), conn) {
         Ok(outbox) => Ok(outbox),
         Err(fault) => {
-            if fault == OutboxFault::NotOurs {
-                remove_new_log(rt, place, name, had_log);
-            }
+            leave(rt, place, name, had_log, fault);
             Err(Fault::Outbox { name, fault })
         }
     }

@@ -1,8 +1,14 @@
 //! The tasks of `outbox` and their values, as `clap` reads them.
 
+ghost use Rattle.http_wire.specs.Posting.{IsTarget};
+ghost use Rattle.commands.specs.Targets.{IsTarget-prop};
+
 use clap::{Arg, ArgAction, ArgMatches, Command, Error, value_parser};
 use command_line::{VERSION, database_option, filer_option, option, port_option};
 use std::alloc::{AllocError, Global};
+
+/// The greatest number that a filing may have.
+const MAX_TARGET: u64 = i64::MAX as u64;
 
 /// What the command line asks for.
 #[derive(Clone, Copy)]
@@ -12,11 +18,16 @@ pub enum Task<'a> {
         database: &'a str,
         filer: &'a str,
     },
-    /// Put a report in, under this key or one at random.
+    /// Put a report in, under this key or one at random, to replace the filing of this number, if there is one.
     Put {
         database: &'a str,
         body: &'a str,
         key: Option<&'a str>,
+        target: Target,
+    },
+    /// Make an outbox of an earlier version one of this version.
+    Migrate {
+        database: &'a str,
     },
     /// Send an entry, or all that are open.
     Send {
@@ -33,6 +44,13 @@ pub enum Task<'a> {
         database: &'a str,
         entry: Option<u64>,
     },
+}
+
+/// The filing that a report replaces, if it replaces one.
+#[derive(Clone, Copy)]
+pub struct Target {
+    pub number: Option<u64>,
+    ghost fits: { IsTarget number } by { IsTarget-prop number },
 }
 
 /// Which entries are sent.
@@ -77,8 +95,19 @@ fn key<'a>(alloc: Global) -> Arg<'a> {
     .required(false)
 }
 
+fn amend<'a>(alloc: Global) -> Arg<'a> {
+    option(
+        alloc,
+        "amend",
+        "N",
+        "The number of the filing that the report replaces [default: it replaces none]",
+    )
+    .required(false)
+    .value_parser(value_parser!(u64).range(1..=i64::MAX))
+}
+
 fn put<'a>(alloc: Global) -> Result<Command<'a>, AllocError> {
-    let options = vec![in alloc; database(alloc), body(alloc), key(alloc)]?;
+    let options = vec![in alloc; database(alloc), body(alloc), key(alloc), amend(alloc)]?;
     Command::new(alloc, "put")
         .about("Puts a report in as an open entry, and prints the entry's id")
         .after_help("Example: outbox put --db outbox.db --body report.json")
@@ -142,6 +171,15 @@ fn show<'a>(alloc: Global) -> Result<Command<'a>, AllocError> {
         .args(options)
 }
 
+fn migrate<'a>(alloc: Global) -> Result<Command<'a>, AllocError> {
+    Command::new(alloc, "migrate")
+        .about(
+            "Makes an outbox of an earlier version one of this version; its entries stay as they were",
+        )
+        .after_help("Example: outbox migrate --db outbox.db")
+        .arg(database(alloc))
+}
+
 fn tasks<'a>(alloc: Global) -> Result<Vec<Command<'a>>, AllocError> {
     let tasks = vec![in alloc;
         init(alloc)?,
@@ -149,6 +187,7 @@ fn tasks<'a>(alloc: Global) -> Result<Vec<Command<'a>>, AllocError> {
         send(alloc)?,
         status(alloc)?,
         show(alloc)?,
+        migrate(alloc)?,
     ]?;
     Ok(tasks)
 }
@@ -172,6 +211,16 @@ fn which_of(values: &ArgMatches<'_>) -> Which {
     }
 }
 
+/// What `--amend` says. Other numbers are refused as the words are read.
+fn target_of(values: &ArgMatches<'_>) -> Target {
+    match values.get_one("amend") {
+        Some(number) if 1 <= number && number <= MAX_TARGET => Target {
+            number: Some(number),
+        },
+        _ => Target { number: None },
+    }
+}
+
 fn task_of<'a>(name: &str, values: &ArgMatches<'a>) -> Option<Task<'a>> {
     let database = values.get_str("db")?;
     match name {
@@ -183,7 +232,9 @@ fn task_of<'a>(name: &str, values: &ArgMatches<'a>) -> Option<Task<'a>> {
             database,
             body: values.get_str("body")?,
             key: values.get_str("key"),
+            target: target_of(values),
         }),
+        "migrate" => Some(Task::Migrate { database }),
         "send" => Some(Task::Send {
             database,
             port: values.get_one("port")?,

@@ -1,10 +1,10 @@
 //! Performs a task, and says how the program ends.
 
 use crate::database::{Place, SystemFiles};
-use crate::outbox::fault::Fault;
-use crate::outbox::files::{close, create, open};
+use crate::outbox::fault::{Fault, Verdict};
+use crate::outbox::files::{close, create, migrate, open};
 use crate::outbox::line::{EntryLine, LongLine};
-use crate::outbox::options::{Task, Which};
+use crate::outbox::options::{Target, Task, Which};
 use crate::outbox::{calls, options};
 use crate::report::report;
 use command_line::{CommandFault, DONE, show, show_refusal, words};
@@ -84,10 +84,11 @@ fn put_report<'a, S: Alter + Drop, O: Write>(
     outbox: &mut Outbox<S>,
     name: &'a str,
     key: KeyText,
+    target: Target,
     body: Vec<u8>,
     output: &mut O,
 ) -> Result<(), Fault<'a>> {
-    match calls::put(outbox, key, body) {
+    match calls::put(outbox, key, target, body) {
         Ok(id) => show_id(rt, name, id, output),
         Err(fault) => Err(Fault::Put { name, fault }),
     }
@@ -99,13 +100,14 @@ fn put<'a, D: Disk + Drop, P: Place<D>, O: Write, E: Write>(
     name: &'a str,
     body_name: &'a str,
     key_text: Option<&str>,
+    target: Target,
     output: &mut O,
     errors: &mut E,
 ) -> Result<(), Fault<'a>> {
     let key = key(rt, key_text)?;
     let body = report(rt, body_name)?;
     let mut outbox = open(rt, place, name)?;
-    let done = put_report(rt, &mut outbox, name, key, body, output);
+    let done = put_report(rt, &mut outbox, name, key, target, body, output);
     close(outbox, name, errors);
     done
 }
@@ -348,6 +350,41 @@ fn show_entries<'a, D: Disk + Drop, P: Place<D>, O: Write, E: Write>(
     shown
 }
 
+/// Prints what the fault says of the outbox, where it says something, and gives it back.
+fn show_fault<'a, O: Write>(
+    alloc: Global,
+    fault: Fault<'a>,
+    output: &mut O,
+) -> Result<(), Fault<'a>> {
+    match fault.verdict() {
+        Some(Verdict::NotOurs) => show(output, b"not an outbox\n")?,
+        Some(Verdict::Damaged(row)) => {
+            let text = format!(in alloc; "damaged at row {row}\n")?;
+            show(output, text.as_bytes())?;
+        }
+        None => {}
+    }
+    Err(fault)
+}
+
+/// Makes an outbox of an earlier version one of this version, and prints that it is; or why it is none.
+fn migrate_file<'a, D: Disk + Drop, P: Place<D>, O: Write, E: Write>(
+    rt: &HostRuntime,
+    place: &P,
+    name: &'a str,
+    output: &mut O,
+    errors: &mut E,
+) -> Result<(), Fault<'a>> {
+    match migrate(rt, place, name) {
+        Ok(outbox) => {
+            let shown = show(output, b"migrated\n");
+            close(outbox, name, errors);
+            Ok(shown?)
+        }
+        Err(fault) => show_fault(rt.alloc(), fault, output),
+    }
+}
+
 /// Performs a task, and answers the status.
 fn perform_task<'a, D: Disk + Drop, P: Place<D>, O: Write, E: Write>(
     rt: &HostRuntime,
@@ -362,7 +399,8 @@ fn perform_task<'a, D: Disk + Drop, P: Place<D>, O: Write, E: Write>(
             database,
             body,
             key,
-        } => put(rt, place, database, body, key, output, errors)?,
+            target,
+        } => put(rt, place, database, body, key, target, output, errors)?,
         Task::Send {
             database,
             port,
@@ -372,6 +410,7 @@ fn perform_task<'a, D: Disk + Drop, P: Place<D>, O: Write, E: Write>(
         Task::Show { database, entry } => {
             show_entries(rt, place, database, entry, output, errors)?
         }
+        Task::Migrate { database } => migrate_file(rt, place, database, output, errors)?,
     }
     Ok(DONE)
 }

@@ -1,6 +1,6 @@
 //! Bodies with many findings or a long place, that nest deeply, or are wide.
 
-use super::{START, is_told, told};
+use super::{START, is_told, told, told_if};
 use std::alloc::{AllocError, Global};
 use std::test::Fail;
 
@@ -61,6 +61,15 @@ fn too_many(rt: HostRuntime) -> Result<(), Fail> {
         let body = many_findings(rt.alloc(), count)?;
         is_told(&rt, rt.alloc(), &body, " too-many;")?;
     }
+    Ok(())
+}
+
+#[test]
+fn one_finding_more(rt: HostRuntime) -> Result<(), Fail> {
+    let most = told_if(rt.alloc(), &many_findings(rt.alloc(), 999)?, false)?;
+    assert_eq!(rt; most.len(), " not-replaceable;".len() + 999 * LENGTH_OF_ONE);
+    let more = told_if(rt.alloc(), &many_findings(rt.alloc(), 1000)?, false)?;
+    assert_eq!(rt; more.as_str(), " too-many;");
     Ok(())
 }
 

@@ -62,7 +62,10 @@ fn next_open<S: Alter>(outbox: &mut Outbox<S>) -> Result<Option<Entry>, StoreFau
 }
 
 /// Whether the entries of the outbox are in these states.
-fn has_states<S: Alter>(outbox: &mut Outbox<S>, expected: &[(u64, State)]) -> Result<bool, Fail> {
+pub fn has_states<S: Alter>(
+    outbox: &mut Outbox<S>,
+    expected: &[(u64, State)],
+) -> Result<bool, Fail> {
     Ok(states(outbox)?.as_slice() == expected)
 }
 
@@ -71,7 +74,7 @@ fn put_once<S: Alter>(
     outbox: &mut Outbox<S>,
     body: &[u8],
 ) -> Result<Result<u64, PutFault>, Fail> {
-    Ok(calls::put(outbox, key(alloc)?, bytes(alloc, body)?))
+    Ok(calls::put(outbox, key(alloc)?, false, bytes(alloc, body)?))
 }
 
 /// What a put answers on an outbox whose entries are in these states.

@@ -2,36 +2,53 @@
 
 use super::{BODY, calls, put, take, with_entry};
 use crate::databases::{ENOUGH, connect, copies, crashed, fused, new_files};
+use crate::targets::first_if;
 use outbox_core::{Outbox, PutFault, State, StoreFault, TakeFault};
 use sqlite::{Alter, Connection};
 use sqlite_disk::{Disk, Files, Fuse, Memory};
 use std::alloc::Global;
 use std::test::Fail;
 
-/// An entry as it is expected: its key, its body and its state.
-type Expected = (&'static str, &'static [u8], State);
+/// An entry as it is expected: its key, whether it is to replace filing 1, its body and its state.
+type Expected = (&'static str, bool, &'static [u8], State);
 
-const BEFORE: &[Expected] = &[("k-1", BODY, State::Open)];
+const BEFORE: &[Expected] = &[("k-1", false, BODY, State::Open)];
 
-/// A change of an outbox that has one open entry: a second is put, or a reply with this status and content moves the first.
-type Change = Option<(u16, &'static [u8])>;
+/// A change of an outbox that has one open entry.
+#[derive(Clone, Copy)]
+enum Change {
+    /// A second is put, which is to replace filing 1 or none.
+    Put(bool),
+    /// A reply with this status and content moves the first.
+    Reply(u16, &'static [u8]),
+}
 
 /// The changes, and the entries after each.
-static CHANGES: [(Change, &[Expected]); 3] = [
+static CHANGES: [(Change, &[Expected]); 4] = [
     (
-        None,
-        &[("k-1", BODY, State::Open), ("k-2", b"{}", State::Open)],
+        Change::Put(false),
+        &[
+            ("k-1", false, BODY, State::Open),
+            ("k-2", false, b"{}", State::Open),
+        ],
     ),
     (
-        Some((201, b"{\"number\":1,\"status\":\"registered\"}")),
-        &[("k-1", BODY, State::Confirmed(1))],
+        Change::Put(true),
+        &[
+            ("k-1", false, BODY, State::Open),
+            ("k-2", true, b"{}", State::Open),
+        ],
     ),
     (
-        Some((
+        Change::Reply(201, b"{\"number\":1,\"status\":\"registered\"}"),
+        &[("k-1", false, BODY, State::Confirmed(1))],
+    ),
+    (
+        Change::Reply(
             422,
             b"{\"findings\":[],\"reason\":\"refused\",\"status\":422,\"title\":\"Unprocessable Content\",\"type\":\"about:blank\"}",
-        )),
-        &[("k-1", BODY, State::Refused)],
+        ),
+        &[("k-1", false, BODY, State::Refused)],
     ),
 ];
 
@@ -39,10 +56,15 @@ static CHANGES: [(Change, &[Expected]); 3] = [
 fn is_entry<S: Alter>(
     outbox: &mut Outbox<S>,
     id: u64,
-    (key, body, state): Expected,
+    (key, replaces, body, state): Expected,
 ) -> Result<bool, Fail> {
     let entry = calls::entry(outbox, id)?.ok_or("there is no such entry")?;
-    Ok(entry.key.as_str() == key && entry.body.as_slice() == body && entry.state == state)
+    Ok(
+        entry.key.as_str() == key
+            && entry.target == first_if(replaces)
+            && entry.body.as_slice() == body
+            && entry.state == state,
+    )
 }
 
 /// Whether the outbox has these entries and no others.
@@ -59,8 +81,8 @@ fn holds<S: Alter>(outbox: &mut Outbox<S>, expected: &[Expected]) -> Result<bool
 }
 
 /// Whether the second entry was put, or the disk stopped.
-fn is_put<S: Alter>(alloc: Global, outbox: &mut Outbox<S>) -> Result<bool, Fail> {
-    match put(alloc, outbox, "k-2", b"{}")? {
+fn is_put<S: Alter>(alloc: Global, outbox: &mut Outbox<S>, replaces: bool) -> Result<bool, Fail> {
+    match put(alloc, outbox, "k-2", replaces, b"{}")? {
         Ok(_) => Ok(true),
         Err(PutFault::Store) => Ok(false),
         Err(fault) => Err(Fail::from(fault)),
@@ -91,8 +113,8 @@ fn changed<S: Alter + Drop>(
         return Ok(None);
     };
     let made = match change {
-        None => is_put(alloc, &mut outbox)?,
-        Some((status, content)) => is_taken(alloc, &mut outbox, status, content)?,
+        Change::Put(replaces) => is_put(alloc, &mut outbox, replaces)?,
+        Change::Reply(status, content) => is_taken(alloc, &mut outbox, status, content)?,
     };
     Ok(Some((made, outbox)))
 }

@@ -1,6 +1,7 @@
 //! The calls that the tests make, each in a function of its own that has no clause: what calls it carries none of theirs.
 
 use crate::databases::ready;
+use crate::targets::first_if;
 use filing_model::FilingRow;
 use key_string::{KeyText, is_filer};
 use register_store::{
@@ -11,7 +12,7 @@ use sqlite::{Alter, Connection, FileStore, Files};
 use sqlite_disk::Disk;
 use std::alloc::Global;
 use std::test::Fail;
-use xbrl_report::{Fact, judge};
+use xbrl_report::{Fact, judge, judge_amendment};
 
 /// What `create` answers.
 pub fn create<S: Alter + Drop>(
@@ -73,11 +74,45 @@ pub fn add_short<S: Alter>(
         Ok(judged) => Ok(store.add(&NewRow {
             filer,
             key,
+            target: None,
             body,
             judged: &judged,
         })),
         Err(error) => Ok(Err(StoreFault::from(error))),
     }
+}
+
+/// The same of a report that is to replace filing 1, which is free to be replaced or not.
+pub fn add_replacing<S: Alter>(
+    alloc: Global,
+    store: &mut Store<S>,
+    key: &KeyText,
+    body: &[u8],
+    free: bool,
+) -> Result<Result<Outcome, StoreFault>, Fail> {
+    let filer = "ACME";
+    if !is_filer(filer) || body.len() > 1000 || store.kept_count()? > 1000 {
+        return Err(Fail::from("not for this test"));
+    }
+    match judge_amendment(alloc, filer, body, free) {
+        Ok(judged) => Ok(store.add(&NewRow {
+            filer,
+            key,
+            target: first_if(true),
+            body,
+            judged: &judged,
+        })),
+        Err(error) => Ok(Err(StoreFault::from(error))),
+    }
+}
+
+/// What `replaceable` answers.
+pub fn replaceable<S: Alter>(
+    store: &mut Store<S>,
+    filer: &str,
+    number: u64,
+) -> Result<bool, StoreFault> {
+    store.replaceable(filer, number)
 }
 
 /// How many requests are told the contents of before.
@@ -117,14 +152,6 @@ pub fn facts<S: Alter>(store: &mut Store<S>, number: u64) -> Result<Option<Vec<F
 /// What `into_files` answers.
 pub fn into_files<D: Disk + Drop>(store: Store<FileStore<D>>) -> Result<Files<D>, StoreFault> {
     store.into_files()
-}
-
-/// The files of a connection, whatever its close answers.
-pub fn close_files<D: Disk + Drop>(conn: Connection<FileStore<D>>) -> Files<D> {
-    match conn.close_files() {
-        Ok(files) => files,
-        Err((_, store)) => store.close(),
-    }
 }
 
 /// The files, whatever `close` answers.

@@ -1,7 +1,7 @@
 //! Openings of databases that are no registers, or damaged ones.
 
 use super::calls::{conn_of, create, open};
-use super::{ONE, REPORT, Request, VALID, made};
+use super::{ONE, REPORT, Request, VALID, amended, made};
 use crate::databases::{Fresh, run};
 use register_store::{CreateFault, OpenFault};
 use sqlite::{Connection, MemStore};
@@ -19,7 +19,7 @@ const THREE: &[Request] = &[("k-1", REPORT), ("k-2", b""), ("k-3", VALID)];
 
 /// Rows that judging does not give, rows of no request, more rows of a request than are its own, and other registers. The long body is
 /// the smallest report.
-static CASES: [Case; 27] = [
+static CASES: [Case; 31] = [
     (
         "UPDATE finding SET code = 2 WHERE seq = 2",
         OpenFault::Damaged { row: 2 },
@@ -84,6 +84,22 @@ static CASES: [Case; 27] = [
     ("DROP TABLE amends", OpenFault::Damaged { row: 0 }),
     (
         "INSERT INTO amends VALUES (1, 1)",
+        OpenFault::Damaged { row: 1 },
+    ),
+    (
+        "INSERT INTO amends VALUES (2, 0)",
+        OpenFault::Damaged { row: 2 },
+    ),
+    (
+        "INSERT INTO amends VALUES (2, -1)",
+        OpenFault::Damaged { row: 2 },
+    ),
+    (
+        "INSERT INTO amends VALUES (3, 1)",
+        OpenFault::Damaged { row: 0 },
+    ),
+    (
+        "INSERT INTO amends VALUES (0, 1)",
         OpenFault::Damaged { row: 0 },
     ),
     (
@@ -95,6 +111,36 @@ static CASES: [Case; 27] = [
     ("UPDATE intake_meta SET form = 9", OpenFault::NotOurs),
     ("UPDATE intake_meta SET form = 1", OpenFault::NotOurs),
     ("DELETE FROM intake_meta", OpenFault::NotOurs),
+];
+
+/// Where the second of three reports replaces the first: targets that are none, other ones, and one that was replaced already.
+static AMENDED: [Case; 8] = [
+    (
+        "UPDATE amends SET target = 0",
+        OpenFault::Damaged { row: 2 },
+    ),
+    (
+        "UPDATE amends SET target = -1",
+        OpenFault::Damaged { row: 2 },
+    ),
+    (
+        "UPDATE amends SET target = 2",
+        OpenFault::Damaged { row: 2 },
+    ),
+    ("UPDATE amends SET seq = 1", OpenFault::Damaged { row: 1 }),
+    ("UPDATE amends SET seq = 4", OpenFault::Damaged { row: 0 }),
+    (
+        "INSERT INTO amends VALUES (3, 1)",
+        OpenFault::Damaged { row: 3 },
+    ),
+    (
+        "INSERT INTO amends VALUES (3, 3)",
+        OpenFault::Damaged { row: 3 },
+    ),
+    (
+        "INSERT INTO amends VALUES (4, 0)",
+        OpenFault::Damaged { row: 0 },
+    ),
 ];
 
 /// A third request whose filing takes a number in use.
@@ -137,6 +183,12 @@ fn fault_of<S: Fresh>(
     fault_after(alloc, conn_of(store), sql)
 }
 
+/// What an opening answers after the statements on a register in which a report replaces another.
+fn fault_of_amended<S: Fresh>(alloc: Global, sql: &str) -> Result<Option<OpenFault>, Fail> {
+    let store = amended(alloc, S::fresh(alloc)?)?;
+    fault_after(alloc, conn_of(store), sql)
+}
+
 /// What an opening answers after the statements on a new database.
 fn fault_of_none<S: Fresh>(alloc: Global, sql: &str) -> Result<Option<OpenFault>, Fail> {
     let conn: Connection<S> = S::fresh(alloc)?;
@@ -148,6 +200,31 @@ fn damage_is_told(rt: HostRuntime) -> Result<(), Fail> {
     for &(sql, fault) in &CASES {
         let given = fault_of::<MemStore>(rt.alloc(), TWO, sql)?;
         assert_eq!(rt; given, Some(fault), "{sql}");
+    }
+    Ok(())
+}
+
+#[test]
+fn damage_to_targets_is_told(rt: HostRuntime) -> Result<(), Fail> {
+    for &(sql, fault) in &AMENDED {
+        let given = fault_of_amended::<MemStore>(rt.alloc(), sql)?;
+        assert_eq!(rt; given, Some(fault), "{sql}");
+    }
+    Ok(())
+}
+
+/// Other targets with which each of these filings is one: none, one more, and that of another report.
+static SOUND: [&str; 3] = [
+    "DELETE FROM amends",
+    "INSERT INTO amends VALUES (3, 2)",
+    "UPDATE amends SET seq = 3",
+];
+
+#[test]
+fn other_targets_that_were_free_are_sound(rt: HostRuntime) -> Result<(), Fail> {
+    for &sql in &SOUND {
+        let given = fault_of_amended::<MemStore>(rt.alloc(), sql)?;
+        assert_eq!(rt; given, None, "{sql}");
     }
     Ok(())
 }

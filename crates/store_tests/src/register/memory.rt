@@ -64,7 +64,7 @@ fn found<S: Alter>(store: &mut Store<S>, key: &KeyText) -> Result<Option<KeptRow
 }
 
 /// A register with the report.
-fn with_one<S: Fresh>(alloc: Global) -> Result<Store<S>, Fail> {
+pub fn with_one<S: Fresh>(alloc: Global) -> Result<Store<S>, Fail> {
     let mut store = created(alloc)?;
     let key = key(alloc)?;
     match added(alloc, &mut store, &key)? {

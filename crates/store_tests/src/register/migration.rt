@@ -1,8 +1,8 @@
 //! Registers of earlier versions: what a migration makes of them, which it refuses, and what a stop in it leaves.
 
 use super::add;
-use super::calls::{close_files, conn_of, counts, early_count, look_up, migrate, migrated, open};
-use crate::databases::{ENOUGH, Fresh, connect, crashed, fused, new_files, run};
+use super::calls::{conn_of, counts, early_count, look_up, migrate, migrated, open};
+use crate::databases::{ENOUGH, Fresh, close_files, connect, crashed, fused, new_files, run};
 use filing_model::Style;
 use key_string::KeyText;
 use register_store::{OpenFault, Outcome, Store};
@@ -132,6 +132,9 @@ fn has_both<S: Alter>(store: &Store<S>, early: u64) -> Result<bool, Fail> {
 fn told<S: Alter>(alloc: Global, store: &mut Store<S>, key: &str) -> Result<(Style, u64), Fail> {
     let key = KeyText::new(alloc, key)?;
     let row = look_up(store, "ACME", &key)?.ok_or("it is not kept")?;
+    if row.target.is_some() {
+        return Err(Fail::from("it has a target"));
+    }
     Ok(match row.outcome {
         Outcome::Registered(number) => (row.style, number),
         Outcome::Refused(_) => (row.style, 0),

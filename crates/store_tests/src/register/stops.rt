@@ -1,8 +1,9 @@
 //! Registers in files on disks in memory, which stop at a call of an intake.
 
 use super::calls::{close, into_files, open, requests};
-use super::{ONE, REPORT, Request, made};
+use super::{ONE, REPORT, made};
 use crate::databases::{ENOUGH, connect, crashed, fused, new_files};
+use crate::targets::first_if;
 use intake_core::{Answer, Intake, Unavailable};
 use key_string::{KeyText, is_filer};
 use register_store::{Completed, Store};
@@ -14,15 +15,22 @@ use std::test::Fail;
 // What needs no disk by name is generic over the store, and the rest over the disk, where each call of the first costs much to
 // prove.
 
+/// A key of ACME, whether a report is to replace filing 1, and the report.
+type Request = (&'static str, bool, &'static [u8]);
+
+/// The request that is kept at first.
+const FIRST: Request = ("k-1", false, REPORT);
+
 /// The files, with a register of one report.
 fn with_one_in<D: Disk + Drop>(alloc: Global, files: Files<D>) -> Result<Files<D>, Fail> {
     let conn = connect(alloc, files).ok_or("no database")?;
     Ok(into_files(made(alloc, conn, &ONE)?)?)
 }
 
-/// Submits a request of `ACME`.
+/// Submits a request of `ACME`, which is to replace filing 1 or none.
 fn submit<S: Alter>(
     intake: &mut Intake<S>,
+    replaces: bool,
     key: &KeyText,
     body: &[u8],
 ) -> Result<Answer, Unavailable> {
@@ -30,12 +38,12 @@ fn submit<S: Alter>(
     if !is_filer(filer) || body.len() > 1000 {
         return Err(Unavailable::Down);
     }
-    intake.submit(filer, key, body)
+    intake.submit(filer, first_if(replaces), key, body)
 }
 
 /// Whether neither a key that may be remembered nor the list is answered.
 fn is_down<S: Alter>(intake: &mut Intake<S>, key: &KeyText) -> bool {
-    matches!(submit(intake, key, REPORT), Err(Unavailable::Down))
+    matches!(submit(intake, false, key, REPORT), Err(Unavailable::Down))
         && matches!(intake.list("ACME"), Err(Unavailable::Down))
 }
 
@@ -43,11 +51,12 @@ fn is_down<S: Alter>(intake: &mut Intake<S>, key: &KeyText) -> bool {
 fn is_answered<S: Alter>(
     alloc: Global,
     intake: &mut Intake<S>,
-    (key, body): Request,
+    (key, replaces, body): Request,
 ) -> Result<bool, Fail> {
     let first = KeyText::new(alloc, "k-1")?;
     let key = KeyText::new(alloc, key)?;
-    let answered = submit(intake, &first, REPORT).is_ok() && submit(intake, &key, body).is_ok();
+    let answered = submit(intake, false, &first, REPORT).is_ok()
+        && submit(intake, replaces, &key, body).is_ok();
     if answered || is_down(intake, &first) {
         Ok(answered)
     } else {
@@ -89,15 +98,18 @@ enum Kept {
 }
 
 /// Whether this is the request.
-fn is_request(found: &Completed, (key, body): Request) -> bool {
-    found.filer.as_str() == "ACME" && found.key.as_str() == key && found.body.as_slice() == body
+fn is_request(found: &Completed, (key, replaces, body): Request) -> bool {
+    found.filer.as_str() == "ACME"
+        && found.key.as_str() == key
+        && found.target == first_if(replaces)
+        && found.body.as_slice() == body
 }
 
 /// Whether these are the first request and, where it was answered, the second.
 fn are_before_or_after(found: &[Completed], second: Request, answered: bool) -> bool {
     match found {
-        [first] => !answered && is_request(first, ONE[0]),
-        [first, other] => is_request(first, ONE[0]) && is_request(other, second),
+        [first] => !answered && is_request(first, FIRST),
+        [first, other] => is_request(first, FIRST) && is_request(other, second),
         _ => false,
     }
 }
@@ -150,9 +162,17 @@ fn stops(alloc: Global, request: Request, stops_log: bool) -> Result<bool, Fail>
     Err(Fail::from("it never ends without a stop"))
 }
 
+/// A report and a body that is none, and both to replace filing 1. A refused one is kept with its target, too.
+static REQUESTS: [Request; 4] = [
+    ("k-2", false, REPORT),
+    ("k-2", false, b""),
+    ("k-2", true, REPORT),
+    ("k-2", true, b""),
+];
+
 #[test]
 fn a_stop_leaves_the_rows_of_before_or_after(rt: HostRuntime) -> Result<(), Fail> {
-    for request in [("k-2", REPORT), ("k-2", b"".as_slice())] {
+    for &request in &REQUESTS {
         for stops_log in [true, false] {
             assert!(rt; stops(rt.alloc(), request, stops_log)?);
         }

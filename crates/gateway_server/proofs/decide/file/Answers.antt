@@ -18,7 +18,7 @@ use Rattle.gateway_server.proofs.decide.file.Goals as goal
 
 pub returns-in-Ok-clause-decided : goal.returns-in-Ok-clause-decided
 returns-in-Ok-clause-decided g c = λ clean before h.
-    let r : Request = the_request c.args.filer.now c.args.key.now c.args.body.now in
+    let r : Request = the_request c.args.filer.now c.args.key.now c.args.target c.args.body.now in
     let told = c.in-Ok.ensures.answer clean before h in (
       firsts (before ++ r ∷ []),
       told.1,
@@ -41,7 +41,7 @@ returns-in-Ok-clause-phrase g c =
 
 pub returns-in-Err-clause-decided : goal.returns-in-Err-clause-decided
 returns-in-Err-clause-decided g c = λ clean before h.
-    let r : Request = the_request c.args.filer.now c.args.key.now c.args.body.now in
+    let r : Request = the_request c.args.filer.now c.args.key.now c.args.target c.args.body.now in
     (before, c.in-Err.ensures.err clean before h, ap (λ n. take n before) c.in-Err.ensures.early, Decides-filed_unavailable (limit_of c.args.intake.now) (early_in c.args.intake.now before) before r c.unavailable.result c.unavailable.ensures)
 
 pub returns-in-Err-clause-phrase : goal.returns-in-Err-clause-phrase

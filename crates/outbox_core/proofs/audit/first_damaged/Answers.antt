@@ -4,20 +4,25 @@ use Rattle.outbox_core.proofs.AuditLemmas.{one_on}
 use Rattle.outbox_core.proofs.audit.first_damaged.Goals as goal
 
 pub returns-then-not-is_sound : goal.returns-then-not-is_sound
-returns-then-not-is_sound c =
+returns-then-not-is_sound c targets each =
     let rows = c.args.rows.now in
-    let i = c.loop-row.row-index in
-    let next : c.loop-row.id + 1 ≡ suc i = omega (arith, c.loop-row.invariant.0) in
-    let sound = subst (λ n. is_sound n c.row-item.result ≡ false) next (sym c.is_sound.ensures ∙ c.if-not-is_sound.true) in
-    let step = one_on rows i c.row-item.result false c.loop-row-test.true (sym c.row-item.is) sound in
-    ap Some next ∙ sym step ∙ c.loop-row.invariant.1
+    let at = c.loop-at.at in
+    let next : c.loop-at.id + 1 ≡ suc at = omega (arith, c.loop-at.invariant.0) in
+    let said = each at _ c.loop-at-test.true in
+    let sound = subst (λ n. is_sound targets n c.index-rows-at.result ≡ false) next (sym (c.is_sound.ensures targets (rw next said)) ∙ c.if-not-is_sound.true) in
+    let step = one_on targets rows at c.index-rows-at.result false c.loop-at-test.true (sym c.index-rows-at.is) sound in
+    ap Some next ∙ sym step ∙ c.loop-at.invariant.1 targets each
 
-pub loop-row-preserved : goal.loop-row-preserved
-loop-row-preserved c =
-    let rows = c.args.rows.now in
-    let i = c.loop-row.row-index in
-    let next : c.loop-row.id + 1 ≡ suc i = omega (arith, c.loop-row.invariant.0) in
-    let one : suc i ≡ i + 1 = omega arith in
-    let sound = subst (λ n. is_sound n c.row-item.result ≡ true) next (sym c.is_sound.ensures ∙ c.if-not-is_sound.false) in
-    let step = one_on rows i c.row-item.result true c.loop-row-test.true (sym c.row-item.is) sound in
-    (next ∙ one, subst (λ n. first_damaged (suc n) (drop n rows) ≡ first_damaged 1 rows) one (sym step ∙ c.loop-row.invariant.1))
+pub loop-at-preserved : goal.loop-at-preserved
+loop-at-preserved c = (
+  let one : suc c.loop-at.at ≡ c.loop-at.at + 1 = omega arith in omega (arith, c.loop-at.invariant.0),
+  λ targets each.
+      let rows = c.args.rows.now in
+      let at = c.loop-at.at in
+      let next : c.loop-at.id + 1 ≡ suc at = omega (arith, c.loop-at.invariant.0) in
+      let one : suc at ≡ at + 1 = omega arith in
+      let said = each at _ c.loop-at-test.true in
+      let sound = subst (λ n. is_sound targets n c.index-rows-at.result ≡ true) next (sym (c.is_sound.ensures targets (rw next said)) ∙ c.if-not-is_sound.false) in
+      let step = one_on targets rows at c.index-rows-at.result true c.loop-at-test.true (sym c.index-rows-at.is) sound in
+      subst (λ n. first_damaged targets (suc n) (drop n rows) ≡ first_damaged targets 1 rows) one (sym step ∙ c.loop-at.invariant.1 targets each),
+)

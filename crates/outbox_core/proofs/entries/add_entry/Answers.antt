@@ -14,7 +14,7 @@ returns-in-Ok-None-clause-added g c clean it was counted =
     let none : find (has_text c.args.key.now) (numbered it.entries) ≡ None = none_found _ (rw c.in-Ok-None.field-0-is at (c.in-Ok-None.ensures.found early it was)) in
     let stands = c.in-Ok-None.ensures.kept early it was in
     let alive = c.in-Ok-None.ensures.open early it was in
-    c.insert_next.ensures.added clean it stands alive counted (one_more it c.args.key.now c.args.body.now c.requires.key c.requires.body none (stands.now alive).list)
+    c.insert_next.ensures.added clean it stands alive counted (one_more it c.args.key.now c.args.target c.args.body.now c.requires.key c.requires.target c.requires.body none (stands.now alive).list)
 
 pub returns-in-Ok-None-clause-unused : goal.returns-in-Ok-None-clause-unused
 returns-in-Ok-None-clause-unused g c clean it was =
@@ -37,7 +37,7 @@ returns-in-Ok-None-clause-crash g c =
     let none : find (has_text c.args.key.now) (numbered it.entries) ≡ None = none_found _ (rw c.in-Ok-None.field-0-is at (c.in-Ok-None.ensures.found early it was)) in
     let stands = c.in-Ok-None.ensures.kept early it was in
     let still = c.in-Ok-None.ensures.open early it was in
-    h it stands still counted (one_more it c.args.key.now c.args.body.now c.requires.key c.requires.body none (stands.now still).list))
+    h it stands still counted (one_more it c.args.key.now c.args.target c.args.body.now c.requires.key c.requires.target c.requires.body none (stands.now still).list))
     c.id_of_key.ensures.crash c.insert_next.ensures.crash
 
 pub returns-in-Ok-Some-clause-used : goal.returns-in-Ok-Some-clause-used

@@ -1,4 +1,4 @@
-use Rattle.std.proofs.Common.{arith}
+use Rattle.std.proofs.Common.{arith, sym}
 use Rattle.sqlite.specs.Held.{state}
 use Rattle.sqlite.specs.State.{HasCleanDisk}
 use Rattle.sqlite.proofs.StateLemmas.{survives_weaker, survives_then}
@@ -8,44 +8,44 @@ use Rattle.filing_model.specs.Outbox.{moved}
 use Rattle.outbox_core.specs.Entries.{entry_at, with_state}
 use Rattle.outbox_core.specs.Reading.{view_state}
 use Rattle.outbox_core.specs.Rows.{Leaves}
-use Rattle.outbox_core.proofs.ReadLemmas.{state_read, moved_read, none_read, entry_read}
+use Rattle.outbox_core.proofs.ReadLemmas.{moved_read, none_there, entry_read}
 use Rattle.outbox_core.proofs.entries.take_entry.Goals as goal
 
 pub returns-in-Ok-Some-clause-moved : goal.returns-in-Ok-Some-clause-moved
 returns-in-Ok-Some-clause-moved g c clean it was =
-    let early : HasCleanDisk (state g.S.Store c.entry_of.new.conn) = omega (arith, c.move_entry.ensures.crash.clean) in
+    let early : HasCleanDisk (state g.S.Store c.state_of_entry.new.conn) = omega (arith, c.move_entry.ensures.crash.clean) in
     let o = entry_at it.entries c.args.id in
-    let at = state_read o c.args.id c.in-Ok-Some.entry (rw c.in-Ok-Some.field-0-is at (c.in-Ok-Some.ensures.found early it was)) in
-    if_ok c.move_entry.result _ _ (λ to p. (moved_read o (view_state c.in-Ok-Some.entry.state) (view_state to) (λ s. moved s (reply_parts c.args.reply.now)) at p.0, p.1, p.2))
+    let at = sym (rw c.in-Ok-Some.field-0-is at (c.in-Ok-Some.ensures.found early it was)) in
+    if_ok c.move_entry.result _ _ (λ to p. (moved_read o (view_state c.in-Ok-Some.from) (view_state to) (λ s. moved s (reply_parts c.args.reply.now)) at p.0, p.1, p.2))
     (c.move_entry.ensures.moved clean it (c.in-Ok-Some.ensures.kept early it was) (c.in-Ok-Some.ensures.open early it was) at)
 
 pub returns-in-Ok-Some-clause-kept : goal.returns-in-Ok-Some-clause-kept
 returns-in-Ok-Some-clause-kept g c clean it was =
-    let early : HasCleanDisk (state g.S.Store c.entry_of.new.conn) = omega (arith, c.move_entry.ensures.crash.clean) in
+    let early : HasCleanDisk (state g.S.Store c.state_of_entry.new.conn) = omega (arith, c.move_entry.ensures.crash.clean) in
     c.move_entry.ensures.kept clean it (c.in-Ok-Some.ensures.kept early it was)
 
 pub returns-in-Ok-Some-clause-crash : goal.returns-in-Ok-Some-clause-crash
 returns-in-Ok-Some-clause-crash g c =
     let old = state g.S.Store c.args.conn.now in
-    let mid = state g.S.Store c.entry_of.new.conn in
+    let mid = state g.S.Store c.state_of_entry.new.conn in
     let new = state g.S.Store c.move_entry.new.conn in
     survives_then old mid new _ _ _ (λ _ trees none. absurd none)
     (λ clean trees h it was alive.
     let early : HasCleanDisk mid = omega (arith, c.move_entry.ensures.crash.clean) in
     let o = entry_at it.entries c.args.id in
-    let at = state_read o c.args.id c.in-Ok-Some.entry (rw c.in-Ok-Some.field-0-is at (c.in-Ok-Some.ensures.found early it was)) in
-    entry_read o (view_state c.in-Ok-Some.entry.state) (λ s. Leaves (with_state it c.args.id (moved s (reply_parts c.args.reply.now))) trees) at
+    let at = sym (rw c.in-Ok-Some.field-0-is at (c.in-Ok-Some.ensures.found early it was)) in
+    entry_read o (view_state c.in-Ok-Some.from) (λ s. Leaves (with_state it c.args.id (moved s (reply_parts c.args.reply.now))) trees) at
     (h it (c.in-Ok-Some.ensures.kept early it was) (c.in-Ok-Some.ensures.open early it was) at))
-    c.entry_of.ensures.crash c.move_entry.ensures.crash
+    c.state_of_entry.ensures.crash c.move_entry.ensures.crash
 
 pub returns-in-Ok-None-clause-no_entry : goal.returns-in-Ok-None-clause-no_entry
 returns-in-Ok-None-clause-no_entry g c clean it was is =
-    none_read (entry_at it.entries c.args.id) c.args.id (rw c.in-Ok-None.field-0-is at (c.in-Ok-None.ensures.found clean it was))
+    none_there (entry_at it.entries c.args.id) (rw c.in-Ok-None.field-0-is at (c.in-Ok-None.ensures.found clean it was))
 
 pub returns-in-Ok-None-clause-crash : goal.returns-in-Ok-None-clause-crash
 returns-in-Ok-None-clause-crash g c =
-    survives_weaker (state g.S.Store c.args.conn.now) (state g.S.Store c.entry_of.new.conn) _ _ (λ _ trees none. absurd none) c.entry_of.ensures.crash
+    survives_weaker (state g.S.Store c.args.conn.now) (state g.S.Store c.state_of_entry.new.conn) _ _ (λ _ trees none. absurd none) c.state_of_entry.ensures.crash
 
 pub returns-in-Err-clause-crash : goal.returns-in-Err-clause-crash
 returns-in-Err-clause-crash g c =
-    survives_weaker (state g.S.Store c.args.conn.now) (state g.S.Store c.entry_of.new.conn) _ _ (λ _ trees none. absurd none) c.entry_of.ensures.crash
+    survives_weaker (state g.S.Store c.args.conn.now) (state g.S.Store c.state_of_entry.new.conn) _ _ (λ _ trees none. absurd none) c.state_of_entry.ensures.crash

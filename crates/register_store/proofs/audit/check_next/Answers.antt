@@ -1,15 +1,26 @@
-use Rattle.std.proofs.Common.{◌≡◌, false, map, sym, subst₂, ◌∙◌}
-use Rattle.xbrl_report.specs.Judgement.{IsJudgement}
+use Rattle.std.proofs.Common.{◌≡◌, false, ap, sym, subst, ◌∙◌}
+use Rattle.http_wire.specs.Posting.{IsTarget}
 use Rattle.filing_model.specs.Request.{has_key}
-use Rattle.register_store.specs.Audit.{view_rest}
+use Rattle.register_store.specs.Audit.{Others, view_rest, with_target}
 use Rattle.register_store.specs.Columns.{request_in}
-use Rattle.register_store.specs.Columns.{request_in}
-use Rattle.register_store.proofs.AuditLemmas.{more_if}
+use Rattle.register_store.proofs.AuditLemmas.{told_of_any, told_target}
 use Rattle.register_store.proofs.audit.check_next.Goals as goal
 
-pub returns-then-has_more : goal.returns-then-has_more
-returns-then-has_more c rest sound =
-    let judged = subst₂ (λ filer body. IsJudgement filer body c.in-Ok.judged) c.in-Some.ensures.0 c.bytes_at.ensures c.in-Ok.ensures.judged in
-    let fresh : has_key (map request_in c.args.earlier.now) (request_in c.args.row.now) ≡ false = sym c.requires.repeated ∙ c.if-is_repeated.false in
-    more_if c.args.earlier.now c.args.row.now c.args.seq c.args.rest.number (view_rest c.args.rest) c.in-Some.ensures.1 fresh c.in-Ok.judged judged c.in-Some-after_judged.tail c.in-Some-after_judged.ensures
-    (sym c.has_more.ensures ∙ c.if-has_more.true) rest sound
+pub returns-then-not-is_target : goal.returns-then-not-is_target
+returns-then-not-is_target c F are number repeated target tail sound =
+    let read = c.target_of-target.result in
+    let same = told_target F c.args.row.now c.args.seq read.0 (view_rest c.args.rest) read.1.now c.target_of-target.ensures.only target tail sound in
+    let yes = c.is_target.ensures.1 (subst IsTarget same sound.completed.target) in
+    absurd (let no = c.if-not-is_target.true in cc)
+
+pub returns : goal.returns
+returns c F are number repeated =
+    let read = c.target_of-target.result in
+    let rest = c.args.rest in
+    let row = c.args.row.now in
+    let fresh : has_key F (request_in read.0 row) ≡ false = sym repeated ∙ c.if-is_repeated.false in
+    let completed = (c.in-Some.ensures read.0 (c.is_target.ensures.0 c.if-not-is_target.false)).1 in
+    let others : Others = with_target c.args.seq read.0 (record { finding = rest.findings.now; filing = rest.filings.now; fact = rest.facts.now; amends = read.1.now }) in
+    let same : view_rest rest ≡ others = ap (λ l. record { finding = rest.findings.now; filing = rest.filings.now; fact = rest.facts.now; amends = l }) c.target_of-target.ensures.begins in
+    told_of_any F row c.args.seq read.0 (view_rest rest) others _ same (told_target F row c.args.seq read.0 (view_rest rest) read.1.now c.target_of-target.ensures.only)
+    c.check_filed.result (c.check_filed.ensures F are number completed fresh)

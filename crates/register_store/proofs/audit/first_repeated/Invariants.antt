@@ -1,4 +1,4 @@
-use Rattle.std.proofs.Common.{◌≡◌, ◌<◌, ℕ, false, List, [], map, take}
+use Rattle.std.proofs.Common.{◌≡◌, ◌<◌, ℕ, false, List, [], map, take, None}
 use Rattle.std.specs.Cmp.Lexicographic.{slice_cmp}
 use Rattle.std.specs.BTreeSet.{contains_by}
 use Rattle.std.specs.Ordering.{nat_cmp, ordering_then}
@@ -10,5 +10,5 @@ use Rattle.register_store.proofs.audit.first_repeated.Given as goal
 
 abbrev pub invariant-loop-at : goal.invariant-loop-at
 invariant-loop-at l =
-    ((filer key : List ℕ) → contains_by (λ p. ordering_then (slice_cmp nat_cmp filer p.0.now) (slice_cmp nat_cmp key p.1.now)) l.seen ≡ has_key (map request_in (take l.at l.kept)) (the_request filer key []))
+    ((filer key : List ℕ) → contains_by (λ p. ordering_then (slice_cmp nat_cmp filer p.0.now) (slice_cmp nat_cmp key p.1.now)) l.seen ≡ has_key (map (request_in None) (take l.at l.kept)) (the_request filer key None []))
     × ((i : ℕ) → i < l.at → is_repeated_at l.kept i ≡ false)

@@ -23,8 +23,8 @@ use Rattle.register_store.proofs.opening.count_all.Goals as goal
 abbrev rows_of : Later → Rows
 rows_of l = record { migrated = l.migrated.items; amends = l.amends.items }
 
-abbrev others_in : Tables → Others
-others_in t = record { finding = t.findings.items; filing = t.filings.items; fact = t.facts.items }
+abbrev others_in : Rows → Tables → Others
+others_in later t = record { finding = t.findings.items; filing = t.filings.items; fact = t.facts.items; amends = later.amends }
 
 abbrev rows_in : Tables → List (List Row)
 rows_in t = t.kept.items ∷ t.findings.items ∷ t.filings.items ∷ t.facts.items ∷ []
@@ -38,10 +38,10 @@ module _ {S : Type 0} (g : Ghosts S) (later : Rows) (a e : Held S) where
       go cause.Disk h = h
       go cause.Other h = inl (refl, h)
 
-  refused_by : (kept : List Row) (others : Others) → AreRead g row_texts a e (kept ∷ others.finding ∷ others.filing ∷ others.fact ∷ []) → (why : OpenFault)
+  refused_by : (kept : List Row) (others : Others) → others.amends ≡ later.amends → AreRead g row_texts a e (kept ∷ others.finding ∷ others.filing ∷ others.fact ∷ []) → (why : OpenFault)
       → (why ≡ fault.Memory) ⊎ ((row : ℕ) × (why ≡ fault.Damaged row) × AreDamaged kept others later row) → IsRefusedAfter g later why a e
-  refused_by kept others read why (inl is) = subst (λ f. IsRefusedAfter g later f a e) (sym is) (inr (kept ∷ others.finding ∷ others.filing ∷ others.fact ∷ [], read))
-  refused_by kept others read why (inr h) = subst (λ f. IsRefusedAfter g later f a e) (sym h.1) (inr (kept, others, read, h.2))
+  refused_by kept others same read why (inl is) = subst (λ f. IsRefusedAfter g later f a e) (sym is) (inr (kept ∷ others.finding ∷ others.filing ∷ others.fact ∷ [], read))
+  refused_by kept others same read why (inr h) = subst (λ f. IsRefusedAfter g later f a e) (sym h.1) (inr (kept, others, read, same, h.2))
 
 pub returns-in-Ok-clause-counted : goal.returns-in-Ok-clause-counted
 returns-in-Ok-clause-counted g c clean =
@@ -53,8 +53,8 @@ returns-in-Ok-clause-counted g c clean =
     let counted = rw (c.deref.ensures.value, c.deref-in-Ok.ensures.value, c.deref-in-Ok-2.ensures.value, c.deref-in-Ok-3.ensures.value) at c.count.ensures.counted in
     IfOk-weaker c.count.result _ _ (λ counts h. (
       after,
-      λ common. counted_whole counts (rows_of c.args.later.now) (state g.S.Store c.args.conn.now).now t.kept.items (others_in t)
-          (got_four g.S.Store c.args.conn.now c.read_tables.new.conn t.kept.items (others_in t) common more).1 h.0 h.1 h.2,
+      λ common. counted_whole counts (rows_of c.args.later.now) (state g.S.Store c.args.conn.now).now t.kept.items (others_in (rows_of c.args.later.now) t) refl
+          (got_four g.S.Store c.args.conn.now c.read_tables.new.conn t.kept.items (others_in (rows_of c.args.later.now) t) common more).1 h.0 h.1 h.2,
     )) counted
 
 pub returns-in-Ok-clause-refused : goal.returns-in-Ok-clause-refused
@@ -63,7 +63,7 @@ returns-in-Ok-clause-refused g c clean =
     let t = c.in-Ok.tables in
     let more = are_read_before g.S.Store c.args.conn.now c.count_one_by_one.new.conn c.read_tables.new.conn (c.in-Ok-None.ensures.same between) c.count_one_by_one.ensures.survives.limit (rows_in t) (c.in-Ok.ensures.read clean) in
     let refused = rw (c.deref.ensures.value, c.deref-in-Ok.ensures.value, c.deref-in-Ok-2.ensures.value, c.deref-in-Ok-3.ensures.value) at c.count.ensures.refused in
-    IfErr-weaker c.count.result _ _ (λ fault h. refused_by g.S.Store (rows_of c.args.later.now) c.args.conn.now c.read_tables.new.conn t.kept.items (others_in t) more fault h) refused
+    IfErr-weaker c.count.result _ _ (λ fault h. refused_by g.S.Store (rows_of c.args.later.now) c.args.conn.now c.read_tables.new.conn t.kept.items (others_in (rows_of c.args.later.now) t) refl more fault h) refused
 
 pub returns-in-Err-read_tables-clause-refused : goal.returns-in-Err-read_tables-clause-refused
 returns-in-Err-read_tables-clause-refused g c clean =

@@ -24,7 +24,7 @@ returns-in-Ok-count_facts-clause-start g c clean d =
     let at_one : HasCommon one.now.schema = subst (λ (db : Database). HasCommon db.schema) (sym u.0.now_is) d in
     let at_two : HasCommon two.now.schema = subst (λ (db : Database). HasCommon db.schema) (sym v.0.now_is) d in
     let at_three : HasCommon three.now.schema = subst (λ (db : Database). HasCommon db.schema) (sym w.0.now_is) d in
-    start_of c.in-Ok.kept c.in-Ok-count_findings.findings c.in-Ok-count_filings.filings c.in-Ok-count_facts.facts old.now
+    start_of c.args.amends.now c.in-Ok.kept c.in-Ok-count_findings.findings c.in-Ok-count_filings.filings c.in-Ok-count_facts.facts old.now
     (c.in-Ok.ensures.counted first d)
     (subst (λ (db : Database). IfSome c.in-Ok-count_findings.findings (λ count. CountsTo finding_table count db)) u.0.now_is (c.in-Ok-count_findings.ensures.counted second at_one))
     (subst (λ (db : Database). IfSome c.in-Ok-count_filings.filings (λ count. CountsTo filing_table count db)) v.0.now_is (c.in-Ok-count_filings.ensures.counted third at_two))

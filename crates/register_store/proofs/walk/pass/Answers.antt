@@ -1,4 +1,4 @@
-use Rattle.std.proofs.Common.{◌≡◌, ◌∷◌, [], length, filter, sym, subst, ◌∙◌, IsTrue, IfOk, IfSome, arith, rules}
+use Rattle.std.proofs.Common.{◌≡◌, ◌∷◌, [], length, filter, sym, subst, ◌∙◌, IsTrue, None, arith, rules}
 use Rattle.std.proofs.lemmas.Result.{IfErr-weaker}
 use Rattle.sqlite.specs.Held.{state}
 use Rattle.sqlite.specs.State.{HasCleanDisk, IsUnchanged}
@@ -8,7 +8,7 @@ use Rattle.register_store.specs.Columns.{request_in}
 use Rattle.register_store.specs.Found.{has_texts}
 use Rattle.register_store.specs.Reads.{has_number}
 use Rattle.register_store.specs.Schema.{HasCommon, kept_table}
-use Rattle.register_store.specs.Walk.{Beyond, Picks, judged_as, rows_in}
+use Rattle.register_store.specs.Walk.{Picks, rows_in}
 use Rattle.register_store.proofs.PickLemmas.{stopped_after}
 use Rattle.register_store.proofs.WalkLemmas.{one_row, passes_all}
 use Rattle.register_store.proofs.walk.pass.Goals as goal
@@ -33,7 +33,7 @@ returns-in-len1-clause-stopped g c clean =
     stopped_after old one (state g.S.Store c.is_alone.new.conn) c.in-Err-is_alone.error (c.in-Ok.ensures.same first) c.kept_at.ensures.survives.counts (c.in-Err-is_alone.ensures.stopped clean)
 
 pub returns-in-Ok-true-clause-passes : goal.returns-in-Ok-true-clause-passes
-returns-in-Ok-true-clause-passes g c clean d =
+returns-in-Ok-true-clause-passes g c clean d F held number =
     let old = state g.S.Store c.args.conn.now in
     let one = state g.S.Store c.kept_at.new.conn in
     let two = state g.S.Store c.is_alone.new.conn in
@@ -49,7 +49,8 @@ returns-in-Ok-true-clause-passes g c clean d =
     let many : length c.as_slice.result.now ≡ 1 = omega (arith, c.in-len1.len_at_least, c.in-len1.len_below) in
     let is : c.in-Ok.rows.items ≡ row ∷ [] = sym c.as_slice.ensures.value ∙ one_row c.as_slice.result.now row many c.row-item.is in
     let so : IsTrue c.in-Ok-true.field-0 = search rules in
-    passes_all seq left row old.now (subst (λ l. Picks kept_table (has_number seq) l old.now) is (c.in-Ok.ensures.picks first d))
-    (subst (λ (db : Database). length (filter (has_texts (request_in row).filer (request_in row).key) (rows_in db kept_table)) ≡ 1) u.0.now_is (c.in-Ok-true.ensures.found second there so))
-    c.pass_judged.result c.pass_judged.ensures.row
-    (subst (λ (db : Database). IfOk c.pass_judged.result (λ passed. IfSome passed (λ tail. Beyond seq (judged_as (request_in row) left.number) left tail db))) v.0.now_is (c.pass_judged.ensures.beyond clean later))
+    passes_all F seq left row c.pass_judged.new.filed (HasCleanDisk (state g.S.Store c.pass_judged.new.conn)) two.now old.now clean later v.0.now_is
+    (subst (λ l. Picks kept_table (has_number seq) l old.now) is (c.in-Ok.ensures.picks first d))
+    (subst (λ (db : Database). length (filter (has_texts (request_in None row).filer (request_in None row).key) (rows_in db kept_table)) ≡ 1) u.0.now_is
+    (c.in-Ok-true.ensures.found second there so))
+    c.pass_judged.result (c.pass_judged.ensures.row F held number)

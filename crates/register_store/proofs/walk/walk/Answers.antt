@@ -1,4 +1,4 @@
-use Rattle.std.proofs.Common.{◌+◌, sym, subst, arith}
+use Rattle.std.proofs.Common.{◌+◌, ◌++◌, ◌∷◌, [], sym, subst, arith}
 use Rattle.sqlite.specs.Held.{state}
 use Rattle.sqlite.specs.State.{HasCleanDisk, IsUnchanged}
 use Rattle.sqlite.specs.Effect.{Database}
@@ -7,7 +7,7 @@ use Rattle.table_rows.proofs.StepLemmas.{nothing_left}
 use Rattle.register_store.specs.Schema.{HasCommon}
 use Rattle.register_store.specs.Walk.{Passes}
 use Rattle.register_store.proofs.PickLemmas.{stopped_after}
-use Rattle.register_store.proofs.WalkLemmas.{walked_on}
+use Rattle.register_store.proofs.WalkLemmas.{walked_on, filed_on}
 use Rattle.register_store.proofs.walk.walk.Goals as goal
 
 pub loop-at-preserved : goal.loop-at-preserved
@@ -21,9 +21,17 @@ loop-at-preserved g c =
           let early : HasCleanDisk mid = omega (arith, c.pass.ensures.survives.clean) in
           let unchanged : IsUnchanged old mid = was.same early alive in
           let there : HasCommon mid.now.schema = subst (λ (db : Database). HasCommon db.schema) (sym unchanged.0.now_is) d in
-          let passed = rw c.in-Ok-Some.field-0-is at c.in-Ok-Some.ensures.passes clean there in
-          walked_on c.args.total c.loop-at.at c.loop-at.left c.in-Ok-Some.tail old.now (was.walked early d alive start)
-          (subst (Passes (c.loop-at.at + 1) c.loop-at.left c.in-Ok-Some.tail) unchanged.0.now_is passed);
+          let left = c.loop-at.left in
+          let tail = c.in-Ok-Some.tail in
+          let had = was.walked early d alive start in
+          let F = had.0 in
+          let passed = rw c.in-Ok-Some.field-0-is at c.in-Ok-Some.ensures.passes clean there F had.2 had.1.number_is in
+          let next = subst (λ (db : Database). Passes F (c.loop-at.at + 1) left tail db passed.0) unchanged.0.now_is passed.1 in
+          let rows = c.args.start.amends.now in (
+            F ++ passed.0 ∷ [],
+            walked_on rows c.args.total c.loop-at.at left tail old.now F passed.0 had.1 next,
+            filed_on rows c.args.total c.loop-at.at left tail old.now F passed.0 had.1 next c.pass.new.filed passed.2,
+          );
       same = λ clean alive.
           let early : HasCleanDisk mid = omega (arith, c.pass.ensures.survives.clean) in
           unchanged_then old mid now (was.same early alive) (c.in-Ok-Some.ensures.same clean);

@@ -22,7 +22,7 @@ returns-clause-adds g c clean =
     let late : HasCleanDisk (state g.S.Store end) = search rules in
     let mid : HasCleanDisk (state g.S.Store last) = omega (arith, c.commit.ensures.survives.clean) in
     let row = c.args.row.now in
-    let k : Kept = record { request = the_request row.filer.now row.key.now row.body.now; outcome = outcome_of c.args.number row.judged.now } in
+    let k : Kept = record { request = the_request row.filer.now row.key.now row.target row.body.now; outcome = outcome_of c.args.number row.judged.now } in
     let written = c.in_ok-write.ensures.adds mid in
     let rows : AddsRows c.args.seq k (state g.S.Store old).now (state g.S.Store last).now = rw begun at written.adds in
     let was : IsTrue (state g.S.Store last).is_open → IsTrue (state g.S.Store old).is_open = λ alive. rw begun at ((c.in_ok-write.ensures.keeps mid).was_open alive) in
@@ -44,7 +44,7 @@ returns-clause-crash g c =
     let end = c.commit.new.self.0 in
     let same : end ≡ c.conn-2-1.given.0 = search rules in
     let row = c.args.row.now in
-    let k : Kept = record { request = the_request row.filer.now row.key.now row.body.now; outcome = outcome_of c.args.number row.judged.now } in
+    let k : Kept = record { request = the_request row.filer.now row.key.now row.target row.body.now; outcome = outcome_of c.args.number row.judged.now } in
     let P = AddsTo c.args.seq k (state g.S.Store old).now in
     let rows : HasCleanDisk (state g.S.Store last) → AddsRows c.args.seq k (state g.S.Store old).now (state g.S.Store last).now =
     λ mid. rw begun at (c.in_ok-write.ensures.adds mid).adds in

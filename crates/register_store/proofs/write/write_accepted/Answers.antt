@@ -1,4 +1,4 @@
-use Rattle.std.proofs.Common.{arith}
+use Rattle.std.proofs.Common.{None, refl, arith}
 use Rattle.std.proofs.lemmas.Result.{IfOk-weaker}
 use Rattle.sqlite.specs.Held.{state}
 use Rattle.sqlite.specs.State.{HasCleanDisk}
@@ -17,5 +17,5 @@ returns-clause-adds g c clean =
     let early : HasCleanDisk mid = omega (arith, c.insert_filing.ensures.survives.clean, late) in
     let one = c.in_ok-insert_kept.ensures.gains early in
     let two = c.in_ok-insert_filing.ensures.gains late in
-    IfOk-weaker c.insert_facts.result _ _ (λ _ three. adds_accepted c.args.seq (the_request row.filer.now row.key.now row.body.now) c.args.number first mid next last one two (rw c.requires.facts at three))
+    IfOk-weaker c.insert_facts.result _ _ (λ _ three. adds_accepted c.args.seq (the_request row.filer.now row.key.now None row.body.now) refl c.args.number first mid next last one two (rw c.requires.facts at three))
     (c.insert_facts.ensures.gains clean two.inside)

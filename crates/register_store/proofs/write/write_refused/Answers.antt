@@ -1,4 +1,4 @@
-use Rattle.std.proofs.Common.{arith}
+use Rattle.std.proofs.Common.{None, refl, arith}
 use Rattle.std.proofs.lemmas.Result.{IfOk-weaker}
 use Rattle.sqlite.specs.Held.{state}
 use Rattle.sqlite.specs.State.{HasCleanDisk}
@@ -14,5 +14,5 @@ returns-clause-adds g c clean =
     let row = c.args.row.now in
     let early : HasCleanDisk mid = omega (arith, c.insert_findings.ensures.survives.clean) in
     let one = c.in_ok-insert_kept.ensures.gains early in
-    IfOk-weaker c.insert_findings.result _ _ (λ _ two. adds_refused c.args.seq (the_request row.filer.now row.key.now row.body.now) c.args.findings.now first mid last one two)
+    IfOk-weaker c.insert_findings.result _ _ (λ _ two. adds_refused c.args.seq (the_request row.filer.now row.key.now None row.body.now) refl c.args.findings.now first mid last one two)
     (c.insert_findings.ensures.gains clean one.inside)

@@ -7,7 +7,7 @@ pub returns-in-Ok-clause-taken : goal.returns-in-Ok-clause-taken
 returns-in-Ok-clause-taken g c = λ entries has.
     let none = c.in-Ok.ensures.unused (g.met.S.Faithful.faithful c.put.new.self.conn) entries has in
     let short = short_enough c.args.outbox.now.has_failed (length c.in_ok-body.body.items) max_body_len (λ failed. cc (c.in-Ok.ensures.stopped failed).0) (λ long. cc (c.in-Ok.ensures.too_large.1 long)) in
-    rw (← c.in_ok-key.ensures.same, ← c.in_ok-body.ensures.items) (sym (takes_new c.args.outbox.now.filer entries c.in_ok-key.key c.in_ok-body.body.items short none))
+    rw (← c.in_ok-key.ensures.same, ← c.in_ok-body.ensures.items) (sym (takes_new c.args.outbox.now.filer entries c.in_ok-key.key c.args.target c.in_ok-body.body.items short none))
 
 pub returns-in-Ok-clause-rows : goal.returns-in-Ok-clause-rows
 returns-in-Ok-clause-rows g c = λ entries has.
@@ -17,7 +17,7 @@ returns-in-Ok-clause-rows g c = λ entries has.
 pub returns-in-Err-TooLarge-clause-taken : goal.returns-in-Err-TooLarge-clause-taken
 returns-in-Err-TooLarge-clause-taken g c = λ entries has.
     let long = (c.in-Err-TooLarge.ensures.too_large.0 (cc c.in-Err-TooLarge.field-0-is)).1 in
-    rw (← c.in_ok-key.ensures.same, ← c.in_ok-body.ensures.items) (sym (takes_no_long c.args.outbox.now.filer entries c.in_ok-key.key c.in_ok-body.body.items long))
+    rw (← c.in_ok-key.ensures.same, ← c.in_ok-body.ensures.items) (sym (takes_no_long c.args.outbox.now.filer entries c.in_ok-key.key c.args.target c.in_ok-body.body.items long))
 
 pub returns-in-Err-TooLarge-clause-rows : goal.returns-in-Err-TooLarge-clause-rows
 returns-in-Err-TooLarge-clause-rows g c = λ entries has.
@@ -26,7 +26,7 @@ returns-in-Err-TooLarge-clause-rows g c = λ entries has.
 pub returns-in-Err-KeyUsed-clause-taken : goal.returns-in-Err-KeyUsed-clause-taken
 returns-in-Err-KeyUsed-clause-taken g c = λ entries has.
     let found = c.in-Err-KeyUsed.ensures.used (g.met.S.Faithful.faithful c.put.new.self.conn) entries has c.in-Err-KeyUsed.field-0-0 (cc c.in-Err-KeyUsed.field-0-is) in
-    rw (← c.in_ok-key.ensures.same, ← c.in_ok-body.ensures.items) (sym (takes_no_used c.args.outbox.now.filer entries c.in_ok-key.key c.in_ok-body.body.items c.in-Err-KeyUsed.field-0-0 found))
+    rw (← c.in_ok-key.ensures.same, ← c.in_ok-body.ensures.items) (sym (takes_no_used c.args.outbox.now.filer entries c.in_ok-key.key c.args.target c.in_ok-body.body.items c.in-Err-KeyUsed.field-0-0 found))
 
 pub returns-in-Err-KeyUsed-clause-rows : goal.returns-in-Err-KeyUsed-clause-rows
 returns-in-Err-KeyUsed-clause-rows g c = λ entries has.

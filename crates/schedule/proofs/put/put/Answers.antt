@@ -11,7 +11,7 @@ returns-clause-step g c =
     let there : slice_get boxes c.in-Some.at ≡ Some up.1 = subst (λ bs. slice_get bs c.in-Some.at ≡ Some up.1) c.as_slice.ensures.value up.2 in
     let box = c.index_mut.result.now in
     let same : box ≡ up.1 = element_is boxes c.in-Some.at up.1 box there c.index_mut.ensures.value in
-    put_step boxes c.in-Some.at c.args.outbox up.0 box (rw same there) (rw same up.3) (opened c.args.key.now c.args.body.now) c.put.new.self c.put.result c.put.ensures.put c.put.ensures.key
+    put_step boxes c.in-Some.at c.args.outbox up.0 box (rw same there) (rw same up.3) (opened c.args.key.now c.args.target c.args.body.now) c.put.new.self c.put.result c.put.ensures.put c.put.ensures.key c.requires
 
 pub returns-clause-no_such : goal.returns-clause-no_such
 returns-clause-no_such g c = λ e. absurd (c.put.ensures.other e)
@@ -29,4 +29,4 @@ put-requires g c =
     let up = c.in-Some.ensures.some in
     let there : slice_get boxes c.in-Some.at ≡ Some up.1 = subst (λ bs. slice_get bs c.in-Some.at ≡ Some up.1) c.as_slice.ensures.value up.2 in
     let same : c.index_mut.result.now ≡ up.1 = element_is boxes c.in-Some.at up.1 c.index_mut.result.now there c.index_mut.ensures.value in
-    rw same up.3
+    record { up = rw same up.3; target = c.requires }

@@ -1,7 +1,9 @@
-use Rattle.std.proofs.Common.{rules, Err, ◌≡◌, ◌∙◌, ◌+◌, ◌++◌, ◌∷◌, [], suc, sym, ap, map, take, subst, arith}
+use Rattle.std.proofs.Common.{rules, Err, ◌≡◌, ◌∙◌, ◌+◌, ◌++◌, ◌∷◌, [], suc, ◌<◌, length, sym, ap, map, take, subst, arith}
 use Rattle.std.proofs.Math.Seq.{take-suc}
-use Rattle.std.proofs.lemmas.List.{map-append, take_all}
-use Rattle.event_script.specs.Events.{view_event}
+use Rattle.std.proofs.lemmas.List.{get_or-map, map-append, take_all}
+use Rattle.std.proofs.lemmas.List.Elements.{All-get_or}
+use Rattle.event_script.specs.Events.{view_event, HasTarget}
+use Rattle.filing_model.proofs.Lists.{length-map}
 use Rattle.filing_world.specs.Headline.{start}
 use Rattle.filing_world.specs.Step.{Run}
 use Rattle.filing_world.proofs.Keeping.{run_push, holds_after}
@@ -61,3 +63,11 @@ returns-in_err-play-clause-ends g c =
     let comes = subst (λ e. Comes first (map view_event events) (suc i) world (view_event e)) (sym c.event-item.is) (comes_next view_event events i event first world c.loop-event-test.true c.loop-event.invariant.run) in
     rw told
     (ends_at first (map view_event events) (suc i) world (view_event event) fault comes (subst (λ n. Tells n fault) number (c.in_err-play.ensures.numbered fine)) (λ n e. c.in_err-play.ensures.no_such n (ap Err e) fine))
+
+pub play-requires : goal.play-requires
+play-requires g c =
+    let events = c.args.events.now in
+    let i = c.loop-event.event-index in
+    let event = c.event-item.result in
+    let low : i < length (map view_event events) = omega (arith, c.loop-event-test.true, length-map view_event events) in
+    subst HasTarget (get_or-map view_event events i event (view_event event) c.loop-event-test.true ∙ ap view_event (sym c.event-item.is)) (All-get_or HasTarget (map view_event events) i (view_event event) low c.requires.targets)

@@ -11,5 +11,5 @@ returns c = λ early requests h.
     let filer_is : string_bytes v.filer ≡ c.args.filer.now = search (rules) in
     let key_is : string_bytes v.key ≡ c.args.key.now = search (rules) in
     rw c.ok.ensures.value
-    (if_some-known early requests c.args.filer.now c.args.key.now c.args.body.now (kept_of v) (h (at.0, v) at.1).0 filer_is key_is c.answer_again.result v.row.style (h (at.0, v) at.1).1
+    (if_some-known early requests c.args.filer.now c.args.key.now c.args.target c.args.body.now (kept_of v) (h (at.0, v) at.1).0 filer_is key_is c.answer_again.result v.row.style (h (at.0, v) at.1).1
     (c.answer_again.ensures (string_bytes v.filer) (string_bytes v.key)))

@@ -19,11 +19,11 @@ use Rattle.intake_core.proofs.intake.Intake.decide.Goals as goal
 
 pub returns-in-Some-clause-answer : goal.returns-in-Some-clause-answer
 returns-in-Some-clause-answer g c = λ clean requests h.
-    let r : Request = the_request c.args.filer.now c.args.key.now c.args.body.now in
+    let r : Request = the_request c.args.filer.now c.args.key.now c.args.target c.args.body.now in
     let cleaned : HasCleanDisk (shows g.S.Store c.find.new.self) = subst (λ s. HasCleanDisk (shows g.S.Store s)) c.repeat.ensures.rest.0 clean in
     let k = kept_as c.args.filer.now c.args.key.now c.in-Some.row in
-    let found : kept_for (kept requests) r ≡ Some k = sym (rw c.in-Some.is at (c.in_ok-row.ensures.found cleaned requests h.rows c.args.body.now)) in
-    let styled : c.in-Some.row.style ≡ style_of (early_in c.args.self.now requests) r = rw c.in-Some.is at (c.in_ok-row.ensures.style cleaned requests h.rows c.args.body.now) in (
+    let found : kept_for (kept requests) r ≡ Some k = sym (rw c.in-Some.is at (c.in_ok-row.ensures.found cleaned requests h.rows c.args.target c.args.body.now)) in
+    let styled : c.in-Some.row.style ≡ style_of (early_in c.args.self.now requests) r = rw c.in-Some.is at (c.in_ok-row.ensures.style cleaned requests h.rows c.args.target c.args.body.now) in (
       (c.repeat.ensures.answer.0 ∙ sym (answer_kept requests r k found), subst (λ (s : Style). HasStyle s c.repeat.result) styled c.repeat.ensures.answer.1),
       Holds-repeat requests r c.repeat.new.self (kept_has_key requests r k found)
           (c.repeat.ensures.same requests (Holds-asked requests c.args.self.now _ h refl c.in_ok-row.ensures.early (c.in_ok-row.ensures.same cleaned requests h.rows)) found (styled ∙ ap (λ n. style_of (take n requests) r) (sym c.in_ok-row.ensures.early))),
@@ -31,37 +31,37 @@ returns-in-Some-clause-answer g c = λ clean requests h.
 
 pub returns-in-Some-clause-room : goal.returns-in-Some-clause-room
 returns-in-Some-clause-room g c = λ clean requests h new.
-    let r : Request = the_request c.args.filer.now c.args.key.now c.args.body.now in
+    let r : Request = the_request c.args.filer.now c.args.key.now c.args.target c.args.body.now in
     let cleaned : HasCleanDisk (shows g.S.Store c.find.new.self) = subst (λ s. HasCleanDisk (shows g.S.Store s)) c.repeat.ensures.rest.0 clean in
     let k = kept_as c.args.filer.now c.args.key.now c.in-Some.row in
-    let found : kept_for (kept requests) r ≡ Some k = sym (rw c.in-Some.is at (c.in_ok-row.ensures.found cleaned requests h.rows c.args.body.now)) in
+    let found : kept_for (kept requests) r ≡ Some k = sym (rw c.in-Some.is at (c.in_ok-row.ensures.found cleaned requests h.rows c.args.target c.args.body.now)) in
     absurd (true≢false (sym (kept_has_key requests r k found) ∙ new))
 
 pub returns-in-None-clause-answer : goal.returns-in-None-clause-answer
 returns-in-None-clause-answer g c = λ clean requests h.
-    let r : Request = the_request c.args.filer.now c.args.key.now c.args.body.now in
+    let r : Request = the_request c.args.filer.now c.args.key.now c.args.target c.args.body.now in
     let cleaned = c.keep.ensures.clean clean in
-    let fresh = has_key-none requests r (sym (rw c.in-None.is at (c.in_ok-row.ensures.found cleaned requests h.rows c.args.body.now))) in
+    let fresh = has_key-none requests r (sym (rw c.in-None.is at (c.in_ok-row.ensures.found cleaned requests h.rows c.args.target c.args.body.now))) in
     let asked = Holds-asked requests c.args.self.now _ h refl c.in_ok-row.ensures.early (c.in_ok-row.ensures.same cleaned requests h.rows) in
     IfOk-weaker c.keep.result _ _ (λ a told. (subst (λ n. IsAnswerTo (take n requests) requests r a) c.in_ok-row.ensures.early told.0, Holds-new requests r c.keep.new.self h.firsts' fresh told.1)) (c.keep.ensures.answer clean requests asked fresh)
 
 pub returns-in-None-clause-full : goal.returns-in-None-clause-full
 returns-in-None-clause-full g c = λ clean requests h k e.
-    let r : Request = the_request c.args.filer.now c.args.key.now c.args.body.now in
+    let r : Request = the_request c.args.filer.now c.args.key.now c.args.target c.args.body.now in
     let cleaned = c.keep.ensures.clean clean in
-    let fresh = has_key-none requests r (sym (rw c.in-None.is at (c.in_ok-row.ensures.found cleaned requests h.rows c.args.body.now))) in
+    let fresh = has_key-none requests r (sym (rw c.in-None.is at (c.in_ok-row.ensures.found cleaned requests h.rows c.args.target c.args.body.now))) in
     let asked = Holds-asked requests c.args.self.now _ h refl c.in_ok-row.ensures.early (c.in_ok-row.ensures.same cleaned requests h.rows) in
     let full = c.keep.ensures.full requests asked k e in
     (fresh, full.0, full.1)
 
 pub returns-in-None-clause-crash : goal.returns-in-None-clause-crash
 returns-in-None-clause-crash g c =
-    let r : Request = the_request c.args.filer.now c.args.key.now c.args.body.now in
+    let r : Request = the_request c.args.filer.now c.args.key.now c.args.target c.args.body.now in
     survives_then (shows g.S.Store c.args.self.now.store) (shows g.S.Store c.find.new.self) (shows g.S.Store c.keep.new.self.store) _ _ _
     (λ clean trees none. absurd none)
     (λ clean trees left requests h alive.
     let cleaned = c.keep.ensures.clean clean in
-    let fresh = has_key-none requests r (sym (rw c.in-None.is at (c.in_ok-row.ensures.found cleaned requests h.rows c.args.body.now))) in
+    let fresh = has_key-none requests r (sym (rw c.in-None.is at (c.in_ok-row.ensures.found cleaned requests h.rows c.args.target c.args.body.now))) in
     let asked = Holds-asked requests c.args.self.now _ h refl c.in_ok-row.ensures.early (c.in_ok-row.ensures.same cleaned requests h.rows) in
     let still = (c.in_ok-row.ensures.durable cleaned requests h.rows).0 in
     subst (λ (rs : List Request). Leaves (early_of c.args.self.now) rs trees) (sym (firsts-more requests r h.firsts' fresh)) (subst (λ n. Leaves n (requests ++ r ∷ []) trees) c.in_ok-row.ensures.early (left requests asked still fresh)))
@@ -69,9 +69,9 @@ returns-in-None-clause-crash g c =
 
 pub returns-in-None-clause-open : goal.returns-in-None-clause-open
 returns-in-None-clause-open g c = λ clean requests h.
-    let r : Request = the_request c.args.filer.now c.args.key.now c.args.body.now in
+    let r : Request = the_request c.args.filer.now c.args.key.now c.args.target c.args.body.now in
     let cleaned = c.keep.ensures.clean clean in
-    let fresh = has_key-none requests r (sym (rw c.in-None.is at (c.in_ok-row.ensures.found cleaned requests h.rows c.args.body.now))) in
+    let fresh = has_key-none requests r (sym (rw c.in-None.is at (c.in_ok-row.ensures.found cleaned requests h.rows c.args.target c.args.body.now))) in
     let asked = Holds-asked requests c.args.self.now _ h refl c.in_ok-row.ensures.early (c.in_ok-row.ensures.same cleaned requests h.rows) in
     c.keep.ensures.open clean requests asked fresh
 

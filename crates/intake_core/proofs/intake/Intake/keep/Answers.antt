@@ -1,27 +1,19 @@
-use Rattle.std.proofs.Common.{◌≡◌, take, ◌++◌, ◌∷◌, [], false, refl, sym, ap, ◌∙◌, subst}
-use Rattle.std.proofs.lemmas.List.{take-append-le}
-use Rattle.sqlite.specs.State.{HasCleanDisk}
+use Rattle.std.proofs.Common.{◌≡◌, ◌++◌, ◌∷◌, [], List, take, sym, ap, ◌∙◌, subst}
+use Rattle.sqlite.proofs.StateLemmas.{survives_then}
 use Rattle.filing_model.specs.Request.{Request}
-use Rattle.filing_model.specs.Answer.{answer_by}
-use Rattle.filing_model.specs.Style.{style_of, HasStyle}
-use Rattle.filing_model.specs.declared.served.Style.{Style}
-use Rattle.filing_model.specs.declared.served.Style.TheVariants.{Problem}
 use Rattle.filing_model.specs.Views.{the_request}
-use Rattle.filing_model.proofs.Answers.{answer_new}
-use Rattle.register_store.specs.Outcomes.{view_outcome}
-use Rattle.register_store.specs.Store.{shows}
-use Rattle.intake_core.specs.Held.{early_of, early_in}
-use Rattle.intake_core.proofs.Deciding.{IsKeptIn-new, Holds-more, style_of-new}
+use Rattle.register_store.specs.Store.{Leaves}
+use Rattle.intake_core.specs.Held.{shows, early_of}
 use Rattle.intake_core.proofs.intake.Intake.keep.Goals as goal
 
-pub returns-clause-answer : goal.returns-clause-answer
-returns-clause-answer g c = λ clean requests h new.
-    let r : Request = the_request c.args.filer.now c.args.key.now c.args.body.now in
-    let cleaned : HasCleanDisk (shows g.S.Store c.add.new.self) = subst (λ s. HasCleanDisk (shows g.S.Store s)) c.remember.ensures.rest.0 clean in
-    let added = c.in_ok-outcome.ensures.added cleaned requests h.rows new in
-    let styled : Problem ≡ style_of (early_in c.args.self.now requests) r = sym (style_of-new (early_of c.args.self.now) requests r new) in (
-      (c.answer_by.ensures.0 ∙ ap (λ o. answer_by o false) added.0 ∙ sym (answer_new requests r new), subst (λ (s : Style). HasStyle s c.answer_by.result) styled c.answer_by.ensures.1),
-      c.remember.ensures.same (requests ++ r ∷ []) (Holds-more requests r c.args.self.now _ new h refl c.in_ok-outcome.ensures.early added.1)
-          (IsKeptIn-new requests r (view_outcome c.in_ok-outcome.outcome) new added.0)
-          (sym (ap (λ n. style_of (take n (requests ++ r ∷ [])) r) c.in_ok-outcome.ensures.early ∙ ap (λ rs. style_of rs r) (take-append-le (early_of c.args.self.now) requests (r ∷ []) h.rows.within) ∙ style_of-new (early_of c.args.self.now) requests r new)),
-    )
+pub returns-clause-crash : goal.returns-clause-crash
+returns-clause-crash g c =
+    let r : Request = the_request c.args.filer.now c.args.key.now c.args.target c.args.body.now in
+    survives_then (shows g.S.Store c.args.self.now) (shows g.S.Store c.is_free.new.self) (shows g.S.Store c.keep_judged.new.self) _ _ _
+    (λ clean trees none. absurd none)
+    (λ clean trees left requests h alive fresh.
+    let cleaned = c.keep_judged.ensures.clean clean in
+    let free = c.in_ok-free.ensures.answer cleaned requests h in
+    let still = c.in_ok-free.ensures.open cleaned requests h alive in
+    subst (λ n. Leaves n (requests ++ r ∷ []) trees) c.in_ok-free.ensures.early (left requests (c.in_ok-free.ensures.same cleaned requests h) still fresh free))
+    c.is_free.ensures.crash c.keep_judged.ensures.crash

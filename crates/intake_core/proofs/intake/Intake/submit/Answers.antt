@@ -12,7 +12,7 @@ use Rattle.intake_core.proofs.intake.Intake.submit.Goals as goal
 
 pub returns-in-Some-clause-answer : goal.returns-in-Some-clause-answer
 returns-in-Some-clause-answer g c = λ clean requests h.
-    let r : Request = the_request c.args.filer.now c.args.key.now c.args.body.now in
+    let r : Request = the_request c.args.filer.now c.args.key.now c.args.target c.args.body.now in
     let known = c.in-Some.ensures.answer requests h in
     (known.0, Holds-repeat requests r c.recall.new.self known.1 (c.recall.ensures.same requests h))
 
@@ -24,7 +24,7 @@ returns-clause-full g c = λ clean requests h k e.
 -- no call was made, and what was committed last is all that a crash leaves
 pub returns-in-Some-clause-durable : goal.returns-in-Some-clause-durable
 returns-in-Some-clause-durable g c = λ clean requests h alive.
-    let r : Request = the_request c.args.filer.now c.args.key.now c.args.body.now in
+    let r : Request = the_request c.args.filer.now c.args.key.now c.args.target c.args.body.now in
     let known = c.in-Some.ensures.answer requests h in
     let held : Holds g.S.Store c.recall.new.self requests = c.recall.ensures.same requests h in
     let still : IsTrue (shows g.S.Store c.recall.new.self.store).is_open = subst (λ s. IsTrue (shows g.S.Store s).is_open) (sym c.recall.ensures.rest.0) alive in (
@@ -36,7 +36,7 @@ returns-in-Some-clause-durable g c = λ clean requests h alive.
 
 pub returns-clause-crash : goal.returns-clause-crash
 returns-clause-crash g c =
-    let r : Request = the_request c.args.filer.now c.args.key.now c.args.body.now in
+    let r : Request = the_request c.args.filer.now c.args.key.now c.args.target c.args.body.now in
     let new = shows g.S.Store c.decide-result.new.self.store in
     subst (λ s. Survives (shows g.S.Store s) new (λ trees. (requests : List Request) → Holds g.S.Store c.args.self.now requests → IsTrue (shows g.S.Store s).is_open → Leaves s.early (firsts (requests ++ r ∷ [])) trees)) c.recall.ensures.rest.0
     (survives_weaker (shows g.S.Store c.recall.new.self.store) new _ _ (λ _ trees left requests h alive. left requests (c.recall.ensures.same requests h) alive) c.decide-result.ensures.crash)

@@ -1,5 +1,5 @@
 use Rattle.std.proofs.Common.{sym, subst}
-use Rattle.register_store.proofs.Filed.{closed_register}
+use Rattle.register_store.proofs.FiledRows.{closed_register}
 use Rattle.register_store.specs.Files.{AreLeft}
 use Rattle.register_store.proofs.files.Store+FileStore+D.close.Goals as goal
 

@@ -1,0 +1,118 @@
+//! An outbox in the form before this one is brought into this one.
+
+ghost use Rattle.std.specs.Prelude.{◌≡◌, ◌≤◌, ◌^◌, ◌⊎◌, ℕ, List, [], length, true, false, None, Ok, IsTrue, IfOk, IfErr, OnOk, OnErr, string_bytes};
+ghost use Rattle.key_string.specs.Filer.{is_filer};
+ghost use Rattle.filing_model.specs.Outbox.{Entry as Item};
+ghost use Rattle.sqlite.specs.Effect.{IsDatabase};
+ghost use Rattle.sqlite.specs.Held.{state};
+ghost use Rattle.sqlite.specs.Tree.{Trees};
+ghost use Rattle.sqlite.specs.State.{HasCleanDisk, IsUnchanged, KeepsCommit, Survives};
+ghost use Rattle.table_rows.specs.Standing.{Stands};
+ghost use Rattle.outbox_core.specs.Schema.{HasCommon};
+ghost use Rattle.outbox_core.specs.Entries.{Contents, contents_of};
+ghost use Rattle.outbox_core.specs.Rows.{IsOutboxOf, Leaves};
+ghost use Rattle.outbox_core.specs.Earlier.{IsAlone, IsEarlierOf, IsFound, IsNotFound, Raises, IsNotMigrated, is_blocked};
+
+use crate::create::run;
+use crate::fault::OutboxFault;
+use crate::finding::{Found, count_entries, filer_of, is_settled};
+use sqlite::{Alter, Connection, Error, Transaction};
+use sqlite_catalog::layout::is_used;
+use std::alloc::Global;
+
+/// Finds the outbox in the form before this one that the database is. Nothing is written.
+fn read_earlier<S: Alter>(alloc: Global, conn: &mut Connection<S>) -> Result<Found, OutboxFault>
+    ensures found { HasCleanDisk (state S.Store conn.new) → HasCommon (state S.Store conn.old).now.schema → (IsTrue (state S.Store conn.old).is_open → IsDatabase (state S.Store conn.old).now)
+        → IfOk result (λ found. (entries : List Item) × IsEarlierOf (contents_of (string_bytes found.filer) entries) (state S.Store conn.old).now × (found.count ≡ length entries) × IsUnchanged (state S.Store conn.old) (state S.Store conn.new)) }
+    ensures code { IfOk result (λ found. is_filer (string_bytes found.filer) ≡ true) }
+    ensures few { IfOk result (λ found. found.count ≤ 2 ^ 62) }
+    ensures read { HasCleanDisk (state S.Store conn.new) → OnOk result (IsFound S.Store conn.old conn.new) }
+    ensures refused { HasCleanDisk (state S.Store conn.new) → IfErr result (λ fault. IsNotFound S.Store fault conn.old conn.new) }
+    ensures sound { HasCleanDisk (state S.Store conn.new) → (it : Contents) → IsEarlierOf it (state S.Store conn.old).now → (state S.Store conn.old).step_limit ≡ None
+        → IfErr result (λ fault. (fault ≡ OutboxFault.Memory) ⊎ (fault ≡ OutboxFault.Disk)) }
+    ensures kept { HasCleanDisk (state S.Store conn.new) → KeepsCommit (state S.Store conn.old) (state S.Store conn.new) }
+    ensures crash { Survives (state S.Store conn.old) (state S.Store conn.new) (λ _. ⊥) }
+    ensures mode { conn.old.in_transaction ≡ false → conn.new.in_transaction ≡ false }
+{
+    match filer_of(conn, alloc, 1) {
+        Ok(filer) => match count_entries(alloc, conn, &[]) {
+            Ok(count) => Ok(Found { filer, count }),
+            Err(fault) => Err(fault),
+        },
+        Err(fault) => Err(fault),
+    }
+}
+
+/// Makes the table of the targets, and raises the form.
+fn raise<S: Alter>(tx: &mut Transaction<'_, S>) -> Result<(), Error>
+    ensures same_reference { tx.new.conn.ghost_name ≡ tx.old.conn.ghost_name }
+    ensures ran { HasCleanDisk (state S.Store tx.new.conn.now) → OnOk result (Raises S.Store tx.old.conn.now tx.new.conn.now) }
+    ensures keeps { HasCleanDisk (state S.Store tx.new.conn.now) → KeepsCommit (state S.Store tx.old.conn.now) (state S.Store tx.new.conn.now) }
+    ensures survives { Survives (state S.Store tx.old.conn.now) (state S.Store tx.new.conn.now) (λ _. ⊥) }
+{
+    run(
+        tx,
+        "CREATE TABLE target (id INTEGER PRIMARY KEY, number INTEGER NOT NULL) STRICT",
+        &[],
+    )?;
+    run(tx, "UPDATE outbox_meta SET form = 2 WHERE id = 1", &[])
+}
+
+/// Writes it in one transaction.
+fn write<S: Alter>(conn: &mut Connection<S>) -> Result<(), Error>
+    requires autocommit { conn.old.in_transaction ≡ false }
+    ensures autocommit { conn.new.in_transaction ≡ false }
+    ensures migrated { HasCleanDisk (state S.Store conn.new) → (it : Contents) → IsAlone (state S.Store conn.old).now.schema → IsEarlierOf it (state S.Store conn.old).now → OnOk result (IsOutboxOf it (state S.Store conn.new).now) }
+    ensures committed { HasCleanDisk (state S.Store conn.new) → OnOk result (IsTrue (state S.Store conn.new).is_open × ((state S.Store conn.new).committed ≡ (state S.Store conn.new).now)) }
+    ensures durable { HasCleanDisk (state S.Store conn.new) → OnOk result ((trees : Trees) → (state S.Store conn.new).may_leave trees → trees ≡ (state S.Store conn.new).now.trees) }
+    ensures undone { HasCleanDisk (state S.Store conn.new) → OnErr result (KeepsCommit (state S.Store conn.old) (state S.Store conn.new)) }
+    ensures crash { Survives (state S.Store conn.old) (state S.Store conn.new) (λ trees. (it : Contents) → IsAlone (state S.Store conn.old).now.schema → IsEarlierOf it (state S.Store conn.old).now → Leaves it trees) }
+{
+    let mut tx = conn.transaction();
+    raise(&mut tx)?;
+    tx.commit()
+}
+
+/// Brings an outbox in the form before this one into this one, in one transaction: no entry has a target. What is said of
+/// the new rows holds where the database has no other tables.
+pub fn migrate_outbox<S: Alter>(
+    alloc: Global,
+    conn: &mut Connection<S>,
+) -> Result<Found, OutboxFault>
+    requires autocommit { conn.old.in_transaction ≡ false }
+    requires unlimited { conn.old.step_limit ≡ None }
+    ensures autocommit { conn.new.in_transaction ≡ false }
+
+    // The rows held an outbox in that form, and hold the same in this one.
+    ensures migrated { HasCleanDisk (state S.Store conn.new) → IsAlone (state S.Store conn.old).now.schema
+        → IfOk result (λ found. (entries : List Item) × IsEarlierOf (contents_of (string_bytes found.filer) entries) (state S.Store conn.old).now
+        × Stands (IsOutboxOf (contents_of (string_bytes found.filer) entries)) (state S.Store conn.new) × (found.count ≡ length entries)) }
+    ensures open { HasCleanDisk (state S.Store conn.new) → OnOk result (IsTrue (state S.Store conn.new).is_open) }
+    ensures code { IfOk result (λ found. is_filer (string_bytes found.filer) ≡ true) }
+    ensures few { IfOk result (λ found. found.count ≤ 2 ^ 62) }
+
+    // A refusal says why; where the rows hold an outbox in that form and the name is not in the way, it is by memory or disk.
+    // What is committed is what was committed.
+    ensures refused { HasCleanDisk (state S.Store conn.new) → IfErr result (λ fault. IsNotMigrated S.Store fault conn.old conn.new) }
+    ensures sound { HasCleanDisk (state S.Store conn.new) → IfErr result (λ fault. (it : Contents) → IsEarlierOf it (state S.Store conn.old).now → is_blocked (state S.Store conn.old).now.schema ≡ false
+        → (fault ≡ OutboxFault.Memory) ⊎ (fault ≡ OutboxFault.Disk)) }
+    ensures undone { HasCleanDisk (state S.Store conn.new) → OnErr result (KeepsCommit (state S.Store conn.old) (state S.Store conn.new)) }
+
+    // A crash leaves what it could leave before, or the migrated rows, and after the call these alone.
+    ensures crash { Survives (state S.Store conn.old) (state S.Store conn.new) (λ trees. (it : Contents) → IsAlone (state S.Store conn.old).now.schema → IsEarlierOf it (state S.Store conn.old).now → Leaves it trees) }
+    ensures durable { HasCleanDisk (state S.Store conn.new) → OnOk result ((trees : Trees) → (state S.Store conn.new).may_leave trees → trees ≡ (state S.Store conn.new).now.trees) }
+{
+    prove!(is_settled(conn));
+    match read_earlier(alloc, conn) {
+        Ok(found) => {
+            if is_used(conn.schema(), b"target") {
+                return Err(OutboxFault::NotOurs);
+            }
+            match write(conn) {
+                Ok(()) => Ok(found),
+                Err(error) => Err(OutboxFault::from(error)),
+            }
+        }
+        Err(fault) => Err(fault),
+    }
+}

@@ -1,0 +1,10 @@
+//! What a request or an entry of a test is to replace.
+
+ghost use Rattle.http_wire.specs.Posting.{IsTarget};
+
+/// Filing 1, or none.
+pub fn first_if(replaces: bool) -> Option<u64>
+    ensures { IsTarget result }
+{
+    if replaces { Some(1) } else { None }
+}

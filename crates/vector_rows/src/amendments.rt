@@ -1,0 +1,78 @@
+//! The vector of reports that replace filings.
+
+use crate::examples::{KEY_REUSED, REGISTERED, REGISTERED_SECOND, REPORT, REQUEST, filing, report};
+use crate::history::{Connection, History};
+use crate::stop::Stop;
+use gateway_server::{Ended, Mark};
+use http_wire::append_request;
+use key_string::KeyText;
+use std::alloc::Global;
+
+/// The list of a filing and the one that replaces it: 88 bytes.
+const BOTH: &str =
+    "HTTP/1.1 200 OK\r\nContent-Type: application/json\r\nContent-Length: 88\r\n\r\n{\"filings\":[{\"facts\":1,\"number\":1,\"replaced_by\":2},{\"facts\":1,\"number\":2,\"replaces\":1}]}";
+
+/// The reply where the filing cannot be replaced: 137 bytes.
+const NOT_REPLACEABLE: &str =
+    "HTTP/1.1 422 Unprocessable Content\r\nContent-Type: application/problem+json\r\nContent-Length: 137\r\n\r\n{\"findings\":[{\"code\":\"not-replaceable\",\"place\":\"\"}],\"reason\":\"refused\",\"status\":422,\"title\":\"Unprocessable Content\",\"type\":\"about:blank\"}";
+
+/// The reply where the path names no filings.
+const NO_PATH: &str =
+    "HTTP/1.1 404 Not Found\r\nContent-Type: application/problem+json\r\nContent-Length: 74\r\n\r\n{\"reason\":\"no-path\",\"status\":404,\"title\":\"Not Found\",\"type\":\"about:blank\"}";
+
+/// A connection with one request, whose input ends behind it.
+fn asked<'a>(given: &'a str, written: &'a str, mark: &'a [Mark]) -> Connection<'a> {
+    Connection {
+        given: given.as_bytes(),
+        written,
+        marks: mark,
+        ended: Ended::InputEnded,
+    }
+}
+
+/// Vector 26: a filing is replaced once, by a report of its own filer; a number that is none is no path.
+pub(crate) fn amended(alloc: Global) -> Result<bool, Stop> {
+    Ok(replaced_once(alloc)? && request_length(alloc)? == 539)
+}
+
+fn replaced_once(alloc: Global) -> Result<bool, Stop> {
+    let second = filing(alloc, "ACME/1", "k-2", REPORT)?;
+    let third = filing(alloc, "ACME/1", "k-3", REPORT)?;
+    let elsewhere = filing(alloc, "ACME/2", "k-2", REPORT)?;
+    let body = report(
+        alloc,
+        "f1",
+        "100",
+        "lei:BETA",
+        "2024-12-31T00:00:00",
+        "iso4217:EUR",
+    )?;
+    let other = filing(alloc, "BETA/1", "k-1", &body)?;
+    let zero = filing(alloc, "ACME/0", "k-4", REPORT)?;
+    let leading_zero = filing(alloc, "ACME/01", "k-4", REPORT)?;
+    let connections = [
+        asked(REQUEST, REGISTERED, &[Mark::Done]),
+        asked(&second, REGISTERED_SECOND, &[Mark::Done]),
+        asked(
+            "GET /filings/ACME HTTP/1.1\r\nHost: localhost\r\n\r\n",
+            BOTH,
+            &[Mark::NotFiled],
+        ),
+        asked(&second, REGISTERED_SECOND, &[Mark::Done]),
+        asked(&third, NOT_REPLACEABLE, &[Mark::Done]),
+        asked(&third, NOT_REPLACEABLE, &[Mark::Done]),
+        asked(&elsewhere, KEY_REUSED, &[Mark::Done]),
+        asked(&other, NOT_REPLACEABLE, &[Mark::Done]),
+        asked(&zero, NO_PATH, &[Mark::NotFiled]),
+        asked(&leading_zero, NO_PATH, &[Mark::NotFiled]),
+    ];
+    History::of(&connections, 4, 2).holds(alloc)
+}
+
+/// How long the request is by which `ACME` files the report to replace filing 1.
+fn request_length(alloc: Global) -> Result<usize, Stop> {
+    let mut request = Vec::new(alloc);
+    let key = KeyText::new(alloc, "k-1")?;
+    append_request("ACME", Some(1), &key, REPORT.as_bytes(), &mut request)?;
+    Ok(request.len())
+}

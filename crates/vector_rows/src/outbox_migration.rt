@@ -1,0 +1,106 @@
+//! The vector of an outbox of an earlier version, which is migrated.
+
+ghost use Rattle.std.specs.Prelude.{◌≡◌, false, None, IfOk, IfSome, IsTrue};
+ghost use Rattle.sqlite_disk.specs.Memory.{memory_is_usable};
+
+use crate::examples::REPORT;
+use crate::files::{close, connect, connect_new, execute};
+use crate::stop::{Stop, refusal};
+use outbox_core::{Entry, Outbox, OutboxFault, State};
+use sqlite::{Alter, Connection, FileStore, Files, params};
+use sqlite_disk::{Disk, Memory};
+use std::alloc::Global;
+
+/// The end of vector 27: an outbox of before keeps its entry, which replaces nothing, and is no outbox of before then.
+pub(crate) fn migrated(alloc: Global) -> Result<bool, Stop> {
+    let conn = connect(alloc, earlier_files(alloc)?)?;
+    let Some(files) = files_after(migrate(alloc, conn)?)? else {
+        return Ok(false);
+    };
+    let conn = connect(alloc, files)?;
+    Ok(migrate_fault(alloc, conn)? == Some(OutboxFault::NotOurs))
+}
+
+/// The files of `ACME`'s outbox of the first form, in which the report under `k-1` was confirmed as filing 1.
+fn earlier_files(alloc: Global) -> Result<Files<Memory>, Stop>
+    ensures { IfOk result (λ files. IsTrue (memory_is_usable files.log) × IsTrue (memory_is_usable files.db)) }
+{
+    let mut conn = connect_new(alloc)?;
+    for text in [
+        "CREATE TABLE outbox_meta (id INTEGER PRIMARY KEY, kind TEXT NOT NULL, form INTEGER NOT NULL, filer TEXT NOT NULL) STRICT",
+        "CREATE TABLE entry (id INTEGER PRIMARY KEY, idem TEXT NOT NULL UNIQUE, body BLOB NOT NULL, state INTEGER NOT NULL, number INTEGER) STRICT",
+        "INSERT INTO outbox_meta VALUES (1, 'outbox', 1, 'ACME')",
+    ] {
+        execute(&mut conn, text)?;
+    }
+    put_confirmed(&mut conn)?;
+    close(conn)
+}
+
+/// Puts in the row of the entry.
+fn put_confirmed<S: Alter>(conn: &mut Connection<S>) -> Result<(), Stop> {
+    conn.execute(
+        "INSERT INTO entry VALUES (1, 'k-1', ?1, 1, 1)",
+        params![REPORT.as_bytes()],
+    )?;
+    Ok(())
+}
+
+fn migrate<S: Alter + Drop>(alloc: Global, conn: Connection<S>) -> Result<Outbox<S>, Stop>
+    requires autocommit { conn.in_transaction ≡ false }
+    requires unlimited { conn.step_limit ≡ None }
+{
+    Ok(Outbox::migrate(alloc, conn)?)
+}
+
+/// How a migration is refused, if it is.
+fn migrate_fault<S: Alter + Drop>(
+    alloc: Global,
+    conn: Connection<S>,
+) -> Result<Option<OutboxFault>, Stop>
+    requires autocommit { conn.in_transaction ≡ false }
+    requires unlimited { conn.step_limit ≡ None }
+{
+    refusal(Outbox::migrate(alloc, conn))
+}
+
+/// The files of the outbox, where it has the entry as it was.
+fn files_after<D: Disk + Drop>(mut outbox: Outbox<FileStore<D>>) -> Result<Option<Files<D>>, Stop>
+    ensures { IfOk result (λ found. IfSome found (λ files. IsTrue (D.Disk.is_usable files.log) × IsTrue (D.Disk.is_usable files.db))) }
+{
+    if !is_kept(&mut outbox)? {
+        return Ok(None);
+    }
+    Ok(Some(outbox.into_files()?))
+}
+
+/// Whether the outbox has the entry as it was, and no other.
+fn is_kept<S: Alter>(outbox: &mut Outbox<S>) -> Result<bool, Stop> {
+    let states = states(outbox)?;
+    let entry = first_entry(outbox)?;
+    Ok(states.as_slice() == [(1, State::Confirmed(1))].as_slice() && is_confirmed(&entry))
+}
+
+/// The entries and how they stand.
+fn states<S: Alter>(outbox: &mut Outbox<S>) -> Result<Vec<(u64, State)>, Stop> {
+    Ok(outbox.states()?)
+}
+
+/// Entry 1.
+fn first_entry<S: Alter>(outbox: &mut Outbox<S>) -> Result<Option<Entry>, Stop> {
+    Ok(outbox.entry(1)?)
+}
+
+/// Whether it is the entry of before, which replaces nothing.
+fn is_confirmed(entry: &Option<Entry>) -> bool {
+    match entry {
+        None => false,
+        Some(entry) => {
+            entry.id == 1
+                && entry.key.as_str() == "k-1"
+                && entry.target.is_none()
+                && entry.body.as_slice() == REPORT.as_bytes()
+                && entry.state == State::Confirmed(1)
+        }
+    }
+}
