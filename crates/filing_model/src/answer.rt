@@ -18,7 +18,7 @@ pub enum Answer {
         repeat: bool,
         style: Style,
     },
-    /// The filer used the key before, for another body.
+    /// The filer used the key before, for another body or to replace another filing, or none.
     KeyReused {
         style: Style,
     },

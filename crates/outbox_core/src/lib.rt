@@ -1,6 +1,6 @@
 //! The outbox of a filer: the reports that are to be sent, and what is known of each. What may live here: the
 //! three tables of an outbox and the statements on them, how a reply moves an entry, and the calls on an outbox.
-//! Only `tables` knows SQL.
+//! SQL is known to `tables`, and to `create` and `migrate`, which make them.
 #![tactic(auto)]
 
 mod audit;

@@ -1,4 +1,4 @@
-//! The statements on the three tables. No other module knows SQL.
+//! The statements on the rows of the three tables.
 
 ghost use Rattle.std.specs.Prelude.{◌≡◌, ◌+◌, ◌^◌, ◌<◌, pos, codes, OnErr, length, find, map, option_map, IsTrue, IfOk, IfErr, OnOk, IsSome, false, [], ◌∷◌};
 ghost use Rattle.sqlite.specs.Values.{or_null};

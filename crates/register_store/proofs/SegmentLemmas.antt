@@ -1,7 +1,6 @@
 -- Rows that begin with those of a list.
-use Rattle.std.proofs.Common.{◌≡◌, ℕ, ◌+◌, ◌<◌, ◌≤◌, zero, suc, List, [], ◌∷◌, ◌++◌, take, drop, length, length-append, get_or, refl, sym, ap, ap₂, ◌∙◌, arith}
-use Rattle.std.proofs.Math.Seq.{take-length}
-use Rattle.std.proofs.lemmas.List.{take_more, take-append-drop}
+use Rattle.std.proofs.Common.{◌≡◌, ℕ, ◌+◌, ◌<◌, ◌≤◌, zero, suc, List, [], ◌∷◌, ◌++◌, take, length, length-append, get_or, refl, sym, ap, ap₂, ◌∙◌, arith}
+use Rattle.std.proofs.lemmas.List.{take_more}
 use Rattle.sqlite.specs.Order.{Row}
 use Rattle.table_rows.specs.Rows.{counted_from}
 use Rattle.table_rows.proofs.StepLemmas.{counted_more}
@@ -12,9 +11,6 @@ module _ {X : Type 0} (row : ℕ → X → Row) (rows : List Row) (xs : List X) 
   begins_more i d e low below same is =
       let next : row (i + 1) (get_or xs i e) ≡ row (1 + i) (get_or xs i e) = ap (λ n. row n (get_or xs i e)) (omega arith) in
       take_more rows i d low ∙ ap₂ (λ front r. front ++ r ∷ []) same (is ∙ next) ∙ sym (counted_more row xs i e below)
-
-  pub begins_whole : (i : ℕ) → i ≡ length xs → take i rows ≡ counted_from row 1 (take i xs) → rows ≡ counted_from row 1 xs ++ drop i rows
-  begins_whole i end same = sym (take-append-drop i rows) ∙ ap (λ front. front ++ drop i rows) (same ∙ ap (λ n. counted_from row 1 (take n xs)) end ∙ ap (counted_from row 1) (take-length xs))
 
 row_at : {X : Type 0} (row : ℕ → X → Row) (at : ℕ) (xs : List X) (tail : List Row) (i : ℕ) (d : Row) (e : X) → i < length xs → get_or (counted_from row at xs ++ tail) i d ≡ row (at + i) (get_or xs i e)
 row_at row at [] tail i d e below = absurd (omega arith)
