@@ -8,17 +8,18 @@ use Rattle.filing_model.specs.Register.{Outcome, Filing, filings, verdict, outco
 use Rattle.filing_model.proofs.Keeping.{filings-append}
 use Rattle.filing_model.proofs.Lists.{append_nil}
 
-module _ (F : List Request) (r : Request) where
-  none_found : (n m : ℕ) (found : List Pair) → outcome_by found m ≡ Outcome.Registered n → found ≡ []
-  none_found n m [] e = refl
-  none_found n m (f ∷ found) e = absurd cc
+-- nothing was found in what is registered, and it has the next number
+pub none_found : (n m : ℕ) (found : List Pair) → outcome_by found m ≡ Outcome.Registered n → (found ≡ []) × (n ≡ m)
+none_found n m [] e = (refl, cc e)
+none_found n m (f ∷ found) e = absurd (cc e)
 
+module _ (F : List Request) (r : Request) where
   -- what is registered was free to replace what it replaces
   pub registered_free : (n : ℕ) → (judged (kept F) r).outcome ≡ Outcome.Registered n → is_free (register F) r.filer r.target ≡ true
   unfolding verdict
   registered_free n is =
       let free = is_free (register F) r.filer r.target in
-      amendment-free r.filer r.body free (none_found n (suc (length (register F))) (amendment_findings r.filer r.body free) is)
+      amendment-free r.filer r.body free (none_found n (suc (length (register F))) (amendment_findings r.filer r.body free) is).0
 
   pub filing_more : (n : ℕ) → (judged (kept F) r).outcome ≡ Outcome.Registered n → filings (kept F ++ judged (kept F) r ∷ []) ≡ register F ++ record { number = n; request = r } ∷ []
   unfolding filings

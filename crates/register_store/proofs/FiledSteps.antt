@@ -6,10 +6,9 @@ use Rattle.std.proofs.lemmas.Bool.{cases_Bool}
 use Rattle.std.proofs.lemmas.Bool.Decides.{nat_tests}
 use Rattle.std.proofs.lemmas.List.{drop_at, take_at, take-append-drop}
 use Rattle.xbrl_report.proofs.FindingLaws.{amendment-free}
-use Rattle.xbrl_report.specs.Pair.{Pair}
 use Rattle.xbrl_report.specs.Amendment.{amendment_findings}
 use Rattle.filing_model.specs.Request.{Request, firsts}
-use Rattle.filing_model.specs.Register.{Outcome, Kept, Filing, filing_of, filings, is_free, judged, kept, kept_after, outcome_by, verdict}
+use Rattle.filing_model.specs.Register.{Outcome, Kept, Filing, filing_of, filings, is_free, judged, kept, kept_after, verdict}
 use Rattle.filing_model.specs.Register.Outcome.{Registered, Refused}
 use Rattle.filing_model.proofs.Keeping.{filings-append, kept_after_grows}
 use Rattle.register_store.specs.Columns.{number_in, request_in, text_in}
@@ -17,6 +16,7 @@ use Rattle.register_store.specs.declared.filed.Filed.{Filed}
 use Rattle.register_store.specs.Filed.{AreFiled, next_filing}
 use Rattle.register_store.specs.Reads.{filer_and_number}
 use Rattle.register_store.specs.Register.{kept_row}
+use Rattle.register_store.proofs.FiledLemmas.{none_found}
 use Rattle.register_store.proofs.StepsOfTargets.{IsStep}
 
 -- the request of a step as it is read
@@ -78,10 +78,6 @@ pub kept_in_turn : (F : List Request) (at : ℕ) (k : Kept) → take (suc at) (k
 kept_in_turn F at k taken =
     turn [] (firsts F) (take at (kept F)) (drop (suc at) (kept F)) k (omega arith)
     (sym (take-append-drop (suc at) (kept F)) ∙ ap (λ l. l ++ drop (suc at) (kept F)) taken ∙ append_assoc (take at (kept F)) (k ∷ []) (drop (suc at) (kept F)))
-
-none_found : (n m : ℕ) (found : List Pair) → outcome_by found m ≡ Outcome.Registered n → (found ≡ []) × (n ≡ m)
-none_found n m [] e = (refl, cc e)
-none_found n m (f ∷ found) e = absurd (cc e)
 
 -- so a filing was free to replace what it replaces, and has the next number
 pub filed_free : (F : List Request) (at : ℕ) (k : Kept) (n : ℕ) → take (suc at) (kept F) ≡ take at (kept F) ++ k ∷ [] → k.outcome ≡ Outcome.Registered n

@@ -172,7 +172,7 @@ module _ (seq : ℕ) where
       let apart : nat_eq at seq ≡ false = grind (arith, nat_tests) in
       filter-append (has_seq (pos seq)) (finding_rows at k) (joined_from finding_rows (at + 1) ks) ∙ ap₂ ◌++◌ (none_its at 1 (findings_of k.outcome) apart) (none_later (at + 1) ks (omega arith))
 
-  placed_from : (at : ℕ) (ks : List Kept) (k : Kept) → IsPlaced at seq ks k → at ≤ seq
+  pub placed_from : (at : ℕ) (ks : List Kept) (k : Kept) → IsPlaced at seq ks k → at ≤ seq
   placed_from at [] k h = absurd h
   placed_from at (x ∷ ks) k (inl here) = omega (arith, here.0)
   placed_from at (x ∷ ks) k (inr later) = omega (arith, placed_from (at + 1) ks k later)

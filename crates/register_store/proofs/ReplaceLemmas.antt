@@ -26,6 +26,7 @@ use Rattle.register_store.specs.Register.{kept_row, filing_rows, filing_rows_by,
 use Rattle.register_store.specs.Schema.{kept_table, filing_table, amends_table}
 use Rattle.register_store.specs.Store.{IsRegisterOf}
 use Rattle.register_store.proofs.Filings.{CountFrom, first_counts, none_outside, other_number, own_number}
+use Rattle.register_store.proofs.FindLemmas.{placed_from}
 use Rattle.register_store.proofs.ListLemmas.{amends_rise}
 
 -- ---- the kept row at a place
@@ -35,17 +36,12 @@ module _ (seq : ℕ) where
   no_later at [] low = refl
   no_later at (k ∷ ks) low = rw (and_true _ ∙ same_number at seq ∙ other_number at seq (λ e. omega (arith, low, e))) (no_later (at + 1) ks (omega (arith, low)))
 
-  placed_from : (at : ℕ) (ks : List Kept) (k : Kept) → IsPlaced at seq ks k → at ≤ seq
-  placed_from at [] k h = absurd h
-  placed_from at (x ∷ ks) k (inl here) = omega (arith, here.0)
-  placed_from at (x ∷ ks) k (inr later) = omega (arith, placed_from (at + 1) ks k later)
-
   its_kept : (at : ℕ) (ks : List Kept) (k : Kept) → IsPlaced at seq ks k → filter (has_seq (pos seq)) (counted_from kept_row at ks) ≡ kept_row seq k ∷ []
   its_kept at [] k h = absurd h
   its_kept at (x ∷ ks) k (inl here) =
       rw (and_true _ ∙ same_number at seq ∙ own_number at seq (sym here.0), no_later (at + 1) ks (omega (arith, here.0))) (ap₂ (λ n y. kept_row n y ∷ []) (sym here.0) (sym here.1))
   its_kept at (x ∷ ks) k (inr later) =
-      let above = placed_from (at + 1) ks k later in
+      let above = placed_from seq (at + 1) ks k later in
       rw (and_true _ ∙ same_number at seq ∙ other_number at seq (λ e. omega (arith, above, e))) (its_kept (at + 1) ks k later)
 
 -- what a statement shows of the kept row at a place
