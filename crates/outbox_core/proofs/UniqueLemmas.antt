@@ -1,16 +1,23 @@
 -- A database is one outbox at most.
-use Rattle.std.proofs.Common.{◌≡◌, ◌<◌, ℕ, suc, pos, Bool, true, false, not, List, [], ◌∷◌, map, filter, nat_eq, refl, sym, ap, ap₂, subst₂, ◌∙◌, arith, IsPermutation}
+use Rattle.std.proofs.Common.{◌≡◌, ◌<◌, ℕ, suc, pos, Bool, true, false, not, List, [], ◌∷◌, map, filter, nat_eq, refl, sym, ap, ap₂, subst, subst₂, ◌∙◌, arith, IsPermutation}
 use Rattle.std.specs.List.{AllByRecursion}
 use Rattle.std.proofs.lemmas.Bool.Decides.{nat_tests, Decides-int_eq}
-use Rattle.std.proofs.lemmas.List.Sorted.{IsPermutation-sym, IsPermutation-trans, length_permutation}
+use Rattle.std.proofs.lemmas.List.Sorted.{IsPermutation-refl, IsPermutation-sym, IsPermutation-trans, length_permutation}
 use Rattle.sqlite.specs.Order.{Row, column}
 use Rattle.sqlite.specs.Effect.{Database}
 use Rattle.sqlite.proofs.Callers.{one_permutation}
 use Rattle.sqlite_keyed.proofs.ListLemmas.{all_weaker, filter_all, filter_none, IsPermutation-filter}
 use Rattle.filing_model.specs.Outbox.{Entry}
 use Rattle.outbox_core.specs.Entries.{Contents, numbered_from}
-use Rattle.outbox_core.specs.Rows.{IsOutboxOf, meta_row, entry_row, target_row, target_rows_from, code_of, number_of}
+use Rattle.outbox_core.specs.Rows.{IsOutboxOf, form_row, entry_row, entry_rows, target_row, target_rows, target_rows_from, code_of, number_of}
 use Rattle.outbox_core.specs.Audit.{is_int}
+use Rattle.outbox_core.specs.Box.{Box, contents, HasEntries}
+use Rattle.sqlite.specs.Store.{Ghosts}
+use Rattle.outbox_core.specs.Earlier.{IsEarlierOf}
+use Rattle.outbox_core.specs.Schema.{meta_table, entry_table, target_table}
+use Rattle.sqlite.specs.Table.{Table}
+use Rattle.table_rows.specs.Rows.{Holds}
+use Rattle.outbox_core.proofs.EarlierLemmas.{no_targets}
 use Rattle.outbox_core.proofs.SelectLemmas.{same_ids}
 use Rattle.outbox_core.proofs.ReadLemmas.{one_state}
 use Rattle.outbox_core.proofs.TargetLemmas.{later_targets, own_row, rows_left, few_rows, one_target}
@@ -65,11 +72,33 @@ same_entries n (e ∷ es) (f ∷ fs) h t =
     let rest = subst₂ (λ xs ys. IsPermutation xs ys) (other_rows n e es) (other_rows n f fs) (IsPermutation-filter (λ w. not (has_id_column n w)) _ _ h) in
     ap₂ (λ x xs. x ∷ xs) (same_row n e f (one_permutation _ _ first) (same_target n e f es fs t)) (same_entries (suc n) es fs rest (other_targets n e f es fs t))
 
-same_filer : (f g : List ℕ) → meta_row g ∷ [] ≡ meta_row f ∷ [] → f ≡ g
-same_filer f g h = cc
+same_filer : (form : ℕ) (f g : List ℕ) → form_row form g ∷ [] ≡ form_row form f ∷ [] → f ≡ g
+same_filer form f g h = cc
+
+same_contents : (form : ℕ) (a b : Contents) → IsPermutation (form_row form a.filer ∷ []) (form_row form b.filer ∷ []) → IsPermutation (entry_rows a.entries) (entry_rows b.entries)
+    → IsPermutation (target_rows a.entries) (target_rows b.entries) → a ≡ b
+same_contents form a b meta entries targets =
+    let filer = same_filer form a.filer b.filer (one_permutation _ _ meta) in
+    let same = same_entries 1 a.entries b.entries entries targets in
+    λ i. record { filer = filer i; entries = same i }
+
+both_hold : (db : Database) (table : Table) (xs ys : List Row) → Holds db table xs → Holds db table ys → IsPermutation xs ys
+both_hold db table xs ys p q = IsPermutation-trans _ _ _ p (IsPermutation-sym _ _ q)
 
 pub one_outbox : (a b : Contents) (db : Database) → IsOutboxOf a db → IsOutboxOf b db → a ≡ b
 one_outbox a b db p q =
-    let filer = same_filer a.filer b.filer (one_permutation _ _ (IsPermutation-trans _ _ _ p.rows.meta_is (IsPermutation-sym _ _ q.rows.meta_is))) in
-    let entries = same_entries 1 a.entries b.entries (IsPermutation-trans _ _ _ p.rows.entries_are (IsPermutation-sym _ _ q.rows.entries_are)) (IsPermutation-trans _ _ _ p.rows.targets_are (IsPermutation-sym _ _ q.rows.targets_are)) in
-    λ i. record { filer = filer i; entries = entries i }
+    same_contents 2 a b (both_hold db meta_table _ _ p.rows.meta_is q.rows.meta_is) (both_hold db entry_table _ _ p.rows.entries_are q.rows.entries_are)
+    (both_hold db target_table _ _ p.rows.targets_are q.rows.targets_are)
+
+-- in the form before, no entry has a target
+pub one_earlier : (a b : Contents) (db : Database) → IsEarlierOf a db → IsEarlierOf b db → a ≡ b
+one_earlier a b db p q =
+    same_contents 1 a b (both_hold db meta_table _ _ p.meta_is q.meta_is) (both_hold db entry_table _ _ p.entries_are q.entries_are)
+    (rw (no_targets a.entries p.untargeted, no_targets b.entries q.untargeted) (IsPermutation-refl []))
+
+-- an outbox that holds these entries holds what it is known to hold
+pub holds_same : {S : Type 0} (g : Ghosts S) (box : Box S) (entries : List Entry) (it : Contents) → contents box entries ≡ it → HasEntries g box entries → (box.filer ≡ it.filer) × HasEntries g box it.entries
+holds_same g box entries it one had = (
+  ap (λ (i : Contents). i.filer) one,
+  subst (λ es. HasEntries g box es) (ap (λ (i : Contents). i.entries) one) had,
+)

@@ -77,23 +77,35 @@ impl<S: Alter + Drop> Outbox<S> {
     pub fn create(alloc: Global, conn: Connection<S>, filer: &str) -> Result<Outbox<S>, OutboxFault>
         requires autocommit { conn.in_transaction ≡ false }
         requires unlimited { conn.step_limit ≡ None }
-        ensures made { IfOk result (λ outbox. HasCleanDisk (shows S.Store outbox) → (state S.Store conn).now.schema ≡ no_schema → HasEntries S.Store outbox []) }
+        ensures made { IfOk result (λ outbox.
+            HasCleanDisk (shows S.Store outbox) → (state S.Store conn).now.schema ≡ no_schema
+            → HasEntries S.Store outbox []) }
         ensures filer { IfOk result (λ outbox. (outbox.filer ≡ filer.now) × (outbox.has_failed ≡ false)) }
 
         // BadFiler comes where the text is no filer code, and always there; Taken where it is one and one of the names is
         // in use, and always there.
         ensures bad_filer { (result ≡ Err OutboxFault.BadFiler) ↔ (is_filer filer.now ≡ false) }
-        ensures taken { (result ≡ Err OutboxFault.Taken) ↔ ((is_filer filer.now ≡ true) × IsTrue (is_taken (state S.Store conn).now.schema)) }
-        ensures no_other { IfErr result (λ fault. (fault ≢ OutboxFault.NotOurs) × ((row : _) → fault ≢ OutboxFault.Damaged row)) }
+        ensures taken { (result ≡ Err OutboxFault.Taken)
+            ↔ ((is_filer filer.now ≡ true) × IsTrue (is_taken (state S.Store conn).now.schema)) }
+        ensures no_other { IfErr result (λ fault.
+            (fault ≢ OutboxFault.NotOurs) × ((row : _) → fault ≢ OutboxFault.Damaged row)) }
 
         // A refusal commits nothing, of the connection as it was given up.
-        ensures refused { OnErr result ((last : Held S) × Survives (state S.Store conn) (state S.Store last) (λ trees. AreMade S.Store filer.now conn trees × ((state S.Store conn).now.schema ≡ no_schema → Leaves (empty filer.now) trees))
+        ensures refused { OnErr result ((last : Held S)
+            × Survives (state S.Store conn) (state S.Store last) (λ trees.
+            AreMade S.Store filer.now conn trees
+            × ((state S.Store conn).now.schema ≡ no_schema → Leaves (empty filer.now) trees))
             × (HasCleanDisk (state S.Store last) → KeepsCommit (state S.Store conn) (state S.Store last))) }
 
         // A crash leaves what one before the call could leave, or the outbox with no entry, and after the call that alone.
-        ensures crash { IfOk result (λ outbox. Survives (state S.Store conn) (shows S.Store outbox) (λ trees. AreMade S.Store filer.now conn trees × ((state S.Store conn).now.schema ≡ no_schema → Leaves (empty filer.now) trees))) }
-        ensures durable { IfOk result (λ outbox. HasCleanDisk (shows S.Store outbox) → (state S.Store conn).now.schema ≡ no_schema
-            → IsTrue (shows S.Store outbox).is_open × ((trees : Trees) → (shows S.Store outbox).may_leave trees → Leaves (empty filer.now) trees)) }
+        ensures crash { IfOk result (λ outbox.
+            Survives (state S.Store conn) (shows S.Store outbox) (λ trees.
+            AreMade S.Store filer.now conn trees
+            × ((state S.Store conn).now.schema ≡ no_schema → Leaves (empty filer.now) trees))) }
+        ensures durable { IfOk result (λ outbox.
+            HasCleanDisk (shows S.Store outbox) → (state S.Store conn).now.schema ≡ no_schema
+            → IsTrue (shows S.Store outbox).is_open
+            × ((trees : Trees) → (shows S.Store outbox).may_leave trees → Leaves (empty filer.now) trees)) }
     {
         let mut conn = conn;
         match make_outbox(alloc, &mut conn, filer) {
@@ -123,21 +135,30 @@ impl<S: Alter + Drop> Outbox<S> {
     pub fn open(alloc: Global, conn: Connection<S>) -> Result<Outbox<S>, OutboxFault>
         requires autocommit { conn.in_transaction ≡ false }
         requires unlimited { conn.step_limit ≡ None }
-        ensures opened { IfOk result (λ outbox. HasCleanDisk (shows S.Store outbox) → IsDeclared (state S.Store conn).now.schema
-            → (entries : List Item) × IsOutboxOf (contents outbox entries) (state S.Store conn).now × HasEntries S.Store outbox entries) }
+        ensures opened { IfOk result (λ outbox.
+            HasCleanDisk (shows S.Store outbox) → IsDeclared (state S.Store conn).now.schema
+            → (entries : List Item) × IsOutboxOf (contents outbox entries) (state S.Store conn).now
+            × HasEntries S.Store outbox entries) }
         ensures able { IfOk result (λ outbox. outbox.has_failed ≡ false) }
 
         // Where the database is an outbox, it is that one that is opened, and after the call a crash leaves it alone.
-        ensures same { IfOk result (λ outbox. HasCleanDisk (shows S.Store outbox) → (it : Contents) → IsOutboxOf it (state S.Store conn).now → (outbox.filer ≡ it.filer) × HasEntries S.Store outbox it.entries) }
-        ensures durable { IfOk result (λ outbox. HasCleanDisk (shows S.Store outbox) → (it : Contents) → IsOutboxOf it (state S.Store conn).now
-            → IsTrue (shows S.Store outbox).is_open × ((trees : Trees) → (shows S.Store outbox).may_leave trees → Leaves it trees)) }
+        ensures same { IfOk result (λ outbox.
+            HasCleanDisk (shows S.Store outbox) → (it : Contents) → IsOutboxOf it (state S.Store conn).now
+            → (outbox.filer ≡ it.filer) × HasEntries S.Store outbox it.entries) }
+        ensures durable { IfOk result (λ outbox.
+            HasCleanDisk (shows S.Store outbox) → (it : Contents) → IsOutboxOf it (state S.Store conn).now
+            → IsTrue (shows S.Store outbox).is_open
+            × ((trees : Trees) → (shows S.Store outbox).may_leave trees → Leaves it trees)) }
         ensures crash { IfOk result (λ outbox. Survives (state S.Store conn) (shows S.Store outbox) (λ _. ⊥)) }
 
         // A refusal writes nothing and says why, of the connection as it was given up, as `read_outbox` says of one that is
         // kept; an outbox is refused by memory or disk.
-        ensures refused { IfErr result (λ fault. (last : Held S) × Survives (state S.Store conn) (state S.Store last) (λ _. ⊥) × (HasCleanDisk (state S.Store last) → KeepsCommit (state S.Store conn) (state S.Store last))
+        ensures refused { IfErr result (λ fault.
+            (last : Held S) × Survives (state S.Store conn) (state S.Store last) (λ _. ⊥)
+            × (HasCleanDisk (state S.Store last) → KeepsCommit (state S.Store conn) (state S.Store last))
             × (HasCleanDisk (state S.Store last) → IsRefused S.Store fault conn last)
-            × (HasCleanDisk (state S.Store last) → (it : Contents) → IsOutboxOf it (state S.Store conn).now → (fault ≡ OutboxFault.Memory) ⊎ (fault ≡ OutboxFault.Disk))) }
+            × (HasCleanDisk (state S.Store last) → (it : Contents) → IsOutboxOf it (state S.Store conn).now
+            → (fault ≡ OutboxFault.Memory) ⊎ (fault ≡ OutboxFault.Disk))) }
         ensures no_other { IfErr result (λ fault. (fault ≢ OutboxFault.BadFiler) × (fault ≢ OutboxFault.Taken)) }
     {
         let mut conn = conn;
@@ -167,21 +188,38 @@ impl<S: Alter + Drop> Outbox<S> {
     pub fn migrate(alloc: Global, conn: Connection<S>) -> Result<Outbox<S>, OutboxFault>
         requires autocommit { conn.in_transaction ≡ false }
         requires unlimited { conn.step_limit ≡ None }
-        ensures migrated { IfOk result (λ outbox. HasCleanDisk (shows S.Store outbox) → IsAlone (state S.Store conn).now.schema
-            → (entries : List Item) × IsEarlierOf (contents outbox entries) (state S.Store conn).now × HasEntries S.Store outbox entries) }
+        ensures migrated { IfOk result (λ outbox.
+            HasCleanDisk (shows S.Store outbox) → IsAlone (state S.Store conn).now.schema
+            → (entries : List Item) × IsEarlierOf (contents outbox entries) (state S.Store conn).now
+            × HasEntries S.Store outbox entries) }
+        ensures only { IfOk result (λ outbox.
+            HasCleanDisk (shows S.Store outbox) → (it : Contents) → IsAlone (state S.Store conn).now.schema
+            → IsEarlierOf it (state S.Store conn).now
+            → (outbox.filer ≡ it.filer) × HasEntries S.Store outbox it.entries) }
         ensures able { IfOk result (λ outbox. outbox.has_failed ≡ false) }
 
         // A refusal says why, of the connection as it was given up (`migrate_outbox` names it); where the rows hold an outbox in
         // that form and the name is not in the way, it is by memory or disk.
-        ensures refused { IfErr result (λ fault. (last : Held S) × Survives (state S.Store conn) (state S.Store last) (λ trees. (it : Contents) → IsAlone (state S.Store conn).now.schema → IsEarlierOf it (state S.Store conn).now → Leaves it trees)
+        ensures refused { IfErr result (λ fault.
+            (last : Held S)
+            × Survives (state S.Store conn) (state S.Store last) (λ trees.
+            (it : Contents) → IsAlone (state S.Store conn).now.schema → IsEarlierOf it (state S.Store conn).now
+            → Leaves it trees)
             × (HasCleanDisk (state S.Store last) → KeepsCommit (state S.Store conn) (state S.Store last))
             × (HasCleanDisk (state S.Store last) → IsNotMigrated S.Store fault conn last)
-            × (HasCleanDisk (state S.Store last) → (it : Contents) → IsEarlierOf it (state S.Store conn).now → is_blocked (state S.Store conn).now.schema ≡ false → (fault ≡ OutboxFault.Memory) ⊎ (fault ≡ OutboxFault.Disk))) }
+            × (HasCleanDisk (state S.Store last) → (it : Contents) → IsEarlierOf it (state S.Store conn).now
+            → is_blocked (state S.Store conn).now.schema ≡ false
+            → (fault ≡ OutboxFault.Memory) ⊎ (fault ≡ OutboxFault.Disk))) }
 
         // A crash leaves what it could leave before, or the migrated rows, and after the call these alone.
-        ensures crash { IfOk result (λ outbox. Survives (state S.Store conn) (shows S.Store outbox) (λ trees. (it : Contents) → IsAlone (state S.Store conn).now.schema → IsEarlierOf it (state S.Store conn).now → Leaves it trees)) }
-        ensures durable { IfOk result (λ outbox. HasCleanDisk (shows S.Store outbox) → (entries : List Item) → HasEntries S.Store outbox entries
-            → IsTrue (shows S.Store outbox).is_open × ((trees : Trees) → (shows S.Store outbox).may_leave trees → Leaves (contents outbox entries) trees)) }
+        ensures crash { IfOk result (λ outbox.
+            Survives (state S.Store conn) (shows S.Store outbox) (λ trees.
+            (it : Contents) → IsAlone (state S.Store conn).now.schema → IsEarlierOf it (state S.Store conn).now
+            → Leaves it trees)) }
+        ensures durable { IfOk result (λ outbox.
+            HasCleanDisk (shows S.Store outbox) → (entries : List Item) → HasEntries S.Store outbox entries
+            → IsTrue (shows S.Store outbox).is_open
+            × ((trees : Trees) → (shows S.Store outbox).may_leave trees → Leaves (contents outbox entries) trees)) }
     {
         let mut conn = conn;
         match migrate_outbox(alloc, &mut conn) {
@@ -226,24 +264,35 @@ impl<S: Alter> Outbox<S> {
     /// refusal gives the key and the body up. With 2^62 entries the answer is Store.
     pub fn put(&mut self, key: KeyText, target: Option<u64>, body: Vec<u8>) -> Result<u64, PutFault>
         requires { IsTarget target }
-        ensures added { HasCleanDisk (shows S.Store self.new) → (entries : List Item) → HasEntries S.Store self.old entries
-            → IfOk result (λ id. (id ≡ 1 + length entries) × HasEntries S.Store self.new (entries ++ opened key target body.items ∷ [])) }
-        ensures unused { HasCleanDisk (shows S.Store self.new) → (entries : List Item) → HasEntries S.Store self.old entries → OnOk result (find (has_text key) (numbered entries) ≡ None) }
-        ensures used { HasCleanDisk (shows S.Store self.new) → (entries : List Item) → HasEntries S.Store self.old entries
-            → (id : _) → result ≡ Err (PutFault.KeyUsed id) → option_map (λ x. x.0) (find (has_text key) (numbered entries)) ≡ Some id }
-        ensures too_large { (result ≡ Err PutFault.TooLarge) ↔ ((self.old.has_failed ≡ false) × (max_body_len < length body.items)) }
+        ensures added { HasCleanDisk (shows S.Store self.new) → (entries : List Item)
+            → HasEntries S.Store self.old entries
+            → IfOk result (λ id.
+            (id ≡ 1 + length entries)
+            × HasEntries S.Store self.new (entries ++ opened key target body.items ∷ [])) }
+        ensures unused { HasCleanDisk (shows S.Store self.new) → (entries : List Item)
+            → HasEntries S.Store self.old entries → OnOk result (find (has_text key) (numbered entries) ≡ None) }
+        ensures used { HasCleanDisk (shows S.Store self.new) → (entries : List Item)
+            → HasEntries S.Store self.old entries → (id : _) → result ≡ Err (PutFault.KeyUsed id)
+            → option_map (λ x. x.0) (find (has_text key) (numbered entries)) ≡ Some id }
+        ensures too_large { (result ≡ Err PutFault.TooLarge)
+            ↔ ((self.old.has_failed ≡ false) × (max_body_len < length body.items)) }
 
         // A refusal changes no entry.
-        ensures kept { HasCleanDisk (shows S.Store self.new) → (entries : List Item) → HasEntries S.Store self.old entries → OnErr result (HasEntries S.Store self.new entries) }
+        ensures kept { HasCleanDisk (shows S.Store self.new) → (entries : List Item)
+            → HasEntries S.Store self.old entries → OnErr result (HasEntries S.Store self.new entries) }
         ensures stopped { IsTrue self.old.has_failed → (result ≡ Err PutFault.Store) × (self.new ≡ self.old) }
         ensures stops { IsTrue self.new.has_failed ↔ (result ≡ Err PutFault.Store) }
         ensures filer { self.new.filer ≡ self.old.filer }
 
         // A crash leaves what one before the call could leave, or the entries with this one, and after Ok these alone.
-        ensures crash { Survives (shows S.Store self.old) (shows S.Store self.new) (λ trees. (entries : List Item) → HasEntries S.Store self.old entries → IsTrue (shows S.Store self.old).is_open
+        ensures crash { Survives (shows S.Store self.old) (shows S.Store self.new) (λ trees.
+            (entries : List Item) → HasEntries S.Store self.old entries → IsTrue (shows S.Store self.old).is_open
             → Leaves (contents self.old (entries ++ opened key target body.items ∷ [])) trees) }
-        ensures durable { HasCleanDisk (shows S.Store self.new) → (entries : List Item) → HasEntries S.Store self.old entries
-            → OnOk result (IsTrue (shows S.Store self.new).is_open × ((trees : Trees) → (shows S.Store self.new).may_leave trees → Leaves (contents self.new (entries ++ opened key target body.items ∷ [])) trees)) }
+        ensures durable { HasCleanDisk (shows S.Store self.new) → (entries : List Item)
+            → HasEntries S.Store self.old entries
+            → OnOk result (IsTrue (shows S.Store self.new).is_open
+            × ((trees : Trees) → (shows S.Store self.new).may_leave trees
+            → Leaves (contents self.new (entries ++ opened key target body.items ∷ [])) trees)) }
     {
         if self.has_failed {
             return Err(PutFault::Store);
@@ -271,21 +320,28 @@ impl<S: Alter> Outbox<S> {
 
     /// The entry of this id, or `None` where there is none.
     pub fn entry(&mut self, id: u64) -> Result<Option<Entry>, StoreFault>
-        ensures found { HasCleanDisk (shows S.Store self.new) → (entries : List Item) → HasEntries S.Store self.old entries
+        ensures found { HasCleanDisk (shows S.Store self.new) → (entries : List Item)
+            → HasEntries S.Store self.old entries
             → IfOk result (λ entry. option_map view_entry entry ≡ option_map (λ e. (id, e)) (entry_at entries id)) }
         ensures short { IfOk result (λ entry. IfSome entry (λ e. length e.body.items ≤ max_body_len)) }
         ensures within { IfOk result (λ entry. IfSome entry (λ e. IsTarget e.target)) }
 
         // The entries are those of before, whatever the answer is, and a crash leaves what it could leave before.
-        ensures kept { HasCleanDisk (shows S.Store self.new) → (entries : List Item) → HasEntries S.Store self.old entries → HasEntries S.Store self.new entries }
+        ensures kept { HasCleanDisk (shows S.Store self.new) → (entries : List Item)
+            → HasEntries S.Store self.old entries → HasEntries S.Store self.new entries }
         ensures stopped { IsTrue self.old.has_failed → (result ≡ Err StoreFault.Store) × (self.new ≡ self.old) }
         ensures stops { IsTrue self.new.has_failed ↔ (result ≡ Err StoreFault.Store) }
         ensures filer { self.new.filer ≡ self.old.filer }
         ensures crash { Survives (shows S.Store self.old) (shows S.Store self.new) (λ _. ⊥) }
 
         // Where an entry is answered, a crash leaves these entries alone.
-        ensures durable { HasCleanDisk (shows S.Store self.new) → (entries : List Item) → HasEntries S.Store self.old entries
-            → IfOk result (λ entry. IsSome entry → IsTrue (shows S.Store self.new).is_open × ((trees : Trees) → (shows S.Store self.new).may_leave trees → Leaves (contents self.new entries) trees)) }
+        ensures durable { HasCleanDisk (shows S.Store self.new) → (entries : List Item)
+            → HasEntries S.Store self.old entries
+            → IfOk result (λ entry.
+            IsSome entry
+            → IsTrue (shows S.Store self.new).is_open
+            × ((trees : Trees) → (shows S.Store self.new).may_leave trees
+            → Leaves (contents self.new entries) trees)) }
     {
         if self.has_failed {
             return Err(StoreFault::Store);
@@ -304,13 +360,15 @@ impl<S: Alter> Outbox<S> {
 
     /// The open entry with the least id, or `None` where no entry is open.
     pub fn next_open(&mut self) -> Result<Option<Entry>, StoreFault>
-        ensures found { HasCleanDisk (shows S.Store self.new) → (entries : List Item) → HasEntries S.Store self.old entries
+        ensures found { HasCleanDisk (shows S.Store self.new) → (entries : List Item)
+            → HasEntries S.Store self.old entries
             → IfOk result (λ entry. option_map view_entry entry ≡ find is_open (numbered entries)) }
         ensures short { IfOk result (λ entry. IfSome entry (λ e. length e.body.items ≤ max_body_len)) }
         ensures within { IfOk result (λ entry. IfSome entry (λ e. IsTarget e.target)) }
 
         // The entries are those of before, whatever the answer is, and a crash leaves what it could leave before.
-        ensures kept { HasCleanDisk (shows S.Store self.new) → (entries : List Item) → HasEntries S.Store self.old entries → HasEntries S.Store self.new entries }
+        ensures kept { HasCleanDisk (shows S.Store self.new) → (entries : List Item)
+            → HasEntries S.Store self.old entries → HasEntries S.Store self.new entries }
         ensures stopped { IsTrue self.old.has_failed → (result ≡ Err StoreFault.Store) × (self.new ≡ self.old) }
         ensures stops { IsTrue self.new.has_failed ↔ (result ≡ Err StoreFault.Store) }
         ensures filer { self.new.filer ≡ self.old.filer }
@@ -330,11 +388,13 @@ impl<S: Alter> Outbox<S> {
 
     /// The id and the state of each entry, in the order of the ids.
     pub fn states(&mut self) -> Result<Vec<(u64, State)>, StoreFault>
-        ensures found { HasCleanDisk (shows S.Store self.new) → (entries : List Item) → HasEntries S.Store self.old entries
+        ensures found { HasCleanDisk (shows S.Store self.new) → (entries : List Item)
+            → HasEntries S.Store self.old entries
             → IfOk result (λ states. map view_pair states.items ≡ map id_and_state (numbered entries)) }
 
         // The entries are those of before, whatever the answer is, and a crash leaves what it could leave before.
-        ensures kept { HasCleanDisk (shows S.Store self.new) → (entries : List Item) → HasEntries S.Store self.old entries → HasEntries S.Store self.new entries }
+        ensures kept { HasCleanDisk (shows S.Store self.new) → (entries : List Item)
+            → HasEntries S.Store self.old entries → HasEntries S.Store self.new entries }
         ensures stopped { IsTrue self.old.has_failed → (result ≡ Err StoreFault.Store) × (self.new ≡ self.old) }
         ensures stops { IsTrue self.new.has_failed ↔ (result ≡ Err StoreFault.Store) }
         ensures filer { self.new.filer ≡ self.old.filer }
@@ -355,22 +415,33 @@ impl<S: Alter> Outbox<S> {
     /// Moves an entry by the status and the content of a reply, and answers its state. An entry that is not open
     /// keeps its state, and no entry's key, target or body changes.
     pub fn take(&mut self, id: u64, reply: &Reply) -> Result<State, TakeFault>
-        ensures moved { HasCleanDisk (shows S.Store self.new) → (entries : List Item) → HasEntries S.Store self.old entries
-            → IfOk result (λ to. (Some (view_state to) ≡ option_map (λ e. moved e.state (reply_parts reply.now)) (entry_at entries id)) × HasEntries S.Store self.new (set_state entries id (view_state to))) }
-        ensures no_entry { HasCleanDisk (shows S.Store self.new) → (entries : List Item) → HasEntries S.Store self.old entries → result ≡ Err TakeFault.NoEntry → entry_at entries id ≡ None }
+        ensures moved { HasCleanDisk (shows S.Store self.new) → (entries : List Item)
+            → HasEntries S.Store self.old entries
+            → IfOk result (λ to.
+            (Some (view_state to) ≡ option_map (λ e. moved e.state (reply_parts reply.now)) (entry_at entries id))
+            × HasEntries S.Store self.new (set_state entries id (view_state to))) }
+        ensures no_entry { HasCleanDisk (shows S.Store self.new) → (entries : List Item)
+            → HasEntries S.Store self.old entries → result ≡ Err TakeFault.NoEntry → entry_at entries id ≡ None }
 
         // A refusal changes no entry.
-        ensures kept { HasCleanDisk (shows S.Store self.new) → (entries : List Item) → HasEntries S.Store self.old entries → OnErr result (HasEntries S.Store self.new entries) }
+        ensures kept { HasCleanDisk (shows S.Store self.new) → (entries : List Item)
+            → HasEntries S.Store self.old entries → OnErr result (HasEntries S.Store self.new entries) }
         ensures stopped { IsTrue self.old.has_failed → (result ≡ Err TakeFault.Store) × (self.new ≡ self.old) }
         ensures stops { IsTrue self.new.has_failed ↔ (result ≡ Err TakeFault.Store) }
         ensures filer { self.new.filer ≡ self.old.filer }
 
         // A crash leaves what one before the call could leave, or the entries after the move where the id names one, and after
         // Ok these alone.
-        ensures crash { Survives (shows S.Store self.old) (shows S.Store self.new) (λ trees. (entries : List Item) → HasEntries S.Store self.old entries → IsTrue (shows S.Store self.old).is_open
-            → (e : Item) × (entry_at entries id ≡ Some e) × Leaves (contents self.old (set_state entries id (moved e.state (reply_parts reply.now)))) trees) }
-        ensures durable { HasCleanDisk (shows S.Store self.new) → (entries : List Item) → HasEntries S.Store self.old entries
-            → IfOk result (λ to. IsTrue (shows S.Store self.new).is_open × ((trees : Trees) → (shows S.Store self.new).may_leave trees → Leaves (contents self.new (set_state entries id (view_state to))) trees)) }
+        ensures crash { Survives (shows S.Store self.old) (shows S.Store self.new) (λ trees.
+            (entries : List Item) → HasEntries S.Store self.old entries → IsTrue (shows S.Store self.old).is_open
+            → (e : Item) × (entry_at entries id ≡ Some e)
+            × Leaves (contents self.old (set_state entries id (moved e.state (reply_parts reply.now)))) trees) }
+        ensures durable { HasCleanDisk (shows S.Store self.new) → (entries : List Item)
+            → HasEntries S.Store self.old entries
+            → IfOk result (λ to.
+            IsTrue (shows S.Store self.new).is_open
+            × ((trees : Trees) → (shows S.Store self.new).may_leave trees
+            → Leaves (contents self.new (set_state entries id (view_state to))) trees)) }
     {
         if self.has_failed {
             return Err(TakeFault::Store);

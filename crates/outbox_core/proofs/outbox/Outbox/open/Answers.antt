@@ -1,11 +1,10 @@
-use Rattle.std.proofs.Common.{List, length, ap, subst, ◌∙◌, string_bytes}
+use Rattle.std.proofs.Common.{subst, string_bytes}
 use Rattle.sqlite.specs.Held.{state}
-use Rattle.filing_model.specs.Outbox.{Entry}
 use Rattle.table_rows.specs.Standing.{Stands}
-use Rattle.outbox_core.specs.Entries.{Contents, contents_of}
+use Rattle.outbox_core.specs.Entries.{contents_of}
 use Rattle.outbox_core.specs.Rows.{IsOutboxOf}
 use Rattle.outbox_core.proofs.ListLemmas.{leaves_last}
-use Rattle.outbox_core.proofs.UniqueLemmas.{one_outbox}
+use Rattle.outbox_core.proofs.UniqueLemmas.{one_outbox, holds_same}
 use Rattle.outbox_core.proofs.outbox.Outbox.open.Goals as goal
 
 pub returns-in-Ok-clause-opened : goal.returns-in-Ok-clause-opened
@@ -17,14 +16,7 @@ pub returns-in-Ok-clause-same : goal.returns-in-Ok-clause-same
 returns-in-Ok-clause-same g c clean it is =
     let found = c.in-Ok.ensures.found clean is.rows.declared in
     let one = one_outbox (contents_of (string_bytes c.in-Ok.field-0.filer) found.0) it (state g.S.Store c.args.conn).now found.1 is in
-    let new = state g.S.Store c.read_outbox.new.conn in
-    let entries = ap (λ (i : Contents). i.entries) one in (
-      ap (λ (i : Contents). i.filer) one,
-      record {
-        stands = subst (λ es. Stands (IsOutboxOf (contents_of (string_bytes c.in-Ok.field-0.filer) es)) new) entries found.2;
-        count = found.3 ∙ ap (λ (es : List Entry). length es) entries;
-      },
-    )
+    holds_same g.S.Store _ found.0 it one (record { stands = found.2; count = found.3 })
 
 pub returns-in-Ok-clause-durable : goal.returns-in-Ok-clause-durable
 returns-in-Ok-clause-durable g c clean it is =
