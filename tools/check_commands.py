@@ -8,7 +8,7 @@ It takes the programs that `rt run` builds in their folders, as crates/intake/ou
 import sqlite3
 import subprocess
 
-from trials import INTAKE, OF_THIS_VERSION, OUTBOX, REPORT, Serving, exchange, hold, make_earlier, make_earlier_outbox, run, said, try_all
+from trials import INTAKE, NOT_A_REGISTER, NO_OUTBOX, OUTBOX, REPORT, Serving, exchange, hold, make_earlier, make_earlier_outbox, run, said, try_all
 
 FACT = (
     '{"concept":"eg:Assets","decimals":0,"dimensions":{"concept":"eg:Assets","entity":"lei:ACME",'
@@ -41,8 +41,8 @@ DAMAGED = [
 ]
 MIGRATED = [
     ("migrate --db @text", 1, "not a register\n", "text: not a database"),
-    ("check --db @old.db", 1, "not a register\n", f"old.db: not a register{OF_THIS_VERSION}"),
-    ("list --db @old.db --filer ACME", 1, "", f"old.db: not a register{OF_THIS_VERSION}"),
+    ("check --db @old.db", 1, "not a register\n", f"old.db: {NOT_A_REGISTER}"),
+    ("list --db @old.db --filer ACME", 1, "", f"old.db: {NOT_A_REGISTER}"),
     ("migrate --db @old.db", 0, "migrated\n", ""),
     ("check --db @old.db", 0, "sound: 1 kept, 0 filings\n", ""),
     ("migrate --db @old.db", 1, "not a register\n", "old.db: not a register"),
@@ -66,15 +66,15 @@ ENTRIES = [
     ("put --db @box.db --body @small --key k-3 --amend 1", 0, "entry 3\n", ""),
     ("put --db @box.db --body @small --key k-4 --amend 9223372036854775807", 0, "entry 4\n", ""),
     ("put --db @box.db --body @small --key k-1 --amend 1", 2, "", "box.db: the key is that of entry 1"),
-    ("show --db @box.db --entry 3", 0, "entry 3 open, 2 bytes, key k-3\n", ""),
+    ("show --db @box.db --entry 3", 0, "entry 3 open, 2 bytes, replaces 1, key k-3\n", ""),
 ]
 MIGRATED_OUTBOXES = [
     ("migrate --db @none.db", 1, "not an outbox\n", "none.db: there is no such file"),
     ("migrate --db @text", 1, "not an outbox\n", "text: not a database"),
     ("migrate --db @damaged.db", 1, "damaged at row 2\n", "damaged.db: row 2 of the outbox is damaged"),
     ("migrate --db @used.db", 1, "not an outbox\n", "used.db: the database is no outbox"),
-    ("status --db @old.db", 1, "", "old.db: the database is no outbox"),
-    ("put --db @old.db --body @small --key k-3", 1, "", "old.db: the database is no outbox"),
+    ("status --db @old.db", 1, "", f"old.db: {NO_OUTBOX}"),
+    ("put --db @old.db --body @small --key k-3", 1, "", f"old.db: {NO_OUTBOX}"),
     ("migrate --db @old.db", 0, "migrated\n", ""),
     ("status --db @old.db", 0, "entry 1 confirmed 1\nentry 2 open\n", ""),
     ("show --db @old.db", 0, "entry 1 confirmed 1, 2 bytes, key k-1\nentry 2 open, 2 bytes, key k-2\n", ""),

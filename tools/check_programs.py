@@ -16,7 +16,7 @@ import signal
 import sqlite3
 import subprocess
 
-from trials import INTAKE, OF_THIS_VERSION, OUTBOX, REPORT, SMALLEST, Serving, exchange, free_port, hold, make_register, request, run, said
+from trials import INTAKE, NOT_A_REGISTER, OUTBOX, REPORT, SMALLEST, Serving, exchange, free_port, hold, make_register, request, run, said
 from trials import statuses, tell, try_all
 
 
@@ -230,7 +230,7 @@ def check_files(folder):
     for name, status, output, cause in (
         ("missing.db", 1, "not a register\n", "there is no such file"),
         ("text", 1, "not a register\n", "not a database"),
-        ("foreign.db", 1, "not a register\n", f"not a register{OF_THIS_VERSION}"),
+        ("foreign.db", 1, "not a register\n", NOT_A_REGISTER),
         (".", 3, "", "not a regular file"),
         ("linked.db", 3, "", "the file has a second name (a hard link)"),
     ):

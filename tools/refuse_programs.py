@@ -123,9 +123,10 @@ def try_script(counts, _):
     script, wanted = (ROOT / "crates/drill/stdin").read_bytes(), (ROOT / "crates/drill/stdout").read_bytes()
 
     # A delivery that memory refuses is answered 503 and completes nothing: the first, and the second files the report; or the second, and
-    # the entry stays open.
+    # the entry stays open. It stays open too where the second is completed, and memory is refused to its reply: the filer hears nothing.
     filing = b'filing 1 ACME "k-1"\n'
-    allowed = (wanted, filing + b"entry 1 1 confirmed 1\ndone 1\n", filing + b"entry 1 1 open\ndone 1\n")
+    ends = (b"entry 1 1 confirmed 1\ndone 1\n", b"entry 1 1 open\ndone 1\n", b"entry 1 1 open\ndone 2\n")
+    allowed = (wanted, *(filing + end for end in ends))
 
     def judge(ran):
         if ran.returncode == 0 and ran.stdout in allowed:

@@ -18,7 +18,9 @@ REPORT = (
     b'"taxonomy":["http://example.com/eg.xsd"]},"facts":{"f1":{"value":"100","decimals":0,"dimensions":'
     b'{"concept":"eg:Assets","entity":"lei:ACME","period":"2024-12-31T00:00:00","unit":"iso4217:EUR"}}}}'
 )
-OF_THIS_VERSION = " of this version (intake migrate takes one of an earlier version)"
+# What both programs say of a database of another version, or of none.
+NOT_A_REGISTER = "not a register of this version (intake migrate takes one of an earlier version)"
+NO_OUTBOX = "the database is no outbox of this version (outbox migrate takes one of an earlier version)"
 # A register of form 2, with an empty body, which is no JSON text.
 EARLIER = """
 CREATE TABLE intake_meta (id INTEGER PRIMARY KEY, kind TEXT NOT NULL, form INTEGER NOT NULL) STRICT;

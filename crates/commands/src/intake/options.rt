@@ -154,15 +154,14 @@ fn lint<'a>(alloc: Global) -> Result<Command<'a>, AllocError> {
 }
 
 fn tasks<'a>(alloc: Global) -> Result<Vec<Command<'a>>, AllocError> {
-    let tasks = vec![in alloc;
-        run(alloc)?,
-        serve(alloc)?,
-        list(alloc)?,
-        show(alloc)?,
-        check(alloc)?,
-        migrate(alloc)?,
-        lint(alloc)?,
-    ]?;
+    let mut tasks = Vec::new(alloc);
+    tasks.push(run(alloc)?)?;
+    tasks.push(serve(alloc)?)?;
+    tasks.push(list(alloc)?)?;
+    tasks.push(show(alloc)?)?;
+    tasks.push(check(alloc)?)?;
+    tasks.push(migrate(alloc)?)?;
+    tasks.push(lint(alloc)?)?;
     Ok(tasks)
 }
 

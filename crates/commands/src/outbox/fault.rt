@@ -30,6 +30,8 @@ pub enum Fault<'a> {
     Report(ReportFault<'a>),
     #[error("{name}: {fault}")]
     Outbox { name: &'a str, fault: OutboxFault },
+    #[error("{name}: {fault}{}", hint(*fault))]
+    Open { name: &'a str, fault: OutboxFault },
     #[error("{name}: {fault}")]
     Put { name: &'a str, fault: PutFault },
     #[error("{name}: {fault}")]
@@ -48,6 +50,14 @@ pub enum Fault<'a> {
     Exchange { port: u16, fault: ExchangeFault },
     #[error("no random key: {0}")]
     Random(io::Error),
+}
+
+/// What can be done where a database is no outbox of this version.
+fn hint(fault: OutboxFault) -> &'static str {
+    match fault {
+        OutboxFault::NotOurs => " of this version (outbox migrate takes one of an earlier version)",
+        _ => "",
+    }
 }
 
 impl<'a> From<CommandFault<'a>> for Fault<'a> {
@@ -80,6 +90,10 @@ impl Fault<'_> {
                 fault: OutboxFault::Taken | OutboxFault::NotOurs | OutboxFault::Damaged { .. },
                 ..
             } => 1,
+            Fault::Open {
+                fault: OutboxFault::NotOurs | OutboxFault::Damaged { .. },
+                ..
+            } => 1,
             Fault::Key(KeyFault::Memory) => 3,
             Fault::Key(_) => 2,
             Fault::Outbox {
@@ -98,7 +112,7 @@ impl Fault<'_> {
     /// What an opening or a migration finds wrong with the rows, where it is that.
     pub fn verdict(&self) -> Option<Verdict> {
         match self {
-            Fault::Outbox { fault, .. } => match fault {
+            Fault::Outbox { fault, .. } | Fault::Open { fault, .. } => match fault {
                 OutboxFault::NotOurs => Some(Verdict::NotOurs),
                 OutboxFault::Damaged { row } => Some(Verdict::Damaged(*row)),
                 _ => None,

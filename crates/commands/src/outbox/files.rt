@@ -74,7 +74,7 @@ pub fn open<'a, D: Disk + Drop, P: Place<D>>(
         Ok(outbox) => Ok(outbox),
         Err(fault) => {
             leave(rt, place, name, had_log, fault);
-            Err(Fault::Outbox { name, fault })
+            Err(Fault::Open { name, fault })
         }
     }
 }

@@ -26,12 +26,14 @@ impl fmt::Display for EntryLine {
     }
 }
 
-/// The line of an entry with its body's length and its key, which stands last since it may have spaces.
+/// The line of an entry with its body's length, the number of the filing that it is to replace, where there is one, and its key,
+/// which stands last since it may have spaces.
 #[derive(Clone, Copy)]
 pub struct LongLine<'a> {
     pub id: u64,
     pub state: State,
     pub bytes: usize,
+    pub replaces: Option<u64>,
     pub key: &'a str,
 }
 
@@ -41,9 +43,14 @@ impl fmt::Display for LongLine<'_> {
             id,
             state,
             bytes,
+            replaces,
             key,
         } = self;
         write_state(*id, *state, f)?;
-        writeln!(f, ", {bytes} bytes, key {key}")
+        write!(f, ", {bytes} bytes")?;
+        if let Some(number) = replaces {
+            write!(f, ", replaces {number}")?;
+        }
+        writeln!(f, ", key {key}")
     }
 }

@@ -165,7 +165,7 @@ fn show<'a>(alloc: Global) -> Result<Command<'a>, AllocError> {
     ]?;
     Command::new(alloc, "show")
         .about(
-            "Prints a line for each entry, or for one: its state, the length of its report, and its key",
+            "Prints a line for each entry, or for one: its state, the length of its report, which filing it is to replace, and its key",
         )
         .after_help("Example: outbox show --db outbox.db --entry 1")
         .args(options)
@@ -181,14 +181,13 @@ fn migrate<'a>(alloc: Global) -> Result<Command<'a>, AllocError> {
 }
 
 fn tasks<'a>(alloc: Global) -> Result<Vec<Command<'a>>, AllocError> {
-    let tasks = vec![in alloc;
-        init(alloc)?,
-        put(alloc)?,
-        send(alloc)?,
-        status(alloc)?,
-        show(alloc)?,
-        migrate(alloc)?,
-    ]?;
+    let mut tasks = Vec::new(alloc);
+    tasks.push(init(alloc)?)?;
+    tasks.push(put(alloc)?)?;
+    tasks.push(send(alloc)?)?;
+    tasks.push(status(alloc)?)?;
+    tasks.push(show(alloc)?)?;
+    tasks.push(migrate(alloc)?)?;
     Ok(tasks)
 }
 

@@ -301,7 +301,7 @@ fn status<'a, D: Disk + Drop, P: Place<D>, O: Write, E: Write>(
     shown
 }
 
-/// Prints the line of an entry with its length and its key.
+/// Prints the line of an entry with its length, what it is to replace, and its key.
 fn show_long<'a, S: Alter + Drop, O: Write>(
     alloc: Global,
     name: &'a str,
@@ -314,6 +314,7 @@ fn show_long<'a, S: Alter + Drop, O: Write>(
         id,
         state: entry.state,
         bytes: entry.body.len(),
+        replaces: entry.target,
         key: entry.key.as_str(),
     };
     let text = format!(in alloc; "{line}")?;
