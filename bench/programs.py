@@ -26,10 +26,12 @@ def example():
         return it.read()[-BODY_BYTES:]
 
 
-def request(key, body, close=False):
-    """A POST of the body under the key."""
+def request(key, body, close=False, replaces=None):
+    """A POST of the body under the key, which is to replace the filing of this number where one is given."""
     closing = b"Connection: close\r\n" if close else b""
-    return b'POST /filings/ACME HTTP/1.1\r\nHost: localhost\r\nIdempotency-Key: "%s"\r\n%sContent-Length: %d\r\n\r\n%s' % (
+    target = b"/filings/ACME" if replaces is None else b"/filings/ACME/%d" % replaces
+    return b'POST %s HTTP/1.1\r\nHost: localhost\r\nIdempotency-Key: "%s"\r\n%sContent-Length: %d\r\n\r\n%s' % (
+        target,
         key,
         closing,
         len(body),
@@ -40,6 +42,11 @@ def request(key, body, close=False):
 def pipelined(numbers, body):
     """A request for each number, under a key that has it."""
     return b"".join(request(b"k-%06d" % number, body) for number in numbers)
+
+
+def amendments(numbers, body):
+    """A request for each number, to replace the filing of it, under a key that has it."""
+    return b"".join(request(b"a-%06d" % number, body, replaces=number) for number in numbers)
 
 
 def time_of_children():

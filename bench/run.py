@@ -13,11 +13,12 @@ import sys
 import tempfile
 import threading
 
-from programs import Server, built, connect, example, pipelined, read_reply, request, run, time_of_children
+from programs import Server, amendments, built, connect, example, pipelined, read_reply, request, run, time_of_children
 
 RUNS = 3
 BODY_BYTES = 1_048_576
 ADDED = 1_000
+LISTS = 10
 
 SMALLEST = b'{"documentInfo":{"documentType":"https://xbrl.org/2021/xbrl-json","taxonomy":["t"]}}'
 
@@ -144,20 +145,21 @@ def requests():
     return held
 
 
-def exchange(peer, given, count):
-    """Sends requests, and reads the reply to each, which has to be a filing."""
+def exchange(peer, given, count, expected=201):
+    """Sends requests, and reads the reply to each, which has to be a filing, or to have another status."""
     sender = threading.Thread(target=peer.sendall, args=(given,))
     sender.start()
     held = b""
     for _ in range(count):
         status, held = read_reply(peer, held)
-        if status != 201:
+        if status != expected:
             sys.exit(f"status {status}")
     sender.join()
 
 
 def in_a_file(count):
-    """The processor time of one more filing, of one repeat and of an opening, where a file keeps so many requests, in seconds."""
+    """The processor time of one more filing, of one repeat, of one that replaces a filing, and of an opening, where a file keeps so
+    many requests, in seconds."""
     small = example()
     within = "/dev/shm" if os.path.isdir("/dev/shm") else None
     with tempfile.TemporaryDirectory(dir=within) as folder:
@@ -165,13 +167,20 @@ def in_a_file(count):
             peer = connect(server.port)
             exchange(peer, pipelined(range(count), small), count)
             times = [server.processor_time()]
-            # The repeats are all over the register, and so of keys that are not remembered where it is large.
-            for numbers in (range(count, count + ADDED), [at * 7919 % count for at in range(ADDED)]):
-                exchange(peer, pipelined(numbers, small), ADDED)
+            # The repeats are all over the register, and so of keys that are not remembered where it is large. So are the filings
+            # that are replaced, each once.
+            places = [at * 7919 % count for at in range(ADDED)]
+            for given in (
+                pipelined(range(count, count + ADDED), small),
+                pipelined(places, small),
+                amendments([at + 1 for at in places], small),
+            ):
+                exchange(peer, given, ADDED)
                 times.append(server.processor_time())
             peer.close()
         _, opening = run([built("intake"), "check", "--db", server.database], b"")
-    return {"add": (times[1] - times[0]) / ADDED, "find": (times[2] - times[1]) / ADDED, "open": opening}
+    add, find, replace = ((after - before) / ADDED for before, after in zip(times, times[1:]))
+    return {"add": add, "find": find, "replace": replace, "open": opening}
 
 
 def registers():
@@ -181,14 +190,39 @@ def registers():
         runs = [in_a_file(count) for _ in range(RUNS)]
         times[count] = {what: min(it[what] for it in runs) for what in runs[0]}
         it = times[count]
-        print(f"{count} kept requests in a file: {it['add'] * 1e6:.0f} us to add, {it['find'] * 1e6:.0f} us to find one, {it['open']:.3f} s to open")
+        of_one = ", ".join(f"{it[what] * 1e6:.0f} us to {what} one" for what in ("add", "find", "replace"))
+        print(f"{count} kept requests in a file: {of_one}, {it['open']:.3f} s to open")
     held = [growth(f"in a file, 100 times the requests, to {what} one", times[1_000][what], times[100_000][what], 2) for what in ("add", "find")]
     held.append(growth("10 times the requests (10,000 to 100,000), to open", times[10_000]["open"], times[100_000]["open"], 15))
+    for count, it in times.items():
+        held.append(growth(f"of {count} filings, to replace one instead of adding one", it["add"], it["replace"], 2))
     return held
 
 
+def listing(count):
+    """The processor time of a list, in seconds, of a filer with so many filings in a file, half of which are replaced."""
+    small = example()
+    within = "/dev/shm" if os.path.isdir("/dev/shm") else None
+    with tempfile.TemporaryDirectory(dir=within) as folder:
+        with Server(folder, 1) as server:
+            peer = connect(server.port)
+            exchange(peer, pipelined(range(count // 2), small) + amendments(range(1, count // 2 + 1), small), count)
+            before = server.processor_time()
+            exchange(peer, b"GET /filings/ACME HTTP/1.1\r\nHost: localhost\r\n\r\n" * LISTS, LISTS, 200)
+            spent = server.processor_time() - before
+            peer.close()
+    return spent / LISTS
+
+
+def lists():
+    """Whether the list of a filer grows as it may with its filings."""
+    fewer, more = (min(listing(count) for _ in range(RUNS)) for count in (1_000, 10_000))
+    print(f"the list of 1,000 and of 10,000 filings, half of them replaced: {fewer * 1e3:.1f} and {more * 1e3:.1f} ms")
+    return [growth("10 times the filings, to list them", fewer, more, 12)]
+
+
 def main():
-    if not all(bodies() + requests() + registers()):
+    if not all(bodies() + requests() + registers() + lists()):
         sys.exit("a bound is passed")
 
 
