@@ -68,7 +68,9 @@ pub fn read_up_to<R: Source>(
     ensures whole { IfOk result (λ bytes. vec_len bytes < most → IsAtEnd (R.left reader.new)) }
     ensures fine { OnOk result (R.read_failures reader.new ≡ R.read_failures reader.old) }
     ensures failed { result ≡ Err Read → HasFailed (R.read_failures reader.old) (R.read_failures reader.new) }
-    ensures limited { result ≡ Err ReadLimit → (bytes : List ℕ) × Consumes (R.left reader.old) (R.left reader.new) bytes × (MAX_READS ≤ length bytes) × (length bytes < most) }
+    ensures limited { result ≡ Err ReadLimit
+        → (bytes : List ℕ) × Consumes (R.left reader.old) (R.left reader.new) bytes × (MAX_READS ≤ length bytes)
+        × (length bytes < most) }
 {
     let mut bytes = Vec::new(alloc);
     let mut room = room(alloc)?;
@@ -106,12 +108,14 @@ fn read_more<R: Source>(
     ensures bound { vec_len bytes.new ≤ most }
     ensures count { IfOk result (λ count. vec_len bytes.new ≡ vec_len bytes.old + count) }
     ensures kept { bytes.new.items ≡ bytes.old.items ++ drop (vec_len bytes.old) bytes.new.items }
-    ensures given { OnOk result (Consumes (R.left reader.old) (R.left reader.new) (drop (vec_len bytes.old) bytes.new.items)) }
+    ensures given { OnOk result
+        (Consumes (R.left reader.old) (R.left reader.new) (drop (vec_len bytes.old) bytes.new.items)) }
     ensures end { result ≡ Ok 0 → IsAtEnd (R.left reader.new) }
     ensures fine { OnOk result (R.read_failures reader.new ≡ R.read_failures reader.old) }
     ensures failed { result ≡ Err Read → HasFailed (R.read_failures reader.old) (R.read_failures reader.new) }
     ensures made { OnOk result (reads.new.made ≡ reads.old.made + 1) }
-    ensures limited { result ≡ Err ReadLimit → (reads.old.made ≡ MAX_READS) × (reader.new ≡ reader.old) × (bytes.new ≡ bytes.old) }
+    ensures limited { result ≡ Err ReadLimit
+        → (reads.old.made ≡ MAX_READS) × (reader.new ≡ reader.old) × (bytes.new ≡ bytes.old) }
 {
     reads.count()?;
     let wanted = room.len().min(most - bytes.len());
@@ -130,10 +134,12 @@ fn read_into<R: Source>(
     requires within { wanted ≤ vec_len room.old }
     ensures len { vec_len room.new ≡ vec_len room.old }
     ensures bound { IfOk result (λ count. count ≤ wanted) }
-    ensures given { IfOk result (λ count. Consumes (R.left reader.old) (R.left reader.new) (slice_range room.new.items 0 count)) }
+    ensures given { IfOk result (λ count.
+        Consumes (R.left reader.old) (R.left reader.new) (slice_range room.new.items 0 count)) }
     ensures end { result ≡ Ok 0 → IsAtEnd (R.left reader.new) }
     ensures fine { OnOk result (R.read_failures reader.new ≡ R.read_failures reader.old) }
-    ensures fault { IfErr result (λ fault. (fault ≡ Read) × HasFailed (R.read_failures reader.old) (R.read_failures reader.new)) }
+    ensures fault { IfErr result (λ fault.
+        (fault ≡ Read) × HasFailed (R.read_failures reader.old) (R.read_failures reader.new)) }
 {
     match reader.read(&mut room[0..wanted]) {
         Ok(count) => Ok(count),

@@ -33,8 +33,10 @@ pub fn show_refusal<'a, O: Write, E: Write>(
     errors: &mut E,
 ) -> Result<u8, CommandFault<'a>>
     ensures memory { kind_of error.now ≡ kind.OutOfMemory → result ≡ Err Memory }
-    ensures asked { (kind_of error.now ≡ kind.DisplayHelp) ⊎ (kind_of error.now ≡ kind.DisplayVersion) → (result ≡ Ok 0) ⊎ (result ≡ Err Output) }
-    ensures wrong { kind_of error.now ≢ kind.OutOfMemory → kind_of error.now ≢ kind.DisplayHelp → kind_of error.now ≢ kind.DisplayVersion → result ≡ Ok 2 }
+    ensures asked { (kind_of error.now ≡ kind.DisplayHelp) ⊎ (kind_of error.now ≡ kind.DisplayVersion)
+        → (result ≡ Ok 0) ⊎ (result ≡ Err Output) }
+    ensures wrong { kind_of error.now ≢ kind.OutOfMemory → kind_of error.now ≢ kind.DisplayHelp
+        → kind_of error.now ≢ kind.DisplayVersion → result ≡ Ok 2 }
 {
     if error.kind() == ErrorKind::OutOfMemory {
         return Err(CommandFault::Memory);

@@ -62,7 +62,8 @@ fn split_limit(text: Lines<'_>) -> Option<(u64, Lines<'_>)>
 
 /// One outbox or more, and the events behind them.
 fn read_behind_limit(alloc: Global, limit: u64, text: Lines<'_>) -> Result<Script, ScriptFault>
-    ensures read { IfOk result (λ script. script_from limit text.entry.number (lines_of text.entry.rest.now) ≡ Ok (view_script script)) }
+    ensures read { IfOk result (λ script.
+        script_from limit text.entry.number (lines_of text.entry.rest.now) ≡ Ok (view_script script)) }
     ensures targets { IfOk result (λ script. HaveTargets (map view_event script.events.items)) }
     ensures wrong { IfErr result (IsFaultOf (script_from limit text.entry.number (lines_of text.entry.rest.now))) }
 {
@@ -80,7 +81,8 @@ fn read_behind_limit(alloc: Global, limit: u64, text: Lines<'_>) -> Result<Scrip
 
 fn read_filers(alloc: Global, text: Lines<'_>) -> Result<(Vec<String>, Lines<'_>), AllocError>
     ensures filers { IfOk result (λ read. map string_bytes read.0.items ≡ filers_of (lines_of text.entry.rest.now)) }
-    ensures behind { IfOk result (λ read. lines_of read.1.rest.now ≡ drop (length read.0.items) (lines_of text.entry.rest.now)) }
+    ensures behind { IfOk result (λ read.
+        lines_of read.1.rest.now ≡ drop (length read.0.items) (lines_of text.entry.rest.now)) }
     ensures number { IfOk result (λ read. read.1.number ≡ text.entry.number + length read.0.items) }
 {
     let mut filers = Vec::new(alloc);
@@ -107,7 +109,8 @@ fn split_filer(text: Lines<'_>) -> Option<(&str, Lines<'_>)>
 }
 
 fn read_events(alloc: Global, text: Lines<'_>) -> Result<Vec<Event>, ScriptFault>
-    ensures read { IfOk result (λ events. events_from text.entry.number (lines_of text.entry.rest.now) ≡ Ok (map view_event events.items)) }
+    ensures read { IfOk result (λ events.
+        events_from text.entry.number (lines_of text.entry.rest.now) ≡ Ok (map view_event events.items)) }
     ensures targets { IfOk result (λ events. HaveTargets (map view_event events.items)) }
     ensures wrong { IfErr result (IsFaultOf (events_from text.entry.number (lines_of text.entry.rest.now))) }
 {

@@ -25,22 +25,41 @@ pub fn hand_over<R: Source, S: Alter>(
     outbox: &mut Outbox<S>,
     id: u64,
 ) -> Result<State, ExchangeFault>
-    ensures moved { HasCleanDisk (shows S.Store outbox.new) → (entries : List Item) → HasEntries S.Store outbox.old entries
-        → IfOk result (λ to. Hears (R.left reader.old) (R.left reader.new) (λ reply. Some (view_state to) ≡ moved_at entries id reply) × HasEntries S.Store outbox.new (set_state entries id (view_state to))) }
-    ensures no_entry { HasCleanDisk (shows S.Store outbox.new) → (entries : List Item) → HasEntries S.Store outbox.old entries → result ≡ Err (ExchangeFault.Take TakeFault.NoEntry) → entry_at entries id ≡ None }
-    ensures kept { HasCleanDisk (shows S.Store outbox.new) → (entries : List Item) → HasEntries S.Store outbox.old entries → OnErr result (HasEntries S.Store outbox.new entries) }
-    ensures fault { IfErr result (IsFault (R.left reader.old) (R.left reader.new) (R.read_failures reader.old) (R.read_failures reader.new) 0 0) }
+    ensures moved { HasCleanDisk (shows S.Store outbox.new) → (entries : List Item)
+        → HasEntries S.Store outbox.old entries
+        → IfOk result (λ to.
+        Hears (R.left reader.old) (R.left reader.new) (λ reply. Some (view_state to) ≡ moved_at entries id reply)
+        × HasEntries S.Store outbox.new (set_state entries id (view_state to))) }
+    ensures no_entry { HasCleanDisk (shows S.Store outbox.new) → (entries : List Item)
+        → HasEntries S.Store outbox.old entries → result ≡ Err (ExchangeFault.Take TakeFault.NoEntry)
+        → entry_at entries id ≡ None }
+    ensures kept { HasCleanDisk (shows S.Store outbox.new) → (entries : List Item)
+        → HasEntries S.Store outbox.old entries → OnErr result (HasEntries S.Store outbox.new entries) }
+    ensures fault { IfErr result
+        (IsFault (R.left reader.old) (R.left reader.new) (R.read_failures reader.old) (R.read_failures reader.new) 0
+        0) }
     ensures fine { OnOk result (R.read_failures reader.new ≡ R.read_failures reader.old) }
-    ensures stopped { IsTrue outbox.old.has_failed → ((result ≡ Err (ExchangeFault.Take TakeFault.Store)) ⊎ ((fault : _) × (result ≡ Err (ExchangeFault.Reply fault)))) × (outbox.new ≡ outbox.old) }
-    ensures stops { outbox.old.has_failed ≡ false → (IsTrue outbox.new.has_failed ↔ (result ≡ Err (ExchangeFault.Take TakeFault.Store))) }
+    ensures stopped { IsTrue outbox.old.has_failed
+        → ((result ≡ Err (ExchangeFault.Take TakeFault.Store))
+        ⊎ ((fault : _) × (result ≡ Err (ExchangeFault.Reply fault))))
+        × (outbox.new ≡ outbox.old) }
+    ensures stops { outbox.old.has_failed ≡ false
+        → (IsTrue outbox.new.has_failed ↔ (result ≡ Err (ExchangeFault.Take TakeFault.Store))) }
     ensures filer { outbox.new.filer ≡ outbox.old.filer }
 
     // A crash leaves what one before the call could leave, or, where the id names an entry, the entries after its move by
     // the reply that was read, and after Ok these alone.
-    ensures crash { Survives (shows S.Store outbox.old) (shows S.Store outbox.new) (λ trees. (entries : List Item) → HasEntries S.Store outbox.old entries → IsTrue (shows S.Store outbox.old).is_open
-        → Hears (R.left reader.old) (R.left reader.new) (λ reply. (e : Item) × (entry_at entries id ≡ Some e) × Leaves (contents outbox.old (set_state entries id (moved e.state reply))) trees)) }
-    ensures durable { HasCleanDisk (shows S.Store outbox.new) → (entries : List Item) → HasEntries S.Store outbox.old entries
-        → IfOk result (λ to. IsTrue (shows S.Store outbox.new).is_open × ((trees : Trees) → (shows S.Store outbox.new).may_leave trees → Leaves (contents outbox.new (set_state entries id (view_state to))) trees)) }
+    ensures crash { Survives (shows S.Store outbox.old) (shows S.Store outbox.new) (λ trees.
+        (entries : List Item) → HasEntries S.Store outbox.old entries → IsTrue (shows S.Store outbox.old).is_open
+        → Hears (R.left reader.old) (R.left reader.new) (λ reply.
+        (e : Item) × (entry_at entries id ≡ Some e)
+        × Leaves (contents outbox.old (set_state entries id (moved e.state reply))) trees)) }
+    ensures durable { HasCleanDisk (shows S.Store outbox.new) → (entries : List Item)
+        → HasEntries S.Store outbox.old entries
+        → IfOk result (λ to.
+        IsTrue (shows S.Store outbox.new).is_open
+        × ((trees : Trees) → (shows S.Store outbox.new).may_leave trees
+        → Leaves (contents outbox.new (set_state entries id (view_state to))) trees)) }
 {
     let reply = read_reply(alloc, reader)?;
     Ok(outbox.take(id, &reply)?)
@@ -56,25 +75,42 @@ pub fn exchange<R: Source, W: Sink, S: Alter>(
     outbox: &mut Outbox<S>,
     id: u64,
 ) -> Result<State, ExchangeFault>
-    ensures moved { HasCleanDisk (shows S.Store outbox.new) → (entries : List Item) → HasEntries S.Store outbox.old entries
-        → IfOk result (λ to. IsExchanged outbox.old.filer entries id (W.written writer.old) (W.written writer.new) (R.left reader.old) (R.left reader.new) (view_state to)
+    ensures moved { HasCleanDisk (shows S.Store outbox.new) → (entries : List Item)
+        → HasEntries S.Store outbox.old entries
+        → IfOk result (λ to.
+        IsExchanged outbox.old.filer entries id (W.written writer.old) (W.written writer.new) (R.left reader.old)
+        (R.left reader.new) (view_state to)
         × HasEntries S.Store outbox.new (set_state entries id (view_state to))) }
-    ensures written { HasCleanDisk (shows S.Store outbox.new) → (entries : List Item) → HasEntries S.Store outbox.old entries
+    ensures written { HasCleanDisk (shows S.Store outbox.new) → (entries : List Item)
+        → HasEntries S.Store outbox.old entries
         → IfErr result (WritesBefore outbox.old.filer entries id (W.written writer.old) (W.written writer.new)) }
-    ensures kept { HasCleanDisk (shows S.Store outbox.new) → (entries : List Item) → HasEntries S.Store outbox.old entries → OnErr result (HasEntries S.Store outbox.new entries) }
-    ensures fault { IfErr result (IsFault (R.left reader.old) (R.left reader.new) (R.read_failures reader.old) (R.read_failures reader.new) (W.write_failures writer.old) (W.write_failures writer.new)) }
-    ensures fine { OnOk result ((R.read_failures reader.new ≡ R.read_failures reader.old) × (W.write_failures writer.new ≡ W.write_failures writer.old)) }
-    ensures stopped { IsTrue outbox.old.has_failed → (result ≡ Err (ExchangeFault.Take TakeFault.Store)) × (outbox.new ≡ outbox.old) × (reader.new ≡ reader.old) × (writer.new ≡ writer.old) }
+    ensures kept { HasCleanDisk (shows S.Store outbox.new) → (entries : List Item)
+        → HasEntries S.Store outbox.old entries → OnErr result (HasEntries S.Store outbox.new entries) }
+    ensures fault { IfErr result
+        (IsFault (R.left reader.old) (R.left reader.new) (R.read_failures reader.old) (R.read_failures reader.new)
+        (W.write_failures writer.old) (W.write_failures writer.new)) }
+    ensures fine { OnOk result ((R.read_failures reader.new ≡ R.read_failures reader.old)
+        × (W.write_failures writer.new ≡ W.write_failures writer.old)) }
+    ensures stopped { IsTrue outbox.old.has_failed
+        → (result ≡ Err (ExchangeFault.Take TakeFault.Store)) × (outbox.new ≡ outbox.old) × (reader.new ≡ reader.old)
+        × (writer.new ≡ writer.old) }
     ensures stops { IsTrue outbox.new.has_failed ↔ (result ≡ Err (ExchangeFault.Take TakeFault.Store)) }
     ensures filer { outbox.new.filer ≡ outbox.old.filer }
     ensures clean { HasCleanDisk (shows S.Store outbox.new) → HasCleanDisk (shows S.Store outbox.old) }
 
     // A crash leaves what one before the call could leave, or, where the id names an entry, the entries after its move by
     // the reply that was read, and after Ok these alone.
-    ensures crash { Survives (shows S.Store outbox.old) (shows S.Store outbox.new) (λ trees. (entries : List Item) → HasEntries S.Store outbox.old entries → IsTrue (shows S.Store outbox.old).is_open
-        → Hears (R.left reader.old) (R.left reader.new) (λ reply. (e : Item) × (entry_at entries id ≡ Some e) × Leaves (contents outbox.old (set_state entries id (moved e.state reply))) trees)) }
-    ensures durable { HasCleanDisk (shows S.Store outbox.new) → (entries : List Item) → HasEntries S.Store outbox.old entries
-        → IfOk result (λ to. IsTrue (shows S.Store outbox.new).is_open × ((trees : Trees) → (shows S.Store outbox.new).may_leave trees → Leaves (contents outbox.new (set_state entries id (view_state to))) trees)) }
+    ensures crash { Survives (shows S.Store outbox.old) (shows S.Store outbox.new) (λ trees.
+        (entries : List Item) → HasEntries S.Store outbox.old entries → IsTrue (shows S.Store outbox.old).is_open
+        → Hears (R.left reader.old) (R.left reader.new) (λ reply.
+        (e : Item) × (entry_at entries id ≡ Some e)
+        × Leaves (contents outbox.old (set_state entries id (moved e.state reply))) trees)) }
+    ensures durable { HasCleanDisk (shows S.Store outbox.new) → (entries : List Item)
+        → HasEntries S.Store outbox.old entries
+        → IfOk result (λ to.
+        IsTrue (shows S.Store outbox.new).is_open
+        × ((trees : Trees) → (shows S.Store outbox.new).may_leave trees
+        → Leaves (contents outbox.new (set_state entries id (view_state to))) trees)) }
 {
     match open_request(alloc, outbox, id)? {
         ToSend::Request(text) => {

@@ -34,19 +34,25 @@ pub fn request_bytes<S: Alter>(
     outbox: &mut Outbox<S>,
     id: u64,
 ) -> Result<Vec<u8>, TakeFault>
-    ensures built { HasCleanDisk (shows S.Store outbox.new) → (entries : List Item) → HasEntries S.Store outbox.old entries
+    ensures built { HasCleanDisk (shows S.Store outbox.new) → (entries : List Item)
+        → HasEntries S.Store outbox.old entries
         → IfOk result (λ text. Some text.items ≡ request_at outbox.old.filer entries id) }
-    ensures no_entry { HasCleanDisk (shows S.Store outbox.new) → (entries : List Item) → HasEntries S.Store outbox.old entries → result ≡ Err TakeFault.NoEntry → entry_at entries id ≡ None }
+    ensures no_entry { HasCleanDisk (shows S.Store outbox.new) → (entries : List Item)
+        → HasEntries S.Store outbox.old entries → result ≡ Err TakeFault.NoEntry → entry_at entries id ≡ None }
 
     // The entries are those of before, whatever the answer is, and a crash leaves what it could leave before; after Ok these alone.
-    ensures kept { HasCleanDisk (shows S.Store outbox.new) → (entries : List Item) → HasEntries S.Store outbox.old entries → HasEntries S.Store outbox.new entries }
+    ensures kept { HasCleanDisk (shows S.Store outbox.new) → (entries : List Item)
+        → HasEntries S.Store outbox.old entries → HasEntries S.Store outbox.new entries }
     ensures stopped { IsTrue outbox.old.has_failed → (result ≡ Err TakeFault.Store) × (outbox.new ≡ outbox.old) }
     ensures stops { IsTrue outbox.new.has_failed ↔ (result ≡ Err TakeFault.Store) }
     ensures filer { outbox.new.filer ≡ outbox.old.filer }
     ensures clean { HasCleanDisk (shows S.Store outbox.new) → HasCleanDisk (shows S.Store outbox.old) }
     ensures crash { Survives (shows S.Store outbox.old) (shows S.Store outbox.new) (λ _. ⊥) }
-    ensures durable { HasCleanDisk (shows S.Store outbox.new) → (entries : List Item) → HasEntries S.Store outbox.old entries
-        → OnOk result (IsTrue (shows S.Store outbox.new).is_open × ((trees : Trees) → (shows S.Store outbox.new).may_leave trees → Leaves (contents outbox.new entries) trees)) }
+    ensures durable { HasCleanDisk (shows S.Store outbox.new) → (entries : List Item)
+        → HasEntries S.Store outbox.old entries
+        → OnOk result (IsTrue (shows S.Store outbox.new).is_open
+        × ((trees : Trees) → (shows S.Store outbox.new).may_leave trees
+        → Leaves (contents outbox.new entries) trees)) }
 {
     let entry = find_entry(outbox, id)?;
     request_of(alloc, outbox.filer(), &entry)
@@ -59,18 +65,24 @@ pub fn open_request<S: Alter>(
     outbox: &mut Outbox<S>,
     id: u64,
 ) -> Result<ToSend, TakeFault>
-    ensures found { HasCleanDisk (shows S.Store outbox.new) → (entries : List Item) → HasEntries S.Store outbox.old entries → IfOk result (IsToSend outbox.old.filer entries id) }
-    ensures no_entry { HasCleanDisk (shows S.Store outbox.new) → (entries : List Item) → HasEntries S.Store outbox.old entries → result ≡ Err TakeFault.NoEntry → entry_at entries id ≡ None }
+    ensures found { HasCleanDisk (shows S.Store outbox.new) → (entries : List Item)
+        → HasEntries S.Store outbox.old entries → IfOk result (IsToSend outbox.old.filer entries id) }
+    ensures no_entry { HasCleanDisk (shows S.Store outbox.new) → (entries : List Item)
+        → HasEntries S.Store outbox.old entries → result ≡ Err TakeFault.NoEntry → entry_at entries id ≡ None }
 
     // The entries are those of before, whatever the answer is, and a crash leaves what it could leave before; after Ok these alone.
-    ensures kept { HasCleanDisk (shows S.Store outbox.new) → (entries : List Item) → HasEntries S.Store outbox.old entries → HasEntries S.Store outbox.new entries }
+    ensures kept { HasCleanDisk (shows S.Store outbox.new) → (entries : List Item)
+        → HasEntries S.Store outbox.old entries → HasEntries S.Store outbox.new entries }
     ensures stopped { IsTrue outbox.old.has_failed → (result ≡ Err TakeFault.Store) × (outbox.new ≡ outbox.old) }
     ensures stops { IsTrue outbox.new.has_failed ↔ (result ≡ Err TakeFault.Store) }
     ensures filer { outbox.new.filer ≡ outbox.old.filer }
     ensures clean { HasCleanDisk (shows S.Store outbox.new) → HasCleanDisk (shows S.Store outbox.old) }
     ensures crash { Survives (shows S.Store outbox.old) (shows S.Store outbox.new) (λ _. ⊥) }
-    ensures durable { HasCleanDisk (shows S.Store outbox.new) → (entries : List Item) → HasEntries S.Store outbox.old entries
-        → OnOk result (IsTrue (shows S.Store outbox.new).is_open × ((trees : Trees) → (shows S.Store outbox.new).may_leave trees → Leaves (contents outbox.new entries) trees)) }
+    ensures durable { HasCleanDisk (shows S.Store outbox.new) → (entries : List Item)
+        → HasEntries S.Store outbox.old entries
+        → OnOk result (IsTrue (shows S.Store outbox.new).is_open
+        × ((trees : Trees) → (shows S.Store outbox.new).may_leave trees
+        → Leaves (contents outbox.new entries) trees)) }
 {
     let entry = find_entry(outbox, id)?;
     match entry.state {
@@ -81,19 +93,25 @@ pub fn open_request<S: Alter>(
 
 /// The entry of this id.
 fn find_entry<S: Alter>(outbox: &mut Outbox<S>, id: u64) -> Result<Entry, TakeFault>
-    ensures found { HasCleanDisk (shows S.Store outbox.new) → (entries : List Item) → HasEntries S.Store outbox.old entries
+    ensures found { HasCleanDisk (shows S.Store outbox.new) → (entries : List Item)
+        → HasEntries S.Store outbox.old entries
         → IfOk result (λ entry. Some (view_entry entry) ≡ option_map (λ e. (id, e)) (entry_at entries id)) }
     ensures short { IfOk result (λ entry. length entry.body.items ≤ max_body_len) }
     ensures target { IfOk result (λ entry. IsTarget entry.target) }
-    ensures no_entry { HasCleanDisk (shows S.Store outbox.new) → (entries : List Item) → HasEntries S.Store outbox.old entries → result ≡ Err TakeFault.NoEntry → entry_at entries id ≡ None }
-    ensures kept { HasCleanDisk (shows S.Store outbox.new) → (entries : List Item) → HasEntries S.Store outbox.old entries → HasEntries S.Store outbox.new entries }
+    ensures no_entry { HasCleanDisk (shows S.Store outbox.new) → (entries : List Item)
+        → HasEntries S.Store outbox.old entries → result ≡ Err TakeFault.NoEntry → entry_at entries id ≡ None }
+    ensures kept { HasCleanDisk (shows S.Store outbox.new) → (entries : List Item)
+        → HasEntries S.Store outbox.old entries → HasEntries S.Store outbox.new entries }
     ensures stopped { IsTrue outbox.old.has_failed → (result ≡ Err TakeFault.Store) × (outbox.new ≡ outbox.old) }
     ensures stops { IsTrue outbox.new.has_failed ↔ (result ≡ Err TakeFault.Store) }
     ensures filer { outbox.new.filer ≡ outbox.old.filer }
     ensures clean { HasCleanDisk (shows S.Store outbox.new) → HasCleanDisk (shows S.Store outbox.old) }
     ensures crash { Survives (shows S.Store outbox.old) (shows S.Store outbox.new) (λ _. ⊥) }
-    ensures durable { HasCleanDisk (shows S.Store outbox.new) → (entries : List Item) → HasEntries S.Store outbox.old entries
-        → OnOk result (IsTrue (shows S.Store outbox.new).is_open × ((trees : Trees) → (shows S.Store outbox.new).may_leave trees → Leaves (contents outbox.new entries) trees)) }
+    ensures durable { HasCleanDisk (shows S.Store outbox.new) → (entries : List Item)
+        → HasEntries S.Store outbox.old entries
+        → OnOk result (IsTrue (shows S.Store outbox.new).is_open
+        × ((trees : Trees) → (shows S.Store outbox.new).may_leave trees
+        → Leaves (contents outbox.new entries) trees)) }
 {
     match outbox.entry(id) {
         Ok(Some(entry)) => Ok(entry),

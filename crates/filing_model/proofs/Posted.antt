@@ -1,6 +1,6 @@
 -- A POST to a filer's path with a key files a request, which replaces the filing whose number is behind the filer's code.
-use Rattle.std.proofs.Common.{◌≡◌, ℕ, suc, ◌+◌, ◌^◌, ◌<◌, ◌≤◌, Bool, true, false, List, [], ◌∷◌, ◌++◌, length, take, drop, Option, Some, None, refl, sym, ap, ◌∙◌, arith, length-append, append-nil, ◌==◌}
-use Rattle.std.specs.Prelude.{codes, bytes_eq, nat_eq, nat_le, nat_lt, ◌&&◌, option_map, if◌then◌else◌}
+use Rattle.std.proofs.Common.{◌≡◌, ℕ, suc, ◌+◌, ◌^◌, ◌<◌, ◌≤◌, true, false, List, [], ◌∷◌, ◌++◌, length, take, drop, Option, Some, None, refl, ap, ◌∙◌, arith, length-append, append-nil, ◌==◌}
+use Rattle.std.specs.Prelude.{codes, bytes_eq, nat_eq, nat_le, nat_lt, ◌&&◌}
 use Rattle.std.specs.Fmt.{decimal}
 use Rattle.std.specs.List.{list_all}
 use Rattle.std.specs.Str.Parse.{digits_value}
@@ -14,7 +14,7 @@ use Rattle.key_string.specs.Key.{IsKey, spelling}
 use Rattle.key_string.proofs.Fields.{key_of_field-spelled}
 use Rattle.http_wire.specs.Coding.{has_content_coding}
 use Rattle.http_wire.specs.Head.{RequestParts, values_named}
-use Rattle.http_wire.specs.Posting.{IsTarget, place_of, target_path}
+use Rattle.http_wire.specs.Posting.{IsTarget, place_of}
 use Rattle.http_wire.specs.Request.{Request as Message}
 use Rattle.http_wire.proofs.ValueLemmas.{decimal-read}
 use Rattle.filing_model.specs.Text.{Route, Filed, target_in, place_in, place_of_path, route_by_key, route_by_keys, route_by_method, route_by_place, bare, route}

@@ -1,6 +1,6 @@
 -- A filing is replaced at most once.
-use Rattle.std.proofs.Common.{◌≡◌, ℕ, ◌≤◌, ◌+◌, Bool, true, false, not, List, [], ◌∷◌, ◌++◌, length, suc, Option, Some, None, refl, sym, ap, ◌∙◌, ⊎_elim, arith, length-append}
-use Rattle.std.specs.Prelude.{filter, nat_eq, ◌&&◌}
+use Rattle.std.proofs.Common.{◌≡◌, ℕ, ◌≤◌, Bool, true, false, not, List, [], ◌∷◌, ◌++◌, length, suc, Option, Some, None, refl, sym, ap, ◌∙◌, ⊎_elim, arith}
+use Rattle.std.specs.Prelude.{filter}
 use Rattle.std.specs.List.{list_any}
 use Rattle.std.proofs.lemmas.Bool.{cases_Bool, and_parts}
 use Rattle.std.proofs.lemmas.Bool.Decides.{nat_tests}
@@ -9,7 +9,7 @@ use Rattle.xbrl_report.specs.Amendment.{amendment_findings}
 use Rattle.xbrl_report.specs.Pair.{Pair}
 use Rattle.xbrl_report.proofs.FindingLaws.{amendment-free}
 use Rattle.filing_model.specs.Request.{Request, same_target, firsts}
-use Rattle.filing_model.specs.Register.{Filing, Kept, is_amendment_of, is_replaceable, is_free, filings, verdict, outcome_by, judged, kept_after, register}
+use Rattle.filing_model.specs.Register.{Filing, Kept, is_amendment_of, is_free, filings, verdict, outcome_by, judged, kept_after, register}
 use Rattle.filing_model.proofs.Keeping.{filings-append}
 use Rattle.filing_model.proofs.Lists.{append_nil}
 

@@ -1,6 +1,6 @@
 -- The register has the valid ones among the first requests.
-use Rattle.std.proofs.Common.{◌≡◌, Bool, true, false, not, List, [], ◌∷◌, ◌++◌, map, length, suc, refl, sym, ap, ◌∙◌, append_assoc, ⊎_elim}
-use Rattle.std.specs.Prelude.{if◌then◌else◌, ◌&&◌}
+use Rattle.std.proofs.Common.{◌≡◌, true, false, List, [], ◌∷◌, ◌++◌, map, length, suc, refl, sym, ap, ◌∙◌, append_assoc, ⊎_elim}
+use Rattle.std.specs.Prelude.{if◌then◌else◌}
 use Rattle.std.proofs.lemmas.Bool.{cases_Bool}
 use Rattle.std.proofs.lemmas.List.{map-append}
 use Rattle.xbrl_report.specs.Pair.{Pair}

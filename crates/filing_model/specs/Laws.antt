@@ -1,5 +1,5 @@
 -- What holds of every list of completed requests.
-use Rattle.std.specs.Prelude.{◌≡◌, ℕ, Bool, List, [], ◌∷◌, ◌++◌, map, length, filter, true, false, not, ◌&&◌, if◌then◌else◌}
+use Rattle.std.specs.Prelude.{◌≡◌, ℕ, Bool, List, [], ◌∷◌, ◌++◌, map, length, true, false, not, ◌&&◌, if◌then◌else◌}
 use Rattle.std.specs.List.{range_with_len}
 use Rattle.xbrl_report.specs.Pair.{Pair}
 use Rattle.http_wire.specs.Message.{Place, Ending, HasPlaces}
@@ -7,7 +7,7 @@ use Rattle.filing_model.specs.declared.served.Ended.{Ended}
 use Rattle.filing_model.specs.declared.served.Mark.{Mark}
 use Rattle.filing_model.specs.Prefix.{IsPrefixOf}
 use Rattle.filing_model.specs.Request.{Request, has_key, firsts}
-use Rattle.filing_model.specs.Register.{Filing, register, numbers_of, verdict, is_amendment_of}
+use Rattle.filing_model.specs.Register.{Filing, register, numbers_of, verdict}
 use Rattle.filing_model.specs.Answer.{answer, as_repeat}
 use Rattle.filing_model.specs.declared.served.Style.{Style}
 use Rattle.filing_model.specs.Reply.{reply_as}

@@ -59,20 +59,24 @@ pub fn repeat_gets_the_first()
 /// A request that was answered as registered stands in the register exactly once, under the number
 /// that it was told, for good.
 pub fn registered_for_good()
-    ensures { (requests : List Request) (r : Request) (number : ℕ) (repeat : Bool) → answer requests r ≡ Registered number repeat → StaysRegistered requests r number }
+    ensures { (requests : List Request) (r : Request) (number : ℕ) (repeat : Bool)
+        → answer requests r ≡ Registered number repeat → StaysRegistered requests r number }
 {}
 
 /// Each reply to a request that files is one that a client reads: a final status with a phrase, and a
 /// content of 1 to 8,388,608 bytes, in either style. So is the reply where the request could not be decided.
 pub fn every_reply_is_read()
-    ensures answered { (style : Style) (requests : List Request) (r : Request) → length (firsts requests) ≤ 2 ^ 62 → IsReadable (reply_as style (answer requests r)) }
+    ensures answered { (style : Style) (requests : List Request) (r : Request) → length (firsts requests) ≤ 2 ^ 62
+        → IsReadable (reply_as style (answer requests r)) }
     ensures undecided { IsReadable unavailable }
 {}
 
 /// A number is heard as it was told, in either style: the reply that tells it moves an open entry to it, and to no other.
 pub fn a_number_is_heard_as_told()
-    ensures confirms { (style : Style) (m : ℕ) (repeat : Bool) → 1 ≤ m → m < 2 ^ 63 → moved Open (reply_as style (Registered m repeat)) ≡ Confirmed m }
-    ensures exactly { (style : Style) (m n : ℕ) (repeat : Bool) → m < 2 ^ 63 → moved Open (reply_as style (Registered m repeat)) ≡ Confirmed n → m ≡ n }
+    ensures confirms { (style : Style) (m : ℕ) (repeat : Bool) → 1 ≤ m → m < 2 ^ 63
+        → moved Open (reply_as style (Registered m repeat)) ≡ Confirmed m }
+    ensures exactly { (style : Style) (m n : ℕ) (repeat : Bool) → m < 2 ^ 63
+        → moved Open (reply_as style (Registered m repeat)) ≡ Confirmed n → m ≡ n }
 {}
 
 /// That a key stands for another body is heard in either style.
@@ -89,31 +93,42 @@ pub fn early_keys_are_answered_in_the_old_style()
 /// What was served of the bytes that were read is what may be served of all that were given, after any
 /// requests whose firsts were kept.
 pub fn serves_as_the_model_says()
-    ensures { (limit : ℕ) (done before after : List Request) (read more : List ℕ) (marks : List Mark) (ended : Ended) (out : List ℕ)
+    ensures { (limit : ℕ) (done before after : List Request) (read more : List ℕ) (marks : List Mark) (ended : Ended)
+        (out : List ℕ)
         → before ≡ firsts done → IsEndOf read more ended → Serves limit [] before after read marks ended out
-        → (places : List Place) × ServesUntil limit done (read ++ more) No places marks (Some ended) out × (after ≡ firsts (done ++ completed places marks)) }
+        → (places : List Place)
+        × ServesUntil limit done (read ++ more) No places marks (Some ended) out × (after ≡ firsts (done ++ completed places marks)) }
 {}
 
 /// So it is where serving may stop at a place. What was stopped tells no end, and the places that it
 /// tells are the first ones, up to the one where it stopped.
 pub fn serves_until_as_the_model_says()
-    ensures { (limit : ℕ) (done before after : List Request) (read more : List ℕ) (crash : Crash) (marks : List Mark) (ended : Option Ended) (out : List ℕ)
-        → before ≡ firsts done → IsEndOrStopOf read more ended → StopsOrServes limit [] before after read crash marks ended out
-        → (places : List Place) × ServesUntil limit done (read ++ more) crash places marks ended out × (after ≡ firsts (done ++ completed places marks)) }
+    ensures { (limit : ℕ) (done before after : List Request) (read more : List ℕ) (crash : Crash) (marks : List Mark)
+        (ended : Option Ended) (out : List ℕ)
+        → before ≡ firsts done → IsEndOrStopOf read more ended
+        → StopsOrServes limit [] before after read crash marks ended out
+        → (places : List Place) × ServesUntil limit done (read ++ more) crash places marks ended out
+        × (after ≡ firsts (done ++ completed places marks)) }
 {}
 
 /// Where a connection ended by itself, neither by a fault nor by a stop, each of its places has its
 /// mark and its whole text was written. Only a fault leaves less.
 pub fn serves_all_without_a_fault()
-    ensures { (limit : ℕ) (done : List Request) (bytes : List ℕ) (crash : Crash) (places : List Place) (marks : List Mark) (ended : Ended) (out : List ℕ)
-        → ServesUntil limit done bytes crash places marks (Some ended) out → ((fault : ConnFault) → ended ≢ Fault fault) → IsAnswered done bytes places marks ended out }
+    ensures { (limit : ℕ) (done : List Request) (bytes : List ℕ) (crash : Crash) (places : List Place)
+        (marks : List Mark) (ended : Ended) (out : List ℕ)
+        → ServesUntil limit done bytes crash places marks (Some ended) out → ((fault : ConnFault) → ended ≢ Fault fault)
+        → IsAnswered done bytes places marks ended out }
 {}
 
 /// The reply to a HEAD has no content (RFC 9110, section 9.3.2), whatever its path, and so whatever
 /// mark its place may have. It is a refusal, and has the kind of one.
 pub fn head_is_answered_without_content()
-    ensures reply { (early requests : List Request) (m : Message) → m.head.method ≡ codes "HEAD" → (reply_with early requests m).content ≡ [] }
-    ensures kind { (early requests : List Request) (m : Message) → m.head.method ≡ codes "HEAD" → (reply_with early requests m).kind ≡ Problem }
-    ensures written { (limit : ℕ) (early requests : List Request) (m : Message) (mark : Mark) → m.head.method ≡ codes "HEAD" → MarkFits limit requests (Place.Read m) mark
-        → reply_text_with early requests (Place.Read m) mark ≡ render (record { status = (reply_with early requests m).status; content = []; kind = Problem }) (closes m.head) }
+    ensures reply { (early requests : List Request) (m : Message) → m.head.method ≡ codes "HEAD"
+        → (reply_with early requests m).content ≡ [] }
+    ensures kind { (early requests : List Request) (m : Message) → m.head.method ≡ codes "HEAD"
+        → (reply_with early requests m).kind ≡ Problem }
+    ensures written { (limit : ℕ) (early requests : List Request) (m : Message) (mark : Mark)
+        → m.head.method ≡ codes "HEAD" → MarkFits limit requests (Place.Read m) mark
+        → reply_text_with early requests (Place.Read m) mark ≡ render
+        (record { status = (reply_with early requests m).status; content = []; kind = Problem }) (closes m.head) }
 {}

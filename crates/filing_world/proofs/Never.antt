@@ -20,7 +20,7 @@ use Rattle.filing_model.specs.Answer.{Answer, answer}
 use Rattle.filing_model.specs.Reply.{reply_as, reply_of, unavailable}
 use Rattle.filing_model.specs.Outbox.{State, bytes_of, IsSendable}
 use Rattle.filing_model.specs.Stopping.{Crash, BeginsPlaces}
-use Rattle.filing_model.specs.Text.{Filed, MarksFit, completed, requests_of_route, interim_of, reply_text, text, text_with}
+use Rattle.filing_model.specs.Text.{Filed, MarksFit, completed, requests_of_route, interim_of, reply_text_with, text, text_with}
 use Rattle.filing_model.proofs.Firsts.{same_target-is}
 use Rattle.filing_model.proofs.Finals.{answer-readable, unavailable-readable}
 use Rattle.filing_model.proofs.Keeping.{register_numbered}
@@ -162,8 +162,8 @@ module _ (limit : ℕ) (done : List Request) (few : length (firsts done) ≤ 2 ^
   by_mark m alone NotFiled front = refl
   by_mark m alone Done front =
       let silent : interim_of (Place.Read m) ≡ [] = rw alone.silent refl in
-      let reply : reply_text done (Place.Read m) Done ≡ render (reply_of (answer done r)) (closes m.head) = rw alone.filed refl in
-      let whole = ap (λ before. before ++ (reply_text done (Place.Read m) Done ++ [])) silent ∙ append_nil _ ∙ reply in
+      let reply : reply_text_with [] done (Place.Read m) Done ≡ render (reply_of (answer done r)) (closes m.head) = rw alone.filed refl in
+      let whole = ap (λ before. before ++ (reply_text_with [] done (Place.Read m) Done ++ [])) silent ∙ append_nil _ ∙ reply in
       absurd (undecided done r close (closes m.head) few (subst (IsPrefixOf (render unavailable close)) whole front))
 
   one_place : (m : Message) → FilesAlone m r → (marks : List Mark) → MarksFit limit done (Place.Read m ∷ []) marks → IsPrefixOf (render unavailable close) (text done (Place.Read m ∷ []) Ending.Closed marks) → completed (Place.Read m ∷ []) marks ≡ []

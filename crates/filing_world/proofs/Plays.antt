@@ -16,7 +16,7 @@ use Rattle.filing_model.specs.Answer.{answer}
 use Rattle.filing_model.specs.Reply.{reply_of}
 use Rattle.filing_model.specs.Outbox.{State, Open, moved, bytes_of, IsSendable}
 use Rattle.filing_model.specs.Stopping.{No, Before, After, ServesUntil}
-use Rattle.filing_model.specs.Text.{RouteFits, requests_of_route, completed, MarksFit, interim_of, reply_text, text, text_with}
+use Rattle.filing_model.specs.Text.{RouteFits, requests_of_route, completed, MarksFit, interim_of, reply_text_with, text, text_with}
 use Rattle.filing_model.proofs.Lists.{append_nil, prefix_trans, take_within}
 use Rattle.filing_model.proofs.Stopping.{HasPlaces-begins}
 use Rattle.filing_world.specs.World.{Output, World, Put, Send, Deliver, Hand, RestartOutbox, numbered, renewed, new_outbox}
@@ -105,8 +105,8 @@ module _ (r : Request) (sendable : IsSendable r) where
   text_one : (done : List Request) → render (reply_of (answer done r)) true ≡ text done (Read is.message ∷ []) Ending.Closed (Done ∷ [])
   unfolding text_with
   text_one done =
-      let reply : reply_text done (Read is.message) Done ≡ render (reply_of (answer done r)) true = rw (is.closes', is.alone.filed) refl in
-      sym (ap (λ front. front ++ (reply_text done (Read is.message) Done ++ [])) silent ∙ append_nil _ ∙ reply)
+      let reply : reply_text_with [] done (Read is.message) Done ≡ render (reply_of (answer done r)) true = rw (is.closes', is.alone.filed) refl in
+      sym (ap (λ front. front ++ (reply_text_with [] done (Read is.message) Done ++ [])) silent ∙ append_nil _ ∙ reply)
 
   text_none : (done : List Request) → [] ≡ text done (Read is.message ∷ []) Ending.Closed []
   unfolding text_with

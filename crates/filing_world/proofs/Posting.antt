@@ -1,6 +1,5 @@
 -- The front of an entry's request holds no place, or the one that files it.
-use Rattle.std.proofs.Common.{◌≡◌, ℕ, true, false, List, [], ◌∷◌, ◌++◌, length, take, drop, refl, sym, ap, ◌∙◌, subst, inl, inr, arith, ◌<◌, ◌≤◌, ◌⊎◌, None}
-use Rattle.std.specs.Prelude.{codes}
+use Rattle.std.proofs.Common.{◌≡◌, ℕ, true, false, List, [], ◌∷◌, ◌++◌, length, take, drop, refl, sym, ap, ◌∙◌, subst, inl, inr, arith, ◌<◌, ◌≤◌, ◌⊎◌}
 use Rattle.std.proofs.lemmas.Bool.{both_ways}
 use Rattle.std.proofs.lemmas.Grind.{common_steps}
 use Rattle.std.proofs.lemmas.List.{take-append-drop}
@@ -17,7 +16,6 @@ use Rattle.filing_model.specs.Outbox.{bytes_of, IsSendable}
 use Rattle.filing_model.specs.Stopping.{BeginsPlaces}
 use Rattle.filing_model.proofs.Posted.{route-post}
 use Rattle.filing_model.specs.Text.{Filed, route}
-use Rattle.filing_model.proofs.Lists.{append_nil}
 
 -- a message that files the request and asks for no interim response
 pub record FilesAlone (m : Message) (r : Request) : Type 0 where

@@ -20,16 +20,20 @@ ghost use Rattle.filing_world.specs.Laws.{AddsAtMost, IsDelivered, IsAnswerTo, I
 /// whatever its state, and a stranger sends any bytes. An end that is down, or up, is restarted.
 pub fn can_be_played()
     ensures puts { (old : World) (outbox : ℕ) (box : Outbox) (key : List ℕ) (target : Option ℕ) (body : List ℕ)
-        → numbered old.outboxes outbox ≡ Some box → box.up ≡ true → IsKey key → IsTarget target → (new : World) × Step old (Put outbox key target body) new }
+        → numbered old.outboxes outbox ≡ Some box → box.up ≡ true → IsKey key → IsTarget target
+        → (new : World) × Step old (Put outbox key target body) new }
     ensures sends { (old : World) (outbox number : ℕ) (box : Outbox) (entry : Entry)
         → numbered old.outboxes outbox ≡ Some box → box.up ≡ true → numbered box.entries number ≡ Some entry
         → (new : World) × Step old (Send outbox number) new
-        × (new.sent ≡ old.sent ++ record { from = Some (outbox, number); bytes = bytes_of (request_of box.filer entry) } ∷ []) }
+        × (new.sent ≡ old.sent ++ record { from = Some (outbox, number); bytes = bytes_of (request_of box.filer entry) }
+        ∷ []) }
     ensures stranger { (old : World) (bytes : List ℕ)
-        → (new : World) × Step old (Stranger bytes) new × (new.sent ≡ old.sent ++ record { from = None; bytes = bytes } ∷ []) }
+        → (new : World) × Step old (Stranger bytes) new
+        × (new.sent ≡ old.sent ++ record { from = None; bytes = bytes } ∷ []) }
     ensures server { (old : World) → (new : World) × Step old RestartServer new × (new.up ≡ true) }
     ensures outbox { (old : World) (outbox : ℕ) (box : Outbox) → numbered old.outboxes outbox ≡ Some box
-        → (new : World) × Step old (RestartOutbox outbox) new × (numbered new.outboxes outbox ≡ Some (record box { up = true })) }
+        → (new : World) × Step old (RestartOutbox outbox) new
+        × (numbered new.outboxes outbox ≡ Some (record box { up = true })) }
 {}
 
 /// A report that is put stands behind the entries of its outbox, and is open, unless its body is too
@@ -39,7 +43,10 @@ pub fn adds_what_is_put()
         → numbered old.outboxes outbox ≡ Some box → length body ≤ max_body_len
         → ((number : ℕ) (entry : Entry) → numbered box.entries number ≡ Some entry → entry.key ≢ key)
         → Step old (Put outbox key target body) new
-        → numbered new.outboxes outbox ≡ Some (record box { entries = box.entries ++ record { key = key; target = target; body = body; state = Open } ∷ [] }) }
+        → numbered new.outboxes outbox ≡ Some (record box {
+          entries = box.entries ++ record
+              { key = key; target = target; body = body; state = Open } ∷ [];
+        }) }
 {}
 
 /// What a delivery completes. Of an entry's request it is that one request or nothing, and nothing
@@ -48,16 +55,18 @@ pub fn adds_what_is_put()
 /// at most that one besides.
 pub fn completes_no_more_than_came()
     ensures of_an_entry { (old new : World) (item given : ℕ) (crash : Crash) (from : Sent) (r : Request)
-        → numbered old.sent item ≡ Some from → IsSendable r → from.bytes ≡ bytes_of r → Step old (Deliver item given crash) new
-        → (new.done ≡ old.done) ⊎ (new.done ≡ old.done ++ r ∷ []) }
+        → numbered old.sent item ≡ Some from → IsSendable r → from.bytes ≡ bytes_of r
+        → Step old (Deliver item given crash) new → (new.done ≡ old.done) ⊎ (new.done ≡ old.done ++ r ∷ []) }
     ensures of_a_cut { (old new : World) (item given : ℕ) (crash : Crash) (from : Sent) (r : Request)
         → numbered old.sent item ≡ Some from → IsSendable r → from.bytes ≡ bytes_of r → given < length from.bytes
         → Step old (Deliver item given crash) new
         → new.done ≡ old.done }
     ensures before_the_first { (old new : World) (item given j : ℕ)
         → j ≤ 1 → Step old (Deliver item given (Before j)) new → new.done ≡ old.done }
-    ensures before { (old new : World) (item given j : ℕ) → Step old (Deliver item given (Before j)) new → AddsAtMost (j - 1) old new }
-    ensures after { (old new : World) (item given j : ℕ) → Step old (Deliver item given (After j)) new → AddsAtMost (max 1 j) old new }
+    ensures before { (old new : World) (item given j : ℕ) → Step old (Deliver item given (Before j)) new
+        → AddsAtMost (j - 1) old new }
+    ensures after { (old new : World) (item given j : ℕ) → Step old (Deliver item given (After j)) new
+        → AddsAtMost (max 1 j) old new }
 {}
 
 /// A delivery adds one output, which tells what was served: of which item, how many bytes of it came,
@@ -70,13 +79,15 @@ pub fn tells_what_came()
 
 /// An outbox that stops before it has heard a reply leaves every entry in its state.
 pub fn hears_nothing_before_a_stop()
-    ensures { (old new : World) (output given j : ℕ) → Step old (Hand output given (Before j)) new → states new ≡ states old }
+    ensures { (old new : World) (output given j : ℕ) → Step old (Hand output given (Before j)) new
+        → states new ≡ states old }
 {}
 
 /// Bytes that give a reply, and are too few to use up the reads, move the entry by that reply, unless
 /// its outbox stops before.
 pub fn moves_by_a_whole_reply()
-    ensures { (old new : World) (output given : ℕ) (crash : Crash) (from : Output) (outbox number : ℕ) (state : State) (reply : ReplyParts)
+    ensures { (old new : World) (output given : ℕ) (crash : Crash) (from : Output) (outbox number : ℕ) (state : State)
+        (reply : ReplyParts)
         → IsAnswerTo old output from outbox number → HasEntry old outbox number state → ((j : ℕ) → crash ≢ Before j)
         → GivesReply (take given from.bytes) reply → length (take given from.bytes) < max_reads
         → Step old (Hand output given crash) new → HasEntry new outbox number (moved state reply) }
@@ -85,8 +96,8 @@ pub fn moves_by_a_whole_reply()
 /// An end is up after its event exactly where it was not stopped. While it is down the intake takes no
 /// delivery, and nothing is put into an outbox, sent from it or handed to it.
 pub fn is_down_after_a_stop()
-    ensures intake { (old new : World) (item given : ℕ) (crash : Crash)
-        → Step old (Deliver item given crash) new → (new.up ≡ true) ↔ (crash ≡ No) }
+    ensures intake { (old new : World) (item given : ℕ) (crash : Crash) → Step old (Deliver item given crash) new
+        → (new.up ≡ true) ↔ (crash ≡ No) }
     ensures delivers { (old new : World) (item given : ℕ) (crash : Crash)
         → Step old (Deliver item given crash) new → crash ≢ No
         → (another more : ℕ) (again : Crash) → CannotPlay new (Deliver another more again) }
@@ -94,5 +105,6 @@ pub fn is_down_after_a_stop()
         → IsAnswerTo old output from outbox number → Step old (Hand output given crash) new
         → numbered new.outboxes outbox ≡ Some box → (box.up ≡ true) ↔ (crash ≡ No) }
     ensures hands { (old new : World) (output given outbox number : ℕ) (crash : Crash) (from : Output)
-        → IsAnswerTo old output from outbox number → Step old (Hand output given crash) new → crash ≢ No → IsDown new outbox }
+        → IsAnswerTo old output from outbox number → Step old (Hand output given crash) new → crash ≢ No
+        → IsDown new outbox }
 {}

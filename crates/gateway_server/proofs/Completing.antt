@@ -1,5 +1,5 @@
 -- The requests that marked places completed, found one after another.
-use Rattle.std.proofs.Common.{◌≡◌, ◌≢◌, ℕ, ◌+◌, ◌<◌, ◌≤◌, Bool, true, false, List, [], ◌∷◌, ◌++◌, length, take, drop, ◌-◌, refl, sym, ap, ◌∙◌, subst, append_assoc, arith, ⊎_elim}
+use Rattle.std.proofs.Common.{◌≡◌, ◌≢◌, ℕ, ◌+◌, ◌<◌, ◌≤◌, true, false, List, [], ◌∷◌, ◌++◌, length, take, drop, ◌-◌, refl, sym, ap, ◌∙◌, subst, append_assoc, arith, ⊎_elim}
 use Rattle.std.specs.Prelude.{slice_range}
 use Rattle.std.proofs.lemmas.Grind.{common_steps}
 use Rattle.std.proofs.lemmas.Bool.{cases_Bool}
@@ -14,10 +14,9 @@ use Rattle.http_wire.proofs.BlockLemmas.{EndsAt-within}
 use Rattle.http_wire.proofs.MoreBytes.{EndsAt-more, EndsAt-front, IsBlockEnd-within, skipped_len-more, from_block-more, block-more}
 use Rattle.http_wire.proofs.Unique.{BeginsHead-unique, BeginsRequest-unique, IsRefused-excludes}
 use Rattle.filing_model.specs.declared.served.Mark.{Mark}
-use Rattle.filing_model.specs.declared.served.Mark.TheVariants.{Done, Unavailable, NotFiled}
 use Rattle.filing_model.specs.Request.{Request}
 use Rattle.filing_model.specs.Stopping.{BeginsPlaces}
-use Rattle.filing_model.specs.Text.{Route, Told, Listed, Filed, route, bare, completed, completed_at, requests_of_route}
+use Rattle.filing_model.specs.Text.{completed, completed_at}
 use Rattle.filing_model.proofs.Lists.{append_nil}
 
 -- ---- one place

@@ -1,8 +1,8 @@
 -- What the key's field gives.
-use Rattle.std.proofs.Common.{◌≡◌, ℕ, List, [], ◌∷◌, None, refl, arith, inl}
+use Rattle.std.proofs.Common.{ℕ, List, [], ◌∷◌, refl, arith, inl}
 use Rattle.key_string.specs.declared.fault.KeyFault.{KeyFault}
 use Rattle.key_string.specs.declared.fault.KeyFault.TheVariants.{NotString, Empty, TooLong, NotPrintable, Memory}
-use Rattle.key_string.specs.Key.{IsFieldFault, key_of_field}
+use Rattle.key_string.specs.Key.{IsFieldFault}
 use Rattle.key_string.proofs.Fields.{key_of_field-none, key_of_field-not_key}
 use Rattle.gateway_server.specs.Route.{NoKeyOf, no_key}
 

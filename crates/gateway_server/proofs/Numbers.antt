@@ -1,6 +1,6 @@
 -- The number of a filing that a path has: it is the decimal text of itself.
-use Rattle.std.proofs.Common.{◌≡◌, ◌≢◌, ℕ, zero, suc, ◌<◌, ◌≤◌, ◌^◌, ◌⊎◌, Bool, true, false, not, ◌&&◌, ◌==◌, List, [], ◌∷◌, length, get_or, nat_le, nat_lt, leb-true, ltb-true, le-leb, lt-ltb, Option, Some, None, Result, Ok, Err, refl, sym, subst, ap, ◌∙◌, inl, inr, ⊎_elim, arith, rules}
-use Rattle.std.specs.Prelude.{bytes_eq, slice_index, if◌then◌else◌}
+use Rattle.std.proofs.Common.{◌≡◌, ◌≢◌, ℕ, zero, suc, ◌<◌, ◌≤◌, ◌^◌, ◌⊎◌, true, false, ◌&&◌, List, length, get_or, nat_le, nat_lt, leb-true, ltb-true, le-leb, lt-ltb, Some, None, Result, Ok, Err, refl, sym, subst, ap, ◌∙◌, inl, inr, ⊎_elim, arith, rules}
+use Rattle.std.specs.Prelude.{bytes_eq, slice_index}
 use Rattle.std.specs.Char.{is_ascii_digit}
 use Rattle.std.specs.Fmt.{decimal}
 use Rattle.std.specs.List.{list_all}

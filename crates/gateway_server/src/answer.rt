@@ -28,9 +28,12 @@ pub(crate) fn mark<S: Alter>(
     marks: &mut Vec<Mark>,
 ) -> Result<Decided, AllocError>
     requires { length message.now.body.now ≤ max_body_len }
-    ensures marked { Turns S.Store intake.old intake.new (λ early before after. Marks (limit_of intake.old) early before after (ReadPlace (view_message message.now)) marks.old.items marks.new.items result) }
+    ensures marked { Turns S.Store intake.old intake.new (λ early before after.
+        Marks (limit_of intake.old) early before after (ReadPlace (view_message message.now)) marks.old.items
+        marks.new.items result) }
     ensures phrase { IfOk result IsPhrased }
-    ensures counted { MatchResult result (λ _. vec_len marks.new ≡ vec_len marks.old + 1) (λ _. vec_len marks.new ≡ vec_len marks.old) }
+    ensures counted { MatchResult result (λ _. vec_len marks.new ≡ vec_len marks.old + 1) (λ _.
+        vec_len marks.new ≡ vec_len marks.old) }
     ensures clean { IsClean S.Store intake.new → IsClean S.Store intake.old }
     ensures limit { limit_of intake.new ≡ limit_of intake.old }
 {
@@ -50,8 +53,11 @@ fn mark_route<S: Alter>(
     requires room { vec_len marks.old < vec_capacity marks.old }
     requires body { length message.now.body.now ≤ max_body_len }
     requires filer { HasFiler asked }
-    requires asked { route (view_message message.now) ≡ bare (is_head (view_message message.now)) (view_route asked message.now.body.now) }
-    ensures marked { Turns S.Store intake.old intake.new (λ early before after. IsDecided (limit_of intake.old) early before after (ReadPlace (view_message message.now)) marks.old.items marks.new.items result) }
+    requires asked { route (view_message message.now) ≡ bare (is_head (view_message message.now))
+        (view_route asked message.now.body.now) }
+    ensures marked { Turns S.Store intake.old intake.new (λ early before after.
+        IsDecided (limit_of intake.old) early before after (ReadPlace (view_message message.now)) marks.old.items
+        marks.new.items result) }
     ensures phrase { IsPhrased result }
     ensures counted { vec_len marks.new ≡ vec_len marks.old + 1 }
     ensures clean { IsClean S.Store intake.new → IsClean S.Store intake.old }
@@ -68,9 +74,11 @@ pub(crate) fn mark_refusal(
     refusal: Refusal,
     marks: &mut Vec<Mark>,
 ) -> Result<Decided, AllocError>
-    ensures marked { (limit : ℕ) (early before : List Request) → Marks limit early before before (RefusedPlace refusal) marks.old.items marks.new.items result }
+    ensures marked { (limit : ℕ) (early before : List Request)
+        → Marks limit early before before (RefusedPlace refusal) marks.old.items marks.new.items result }
     ensures phrase { IfOk result IsPhrased }
-    ensures counted { MatchResult result (λ _. vec_len marks.new ≡ vec_len marks.old + 1) (λ _. vec_len marks.new ≡ vec_len marks.old) }
+    ensures counted { MatchResult result (λ _. vec_len marks.new ≡ vec_len marks.old + 1) (λ _.
+        vec_len marks.new ≡ vec_len marks.old) }
 {
     marks.reserve(1)?;
     marks.push_reserved(Mark::NotFiled);
@@ -88,7 +96,8 @@ pub(crate) fn write_decided<W: Sink>(
     close: bool,
 ) -> Result<(), ConnFault>
     requires { IsPhrased decided.now }
-    ensures written { (text : List ℕ) → IfOk decided.now.reply (λ r. render (reply_parts r) close ≡ text) → WritesText (W.written writer.old) (W.written writer.new) text result }
+    ensures written { (text : List ℕ) → IfOk decided.now.reply (λ r. render (reply_parts r) close ≡ text)
+        → WritesText (W.written writer.old) (W.written writer.new) text result }
     ensures fine { OnOk result (W.write_failures writer.new ≡ W.write_failures writer.old) }
     ensures fault { IfErr result (IsReplyFault (W.write_failures writer.old) (W.write_failures writer.new)) }
 {

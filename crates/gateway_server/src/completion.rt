@@ -17,7 +17,9 @@ use std::alloc::{AllocError, Global};
 /// that are marked Done. The marks are those of the first requests, and of what was refused in the
 /// place of one. The bytes are all that were given to the connection, or the first of them.
 pub fn completed(alloc: Global, bytes: &[u8], marks: &[Mark]) -> Result<Vec<Completed>, AllocError>
-    ensures { IfOk result (λ list. (places : List Place) (ending : Ending) → BeginsPlaces bytes.now places ending → length marks.now ≤ length places → list.items ≡ completed places marks.now) }
+    ensures { IfOk result (λ list.
+        (places : List Place) (ending : Ending) → BeginsPlaces bytes.now places ending
+        → length marks.now ≤ length places → list.items ≡ completed places marks.now) }
 {
     let mut list = Vec::new(alloc);
     let mut rest = bytes;
@@ -44,7 +46,8 @@ fn after(bytes: &[u8], len: usize) -> &[u8]
 /// The request that the bytes begin with, and how many bytes it takes.
 fn first_request(alloc: Global, bytes: &[u8]) -> Result<Option<(Message<'_>, usize)>, AllocError>
     ensures some { IfOk result (λ found. IfSome found (λ p. BeginsRequest bytes.now (view_message p.0) p.1)) }
-    ensures none { IfOk result (λ found. found ≡ None → (request : Spelled) (n : ℕ) → ¬ BeginsRequest bytes.now request n) }
+    ensures none { IfOk result (λ found.
+        found ≡ None → (request : Spelled) (n : ℕ) → ¬ BeginsRequest bytes.now request n) }
 {
     let Block::End(end) = find_block(bytes) else {
         return Ok(None);
@@ -80,7 +83,8 @@ fn complete(
 
 /// Adds the request that a completed message filed.
 fn push_filed(alloc: Global, message: &Message, list: &mut Vec<Completed>) -> Result<(), AllocError>
-    ensures { OnOk result (list.new.items ≡ list.old.items ++ completed_at (Read (view_message message.now)) Mark.Done) }
+    ensures { OnOk result
+        (list.new.items ≡ list.old.items ++ completed_at (Read (view_message message.now)) Mark.Done) }
 {
     let asked = route_of(alloc, message)?;
     list.reserve(1)?;

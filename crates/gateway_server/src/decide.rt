@@ -38,7 +38,8 @@ pub(crate) fn decide<S: Alter>(
 ) -> Decided
     requires filer { HasFiler route }
     requires body { length body.now ≤ max_body_len }
-    ensures decided { Turns S.Store intake.old intake.new (λ early before after. Decides (limit_of intake.old) early before after (bare is_bare (view_route route.entry body.now)) result) }
+    ensures decided { Turns S.Store intake.old intake.new (λ early before after.
+        Decides (limit_of intake.old) early before after (bare is_bare (view_route route.entry body.now)) result) }
     ensures phrase { IsPhrased result }
     ensures clean { IsClean S.Store intake.new → IsClean S.Store intake.old }
     ensures limit { limit_of intake.new ≡ limit_of intake.old }
@@ -69,7 +70,8 @@ fn told_reply(alloc: Global, why: Told, is_bare: bool) -> Result<Reply, AllocErr
 
 /// Of a filer's list the filing of this number alone, if one is named.
 fn listed(rows: Vec<FilingRow>, number: Option<u64>) -> Vec<FilingRow>
-    ensures { (filer : List ℕ) (filings : List Filing) → map view_row rows.items ≡ listings filer None filings → map view_row result.items ≡ listings filer number filings }
+    ensures { (filer : List ℕ) (filings : List Filing) → map view_row rows.items ≡ listings filer None filings
+        → map view_row result.items ≡ listings filer number filings }
 {
     let Some(number) = number else {
         return rows;
@@ -85,7 +87,8 @@ fn list<S: Alter>(
     filer: &str,
     number: Option<u64>,
 ) -> Decided
-    ensures decided { Turns S.Store intake.old intake.new (λ early before after. Decides (limit_of intake.old) early before after (AsksList filer.now number) result) }
+    ensures decided { Turns S.Store intake.old intake.new (λ early before after.
+        Decides (limit_of intake.old) early before after (AsksList filer.now number) result) }
     ensures phrase { IsPhrased result }
     ensures clean { IsClean S.Store intake.new → IsClean S.Store intake.old }
     ensures limit { limit_of intake.new ≡ limit_of intake.old }
@@ -113,7 +116,9 @@ fn file<S: Alter>(
     requires filer { is_filer filer.now ≡ true }
     requires target { IsTarget target }
     requires body { length body.now ≤ max_body_len }
-    ensures decided { Turns S.Store intake.old intake.new (λ early before after. Decides (limit_of intake.old) early before after (AsksFiling (the_request filer.now key.now target body.now)) result) }
+    ensures decided { Turns S.Store intake.old intake.new (λ early before after.
+        Decides (limit_of intake.old) early before after
+        (AsksFiling (the_request filer.now key.now target body.now)) result) }
     ensures phrase { IsPhrased result }
     ensures clean { IsClean S.Store intake.new → IsClean S.Store intake.old }
     ensures limit { limit_of intake.new ≡ limit_of intake.old }

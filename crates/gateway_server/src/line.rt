@@ -32,7 +32,8 @@ fn line(
     id: &str,
     value: &str,
 ) -> Result<String, AllocError>
-    ensures { IfOk result (λ line. string_bytes line ≡ line_of concept.now decimals.now dimensions.now id.now value.now) }
+    ensures { IfOk result (λ line.
+        string_bytes line ≡ line_of concept.now decimals.now dimensions.now id.now value.now) }
 {
     let mut line = String::from_str(alloc, "{\"concept\":")?;
     line.push_str(concept)?;
@@ -57,7 +58,8 @@ fn text(alloc: Global, text: &str) -> Result<String, AllocError>
 
 /// A value as JSON, null where there is none.
 fn value(alloc: Global, value: &Option<String>) -> Result<String, AllocError>
-    ensures { IfOk result (λ written. string_bytes written ≡ compact_text (value_data (option_map (λ s. string_bytes s) value.now))) }
+    ensures { IfOk result (λ written.
+        string_bytes written ≡ compact_text (value_data (option_map (λ s. string_bytes s) value.now))) }
 {
     match value {
         None => null(alloc),

@@ -82,7 +82,9 @@ impl NoKey {
 #[tactic(auto, unfolding(filing_model::specs::Text::route))]
 pub(crate) fn route_of<'a>(alloc: Global, message: &Message<'a>) -> Result<Route<'a>, AllocError>
     ensures filer { IfOk result HasFiler }
-    ensures asked { IfOk result (λ r. route (view_message message.now) ≡ bare (is_head (view_message message.now)) (view_route r message.now.body.now)) }
+    ensures asked { IfOk result (λ r.
+        route (view_message message.now) ≡ bare (is_head (view_message message.now))
+        (view_route r message.now.body.now)) }
 {
     match read_path(message.head.path()) {
         Some(named) => route_by_method(alloc, message, named),
@@ -106,7 +108,9 @@ fn route_by_method<'a>(
     requires filer { is_filer named.filer.now ≡ true }
     requires number { IsTarget named.number }
     ensures filer { IfOk result HasFiler }
-    ensures asked { IfOk result (λ r. view_route r message.now.body.now ≡ route_by_method named.entry.filer.now named.entry.number (view_message message.now)) }
+    ensures asked { IfOk result (λ r.
+        view_route r message.now.body.now ≡ route_by_method named.entry.filer.now named.entry.number
+        (view_message message.now)) }
 {
     let is_post = message.head.method() == b"POST".as_slice();
     let is_get = message.head.method() == b"GET".as_slice();
@@ -129,7 +133,8 @@ fn route_by_method<'a>(
 
 /// The key of the one `Idempotency-Key` line.
 fn only_key(alloc: Global, head: &Head) -> Result<KeyText, NoKey>
-    ensures { MatchResult result (IsKeyOf (values_named key_field head.now.fields)) (NoKeyOf (values_named key_field head.now.fields)) }
+    ensures { MatchResult result (IsKeyOf (values_named key_field head.now.fields))
+        (NoKeyOf (values_named key_field head.now.fields)) }
 {
     let mut values = head.fields_named(b"idempotency-key");
     let Some(value) = values.next() else {

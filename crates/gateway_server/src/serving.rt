@@ -56,7 +56,9 @@ pub fn serve<R: Source, W: Sink, S: Alter>(
     writer: &mut W,
     intake: &mut Intake<S>,
 ) -> Served
-    ensures serves { Turns S.Store intake.old intake.new (λ early before after. ServesConnection (limit_of intake.old) early before after (R.left reader.old) (R.left reader.new) (W.written writer.old) (W.written writer.new) result.marks.items result.ended) }
+    ensures serves { Turns S.Store intake.old intake.new (λ early before after.
+        ServesConnection (limit_of intake.old) early before after (R.left reader.old) (R.left reader.new)
+        (W.written writer.old) (W.written writer.new) result.marks.items result.ended) }
     ensures clean { IsClean S.Store intake.new → IsClean S.Store intake.old }
     ensures limit { limit_of intake.new ≡ limit_of intake.old }
     ensures fault { IsEndedBy (R.read_failures reader.old) (R.read_failures reader.new) (W.write_failures writer.old)
@@ -81,11 +83,13 @@ pub fn serve_until<R: Source, W: Sink, S: Alter>(
     intake: &mut Intake<S>,
     stop: Stop,
 ) -> Partly
-    ensures serves { Turns S.Store intake.old intake.new (λ early before after. ServesConnectionUntil (limit_of intake.old) early before after (R.left reader.old) (R.left reader.new) (W.written writer.old) (W.written writer.new) (view_stop stop) result.marks.items result.ended) }
+    ensures serves { Turns S.Store intake.old intake.new (λ early before after.
+        ServesConnectionUntil (limit_of intake.old) early before after (R.left reader.old) (R.left reader.new)
+        (W.written writer.old) (W.written writer.new) (view_stop stop) result.marks.items result.ended) }
     ensures clean { IsClean S.Store intake.new → IsClean S.Store intake.old }
     ensures limit { limit_of intake.new ≡ limit_of intake.old }
-    ensures fault { IsEndedOrStoppedBy (R.read_failures reader.old) (R.read_failures reader.new) (W.write_failures writer.old)
-        (W.write_failures writer.new) result.ended }
+    ensures fault { IsEndedOrStoppedBy (R.read_failures reader.old) (R.read_failures reader.new)
+        (W.write_failures writer.old) (W.write_failures writer.new) result.ended }
     ensures limited { IfSome result.ended (IsLimited (R.left reader.old) (R.left reader.new)) }
     ensures counted { IsCountUntil (view_stop stop) (length result.marks.items) result.ended }
     ensures never { stop ≡ Stop.Never → IsSome result.ended }
@@ -115,12 +119,17 @@ fn serve_places<R: Source, W: Sink, S: Alter>(
 ) -> Option<Ended>
     requires over { is_over inbox.old ≡ false }
     requires count { ComeBefore (view_stop stop) (vec_len marks.old) }
-    ensures serves { Turns S.Store intake.old intake.new (λ early now after. (before : List Request) (left written : Option (List ℕ)) → GoesOn (limit_of intake.old) early before now left (R.left reader.old) written (W.written writer.old) inbox.old marks.old.items → StopsOrEnds (limit_of intake.old) early before after left (R.left reader.new) written (W.written writer.new) (view_stop stop) marks.new.items result) }
+    ensures serves { Turns S.Store intake.old intake.new (λ early now after.
+        (before : List Request) (left written : Option (List ℕ))
+        → GoesOn (limit_of intake.old) early before now left (R.left reader.old) written (W.written writer.old)
+        inbox.old marks.old.items
+        → StopsOrEnds (limit_of intake.old) early before after left (R.left reader.new) written
+        (W.written writer.new) (view_stop stop) marks.new.items result) }
     ensures counted { IsCountUntil (view_stop stop) (vec_len marks.new) result }
     ensures clean { IsClean S.Store intake.new → IsClean S.Store intake.old }
     ensures limit { limit_of intake.new ≡ limit_of intake.old }
-    ensures fault { IsEndedOrStoppedBy (R.read_failures reader.old) (R.read_failures reader.new) (W.write_failures writer.old)
-        (W.write_failures writer.new) result }
+    ensures fault { IsEndedOrStoppedBy (R.read_failures reader.old) (R.read_failures reader.new)
+        (W.write_failures writer.old) (W.write_failures writer.new) result }
     ensures read { ReadsSome (R.left reader.old) (R.left reader.new) inbox.old inbox.new }
     ensures told { IfSome result (TellsLimit inbox.new) }
 {
@@ -145,7 +154,12 @@ fn serve_place<R: Source, W: Sink, S: Alter>(
 ) -> Turn
     requires over { is_over inbox.old ≡ false }
     requires count { ComeBefore (view_stop stop) (vec_len marks.old) }
-    ensures serves { Turns S.Store intake.old intake.new (λ early now after. (before : List Request) (left written : Option (List ℕ)) → GoesOn (limit_of intake.old) early before now left (R.left reader.old) written (W.written writer.old) inbox.old marks.old.items → Continues (limit_of intake.old) early before after left (R.left reader.new) written (W.written writer.new) inbox.new (view_stop stop) marks.new.items result) }
+    ensures serves { Turns S.Store intake.old intake.new (λ early now after.
+        (before : List Request) (left written : Option (List ℕ))
+        → GoesOn (limit_of intake.old) early before now left (R.left reader.old) written (W.written writer.old)
+        inbox.old marks.old.items
+        → Continues (limit_of intake.old) early before after left (R.left reader.new) written (W.written writer.new)
+        inbox.new (view_stop stop) marks.new.items result) }
     ensures more { result ≡ Turn.On → is_over inbox.new ≡ false }
     ensures one { result ≡ Turn.On → vec_len marks.new ≡ vec_len marks.old + 1 }
     ensures counted { IsCountAt (view_stop stop) (vec_len marks.new) result }
@@ -175,7 +189,12 @@ fn serve_message<W: Sink, S: Alter>(
 ) -> Turn
     requires lends { LendsFirst inbox.now }
     requires count { ComeBefore (view_stop stop) (vec_len marks.old) }
-    ensures serves { Turns S.Store intake.old intake.new (λ early now after. (before : List Request) (left left' written : Option (List ℕ)) → HasMessage (limit_of intake.old) early before now left left' written (W.written writer.old) inbox.now marks.old.items → Continues (limit_of intake.old) early before after left left' written (W.written writer.new) inbox.now (view_stop stop) marks.new.items result) }
+    ensures serves { Turns S.Store intake.old intake.new (λ early now after.
+        (before : List Request) (left left' written : Option (List ℕ))
+        → HasMessage (limit_of intake.old) early before now left left' written (W.written writer.old) inbox.now
+        marks.old.items
+        → Continues (limit_of intake.old) early before after left left' written (W.written writer.new) inbox.now
+        (view_stop stop) marks.new.items result) }
     ensures more { result ≡ Turn.On → is_over inbox.now ≡ false }
     ensures one { result ≡ Turn.On → vec_len marks.new ≡ vec_len marks.old + 1 }
     ensures counted { IsCountAt (view_stop stop) (vec_len marks.new) result }
@@ -204,7 +223,11 @@ fn serve_refusal<W: Sink>(
     marks: &mut Vec<Mark>,
 ) -> Turn
     requires { ComeBefore (view_stop stop) (vec_len marks.old) }
-    ensures serves { (limit : ℕ) (early before now : List Request) (left left' written : Option (List ℕ)) (inbox : Inbox) → HasRefusal limit early before now left left' written (W.written writer.old) inbox refusal marks.old.items → Continues limit early before now left left' written (W.written writer.new) inbox (view_stop stop) marks.new.items result }
+    ensures serves { (limit : ℕ) (early before now : List Request) (left left' written : Option (List ℕ))
+        (inbox : Inbox)
+        → HasRefusal limit early before now left left' written (W.written writer.old) inbox refusal marks.old.items
+        → Continues limit early before now left left' written (W.written writer.new) inbox (view_stop stop)
+        marks.new.items result }
     ensures closes { result ≢ Turn.On }
     ensures counted { IsCountAt (view_stop stop) (vec_len marks.new) result }
     ensures fault { IsTurnByReply (W.write_failures writer.old) (W.write_failures writer.new) result }
@@ -231,7 +254,8 @@ fn reply<W: Sink>(
     number: usize,
 ) -> Turn
     requires { IsPhrased decided.now }
-    ensures written { (text : List ℕ) → IfOk decided.now.reply (λ r. render (reply_parts r) close ≡ text) → Replies (W.written writer.old) (W.written writer.new) text close result }
+    ensures written { (text : List ℕ) → IfOk decided.now.reply (λ r. render (reply_parts r) close ≡ text)
+        → Replies (W.written writer.old) (W.written writer.new) text close result }
     ensures stops { IsStoppedAfter (view_stop stop) number result }
     ensures goes_on { result ≡ Turn.On → close ≡ false }
     ensures fault { IsTurnByReply (W.write_failures writer.old) (W.write_failures writer.new) result }

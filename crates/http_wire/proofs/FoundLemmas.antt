@@ -1,15 +1,15 @@
 -- A head at the front of the bytes, and what follows from it.
-use Rattle.std.proofs.Common.{◌≡◌, ℕ, ◌+◌, ◌<◌, ◌≤◌, Bool, true, false, List, ◌++◌, length, take, drop, Option, None, refl, sym, ap, ap₂, ◌∙◌, subst, arith, inl, inr, nat_lt, ◌&&◌}
+use Rattle.std.proofs.Common.{◌≡◌, ℕ, ◌+◌, ◌<◌, ◌≤◌, Bool, true, false, List, ◌++◌, length, drop, Option, None, refl, sym, ap, ap₂, ◌∙◌, subst, arith, inl, inr, nat_lt, ◌&&◌}
 use Rattle.std.specs.Prelude.{slice_range}
 use Rattle.std.specs.Io.KnownBytes.{Appends}
 use Rattle.std.proofs.lemmas.Bool.Decides.{nat_tests}
 use Rattle.http_wire.specs.Block.{IsUnended}
 use Rattle.http_wire.specs.Head.{RequestParts, framing_fault, body_length, max_body_len}
-use Rattle.http_wire.specs.Message.{BeginsHead, BeginsRequest, IsRest, Asks, awaits, interim}
+use Rattle.http_wire.specs.Message.{BeginsHead, BeginsRequest, IsRest, Asks, awaits}
 use Rattle.http_wire.specs.Spans.{parts_at, IsHeadAt}
 use Rattle.http_wire.specs.Parsed.{parsed_end, parsed_request, IsParsed}
 use Rattle.http_wire.specs.Received.{held_bytes, read_count, Receives, IsReadFault}
-use Rattle.http_wire.specs.Calls.{HoldsPlace, interim_if, WritesAsked, WritesUpTo, IsFault}
+use Rattle.http_wire.specs.Calls.{HoldsPlace, interim_if, WritesUpTo, IsFault}
 use Rattle.http_wire.specs.Found.{IsHeadOf, framing_awaits, IsSendFault}
 use Rattle.http_wire.specs.declared.place.Parsed.{Parsed}
 use Rattle.http_wire.specs.declared.received.Received.{Received}

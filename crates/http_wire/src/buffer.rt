@@ -75,9 +75,11 @@ impl Buffer {
         ensures kept { buffered self.new ≡ buffered self.old ++ drop (length (buffered self.old)) (buffered self.new) }
         ensures count { IfOk result (λ count. length (buffered self.new) ≡ length (buffered self.old) + count) }
         ensures bound { length (buffered self.new) ≤ most }
-        ensures given { OnOk result (Consumes (R.left reader.old) (R.left reader.new) (drop (length (buffered self.old)) (buffered self.new))) }
+        ensures given { OnOk result
+            (Consumes (R.left reader.old) (R.left reader.new) (drop (length (buffered self.old)) (buffered self.new))) }
         ensures end { result ≡ Ok 0 → IsAtEnd (R.left reader.new) }
-        ensures err { OnErr result ((buffered self.new ≡ buffered self.old) × Keeps (R.left reader.old) (R.left reader.new)) }
+        ensures err { OnErr result ((buffered self.new ≡ buffered self.old)
+            × Keeps (R.left reader.old) (R.left reader.new)) }
         ensures fine { OnOk result (R.read_failures reader.new ≡ R.read_failures reader.old) }
         ensures fault { IfErr result (IsFillFault (R.read_failures reader.old) (R.read_failures reader.new)) }
     {
@@ -128,7 +130,8 @@ fn read_into<R: Source>(
     ensures len { vec_len room.new ≡ vec_len room.old }
     ensures front { take start room.new.items ≡ take start room.old.items }
     ensures bound { IfOk result (λ count. start + count ≤ end) }
-    ensures given { IfOk result (λ count. Consumes (R.left reader.old) (R.left reader.new) (slice_range room.new.items start (start + count))) }
+    ensures given { IfOk result (λ count.
+        Consumes (R.left reader.old) (R.left reader.new) (slice_range room.new.items start (start + count))) }
     ensures end { result ≡ Ok 0 → IsAtEnd (R.left reader.new) }
     ensures err { OnErr result (Keeps (R.left reader.old) (R.left reader.new)) }
     ensures fine { OnOk result (R.read_failures reader.new ≡ R.read_failures reader.old) }

@@ -39,15 +39,26 @@ impl<R: Source + Drop, W: Sink + Drop> Conn<R, W> {
 
     /// Reads on to the next request or refusal, as `Inbox::next` does.
     pub fn next(&mut self) -> Result<Next, ConnFault>
-        ensures reads { ReadsOn (R.left (conn_reader self.old)) (R.left (conn_reader self.new)) (conn_inbox self.old) (conn_inbox self.new) }
-        ensures lazy { HoldsPlace (unread (conn_inbox self.old)) → ReadsNothing (conn_reader self.old) (conn_reader self.new) (conn_inbox self.old) (conn_inbox self.new) }
+        ensures reads { ReadsOn (R.left (conn_reader self.old)) (R.left (conn_reader self.new)) (conn_inbox self.old)
+            (conn_inbox self.new) }
+        ensures lazy { HoldsPlace (unread (conn_inbox self.old))
+            → ReadsNothing (conn_reader self.old) (conn_reader self.new) (conn_inbox self.old) (conn_inbox self.new) }
         ensures bound { length (held (conn_inbox self.new)) ≤ 1064962 }
-        ensures place { IfOk result (IsNext (R.left (conn_reader self.new)) (conn_inbox self.old) (conn_inbox self.new)) }
-        ensures over { is_over (conn_inbox self.old) ≡ true → (result ≡ Ok Next.End) × (conn_writer self.new ≡ conn_writer self.old) × ReadsNothing (conn_reader self.old) (conn_reader self.new) (conn_inbox self.old) (conn_inbox self.new) }
-        ensures interim { IfOk result (WritesInterim (W.written (conn_writer self.old)) (W.written (conn_writer self.new)) (conn_inbox self.old) (conn_inbox self.new)) }
-        ensures part { IfErr result (WritesUpTo (W.written (conn_writer self.old)) (W.written (conn_writer self.new)) (held (conn_inbox self.new))) }
-        ensures fine { OnOk result ((R.read_failures (conn_reader self.new) ≡ R.read_failures (conn_reader self.old)) × (W.write_failures (conn_writer self.new) ≡ W.write_failures (conn_writer self.old))) }
-        ensures fault { IfErr result (IsFault (R.read_failures (conn_reader self.old)) (R.read_failures (conn_reader self.new))
+        ensures place { IfOk result
+            (IsNext (R.left (conn_reader self.new)) (conn_inbox self.old) (conn_inbox self.new)) }
+        ensures over { is_over (conn_inbox self.old) ≡ true
+            → (result ≡ Ok Next.End) × (conn_writer self.new ≡ conn_writer self.old)
+            × ReadsNothing (conn_reader self.old) (conn_reader self.new) (conn_inbox self.old) (conn_inbox self.new) }
+        ensures interim { IfOk result
+            (WritesInterim (W.written (conn_writer self.old)) (W.written (conn_writer self.new)) (conn_inbox self.old)
+            (conn_inbox self.new)) }
+        ensures part { IfErr result
+            (WritesUpTo (W.written (conn_writer self.old)) (W.written (conn_writer self.new))
+            (held (conn_inbox self.new))) }
+        ensures fine { OnOk result ((R.read_failures (conn_reader self.new) ≡ R.read_failures (conn_reader self.old))
+            × (W.write_failures (conn_writer self.new) ≡ W.write_failures (conn_writer self.old))) }
+        ensures fault { IfErr result
+            (IsFault (R.read_failures (conn_reader self.old)) (R.read_failures (conn_reader self.new))
             (W.write_failures (conn_writer self.old)) (W.write_failures (conn_writer self.new))
             (reads (conn_inbox self.new)) (held (conn_inbox self.new))) }
         ensures failed { is_failed (conn_inbox self.new) ≡ (is_failed (conn_inbox self.old) || is_err result) }
@@ -68,12 +79,17 @@ impl<R: Source + Drop, W: Sink + Drop> Conn<R, W> {
     /// is lent stays. After a fault, of `next` too, nothing is written any more.
     pub fn reply(&mut self, reply: &Reply, close: bool) -> Result<(), ConnFault>
         requires { IsSome (phrase reply.now.status) }
-        ensures ok { OnOk result (Appends (W.written (conn_writer self.old)) (W.written (conn_writer self.new)) (render (reply_parts reply.now) close)) }
+        ensures ok { OnOk result
+            (Appends (W.written (conn_writer self.old)) (W.written (conn_writer self.new))
+            (render (reply_parts reply.now) close)) }
         ensures fine { OnOk result (W.write_failures (conn_writer self.new) ≡ W.write_failures (conn_writer self.old)) }
-        ensures fault { is_failed (conn_inbox self.old) ≡ false → IfErr result (IsWriteFault (W.written (conn_writer self.old))
-            (W.written (conn_writer self.new)) (W.write_failures (conn_writer self.old))
-            (W.write_failures (conn_writer self.new)) (render (reply_parts reply.now) close)) }
-        ensures after_fault { is_failed (conn_inbox self.old) ≡ true → (result ≡ Err (ConnFault.Write 0)) × (conn_writer self.new ≡ conn_writer self.old) }
+        ensures fault { is_failed (conn_inbox self.old) ≡ false
+            → IfErr result
+            (IsWriteFault (W.written (conn_writer self.old)) (W.written (conn_writer self.new))
+            (W.write_failures (conn_writer self.old)) (W.write_failures (conn_writer self.new))
+            (render (reply_parts reply.now) close)) }
+        ensures after_fault { is_failed (conn_inbox self.old) ≡ true
+            → (result ≡ Err (ConnFault.Write 0)) × (conn_writer self.new ≡ conn_writer self.old) }
 
         // What comes then.
         ensures over { OnOk result (is_over (conn_inbox self.new) ≡ (close || is_over (conn_inbox self.old))) }

@@ -73,14 +73,17 @@ impl Inbox {
 
         // What stands next in it.
         ensures place { IfOk result (IsNext (R.left reader.new) self.old self.new) }
-        ensures over { is_over self.old ≡ true → (result ≡ Ok Next.End) × (writer.new ≡ writer.old) × ReadsNothing reader.old reader.new self.old self.new }
+        ensures over { is_over self.old ≡ true
+            → (result ≡ Ok Next.End) × (writer.new ≡ writer.old)
+            × ReadsNothing reader.old reader.new self.old self.new }
 
         // What was written.
         ensures interim { IfOk result (WritesInterim (W.written writer.old) (W.written writer.new) self.old self.new) }
         ensures part { IfErr result (WritesUpTo (W.written writer.old) (W.written writer.new) (held self.new)) }
 
         // Why it failed, and what then.
-        ensures fine { OnOk result ((R.read_failures reader.new ≡ R.read_failures reader.old) × (W.write_failures writer.new ≡ W.write_failures writer.old)) }
+        ensures fine { OnOk result ((R.read_failures reader.new ≡ R.read_failures reader.old)
+            × (W.write_failures writer.new ≡ W.write_failures writer.old)) }
         ensures fault { IfErr result (IsFault (R.read_failures reader.old) (R.read_failures reader.new)
             (W.write_failures writer.old) (W.write_failures writer.new) (reads self.new) (held self.new)) }
         ensures failed { is_failed self.new ≡ (is_failed self.old || is_err result) }

@@ -16,24 +16,31 @@ ghost use Rattle.http_wire.specs.declared.refusal.ReplyFault.{ReplyFault};
 
 /// Bytes have one list of places, and one ending.
 pub fn bytes_have_one_list_of_places()
-    ensures { (bytes : List ℕ) (places others : List Place) (ending other : Ending) → HasPlaces bytes places ending → HasPlaces bytes others other → (others ≡ places) × (other ≡ ending) }
+    ensures { (bytes : List ℕ) (places others : List Place) (ending other : Ending) → HasPlaces bytes places ending
+        → HasPlaces bytes others other → (others ≡ places) × (other ≡ ending) }
 {}
 
 /// No spelling of a request is the beginning of another's, nor of its own with more behind it.
 pub fn request_is_no_front_of_another()
-    ensures { (bytes more : List ℕ) (request other : Request) → SpellsRequest bytes request → SpellsRequest (bytes ++ more) other → (more ≡ []) × (other ≡ request) }
+    ensures { (bytes more : List ℕ) (request other : Request) → SpellsRequest bytes request
+        → SpellsRequest (bytes ++ more) other → (more ≡ []) × (other ≡ request) }
 {}
 
 /// What a filer writes is read as the request that it is made of: a POST to the filer's path, or to that
 /// of a filing, with the key and the report.
 pub fn post_is_read()
-    ensures { (filer : List ℕ) (target : Option ℕ) (key body : List ℕ) → is_filer filer ≡ true → IsTarget target → IsKey key → length body ≤ max_body_len → SpellsRequest (render_post filer target key body) (post_request filer target key body) }
+    ensures { (filer : List ℕ) (target : Option ℕ) (key body : List ℕ) → is_filer filer ≡ true → IsTarget target
+        → IsKey key → length body ≤ max_body_len
+        → SpellsRequest (render_post filer target key body) (post_request filer target key body) }
 {}
 
 /// However it is cut, nothing else is read in it: what arrives of a filer's request holds no place and
 /// asks for nothing, or it is the whole request, after which the connection closes.
 pub fn cut_post_is_nothing_or_whole()
-    ensures { (filer : List ℕ) (target : Option ℕ) (key body : List ℕ) → is_filer filer ≡ true → IsTarget target → IsKey key → length body ≤ max_body_len → (n : ℕ) (places : List Place) (ending : Ending) → HasPlaces (take n (render_post filer target key body)) places ending → HoldsAlone (post_request filer target key body) places ending }
+    ensures { (filer : List ℕ) (target : Option ℕ) (key body : List ℕ) → is_filer filer ≡ true → IsTarget target
+        → IsKey key → length body ≤ max_body_len → (n : ℕ) (places : List Place) (ending : Ending)
+        → HasPlaces (take n (render_post filer target key body)) places ending
+        → HoldsAlone (post_request filer target key body) places ending }
 {}
 
 /// What the intake writes of a final reply with content is read as this reply.
@@ -43,17 +50,20 @@ pub fn reply_is_read()
 
 /// However it is cut, no other reply is read in it.
 pub fn cut_reply_is_no_other()
-    ensures { (reply other : ReplyParts) (close : Bool) (n : ℕ) → IsReadable reply → SpellsReply (take n (render reply close)) other → other ≡ reply }
+    ensures { (reply other : ReplyParts) (close : Bool) (n : ℕ) → IsReadable reply
+        → SpellsReply (take n (render reply close)) other → other ≡ reply }
 {}
 
 /// No bytes begin with two replies, or with one that ends in two places.
 pub fn bytes_begin_with_one_reply()
-    ensures { (bytes : List ℕ) (reply other : ReplyParts) (n m : ℕ) → BeginsReply bytes reply n → BeginsReply bytes other m → (other ≡ reply) × (m ≡ n) }
+    ensures { (bytes : List ℕ) (reply other : ReplyParts) (n m : ℕ) → BeginsReply bytes reply n
+        → BeginsReply bytes other m → (other ≡ reply) × (m ≡ n) }
 {}
 
 /// Bytes that give a reply are not refused as one, for any fault.
 pub fn given_reply_is_not_refused()
-    ensures { (bytes : List ℕ) (reply : ReplyParts) (fault : ReplyFault) → GivesReply bytes reply → ¬ (IsRefusedReply bytes fault) }
+    ensures { (bytes : List ℕ) (reply : ReplyParts) (fault : ReplyFault) → GivesReply bytes reply
+        → ¬ (IsRefusedReply bytes fault) }
 {}
 
 /// Where nothing is read, there is no reply.
@@ -64,6 +74,10 @@ pub fn nothing_is_no_reply()
 /// What is written of such a reply is read again: where a reader gives it, in whatever pieces, no other
 /// reply is read, and where none is read, the reader or the memory failed.
 pub fn written_reply_is_read_again()
-    ensures same { (reply : ReplyParts) (close : Bool) (after : Option (List ℕ)) → IsReadable reply → (other : ReplyParts) → HasGiven (Some (render reply close)) after (λ bytes. GivesReply bytes other) → other ≡ reply }
-    ensures fault { (reply : ReplyParts) (close : Bool) (after : Option (List ℕ)) → IsReadable reply → (old new : ℕ) (fault : ReplyFault) → IsReplyFailure (Some (render reply close)) after old new fault → IsOfReader fault }
+    ensures same { (reply : ReplyParts) (close : Bool) (after : Option (List ℕ)) → IsReadable reply
+        → (other : ReplyParts) → HasGiven (Some (render reply close)) after (λ bytes. GivesReply bytes other)
+        → other ≡ reply }
+    ensures fault { (reply : ReplyParts) (close : Bool) (after : Option (List ℕ)) → IsReadable reply
+        → (old new : ℕ) (fault : ReplyFault) → IsReplyFailure (Some (render reply close)) after old new fault
+        → IsOfReader fault }
 {}

@@ -45,7 +45,8 @@ pub(crate) fn agreed_length(mut parts: Parts) -> Option<usize>
 
 /// Whether all parts are numbers with these digits, apart from leading zeros.
 fn are_numbers_of(mut parts: Parts, digits: &[u8]) -> bool
-    ensures { result ≡ list_all (λ part. is_number part && bytes_eq (significant part) digits.now) (parts_left parts.entry) }
+    ensures { result ≡ list_all (λ part. is_number part && bytes_eq (significant part) digits.now)
+        (parts_left parts.entry) }
 {
     parts.all(|part| is_number_of(part, digits))
 }

@@ -46,12 +46,15 @@ pub(crate) fn find_place<R: Source, W: Sink>(
     writer: &mut W,
 ) -> Result<Found, ConnFault>
     ensures reads { Receives (R.left reader.old) (R.left reader.new) received.old received.new }
-    ensures lazy { HoldsPlace (held_bytes received.old) → ReceivesNothing reader.old reader.new received.old received.new }
+    ensures lazy { HoldsPlace (held_bytes received.old)
+        → ReceivesNothing reader.old reader.new received.old received.new }
     ensures found { IfOk result (IsFound (R.left reader.new) (held_bytes received.new)) }
     ensures interim { IfOk result (WritesFor (W.written writer.old) (W.written writer.new) (held_bytes received.new)) }
     ensures part { IfErr result (WritesUpTo (W.written writer.old) (W.written writer.new) (held_bytes received.new)) }
-    ensures fine { OnOk result ((R.read_failures reader.new ≡ R.read_failures reader.old) × (W.write_failures writer.new ≡ W.write_failures writer.old)) }
-    ensures fault { IfErr result (IsFault (R.read_failures reader.old) (R.read_failures reader.new) (W.write_failures writer.old)
+    ensures fine { OnOk result ((R.read_failures reader.new ≡ R.read_failures reader.old)
+        × (W.write_failures writer.new ≡ W.write_failures writer.old)) }
+    ensures fault { IfErr result
+        (IsFault (R.read_failures reader.old) (R.read_failures reader.new) (W.write_failures writer.old)
         (W.write_failures writer.new) (read_count received.new) (held_bytes received.new)) }
 {
     let end = match received.read_block(reader)? {
@@ -91,12 +94,15 @@ fn read_request<R: Source, W: Sink>(
 ) -> Result<Found, ConnFault>
     requires { IsHeadOf (held_bytes received.old) parsed }
     ensures reads { Receives (R.left reader.old) (R.left reader.new) received.old received.new }
-    ensures lazy { HoldsPlace (held_bytes received.old) → ReceivesNothing reader.old reader.new received.old received.new }
+    ensures lazy { HoldsPlace (held_bytes received.old)
+        → ReceivesNothing reader.old reader.new received.old received.new }
     ensures found { IfOk result (IsFound (R.left reader.new) (held_bytes received.new)) }
     ensures interim { IfOk result (WritesFor (W.written writer.old) (W.written writer.new) (held_bytes received.new)) }
     ensures part { IfErr result (WritesUpTo (W.written writer.old) (W.written writer.new) (held_bytes received.new)) }
-    ensures fine { OnOk result ((R.read_failures reader.new ≡ R.read_failures reader.old) × (W.write_failures writer.new ≡ W.write_failures writer.old)) }
-    ensures fault { IfErr result (IsFault (R.read_failures reader.old) (R.read_failures reader.new) (W.write_failures writer.old)
+    ensures fine { OnOk result ((R.read_failures reader.new ≡ R.read_failures reader.old)
+        × (W.write_failures writer.new ≡ W.write_failures writer.old)) }
+    ensures fault { IfErr result
+        (IsFault (R.read_failures reader.old) (R.read_failures reader.new) (W.write_failures writer.old)
         (W.write_failures writer.new) (read_count received.new) (held_bytes received.new)) }
     ensures memory { result ≡ Err ConnFault.Memory → read_count received.new < max_reads }
 {
@@ -110,9 +116,11 @@ fn read_request<R: Source, W: Sink>(
 
 /// Writes the interim response where the head asks for it, also where the body is there already.
 fn send_interim<W: Sink>(writer: &mut W, framing: Framing) -> Result<(), ConnFault>
-    ensures ok { OnOk result (Appends (W.written writer.old) (W.written writer.new) (interim_if (framing_awaits framing))) }
+    ensures ok { OnOk result
+        (Appends (W.written writer.old) (W.written writer.new) (interim_if (framing_awaits framing))) }
     ensures fine { OnOk result (W.write_failures writer.new ≡ W.write_failures writer.old) }
-    ensures fault { IfErr result (IsSendFault (W.written writer.old) (W.written writer.new) (W.write_failures writer.old)
+    ensures fault { IfErr result
+        (IsSendFault (W.written writer.old) (W.written writer.new) (W.write_failures writer.old)
         (W.write_failures writer.new) (framing_awaits framing)) }
 {
     if framing.expects && framing.body_len > 0 {

@@ -20,7 +20,8 @@ use std::alloc::Global;
 /// `Malformed` for each head; then for the final one `Malformed` for a Transfer-Encoding or an invalid
 /// Content-Length, `NoLength`, and `TooLarge` for its content. `Cut` comes only at the end of the input.
 pub fn read_reply<R: Source>(alloc: Global, reader: &mut R) -> Result<Reply, ReplyFault>
-    ensures ok { IfOk result (λ reply. HasGiven (R.left reader.old) (R.left reader.new) (λ bytes. GivesReply bytes (reply_parts reply))) }
+    ensures ok { IfOk result (λ reply.
+        HasGiven (R.left reader.old) (R.left reader.new) (λ bytes. GivesReply bytes (reply_parts reply))) }
     ensures fine { OnOk result (R.read_failures reader.new ≡ R.read_failures reader.old) }
     ensures fault { IfErr result (IsReplyFailure (R.left reader.old) (R.left reader.new) (R.read_failures reader.old)
         (R.read_failures reader.new)) }
@@ -50,7 +51,8 @@ fn is_interim(status: u16) -> bool
 fn take_head<R: Source>(received: &mut Received, reader: &mut R) -> Result<ResponseHead, ReplyFault>
     ensures head { IfOk result (TakesHead (R.left reader.old) (R.left reader.new) received.old received.new) }
     ensures reads { OnOk result (read_count received.old ≤ read_count received.new) }
-    ensures less { OnOk result (read_count received.new ≡ read_count received.old → length (held_bytes received.new) < length (held_bytes received.old)) }
+    ensures less { OnOk result (read_count received.new ≡ read_count received.old
+        → length (held_bytes received.new) < length (held_bytes received.old)) }
     ensures fine { OnOk result (R.read_failures reader.new ≡ R.read_failures reader.old) }
     ensures fault { IfErr result (IsHeadFailure (R.left reader.old) (R.left reader.new) (R.read_failures reader.old)
         (R.read_failures reader.new) received.old received.new) }
@@ -77,7 +79,9 @@ fn take_content<R: Source>(
     reader: &mut R,
     len: usize,
 ) -> Result<Vec<u8>, ReplyFault>
-    ensures content { IfOk result (λ content. Takes (R.left reader.old) (R.left reader.new) received.old received.new content.items × (length content.items ≡ len)) }
+    ensures content { IfOk result (λ content.
+        Takes (R.left reader.old) (R.left reader.new) received.old received.new content.items
+        × (length content.items ≡ len)) }
     ensures fine { OnOk result (R.read_failures reader.new ≡ R.read_failures reader.old) }
     ensures fault { IfErr result (IsContentFailure (R.left reader.old) (R.left reader.new) (R.read_failures reader.old)
         (R.read_failures reader.new) received.old received.new len) }

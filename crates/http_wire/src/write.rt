@@ -32,9 +32,11 @@ pub fn write_reply<W: Sink>(
     close: bool,
 ) -> Result<(), ConnFault>
     requires { IsSome (phrase reply.now.status) }
-    ensures ok { OnOk result (Appends (W.written writer.old) (W.written writer.new) (render (reply_parts reply.now) close)) }
+    ensures ok { OnOk result
+        (Appends (W.written writer.old) (W.written writer.new) (render (reply_parts reply.now) close)) }
     ensures fine { OnOk result (W.write_failures writer.new ≡ W.write_failures writer.old) }
-    ensures fault { IfErr result (IsWriteFault (W.written writer.old) (W.written writer.new) (W.write_failures writer.old)
+    ensures fault { IfErr result
+        (IsWriteFault (W.written writer.old) (W.written writer.new) (W.write_failures writer.old)
         (W.write_failures writer.new) (render (reply_parts reply.now) close)) }
 {
     let mut text = Vec::new(alloc);

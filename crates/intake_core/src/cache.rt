@@ -41,7 +41,12 @@ impl Remembered {
         outcome: &Outcome,
         style: Style,
     ) -> Result<Remembered, AllocError>
-        ensures { IfOk result (λ r. (kept_of r ≡ record { request = the_request filer.now key.now target body.now; outcome = view_outcome outcome.now }) × (r.row.style ≡ style)) }
+        ensures { IfOk result (λ r.
+            (kept_of r ≡ record {
+              request = the_request filer.now key.now target body.now;
+              outcome = view_outcome outcome.now;
+            })
+            × (r.row.style ≡ style)) }
     {
         Ok(Remembered {
             filer: String::from_str(alloc, filer)?,
@@ -83,8 +88,11 @@ impl Cache {
         body: &[u8],
     ) -> Option<Answer>
         ensures answer { (early requests : List Request) → Remembers early requests self.old
-            → IfSome result (λ a. IsAnswerTo early requests (the_request filer.now key.now target body.now) a × (has_key requests (the_request filer.now key.now target body.now) ≡ true)) }
-        ensures same { (early requests : List Request) → Remembers early requests self.old → Remembers early requests self.new }
+            → IfSome result (λ a.
+            IsAnswerTo early requests (the_request filer.now key.now target body.now) a
+            × (has_key requests (the_request filer.now key.now target body.now) ≡ true)) }
+        ensures same { (early requests : List Request) → Remembers early requests self.old
+            → Remembers early requests self.new }
     {
         let name = name_of(alloc, filer, key.as_str()).ok()?;
         let answer = self.look_up(alloc, name.as_str(), filer, target, key, body);
@@ -103,7 +111,9 @@ impl Cache {
         body: &[u8],
     ) -> Option<Answer>
         ensures { (early requests : List Request) → Remembers early requests self.now
-            → IfSome result (λ a. IsAnswerTo early requests (the_request filer.now key.now target body.now) a × (has_key requests (the_request filer.now key.now target body.now) ≡ true)) }
+            → IfSome result (λ a.
+            IsAnswerTo early requests (the_request filer.now key.now target body.now) a
+            × (has_key requests (the_request filer.now key.now target body.now) ≡ true)) }
     {
         let found = self.answers.peek(name)?;
         if found.filer.as_str() != filer || found.key.as_str() != key.as_str() {
@@ -123,8 +133,13 @@ impl Cache {
         outcome: &Outcome,
         style: Style,
     )
-        ensures { (early requests : List Request) → Remembers early requests self.old → IsKeptIn requests (record { request = the_request filer.now key.now target body.now; outcome = view_outcome outcome.now })
-            → style ≡ style_of early (the_request filer.now key.now target body.now) → Remembers early requests self.new }
+        ensures { (early requests : List Request) → Remembers early requests self.old
+            → IsKeptIn requests (record {
+              request = the_request filer.now key.now target body.now;
+              outcome = view_outcome outcome.now;
+            })
+            → style ≡ style_of early (the_request filer.now key.now target body.now)
+            → Remembers early requests self.new }
     {
         if body.len() > MAX_CACHED_LEN {
             return;
@@ -164,7 +179,11 @@ fn answer_again(
     target: Option<u64>,
     body: &[u8],
 ) -> Result<Answer, AllocError>
-    ensures { (filer key : List ℕ) → IfOk result (λ a. (view_answer a ≡ answer_from (Some (kept_as filer key row.now)) (the_request filer key target body.now) true) × HasStyle row.now.style a) }
+    ensures { (filer key : List ℕ)
+        → IfOk result (λ a.
+        (view_answer a ≡ answer_from (Some (kept_as filer key row.now)) (the_request filer key target body.now)
+        true)
+        × HasStyle row.now.style a) }
 {
     if row.target != target || row.body.as_slice() != body {
         return Ok(Answer::KeyReused { style: row.style });

@@ -101,7 +101,8 @@ impl<S: Alter> Intake<S> {
         requires { limit ≤ 2 ^ 62 }
         ensures limit { limit_of result ≡ limit }
         ensures store { store_of result ≡ store }
-        ensures holds { (requests : List Request) → firsts requests ≡ requests → HasRequests S.Store store requests → Holds S.Store result requests }
+        ensures holds { (requests : List Request) → firsts requests ≡ requests → HasRequests S.Store store requests
+            → Holds S.Store result requests }
         ensures up { has_stopped result ≡ false }
     {
         Intake {
@@ -151,25 +152,37 @@ impl<S: Alter> Intake<S> {
         requires target { IsTarget target }
         requires body { length body.now ≤ max_body_len }
         ensures answer { IsClean S.Store self.new → (requests : List Request) → Holds S.Store self.old requests
-            → IfOk result (λ a. IsAnswerTo (early_in self.old requests) requests (the_request filer.now key.now target body.now) a × Holds S.Store self.new (firsts (requests ++ the_request filer.now key.now target body.now ∷ []))) }
+            → IfOk result (λ a.
+            IsAnswerTo (early_in self.old requests) requests (the_request filer.now key.now target body.now) a
+            × Holds S.Store self.new (firsts (requests ++ the_request filer.now key.now target body.now ∷ []))) }
 
         // Nothing changes where there is no answer, and the limit and the early requests never do.
-        ensures err { IsClean S.Store self.new → (requests : List Request) → Holds S.Store self.old requests → OnErr result (Holds S.Store self.new requests) }
+        ensures err { IsClean S.Store self.new → (requests : List Request) → Holds S.Store self.old requests
+            → OnErr result (Holds S.Store self.new requests) }
         ensures clean { IsClean S.Store self.new → IsClean S.Store self.old }
         ensures limit { limit_of self.new ≡ limit_of self.old }
         ensures early { early_of self.new ≡ early_of self.old }
 
         // Full comes for a new key alone, and always where the limit is reached.
-        ensures full { IsClean S.Store self.new → (requests : List Request) → Holds S.Store self.old requests → (k : ℕ) → result ≡ Err (Full k)
-            → (has_key requests (the_request filer.now key.now target body.now) ≡ false) × (limit_of self.old ≤ k) × (k ≡ length requests) }
+        ensures full { IsClean S.Store self.new → (requests : List Request) → Holds S.Store self.old requests → (k : ℕ)
+            → result ≡ Err (Full k)
+            → (has_key requests (the_request filer.now key.now target body.now) ≡ false) × (limit_of self.old ≤ k)
+            × (k ≡ length requests) }
         ensures room { IsClean S.Store self.new → (requests : List Request) → Holds S.Store self.old requests
-            → OnOk result (has_key requests (the_request filer.now key.now target body.now) ≡ false → length requests < limit_of self.old) }
+            → OnOk result (has_key requests (the_request filer.now key.now target body.now) ≡ false
+            → length requests < limit_of self.old) }
 
         // A crash leaves what one before the call could leave, or the requests with this one, and after an answer these alone.
-        ensures crash { Survives (shows S.Store self.old) (shows S.Store self.new) (λ trees. (requests : List Request) → Holds S.Store self.old requests → IsTrue (shows S.Store self.old).is_open
-            → Leaves (early_of self.old) (firsts (requests ++ the_request filer.now key.now target body.now ∷ [])) trees) }
-        ensures durable { IsClean S.Store self.new → (requests : List Request) → Holds S.Store self.old requests → IsTrue (shows S.Store self.old).is_open
-            → OnOk result (IsTrue (shows S.Store self.new).is_open × ((trees : Trees) → (shows S.Store self.new).may_leave trees → Leaves (early_of self.old) (firsts (requests ++ the_request filer.now key.now target body.now ∷ [])) trees)) }
+        ensures crash { Survives (shows S.Store self.old) (shows S.Store self.new) (λ trees.
+            (requests : List Request) → Holds S.Store self.old requests → IsTrue (shows S.Store self.old).is_open
+            → Leaves (early_of self.old) (firsts (requests ++ the_request filer.now key.now target body.now ∷ []))
+            trees) }
+        ensures durable { IsClean S.Store self.new → (requests : List Request) → Holds S.Store self.old requests
+            → IsTrue (shows S.Store self.old).is_open
+            → OnOk result (IsTrue (shows S.Store self.new).is_open
+            × ((trees : Trees) → (shows S.Store self.new).may_leave trees
+            → Leaves (early_of self.old)
+            (firsts (requests ++ the_request filer.now key.now target body.now ∷ [])) trees)) }
 
         // After a refusal of the database there is no other answer than that.
         ensures down { has_stopped self.old ≡ true → (result ≡ Err Down) × (self.new ≡ self.old) }
@@ -193,17 +206,22 @@ impl<S: Alter> Intake<S> {
 
     /// The filings of a filer, ascending by number. Full never comes here.
     pub fn list(&mut self, filer: &str) -> Result<Vec<FilingRow>, Unavailable>
-        ensures rows { IsClean S.Store self.new → (requests : List Request) → Holds S.Store self.old requests → IfOk result (λ rows. map view_row rows.items ≡ listings filer.now None (register requests)) }
+        ensures rows { IsClean S.Store self.new → (requests : List Request) → Holds S.Store self.old requests
+            → IfOk result (λ rows. map view_row rows.items ≡ listings filer.now None (register requests)) }
 
         // What is held stays, whatever the answer is.
-        ensures kept { IsClean S.Store self.new → (requests : List Request) → Holds S.Store self.old requests → Holds S.Store self.new requests }
+        ensures kept { IsClean S.Store self.new → (requests : List Request) → Holds S.Store self.old requests
+            → Holds S.Store self.new requests }
         ensures clean { IsClean S.Store self.new → IsClean S.Store self.old }
         ensures limit { limit_of self.new ≡ limit_of self.old }
         ensures early { early_of self.new ≡ early_of self.old }
 
         // A crash leaves what it could leave before.
         ensures crash { Survives (shows S.Store self.old) (shows S.Store self.new) (λ _. ⊥) }
-        ensures durable { IsClean S.Store self.new → (requests : List Request) → Holds S.Store self.old requests → OnOk result (IsTrue (shows S.Store self.new).is_open × ((trees : Trees) → (shows S.Store self.new).may_leave trees → Leaves (early_of self.old) requests trees)) }
+        ensures durable { IsClean S.Store self.new → (requests : List Request) → Holds S.Store self.old requests
+            → OnOk result (IsTrue (shows S.Store self.new).is_open
+            × ((trees : Trees) → (shows S.Store self.new).may_leave trees
+            → Leaves (early_of self.old) requests trees)) }
 
         // After a refusal of the database there is no other answer than that.
         ensures down { has_stopped self.old ≡ true → (result ≡ Err Down) × (self.new ≡ self.old) }
@@ -221,17 +239,22 @@ impl<S: Alter> Intake<S> {
 
     /// The registered requests under their numbers, ascending. Full never comes here.
     pub fn register(&mut self) -> Result<Vec<Registered>, Unavailable>
-        ensures rows { IsClean S.Store self.new → (requests : List Request) → Holds S.Store self.old requests → IfOk result (λ rows. rows.items ≡ register requests) }
+        ensures rows { IsClean S.Store self.new → (requests : List Request) → Holds S.Store self.old requests
+            → IfOk result (λ rows. rows.items ≡ register requests) }
 
         // What is held stays, whatever the answer is.
-        ensures kept { IsClean S.Store self.new → (requests : List Request) → Holds S.Store self.old requests → Holds S.Store self.new requests }
+        ensures kept { IsClean S.Store self.new → (requests : List Request) → Holds S.Store self.old requests
+            → Holds S.Store self.new requests }
         ensures clean { IsClean S.Store self.new → IsClean S.Store self.old }
         ensures limit { limit_of self.new ≡ limit_of self.old }
         ensures early { early_of self.new ≡ early_of self.old }
 
         // A crash leaves what it could leave before.
         ensures crash { Survives (shows S.Store self.old) (shows S.Store self.new) (λ _. ⊥) }
-        ensures durable { IsClean S.Store self.new → (requests : List Request) → Holds S.Store self.old requests → OnOk result (IsTrue (shows S.Store self.new).is_open × ((trees : Trees) → (shows S.Store self.new).may_leave trees → Leaves (early_of self.old) requests trees)) }
+        ensures durable { IsClean S.Store self.new → (requests : List Request) → Holds S.Store self.old requests
+            → OnOk result (IsTrue (shows S.Store self.new).is_open
+            × ((trees : Trees) → (shows S.Store self.new).may_leave trees
+            → Leaves (early_of self.old) requests trees)) }
 
         // After a refusal of the database there is no other answer than that.
         ensures down { has_stopped self.old ≡ true → (result ≡ Err Down) × (self.new ≡ self.old) }
@@ -262,9 +285,12 @@ impl<S: Alter> Intake<S> {
         body: &[u8],
     ) -> Option<Answer>
         ensures answer { (requests : List Request) → Holds S.Store self.old requests
-            → IfSome result (λ a. IsAnswerTo (early_in self.old requests) requests (the_request filer.now key.now target body.now) a × (has_key requests (the_request filer.now key.now target body.now) ≡ true)) }
+            → IfSome result (λ a.
+            IsAnswerTo (early_in self.old requests) requests (the_request filer.now key.now target body.now) a
+            × (has_key requests (the_request filer.now key.now target body.now) ≡ true)) }
         ensures same { (requests : List Request) → Holds S.Store self.old requests → Holds S.Store self.new requests }
-        ensures rest { (store_of self.new ≡ store_of self.old) × (limit_of self.new ≡ limit_of self.old) × (has_stopped self.new ≡ has_stopped self.old) }
+        ensures rest { (store_of self.new ≡ store_of self.old) × (limit_of self.new ≡ limit_of self.old)
+            × (has_stopped self.new ≡ has_stopped self.old) }
     {
         match &mut self.cache {
             Some(cache) => cache.recall(self.alloc, filer, target, key, body),
@@ -285,9 +311,15 @@ impl<S: Alter> Intake<S> {
         outcome: &Outcome,
         style: Style,
     )
-        ensures same { (requests : List Request) → Holds S.Store self.old requests → IsKeptIn requests (record { request = the_request filer.now key.now target body.now; outcome = view_outcome outcome.now })
-            → style ≡ style_of (early_in self.old requests) (the_request filer.now key.now target body.now) → Holds S.Store self.new requests }
-        ensures rest { (store_of self.new ≡ store_of self.old) × (limit_of self.new ≡ limit_of self.old) × (has_stopped self.new ≡ has_stopped self.old) }
+        ensures same { (requests : List Request) → Holds S.Store self.old requests
+            → IsKeptIn requests (record {
+              request = the_request filer.now key.now target body.now;
+              outcome = view_outcome outcome.now;
+            })
+            → style ≡ style_of (early_in self.old requests) (the_request filer.now key.now target body.now)
+            → Holds S.Store self.new requests }
+        ensures rest { (store_of self.new ≡ store_of self.old) × (limit_of self.new ≡ limit_of self.old)
+            × (has_stopped self.new ≡ has_stopped self.old) }
     {
         if let Some(cache) = &mut self.cache {
             cache.remember(self.alloc, filer, target, key, body, outcome, style);
@@ -306,19 +338,28 @@ impl<S: Alter> Intake<S> {
         requires target { IsTarget target }
         requires body { length body.now ≤ max_body_len }
         ensures answer { IsClean S.Store self.new → (requests : List Request) → Holds S.Store self.old requests
-            → IfOk result (λ a. IsAnswerTo (early_in self.old requests) requests (the_request filer.now key.now target body.now) a × Holds S.Store self.new (firsts (requests ++ the_request filer.now key.now target body.now ∷ []))) }
-        ensures err { IsClean S.Store self.new → (requests : List Request) → Holds S.Store self.old requests → OnErr result (Holds S.Store self.new requests) }
+            → IfOk result (λ a.
+            IsAnswerTo (early_in self.old requests) requests (the_request filer.now key.now target body.now) a
+            × Holds S.Store self.new (firsts (requests ++ the_request filer.now key.now target body.now ∷ []))) }
+        ensures err { IsClean S.Store self.new → (requests : List Request) → Holds S.Store self.old requests
+            → OnErr result (Holds S.Store self.new requests) }
         ensures clean { IsClean S.Store self.new → IsClean S.Store self.old }
         ensures limit { (limit_of self.new ≡ limit_of self.old) × (has_stopped self.new ≡ has_stopped self.old) }
         ensures early { early_of self.new ≡ early_of self.old }
-        ensures full { IsClean S.Store self.new → (requests : List Request) → Holds S.Store self.old requests → (k : ℕ) → result ≡ Err (Full k)
-            → (has_key requests (the_request filer.now key.now target body.now) ≡ false) × (limit_of self.old ≤ k) × (k ≡ length requests) }
+        ensures full { IsClean S.Store self.new → (requests : List Request) → Holds S.Store self.old requests → (k : ℕ)
+            → result ≡ Err (Full k)
+            → (has_key requests (the_request filer.now key.now target body.now) ≡ false) × (limit_of self.old ≤ k)
+            × (k ≡ length requests) }
         ensures room { IsClean S.Store self.new → (requests : List Request) → Holds S.Store self.old requests
-            → OnOk result (has_key requests (the_request filer.now key.now target body.now) ≡ false → length requests < limit_of self.old) }
+            → OnOk result (has_key requests (the_request filer.now key.now target body.now) ≡ false
+            → length requests < limit_of self.old) }
         ensures running { result ≢ Err Down }
-        ensures crash { Survives (shows S.Store self.old) (shows S.Store self.new) (λ trees. (requests : List Request) → Holds S.Store self.old requests → IsTrue (shows S.Store self.old).is_open
-            → Leaves (early_of self.old) (firsts (requests ++ the_request filer.now key.now target body.now ∷ [])) trees) }
-        ensures open { IsClean S.Store self.new → (requests : List Request) → Holds S.Store self.old requests → OnOk result (IsTrue (shows S.Store self.new).is_open) }
+        ensures crash { Survives (shows S.Store self.old) (shows S.Store self.new) (λ trees.
+            (requests : List Request) → Holds S.Store self.old requests → IsTrue (shows S.Store self.old).is_open
+            → Leaves (early_of self.old) (firsts (requests ++ the_request filer.now key.now target body.now ∷ []))
+            trees) }
+        ensures open { IsClean S.Store self.new → (requests : List Request) → Holds S.Store self.old requests
+            → OnOk result (IsTrue (shows S.Store self.new).is_open) }
     {
         match self.store.find(filer, key)? {
             Some(row) => Ok(self.repeat(filer, target, key, body, row)),
@@ -335,10 +376,15 @@ impl<S: Alter> Intake<S> {
         body: &[u8],
         row: KeptRow,
     ) -> Answer
-        ensures answer { (view_answer result ≡ answer_from (Some (kept_as filer.now key.now row)) (the_request filer.now key.now target body.now) true) × HasStyle row.style result }
-        ensures same { (requests : List Request) → Holds S.Store self.old requests → IsKeptIn requests (kept_as filer.now key.now row)
-            → row.style ≡ style_of (early_in self.old requests) (the_request filer.now key.now target body.now) → Holds S.Store self.new requests }
-        ensures rest { (store_of self.new ≡ store_of self.old) × (limit_of self.new ≡ limit_of self.old) × (has_stopped self.new ≡ has_stopped self.old) }
+        ensures answer { (view_answer result ≡ answer_from (Some (kept_as filer.now key.now row))
+            (the_request filer.now key.now target body.now) true)
+            × HasStyle row.style result }
+        ensures same { (requests : List Request) → Holds S.Store self.old requests
+            → IsKeptIn requests (kept_as filer.now key.now row)
+            → row.style ≡ style_of (early_in self.old requests) (the_request filer.now key.now target body.now)
+            → Holds S.Store self.new requests }
+        ensures rest { (store_of self.new ≡ store_of self.old) × (limit_of self.new ≡ limit_of self.old)
+            × (has_stopped self.new ≡ has_stopped self.old) }
     {
         self.remember(filer, row.target, key, &row.body, &row.outcome, row.style);
         if row.target == target && row.body.as_slice() == body {
@@ -350,15 +396,18 @@ impl<S: Alter> Intake<S> {
 
     /// Whether a request that is to replace this filing of the filer may do so; one without a target may.
     fn is_free(&mut self, filer: &str, target: Option<u64>) -> Result<bool, Unavailable>
-        ensures answer { IsClean S.Store self.new → (requests : List Request) → Holds S.Store self.old requests → IfOk result (λ free. free ≡ is_free (register requests) filer.now target) }
-        ensures same { IsClean S.Store self.new → (requests : List Request) → Holds S.Store self.old requests → Holds S.Store self.new requests }
+        ensures answer { IsClean S.Store self.new → (requests : List Request) → Holds S.Store self.old requests
+            → IfOk result (λ free. free ≡ is_free (register requests) filer.now target) }
+        ensures same { IsClean S.Store self.new → (requests : List Request) → Holds S.Store self.old requests
+            → Holds S.Store self.new requests }
         ensures clean { IsClean S.Store self.new → IsClean S.Store self.old }
         ensures limit { (limit_of self.new ≡ limit_of self.old) × (has_stopped self.new ≡ has_stopped self.old) }
         ensures early { early_of self.new ≡ early_of self.old }
         ensures count { (store_of self.new).kept ≡ (store_of self.old).kept }
         ensures running { (result ≢ Err Down) × ((k : ℕ) → result ≢ Err (Full k)) }
         ensures crash { Survives (shows S.Store self.old) (shows S.Store self.new) (λ _. ⊥) }
-        ensures open { IsClean S.Store self.new → (requests : List Request) → Holds S.Store self.old requests → IsTrue (shows S.Store self.old).is_open → OnOk result (IsTrue (shows S.Store self.new).is_open) }
+        ensures open { IsClean S.Store self.new → (requests : List Request) → Holds S.Store self.old requests
+            → IsTrue (shows S.Store self.old).is_open → OnOk result (IsTrue (shows S.Store self.new).is_open) }
     {
         match target {
             None => Ok(true),
@@ -379,19 +428,27 @@ impl<S: Alter> Intake<S> {
         requires target { IsTarget target }
         requires body { length body.now ≤ max_body_len }
         requires room { (store_of self.old).kept < 2 ^ 62 }
-        ensures answer { IsClean S.Store self.new → (requests : List Request) → Holds S.Store self.old requests → has_key requests (the_request filer.now key.now target body.now) ≡ false
+        ensures answer { IsClean S.Store self.new → (requests : List Request) → Holds S.Store self.old requests
+            → has_key requests (the_request filer.now key.now target body.now) ≡ false
             → free ≡ is_free (register requests) filer.now target
-            → IfOk result (λ a. IsAnswerTo (early_in self.old requests) requests (the_request filer.now key.now target body.now) a × Holds S.Store self.new (requests ++ the_request filer.now key.now target body.now ∷ [])) }
-        ensures err { IsClean S.Store self.new → (requests : List Request) → Holds S.Store self.old requests → OnErr result (Holds S.Store self.new requests) }
+            → IfOk result (λ a.
+            IsAnswerTo (early_in self.old requests) requests (the_request filer.now key.now target body.now) a
+            × Holds S.Store self.new (requests ++ the_request filer.now key.now target body.now ∷ [])) }
+        ensures err { IsClean S.Store self.new → (requests : List Request) → Holds S.Store self.old requests
+            → OnErr result (Holds S.Store self.new requests) }
         ensures clean { IsClean S.Store self.new → IsClean S.Store self.old }
         ensures limit { (limit_of self.new ≡ limit_of self.old) × (has_stopped self.new ≡ has_stopped self.old) }
         ensures early { early_of self.new ≡ early_of self.old }
         ensures running { (result ≢ Err Down) × ((k : ℕ) → result ≢ Err (Full k)) }
-        ensures crash { Survives (shows S.Store self.old) (shows S.Store self.new) (λ trees. (requests : List Request) → Holds S.Store self.old requests → IsTrue (shows S.Store self.old).is_open
-            → has_key requests (the_request filer.now key.now target body.now) ≡ false → free ≡ is_free (register requests) filer.now target
+        ensures crash { Survives (shows S.Store self.old) (shows S.Store self.new) (λ trees.
+            (requests : List Request) → Holds S.Store self.old requests → IsTrue (shows S.Store self.old).is_open
+            → has_key requests (the_request filer.now key.now target body.now) ≡ false
+            → free ≡ is_free (register requests) filer.now target
             → Leaves (early_of self.old) (requests ++ the_request filer.now key.now target body.now ∷ []) trees) }
-        ensures open { IsClean S.Store self.new → (requests : List Request) → Holds S.Store self.old requests → has_key requests (the_request filer.now key.now target body.now) ≡ false
-            → free ≡ is_free (register requests) filer.now target → OnOk result (IsTrue (shows S.Store self.new).is_open) }
+        ensures open { IsClean S.Store self.new → (requests : List Request) → Holds S.Store self.old requests
+            → has_key requests (the_request filer.now key.now target body.now) ≡ false
+            → free ≡ is_free (register requests) filer.now target
+            → OnOk result (IsTrue (shows S.Store self.new).is_open) }
     {
         let judged = judge_amendment(self.alloc, filer, body, free)?;
         let outcome = self.store.add(&NewRow {
@@ -416,18 +473,28 @@ impl<S: Alter> Intake<S> {
         requires filer { is_filer filer.now ≡ true }
         requires target { IsTarget target }
         requires body { length body.now ≤ max_body_len }
-        ensures answer { IsClean S.Store self.new → (requests : List Request) → Holds S.Store self.old requests → has_key requests (the_request filer.now key.now target body.now) ≡ false
-            → IfOk result (λ a. IsAnswerTo (early_in self.old requests) requests (the_request filer.now key.now target body.now) a × Holds S.Store self.new (requests ++ the_request filer.now key.now target body.now ∷ [])) }
-        ensures err { IsClean S.Store self.new → (requests : List Request) → Holds S.Store self.old requests → OnErr result (Holds S.Store self.new requests) }
+        ensures answer { IsClean S.Store self.new → (requests : List Request) → Holds S.Store self.old requests
+            → has_key requests (the_request filer.now key.now target body.now) ≡ false
+            → IfOk result (λ a.
+            IsAnswerTo (early_in self.old requests) requests (the_request filer.now key.now target body.now) a
+            × Holds S.Store self.new (requests ++ the_request filer.now key.now target body.now ∷ [])) }
+        ensures err { IsClean S.Store self.new → (requests : List Request) → Holds S.Store self.old requests
+            → OnErr result (Holds S.Store self.new requests) }
         ensures clean { IsClean S.Store self.new → IsClean S.Store self.old }
         ensures limit { (limit_of self.new ≡ limit_of self.old) × (has_stopped self.new ≡ has_stopped self.old) }
         ensures early { early_of self.new ≡ early_of self.old }
-        ensures full { (requests : List Request) → Holds S.Store self.old requests → (k : ℕ) → result ≡ Err (Full k) → (limit_of self.old ≤ k) × (k ≡ length requests) }
-        ensures room { (requests : List Request) → Holds S.Store self.old requests → OnOk result (length requests < limit_of self.old) }
+        ensures full { (requests : List Request) → Holds S.Store self.old requests → (k : ℕ) → result ≡ Err (Full k)
+            → (limit_of self.old ≤ k) × (k ≡ length requests) }
+        ensures room { (requests : List Request) → Holds S.Store self.old requests
+            → OnOk result (length requests < limit_of self.old) }
         ensures running { result ≢ Err Down }
-        ensures crash { Survives (shows S.Store self.old) (shows S.Store self.new) (λ trees. (requests : List Request) → Holds S.Store self.old requests → IsTrue (shows S.Store self.old).is_open
-            → has_key requests (the_request filer.now key.now target body.now) ≡ false → Leaves (early_of self.old) (requests ++ the_request filer.now key.now target body.now ∷ []) trees) }
-        ensures open { IsClean S.Store self.new → (requests : List Request) → Holds S.Store self.old requests → has_key requests (the_request filer.now key.now target body.now) ≡ false → OnOk result (IsTrue (shows S.Store self.new).is_open) }
+        ensures crash { Survives (shows S.Store self.old) (shows S.Store self.new) (λ trees.
+            (requests : List Request) → Holds S.Store self.old requests → IsTrue (shows S.Store self.old).is_open
+            → has_key requests (the_request filer.now key.now target body.now) ≡ false
+            → Leaves (early_of self.old) (requests ++ the_request filer.now key.now target body.now ∷ []) trees) }
+        ensures open { IsClean S.Store self.new → (requests : List Request) → Holds S.Store self.old requests
+            → has_key requests (the_request filer.now key.now target body.now) ≡ false
+            → OnOk result (IsTrue (shows S.Store self.new).is_open) }
     {
         let kept = self.store.kept_count()?;
         if kept >= self.limit.keys {

@@ -24,7 +24,8 @@ use std::alloc::{AllocError, Global};
 /// the same.
 #[tactic(auto, using(register_store::proofs::Floats::answer_data_no_float), unfolding(filing_model::specs::Reply::reply_as))]
 pub fn reply_of(alloc: Global, answer: &Answer) -> Result<Reply, AllocError>
-    ensures { (style : Style) → HasStyle style answer.now → IfOk result (λ r. reply_parts r ≡ reply_as style (view_answer answer.now)) }
+    ensures { (style : Style) → HasStyle style answer.now
+        → IfOk result (λ r. reply_parts r ≡ reply_as style (view_answer answer.now)) }
 {
     let content = answer_value(alloc, answer)?;
     reply_with(alloc, answer_status(answer), &content, answer_kind(answer))
@@ -52,7 +53,8 @@ pub fn word_reply(alloc: Global, status: u16, word: &str) -> Result<Reply, Alloc
 /// The reply whose content is the compact text of a value.
 fn reply_with(alloc: Global, status: u16, content: &Value, kind: Kind) -> Result<Reply, AllocError>
     requires { has_float (view content.now) ≡ false }
-    ensures { IfOk result (λ r. reply_parts r ≡ record { status = status; content = compact_text (view content.now); kind = kind }) }
+    ensures { IfOk result (λ r.
+        reply_parts r ≡ record { status = status; content = compact_text (view content.now); kind = kind }) }
 {
     Ok(Reply {
         status,

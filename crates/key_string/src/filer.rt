@@ -16,7 +16,8 @@ pub fn is_filer(text: &str) -> bool
 
 /// The filer code that the bytes are, or `None` where they are none (own rule, as for `is_filer`).
 pub fn read_filer(bytes: &[u8]) -> Option<&str>
-    ensures { MatchOption result (is_filer bytes.now ≡ false) (λ filer. (filer.now ≡ bytes.now) × (is_filer bytes.now ≡ true)) }
+    ensures { MatchOption result (is_filer bytes.now ≡ false) (λ filer.
+        (filer.now ≡ bytes.now) × (is_filer bytes.now ≡ true)) }
 {
     match str::from_utf8(bytes) {
         Ok(text) => is_filer(text).then_some(text),

@@ -136,7 +136,10 @@ fn is_sound(id: u64, row: &Row, said: Said) -> bool
 /// The first row that is not sound as that of the entry of its count, which is from 1.
 fn first_damaged(rows: &[Row], said: &[Said]) -> Option<u64>
     requires { length said.now ≡ length rows.now }
-    ensures { (targets : List Stored) → ((place : ℕ) (d : Said) → place < length rows.now → get_or said.now place d ≡ said_by (with_id (suc place) targets)) → result ≡ first_damaged targets 1 rows.now }
+    ensures { (targets : List Stored)
+        → ((place : ℕ) (d : Said) → place < length rows.now
+        → get_or said.now place d ≡ said_by (with_id (suc place) targets))
+        → result ≡ first_damaged targets 1 rows.now }
 {
     let mut id = 0;
     for at in 0..rows.len() {

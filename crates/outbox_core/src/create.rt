@@ -34,8 +34,12 @@ pub(crate) fn run<S: Alter>(
     params: &[ValueRef<'_>],
 ) -> Result<(), Error>
     ensures same_reference { tx.new.conn.ghost_name ≡ tx.old.conn.ghost_name }
-    ensures ran { HasCleanDisk (state S.Store tx.new.conn.now) → OnOk result ((count : ℕ) × ExecutesInside 0 sql.now (bound params.now) (state S.Store tx.old.conn.now) (state S.Store tx.new.conn.now) (Ok count)) }
-    ensures keeps { HasCleanDisk (state S.Store tx.new.conn.now) → KeepsCommit (state S.Store tx.old.conn.now) (state S.Store tx.new.conn.now) }
+    ensures ran { HasCleanDisk (state S.Store tx.new.conn.now)
+        → OnOk result ((count : ℕ)
+        × ExecutesInside 0 sql.now (bound params.now) (state S.Store tx.old.conn.now)
+        (state S.Store tx.new.conn.now) (Ok count)) }
+    ensures keeps { HasCleanDisk (state S.Store tx.new.conn.now)
+        → KeepsCommit (state S.Store tx.old.conn.now) (state S.Store tx.new.conn.now) }
     ensures survives { Survives (state S.Store tx.old.conn.now) (state S.Store tx.new.conn.now) (λ _. ⊥) }
 {
     tx.execute(sql, params)?;
@@ -44,8 +48,10 @@ pub(crate) fn run<S: Alter>(
 
 fn make_tables<S: Alter>(tx: &mut Transaction<'_, S>, filer: &str) -> Result<(), Error>
     ensures same_reference { tx.new.conn.ghost_name ≡ tx.old.conn.ghost_name }
-    ensures ran { HasCleanDisk (state S.Store tx.new.conn.now) → OnOk result (RunsAll S.Store filer.now tx.old.conn.now tx.new.conn.now) }
-    ensures keeps { HasCleanDisk (state S.Store tx.new.conn.now) → KeepsCommit (state S.Store tx.old.conn.now) (state S.Store tx.new.conn.now) }
+    ensures ran { HasCleanDisk (state S.Store tx.new.conn.now)
+        → OnOk result (RunsAll S.Store filer.now tx.old.conn.now tx.new.conn.now) }
+    ensures keeps { HasCleanDisk (state S.Store tx.new.conn.now)
+        → KeepsCommit (state S.Store tx.old.conn.now) (state S.Store tx.new.conn.now) }
     ensures survives { Survives (state S.Store tx.old.conn.now) (state S.Store tx.new.conn.now) (λ _. ⊥) }
 {
     run(
@@ -75,11 +81,18 @@ fn make<S: Alter>(conn: &mut Connection<S>, filer: &str) -> Result<(), Error>
     requires autocommit { conn.old.in_transaction ≡ false }
     requires filer { is_filer filer.now ≡ true }
     ensures autocommit { conn.new.in_transaction ≡ false }
-    ensures ran { HasCleanDisk (state S.Store conn.new) → OnOk result (AreMade S.Store filer.now conn.old (state S.Store conn.new).now.trees) }
-    ensures made { HasCleanDisk (state S.Store conn.new) → (state S.Store conn.old).now.schema ≡ no_schema → OnOk result (IsOutboxOf (empty filer.now) (state S.Store conn.new).now) }
-    ensures committed { HasCleanDisk (state S.Store conn.new) → OnOk result (IsTrue (state S.Store conn.new).is_open × ((state S.Store conn.new).committed ≡ (state S.Store conn.new).now)) }
-    ensures durable { HasCleanDisk (state S.Store conn.new) → OnOk result ((trees : Trees) → (state S.Store conn.new).may_leave trees → trees ≡ (state S.Store conn.new).now.trees) }
-    ensures undone { HasCleanDisk (state S.Store conn.new) → OnErr result (KeepsCommit (state S.Store conn.old) (state S.Store conn.new)) }
+    ensures ran { HasCleanDisk (state S.Store conn.new)
+        → OnOk result (AreMade S.Store filer.now conn.old (state S.Store conn.new).now.trees) }
+    ensures made { HasCleanDisk (state S.Store conn.new) → (state S.Store conn.old).now.schema ≡ no_schema
+        → OnOk result (IsOutboxOf (empty filer.now) (state S.Store conn.new).now) }
+    ensures committed { HasCleanDisk (state S.Store conn.new)
+        → OnOk result (IsTrue (state S.Store conn.new).is_open
+        × ((state S.Store conn.new).committed ≡ (state S.Store conn.new).now)) }
+    ensures durable { HasCleanDisk (state S.Store conn.new)
+        → OnOk result ((trees : Trees) → (state S.Store conn.new).may_leave trees
+        → trees ≡ (state S.Store conn.new).now.trees) }
+    ensures undone { HasCleanDisk (state S.Store conn.new)
+        → OnErr result (KeepsCommit (state S.Store conn.old) (state S.Store conn.new)) }
     ensures crash { Survives (state S.Store conn.old) (state S.Store conn.new) (AreMade S.Store filer.now conn.old) }
 {
     let mut tx = conn.transaction();
@@ -97,22 +110,33 @@ pub fn make_outbox<S: Alter>(
     requires autocommit { conn.old.in_transaction ≡ false }
     ensures autocommit { conn.new.in_transaction ≡ false }
     ensures code { IfOk result (λ code. string_bytes code ≡ filer.now) }
-    ensures made { HasCleanDisk (state S.Store conn.new) → (state S.Store conn.old).now.schema ≡ no_schema → OnOk result (IsOutboxOf (empty filer.now) (state S.Store conn.new).now) }
-    ensures committed { HasCleanDisk (state S.Store conn.new) → OnOk result (IsTrue (state S.Store conn.new).is_open × ((state S.Store conn.new).committed ≡ (state S.Store conn.new).now)) }
+    ensures made { HasCleanDisk (state S.Store conn.new) → (state S.Store conn.old).now.schema ≡ no_schema
+        → OnOk result (IsOutboxOf (empty filer.now) (state S.Store conn.new).now) }
+    ensures committed { HasCleanDisk (state S.Store conn.new)
+        → OnOk result (IsTrue (state S.Store conn.new).is_open
+        × ((state S.Store conn.new).committed ≡ (state S.Store conn.new).now)) }
 
     // BadFiler comes where the text is no filer code, and always there; Taken where it is one and one of the names is in
     // use, and always there. Neither touches the connection.
     ensures bad_filer { (result ≡ Err OutboxFault.BadFiler) ↔ (is_filer filer.now ≡ false) }
-    ensures taken { (result ≡ Err OutboxFault.Taken) ↔ ((is_filer filer.now ≡ true) × IsTrue (is_taken (state S.Store conn.old).now.schema)) }
+    ensures taken { (result ≡ Err OutboxFault.Taken)
+        ↔ ((is_filer filer.now ≡ true) × IsTrue (is_taken (state S.Store conn.old).now.schema)) }
     ensures untouched { (result ≡ Err OutboxFault.BadFiler) ⊎ (result ≡ Err OutboxFault.Taken) → conn.new ≡ conn.old }
-    ensures no_other { IfErr result (λ fault. (fault ≢ OutboxFault.NotOurs) × ((row : _) → fault ≢ OutboxFault.Damaged row)) }
+    ensures no_other { IfErr result (λ fault.
+        (fault ≢ OutboxFault.NotOurs) × ((row : _) → fault ≢ OutboxFault.Damaged row)) }
 
     // Whatever tables there were: the four statements are committed together; on a refusal what is committed is what was
     // committed; and a crash leaves what one before the call could leave, or all four, and after Ok these alone.
-    ensures ran { HasCleanDisk (state S.Store conn.new) → OnOk result (AreMade S.Store filer.now conn.old (state S.Store conn.new).now.trees) }
-    ensures undone { HasCleanDisk (state S.Store conn.new) → OnErr result (KeepsCommit (state S.Store conn.old) (state S.Store conn.new)) }
-    ensures crash { Survives (state S.Store conn.old) (state S.Store conn.new) (λ trees. AreMade S.Store filer.now conn.old trees × ((state S.Store conn.old).now.schema ≡ no_schema → Leaves (empty filer.now) trees)) }
-    ensures durable { HasCleanDisk (state S.Store conn.new) → OnOk result ((trees : Trees) → (state S.Store conn.new).may_leave trees → trees ≡ (state S.Store conn.new).now.trees) }
+    ensures ran { HasCleanDisk (state S.Store conn.new)
+        → OnOk result (AreMade S.Store filer.now conn.old (state S.Store conn.new).now.trees) }
+    ensures undone { HasCleanDisk (state S.Store conn.new)
+        → OnErr result (KeepsCommit (state S.Store conn.old) (state S.Store conn.new)) }
+    ensures crash { Survives (state S.Store conn.old) (state S.Store conn.new) (λ trees.
+        AreMade S.Store filer.now conn.old trees
+        × ((state S.Store conn.old).now.schema ≡ no_schema → Leaves (empty filer.now) trees)) }
+    ensures durable { HasCleanDisk (state S.Store conn.new)
+        → OnOk result ((trees : Trees) → (state S.Store conn.new).may_leave trees
+        → trees ≡ (state S.Store conn.new).now.trees) }
 {
     if !is_filer(filer) {
         return Err(OutboxFault::BadFiler);

@@ -105,7 +105,9 @@ impl Entry {
 
 /// The state of a row of the columns `id`, `idem`, `body`, `state` and `number`.
 pub(crate) fn state_in(row: &Row) -> Result<State, StoreFault>
-    ensures { IfOk result (λ state. (column row.now 3 ≡ Int (pos (code_of (view_state state)))) × (column row.now 4 ≡ number_of (view_state state))) }
+    ensures { IfOk result (λ state.
+        (column row.now 3 ≡ Int (pos (code_of (view_state state))))
+        × (column row.now 4 ≡ number_of (view_state state))) }
 {
     let code = row.get(3)?;
     let number = row.get(4)?;

@@ -51,16 +51,25 @@ pub(crate) fn filer_of<S: Alter>(
 ) -> Result<String, OutboxFault>
     requires { form < 2 ^ 63 }
     ensures found { HasCleanDisk (state S.Store conn.new) → HasCommon (state S.Store conn.old).now.schema
-        → IfOk result (λ filer. Holds (state S.Store conn.old).now meta_table (form_row form (string_bytes filer) ∷ []) × (is_filer (string_bytes filer) ≡ true) × IsUnchanged (state S.Store conn.old) (state S.Store conn.new)) }
+        → IfOk result (λ filer.
+        Holds (state S.Store conn.old).now meta_table (form_row form (string_bytes filer) ∷ [])
+        × (is_filer (string_bytes filer) ≡ true) × IsUnchanged (state S.Store conn.old) (state S.Store conn.new)) }
     ensures code { IfOk result (λ filer. is_filer (string_bytes filer) ≡ true) }
-    ensures read { HasCleanDisk (state S.Store conn.new) → OnOk result (ReadsFiler form (state S.Store conn.old) (state S.Store conn.new)) }
-    ensures not_ours { HasCleanDisk (state S.Store conn.new) → result ≡ Err OutboxFault.NotOurs → IsNoOutbox form (state S.Store conn.old) (state S.Store conn.new) }
-    ensures disk { HasCleanDisk (state S.Store conn.new) → result ≡ Err OutboxFault.Disk → StopsFor cause.Disk meta_text (state S.Store conn.old) (state S.Store conn.new) }
-    ensures others { IfErr result (λ fault. (fault ≡ OutboxFault.NotOurs) ⊎ ((fault ≡ OutboxFault.Memory) ⊎ (fault ≡ OutboxFault.Disk))) }
-    ensures ours { HasCleanDisk (state S.Store conn.new) → (filer : List ℕ) → HasCommon (state S.Store conn.old).now.schema → Holds (state S.Store conn.old).now meta_table (form_row form filer ∷ [])
-        → is_filer filer ≡ true → (state S.Store conn.old).step_limit ≡ None
+    ensures read { HasCleanDisk (state S.Store conn.new)
+        → OnOk result (ReadsFiler form (state S.Store conn.old) (state S.Store conn.new)) }
+    ensures not_ours { HasCleanDisk (state S.Store conn.new) → result ≡ Err OutboxFault.NotOurs
+        → IsNoOutbox form (state S.Store conn.old) (state S.Store conn.new) }
+    ensures disk { HasCleanDisk (state S.Store conn.new) → result ≡ Err OutboxFault.Disk
+        → StopsFor cause.Disk meta_text (state S.Store conn.old) (state S.Store conn.new) }
+    ensures others { IfErr result (λ fault.
+        (fault ≡ OutboxFault.NotOurs) ⊎ ((fault ≡ OutboxFault.Memory) ⊎ (fault ≡ OutboxFault.Disk))) }
+    ensures ours { HasCleanDisk (state S.Store conn.new) → (filer : List ℕ)
+        → HasCommon (state S.Store conn.old).now.schema
+        → Holds (state S.Store conn.old).now meta_table (form_row form filer ∷ []) → is_filer filer ≡ true
+        → (state S.Store conn.old).step_limit ≡ None
         → IfErr result (λ fault. (fault ≡ OutboxFault.Memory) ⊎ (fault ≡ OutboxFault.Disk)) }
-    ensures kept { HasCleanDisk (state S.Store conn.new) → KeepsCommit (state S.Store conn.old) (state S.Store conn.new) }
+    ensures kept { HasCleanDisk (state S.Store conn.new)
+        → KeepsCommit (state S.Store conn.old) (state S.Store conn.new) }
     ensures limit { conn.new.step_limit ≡ conn.old.step_limit }
     ensures crash { Survives (state S.Store conn.old) (state S.Store conn.new) (λ _. ⊥) }
     ensures mode { conn.old.in_transaction ≡ false → conn.new.in_transaction ≡ false }
@@ -78,14 +87,24 @@ pub(crate) fn filer_of<S: Alter>(
 /// The rows of `target`.
 fn read_targets<S: Alter>(conn: &mut Connection<S>) -> Result<Vec<Row>, OutboxFault>
     ensures held { HasCleanDisk (state S.Store conn.new) → IsDeclared (state S.Store conn.old).now.schema
-        → IfOk result (λ targets. Holds (state S.Store conn.old).now target_table targets.items × IsUnchanged (state S.Store conn.old) (state S.Store conn.new)) }
-    ensures shown { HasCleanDisk (state S.Store conn.new) → IfOk result (λ targets. Shown targets_text [] (state S.Store conn.old) (state S.Store conn.new) targets.items) }
-    ensures damaged { HasCleanDisk (state S.Store conn.new) → (row : _) → result ≡ Err (OutboxFault.Damaged row) → (row ≡ 0) × StopsFor cause.Other targets_text (state S.Store conn.old) (state S.Store conn.new) }
-    ensures disk { HasCleanDisk (state S.Store conn.new) → result ≡ Err OutboxFault.Disk → StopsFor cause.Disk targets_text (state S.Store conn.old) (state S.Store conn.new) }
-    ensures others { IfErr result (λ fault. ((row : _) × (fault ≡ OutboxFault.Damaged row)) ⊎ ((fault ≡ OutboxFault.Memory) ⊎ (fault ≡ OutboxFault.Disk))) }
-    ensures whole { HasCleanDisk (state S.Store conn.new) → (it : Contents) → IsOutboxOf it (state S.Store conn.old).now → (state S.Store conn.old).step_limit ≡ None
+        → IfOk result (λ targets.
+        Holds (state S.Store conn.old).now target_table targets.items
+        × IsUnchanged (state S.Store conn.old) (state S.Store conn.new)) }
+    ensures shown { HasCleanDisk (state S.Store conn.new)
+        → IfOk result (λ targets.
+        Shown targets_text [] (state S.Store conn.old) (state S.Store conn.new) targets.items) }
+    ensures damaged { HasCleanDisk (state S.Store conn.new) → (row : _) → result ≡ Err (OutboxFault.Damaged row)
+        → (row ≡ 0) × StopsFor cause.Other targets_text (state S.Store conn.old) (state S.Store conn.new) }
+    ensures disk { HasCleanDisk (state S.Store conn.new) → result ≡ Err OutboxFault.Disk
+        → StopsFor cause.Disk targets_text (state S.Store conn.old) (state S.Store conn.new) }
+    ensures others { IfErr result (λ fault.
+        ((row : _) × (fault ≡ OutboxFault.Damaged row))
+        ⊎ ((fault ≡ OutboxFault.Memory) ⊎ (fault ≡ OutboxFault.Disk))) }
+    ensures whole { HasCleanDisk (state S.Store conn.new) → (it : Contents) → IsOutboxOf it (state S.Store conn.old).now
+        → (state S.Store conn.old).step_limit ≡ None
         → IfErr result (λ fault. (fault ≡ OutboxFault.Memory) ⊎ (fault ≡ OutboxFault.Disk)) }
-    ensures kept { HasCleanDisk (state S.Store conn.new) → KeepsCommit (state S.Store conn.old) (state S.Store conn.new) }
+    ensures kept { HasCleanDisk (state S.Store conn.new)
+        → KeepsCommit (state S.Store conn.old) (state S.Store conn.new) }
     ensures limit { conn.new.step_limit ≡ conn.old.step_limit }
     ensures crash { Survives (state S.Store conn.old) (state S.Store conn.new) (λ _. ⊥) }
     ensures mode { conn.old.in_transaction ≡ false → conn.new.in_transaction ≡ false }
@@ -103,17 +122,31 @@ pub(crate) fn count_entries<S: Alter>(
     conn: &mut Connection<S>,
     targets: &[Row],
 ) -> Result<u64, OutboxFault>
-    ensures counted { HasCleanDisk (state S.Store conn.new) → HasCommon (state S.Store conn.old).now.schema → AllByRecursion IsPair targets.now
-        → IfOk result (λ count. (entries : List Item) × Holds (state S.Store conn.old).now entry_table (entry_rows entries) × IsPermutation (target_rows entries) targets.now
-        × AllByRecursion IsKept entries × (count ≡ length entries) × IsUnchanged (state S.Store conn.old) (state S.Store conn.new)) }
-    ensures damaged { HasCleanDisk (state S.Store conn.new) → (row : _) → result ≡ Err (OutboxFault.Damaged row) → IsDamagedAt targets.now row (state S.Store conn.old) (state S.Store conn.new) }
-    ensures read { HasCleanDisk (state S.Store conn.new) → OnOk result ((rows : List Stored) × Shown entries_text [] (state S.Store conn.old) (state S.Store conn.new) rows × (damaged_row targets.now rows ≡ None)) }
-    ensures disk { HasCleanDisk (state S.Store conn.new) → result ≡ Err OutboxFault.Disk → StopsFor cause.Disk entries_text (state S.Store conn.old) (state S.Store conn.new) }
-    ensures others { IfErr result (λ fault. ((row : _) × (fault ≡ OutboxFault.Damaged row)) ⊎ ((fault ≡ OutboxFault.Memory) ⊎ (fault ≡ OutboxFault.Disk))) }
+    ensures counted { HasCleanDisk (state S.Store conn.new) → HasCommon (state S.Store conn.old).now.schema
+        → AllByRecursion IsPair targets.now
+        → IfOk result (λ count.
+        (entries : List Item) × Holds (state S.Store conn.old).now entry_table (entry_rows entries)
+        × IsPermutation (target_rows entries) targets.now × AllByRecursion IsKept entries × (count ≡ length entries)
+        × IsUnchanged (state S.Store conn.old) (state S.Store conn.new)) }
+    ensures damaged { HasCleanDisk (state S.Store conn.new) → (row : _) → result ≡ Err (OutboxFault.Damaged row)
+        → IsDamagedAt targets.now row (state S.Store conn.old) (state S.Store conn.new) }
+    ensures read { HasCleanDisk (state S.Store conn.new)
+        → OnOk result ((rows : List Stored)
+        × Shown entries_text [] (state S.Store conn.old) (state S.Store conn.new) rows
+        × (damaged_row targets.now rows ≡ None)) }
+    ensures disk { HasCleanDisk (state S.Store conn.new) → result ≡ Err OutboxFault.Disk
+        → StopsFor cause.Disk entries_text (state S.Store conn.old) (state S.Store conn.new) }
+    ensures others { IfErr result (λ fault.
+        ((row : _) × (fault ≡ OutboxFault.Damaged row))
+        ⊎ ((fault ≡ OutboxFault.Memory) ⊎ (fault ≡ OutboxFault.Disk))) }
     ensures few { IfOk result (λ count. count ≤ 2 ^ 62) }
-    ensures whole { HasCleanDisk (state S.Store conn.new) → (entries : List Item) → HasCommon (state S.Store conn.old).now.schema → Holds (state S.Store conn.old).now entry_table (entry_rows entries)
-        → AllByRecursion IsKept entries → IsPermutation (target_rows entries) targets.now → (state S.Store conn.old).step_limit ≡ None → IfErr result (λ fault. (fault ≡ OutboxFault.Memory) ⊎ (fault ≡ OutboxFault.Disk)) }
-    ensures kept { HasCleanDisk (state S.Store conn.new) → KeepsCommit (state S.Store conn.old) (state S.Store conn.new) }
+    ensures whole { HasCleanDisk (state S.Store conn.new) → (entries : List Item)
+        → HasCommon (state S.Store conn.old).now.schema
+        → Holds (state S.Store conn.old).now entry_table (entry_rows entries) → AllByRecursion IsKept entries
+        → IsPermutation (target_rows entries) targets.now → (state S.Store conn.old).step_limit ≡ None
+        → IfErr result (λ fault. (fault ≡ OutboxFault.Memory) ⊎ (fault ≡ OutboxFault.Disk)) }
+    ensures kept { HasCleanDisk (state S.Store conn.new)
+        → KeepsCommit (state S.Store conn.old) (state S.Store conn.new) }
     ensures limit { conn.new.step_limit ≡ conn.old.step_limit }
     ensures crash { Survives (state S.Store conn.old) (state S.Store conn.new) (λ _. ⊥) }
     ensures mode { conn.old.in_transaction ≡ false → conn.new.in_transaction ≡ false }
@@ -131,15 +164,23 @@ pub(crate) fn count_entries<S: Alter>(
 /// How many entries the outbox has that the database is.
 fn count_all<S: Alter>(alloc: Global, conn: &mut Connection<S>) -> Result<u64, OutboxFault>
     ensures counted { HasCleanDisk (state S.Store conn.new) → IsDeclared (state S.Store conn.old).now.schema
-        → IfOk result (λ count. (entries : List Item) × Holds (state S.Store conn.old).now entry_table (entry_rows entries) × Holds (state S.Store conn.old).now target_table (target_rows entries)
-        × AllByRecursion IsKept entries × (count ≡ length entries) × IsUnchanged (state S.Store conn.old) (state S.Store conn.new)) }
-    ensures damaged { HasCleanDisk (state S.Store conn.new) → (row : _) → result ≡ Err (OutboxFault.Damaged row) → AreDamaged S.Store row conn.old conn.new }
-    ensures disk { HasCleanDisk (state S.Store conn.new) → result ≡ Err OutboxFault.Disk → AreStopped S.Store conn.old conn.new }
-    ensures others { IfErr result (λ fault. ((row : _) × (fault ≡ OutboxFault.Damaged row)) ⊎ ((fault ≡ OutboxFault.Memory) ⊎ (fault ≡ OutboxFault.Disk))) }
+        → IfOk result (λ count.
+        (entries : List Item) × Holds (state S.Store conn.old).now entry_table (entry_rows entries)
+        × Holds (state S.Store conn.old).now target_table (target_rows entries) × AllByRecursion IsKept entries
+        × (count ≡ length entries) × IsUnchanged (state S.Store conn.old) (state S.Store conn.new)) }
+    ensures damaged { HasCleanDisk (state S.Store conn.new) → (row : _) → result ≡ Err (OutboxFault.Damaged row)
+        → AreDamaged S.Store row conn.old conn.new }
+    ensures disk { HasCleanDisk (state S.Store conn.new) → result ≡ Err OutboxFault.Disk
+        → AreStopped S.Store conn.old conn.new }
+    ensures others { IfErr result (λ fault.
+        ((row : _) × (fault ≡ OutboxFault.Damaged row))
+        ⊎ ((fault ≡ OutboxFault.Memory) ⊎ (fault ≡ OutboxFault.Disk))) }
     ensures few { IfOk result (λ count. count ≤ 2 ^ 62) }
-    ensures whole { HasCleanDisk (state S.Store conn.new) → (it : Contents) → IsOutboxOf it (state S.Store conn.old).now → (state S.Store conn.old).step_limit ≡ None
+    ensures whole { HasCleanDisk (state S.Store conn.new) → (it : Contents) → IsOutboxOf it (state S.Store conn.old).now
+        → (state S.Store conn.old).step_limit ≡ None
         → IfErr result (λ fault. (fault ≡ OutboxFault.Memory) ⊎ (fault ≡ OutboxFault.Disk)) }
-    ensures kept { HasCleanDisk (state S.Store conn.new) → KeepsCommit (state S.Store conn.old) (state S.Store conn.new) }
+    ensures kept { HasCleanDisk (state S.Store conn.new)
+        → KeepsCommit (state S.Store conn.old) (state S.Store conn.new) }
     ensures crash { Survives (state S.Store conn.old) (state S.Store conn.new) (λ _. ⊥) }
     ensures mode { conn.old.in_transaction ≡ false → conn.new.in_transaction ≡ false }
     ensures clean { HasCleanDisk (state S.Store conn.new) → HasCleanDisk (state S.Store conn.old) }
@@ -154,7 +195,8 @@ fn count_all<S: Alter>(alloc: Global, conn: &mut Connection<S>) -> Result<u64, O
 pub(crate) fn is_settled<S: Alter>(conn: &Connection<S>) -> bool
     ensures value { result ≡ not conn.now.in_transaction }
     ensures live { IsLive (state S.Store conn.now) }
-    ensures settled { IsTrue result → IsTrue (state S.Store conn.now).is_open → (state S.Store conn.now).now ≡ (state S.Store conn.now).committed }
+    ensures settled { IsTrue result → IsTrue (state S.Store conn.now).is_open
+        → (state S.Store conn.now).now ≡ (state S.Store conn.now).committed }
 {
     let _schema = conn.schema();
     conn.is_autocommit()
@@ -173,19 +215,26 @@ pub fn read_outbox<S: Alter>(alloc: Global, conn: &mut Connection<S>) -> Result<
     requires autocommit { conn.old.in_transaction ≡ false }
     requires unlimited { conn.old.step_limit ≡ None }
     ensures found { HasCleanDisk (state S.Store conn.new) → IsDeclared (state S.Store conn.old).now.schema
-        → IfOk result (λ found. (entries : List Item) × IsOutboxOf (contents_of (string_bytes found.filer) entries) (state S.Store conn.old).now
-        × Stands (IsOutboxOf (contents_of (string_bytes found.filer) entries)) (state S.Store conn.new) × (found.count ≡ length entries)) }
-    ensures open { HasCleanDisk (state S.Store conn.new) → IsDeclared (state S.Store conn.old).now.schema → OnOk result (IsTrue (state S.Store conn.new).is_open) }
+        → IfOk result (λ found.
+        (entries : List Item)
+        × IsOutboxOf (contents_of (string_bytes found.filer) entries) (state S.Store conn.old).now
+        × Stands (IsOutboxOf (contents_of (string_bytes found.filer) entries)) (state S.Store conn.new)
+        × (found.count ≡ length entries)) }
+    ensures open { HasCleanDisk (state S.Store conn.new) → IsDeclared (state S.Store conn.old).now.schema
+        → OnOk result (IsTrue (state S.Store conn.new).is_open) }
     ensures code { IfOk result (λ found. is_filer (string_bytes found.filer) ≡ true) }
     ensures few { IfOk result (λ found. found.count ≤ 2 ^ 62) }
 
     // A refusal says why; an outbox is refused by memory or disk.
-    ensures refused { HasCleanDisk (state S.Store conn.new) → IfErr result (λ fault. IsRefused S.Store fault conn.old conn.new) }
-    ensures sound { HasCleanDisk (state S.Store conn.new) → (it : Contents) → IsOutboxOf it (state S.Store conn.old).now → IfErr result (λ fault. (fault ≡ OutboxFault.Memory) ⊎ (fault ≡ OutboxFault.Disk)) }
+    ensures refused { HasCleanDisk (state S.Store conn.new)
+        → IfErr result (λ fault. IsRefused S.Store fault conn.old conn.new) }
+    ensures sound { HasCleanDisk (state S.Store conn.new) → (it : Contents) → IsOutboxOf it (state S.Store conn.old).now
+        → IfErr result (λ fault. (fault ≡ OutboxFault.Memory) ⊎ (fault ≡ OutboxFault.Disk)) }
     ensures others { IfErr result (λ fault. (fault ≢ OutboxFault.BadFiler) × (fault ≢ OutboxFault.Taken)) }
 
     // Whatever database it is, what is committed is what was committed, and a crash leaves what it could leave before.
-    ensures kept { HasCleanDisk (state S.Store conn.new) → KeepsCommit (state S.Store conn.old) (state S.Store conn.new) }
+    ensures kept { HasCleanDisk (state S.Store conn.new)
+        → KeepsCommit (state S.Store conn.old) (state S.Store conn.new) }
     ensures crash { Survives (state S.Store conn.old) (state S.Store conn.new) (λ _. ⊥) }
     ensures autocommit { conn.new.in_transaction ≡ false }
 {

@@ -22,15 +22,22 @@ use std::alloc::Global;
 
 /// Finds the outbox in the form before this one that the database is. Nothing is written.
 fn read_earlier<S: Alter>(alloc: Global, conn: &mut Connection<S>) -> Result<Found, OutboxFault>
-    ensures found { HasCleanDisk (state S.Store conn.new) → HasCommon (state S.Store conn.old).now.schema → (IsTrue (state S.Store conn.old).is_open → IsDatabase (state S.Store conn.old).now)
-        → IfOk result (λ found. (entries : List Item) × IsEarlierOf (contents_of (string_bytes found.filer) entries) (state S.Store conn.old).now × (found.count ≡ length entries) × IsUnchanged (state S.Store conn.old) (state S.Store conn.new)) }
+    ensures found { HasCleanDisk (state S.Store conn.new) → HasCommon (state S.Store conn.old).now.schema
+        → (IsTrue (state S.Store conn.old).is_open → IsDatabase (state S.Store conn.old).now)
+        → IfOk result (λ found.
+        (entries : List Item)
+        × IsEarlierOf (contents_of (string_bytes found.filer) entries) (state S.Store conn.old).now
+        × (found.count ≡ length entries) × IsUnchanged (state S.Store conn.old) (state S.Store conn.new)) }
     ensures code { IfOk result (λ found. is_filer (string_bytes found.filer) ≡ true) }
     ensures few { IfOk result (λ found. found.count ≤ 2 ^ 62) }
     ensures read { HasCleanDisk (state S.Store conn.new) → OnOk result (IsFound S.Store conn.old conn.new) }
-    ensures refused { HasCleanDisk (state S.Store conn.new) → IfErr result (λ fault. IsNotFound S.Store fault conn.old conn.new) }
-    ensures sound { HasCleanDisk (state S.Store conn.new) → (it : Contents) → IsEarlierOf it (state S.Store conn.old).now → (state S.Store conn.old).step_limit ≡ None
+    ensures refused { HasCleanDisk (state S.Store conn.new)
+        → IfErr result (λ fault. IsNotFound S.Store fault conn.old conn.new) }
+    ensures sound { HasCleanDisk (state S.Store conn.new) → (it : Contents)
+        → IsEarlierOf it (state S.Store conn.old).now → (state S.Store conn.old).step_limit ≡ None
         → IfErr result (λ fault. (fault ≡ OutboxFault.Memory) ⊎ (fault ≡ OutboxFault.Disk)) }
-    ensures kept { HasCleanDisk (state S.Store conn.new) → KeepsCommit (state S.Store conn.old) (state S.Store conn.new) }
+    ensures kept { HasCleanDisk (state S.Store conn.new)
+        → KeepsCommit (state S.Store conn.old) (state S.Store conn.new) }
     ensures crash { Survives (state S.Store conn.old) (state S.Store conn.new) (λ _. ⊥) }
     ensures mode { conn.old.in_transaction ≡ false → conn.new.in_transaction ≡ false }
 {
@@ -46,8 +53,10 @@ fn read_earlier<S: Alter>(alloc: Global, conn: &mut Connection<S>) -> Result<Fou
 /// Makes the table of the targets, and raises the form.
 fn raise<S: Alter>(tx: &mut Transaction<'_, S>) -> Result<(), Error>
     ensures same_reference { tx.new.conn.ghost_name ≡ tx.old.conn.ghost_name }
-    ensures ran { HasCleanDisk (state S.Store tx.new.conn.now) → OnOk result (Raises S.Store tx.old.conn.now tx.new.conn.now) }
-    ensures keeps { HasCleanDisk (state S.Store tx.new.conn.now) → KeepsCommit (state S.Store tx.old.conn.now) (state S.Store tx.new.conn.now) }
+    ensures ran { HasCleanDisk (state S.Store tx.new.conn.now)
+        → OnOk result (Raises S.Store tx.old.conn.now tx.new.conn.now) }
+    ensures keeps { HasCleanDisk (state S.Store tx.new.conn.now)
+        → KeepsCommit (state S.Store tx.old.conn.now) (state S.Store tx.new.conn.now) }
     ensures survives { Survives (state S.Store tx.old.conn.now) (state S.Store tx.new.conn.now) (λ _. ⊥) }
 {
     run(
@@ -62,11 +71,20 @@ fn raise<S: Alter>(tx: &mut Transaction<'_, S>) -> Result<(), Error>
 fn write<S: Alter>(conn: &mut Connection<S>) -> Result<(), Error>
     requires autocommit { conn.old.in_transaction ≡ false }
     ensures autocommit { conn.new.in_transaction ≡ false }
-    ensures migrated { HasCleanDisk (state S.Store conn.new) → (it : Contents) → IsAlone (state S.Store conn.old).now.schema → IsEarlierOf it (state S.Store conn.old).now → OnOk result (IsOutboxOf it (state S.Store conn.new).now) }
-    ensures committed { HasCleanDisk (state S.Store conn.new) → OnOk result (IsTrue (state S.Store conn.new).is_open × ((state S.Store conn.new).committed ≡ (state S.Store conn.new).now)) }
-    ensures durable { HasCleanDisk (state S.Store conn.new) → OnOk result ((trees : Trees) → (state S.Store conn.new).may_leave trees → trees ≡ (state S.Store conn.new).now.trees) }
-    ensures undone { HasCleanDisk (state S.Store conn.new) → OnErr result (KeepsCommit (state S.Store conn.old) (state S.Store conn.new)) }
-    ensures crash { Survives (state S.Store conn.old) (state S.Store conn.new) (λ trees. (it : Contents) → IsAlone (state S.Store conn.old).now.schema → IsEarlierOf it (state S.Store conn.old).now → Leaves it trees) }
+    ensures migrated { HasCleanDisk (state S.Store conn.new) → (it : Contents)
+        → IsAlone (state S.Store conn.old).now.schema → IsEarlierOf it (state S.Store conn.old).now
+        → OnOk result (IsOutboxOf it (state S.Store conn.new).now) }
+    ensures committed { HasCleanDisk (state S.Store conn.new)
+        → OnOk result (IsTrue (state S.Store conn.new).is_open
+        × ((state S.Store conn.new).committed ≡ (state S.Store conn.new).now)) }
+    ensures durable { HasCleanDisk (state S.Store conn.new)
+        → OnOk result ((trees : Trees) → (state S.Store conn.new).may_leave trees
+        → trees ≡ (state S.Store conn.new).now.trees) }
+    ensures undone { HasCleanDisk (state S.Store conn.new)
+        → OnErr result (KeepsCommit (state S.Store conn.old) (state S.Store conn.new)) }
+    ensures crash { Survives (state S.Store conn.old) (state S.Store conn.new) (λ trees.
+        (it : Contents) → IsAlone (state S.Store conn.old).now.schema → IsEarlierOf it (state S.Store conn.old).now
+        → Leaves it trees) }
 {
     let mut tx = conn.transaction();
     raise(&mut tx)?;
@@ -85,22 +103,34 @@ pub fn migrate_outbox<S: Alter>(
 
     // The rows held an outbox in that form, and hold the same in this one.
     ensures migrated { HasCleanDisk (state S.Store conn.new) → IsAlone (state S.Store conn.old).now.schema
-        → IfOk result (λ found. (entries : List Item) × IsEarlierOf (contents_of (string_bytes found.filer) entries) (state S.Store conn.old).now
-        × Stands (IsOutboxOf (contents_of (string_bytes found.filer) entries)) (state S.Store conn.new) × (found.count ≡ length entries)) }
+        → IfOk result (λ found.
+        (entries : List Item)
+        × IsEarlierOf (contents_of (string_bytes found.filer) entries) (state S.Store conn.old).now
+        × Stands (IsOutboxOf (contents_of (string_bytes found.filer) entries)) (state S.Store conn.new)
+        × (found.count ≡ length entries)) }
     ensures open { HasCleanDisk (state S.Store conn.new) → OnOk result (IsTrue (state S.Store conn.new).is_open) }
     ensures code { IfOk result (λ found. is_filer (string_bytes found.filer) ≡ true) }
     ensures few { IfOk result (λ found. found.count ≤ 2 ^ 62) }
 
     // A refusal says why; where the rows hold an outbox in that form and the name is not in the way, it is by memory or disk.
     // What is committed is what was committed.
-    ensures refused { HasCleanDisk (state S.Store conn.new) → IfErr result (λ fault. IsNotMigrated S.Store fault conn.old conn.new) }
-    ensures sound { HasCleanDisk (state S.Store conn.new) → IfErr result (λ fault. (it : Contents) → IsEarlierOf it (state S.Store conn.old).now → is_blocked (state S.Store conn.old).now.schema ≡ false
+    ensures refused { HasCleanDisk (state S.Store conn.new)
+        → IfErr result (λ fault. IsNotMigrated S.Store fault conn.old conn.new) }
+    ensures sound { HasCleanDisk (state S.Store conn.new)
+        → IfErr result (λ fault.
+        (it : Contents) → IsEarlierOf it (state S.Store conn.old).now
+        → is_blocked (state S.Store conn.old).now.schema ≡ false
         → (fault ≡ OutboxFault.Memory) ⊎ (fault ≡ OutboxFault.Disk)) }
-    ensures undone { HasCleanDisk (state S.Store conn.new) → OnErr result (KeepsCommit (state S.Store conn.old) (state S.Store conn.new)) }
+    ensures undone { HasCleanDisk (state S.Store conn.new)
+        → OnErr result (KeepsCommit (state S.Store conn.old) (state S.Store conn.new)) }
 
     // A crash leaves what it could leave before, or the migrated rows, and after the call these alone.
-    ensures crash { Survives (state S.Store conn.old) (state S.Store conn.new) (λ trees. (it : Contents) → IsAlone (state S.Store conn.old).now.schema → IsEarlierOf it (state S.Store conn.old).now → Leaves it trees) }
-    ensures durable { HasCleanDisk (state S.Store conn.new) → OnOk result ((trees : Trees) → (state S.Store conn.new).may_leave trees → trees ≡ (state S.Store conn.new).now.trees) }
+    ensures crash { Survives (state S.Store conn.old) (state S.Store conn.new) (λ trees.
+        (it : Contents) → IsAlone (state S.Store conn.old).now.schema → IsEarlierOf it (state S.Store conn.old).now
+        → Leaves it trees) }
+    ensures durable { HasCleanDisk (state S.Store conn.new)
+        → OnOk result ((trees : Trees) → (state S.Store conn.new).may_leave trees
+        → trees ≡ (state S.Store conn.new).now.trees) }
 {
     prove!(is_settled(conn));
     match read_earlier(alloc, conn) {

@@ -78,7 +78,8 @@ fn state_by(status: u16, tree: &Value) -> State
 
 /// What a reply says. Where its content is no JSON, it says nothing.
 fn state_told(alloc: Global, reply: &Reply) -> Result<State, AllocError>
-    ensures told { IfOk result (λ state. view_state state ≡ state_told reply.now.status (tree reply.now.content.items)) }
+    ensures told { IfOk result (λ state.
+        view_state state ≡ state_told reply.now.status (tree reply.now.content.items)) }
     ensures fits { IfOk result (λ state. FitsNumber (view_state state)) }
 {
     match Value::from_slice(alloc, reply.content.as_slice()) {

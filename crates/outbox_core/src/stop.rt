@@ -20,10 +20,15 @@ impl<D: Disk + Drop> Outbox<FileStore<D>> {
     /// The files, with what was committed in the database file. They come wherever the close succeeds, also after a call
     /// was refused as Store. A refusal is that of the close, and gives the files up.
     pub fn into_files(self) -> Result<Files<D>, StoreFault>
-        ensures held { IfOk result (λ files. AreClean D.Disk files.log files.db → (entries : List Item) → HasEntries over_files self entries → HoldOutbox D.Disk files (contents self entries)) }
+        ensures held { IfOk result (λ files.
+            AreClean D.Disk files.log files.db → (entries : List Item) → HasEntries over_files self entries
+            → HoldOutbox D.Disk files (contents self entries)) }
         ensures copied { IfOk result (λ files. AreClean D.Disk files.log files.db → IsCopied self.conn files) }
-        ensures usable { IfOk result (λ files. IsTrue (D.Disk.is_usable files.log) × IsTrue (D.Disk.is_usable files.db)) }
-        ensures fault { IfErr result (λ fault. (last : _) × IsClosed self.conn last × (error : _) × (IsClean (view last) → FailsToClose self.conn last error) × (fault ≡ store_fault error)) }
+        ensures usable { IfOk result (λ files.
+            IsTrue (D.Disk.is_usable files.log) × IsTrue (D.Disk.is_usable files.db)) }
+        ensures fault { IfErr result (λ fault.
+            (last : _) × IsClosed self.conn last × (error : _)
+            × (IsClean (view last) → FailsToClose self.conn last error) × (fault ≡ store_fault error)) }
     {
         match self.close() {
             Ok(closed) => Ok(closed),
@@ -34,11 +39,15 @@ impl<D: Disk + Drop> Outbox<FileStore<D>> {
     /// The same, where a refusal gives the files back as well, as the close left them: an outcome of a crash is one of
     /// before.
     pub fn close(self) -> Result<Files<D>, (StoreFault, Files<D>)>
-        ensures held { IfOk result (λ files. AreClean D.Disk files.log files.db → (entries : List Item) → HasEntries over_files self entries → HoldOutbox D.Disk files (contents self entries)) }
+        ensures held { IfOk result (λ files.
+            AreClean D.Disk files.log files.db → (entries : List Item) → HasEntries over_files self entries
+            → HoldOutbox D.Disk files (contents self entries)) }
         ensures copied { IfOk result (λ files. AreClean D.Disk files.log files.db → IsCopied self.conn files) }
-        ensures usable { IfOk result (λ files. IsTrue (D.Disk.is_usable files.log) × IsTrue (D.Disk.is_usable files.db)) }
-        ensures fault { IfErr result (λ refusal. (last : _) × IsClosed self.conn last × (store_files last ≡ (refusal.1.log, refusal.1.db))
-            × (error : _) × (IsClean (view last) → FailsToClose self.conn last error) × (refusal.0 ≡ store_fault error)) }
+        ensures usable { IfOk result (λ files.
+            IsTrue (D.Disk.is_usable files.log) × IsTrue (D.Disk.is_usable files.db)) }
+        ensures fault { IfErr result (λ refusal.
+            (last : _) × IsClosed self.conn last × (store_files last ≡ (refusal.1.log, refusal.1.db)) × (error : _)
+            × (IsClean (view last) → FailsToClose self.conn last error) × (refusal.0 ≡ store_fault error)) }
     {
         match self.into_conn().close_files() {
             Ok(files) => Ok(files),

@@ -19,10 +19,14 @@ use sqlite::{Alter, Connection, Error, Row, Transaction, params};
 use table_rows::first_row;
 
 fn entry_with_key<S: Alter>(conn: &mut Connection<S>, key: &str) -> Result<Option<Row>, Error>
-    ensures found { HasCleanDisk (held.state S.Store conn.new) → (it : Contents) → Stands (IsOutboxOf it) (held.state S.Store conn.old)
+    ensures found { HasCleanDisk (held.state S.Store conn.new) → (it : Contents)
+        → Stands (IsOutboxOf it) (held.state S.Store conn.old)
         → IfOk result (λ row. row ≡ option_map entry_row (find (has_text key.now) (numbered it.entries))) }
-    ensures kept { HasCleanDisk (held.state S.Store conn.new) → (it : Contents) → Stands (IsOutboxOf it) (held.state S.Store conn.old) → Stands (IsOutboxOf it) (held.state S.Store conn.new) }
-    ensures open { HasCleanDisk (held.state S.Store conn.new) → (it : Contents) → Stands (IsOutboxOf it) (held.state S.Store conn.old) → OnOk result (IsTrue (held.state S.Store conn.new).is_open) }
+    ensures kept { HasCleanDisk (held.state S.Store conn.new) → (it : Contents)
+        → Stands (IsOutboxOf it) (held.state S.Store conn.old) → Stands (IsOutboxOf it) (held.state S.Store conn.new) }
+    ensures open { HasCleanDisk (held.state S.Store conn.new) → (it : Contents)
+        → Stands (IsOutboxOf it) (held.state S.Store conn.old)
+        → OnOk result (IsTrue (held.state S.Store conn.new).is_open) }
     ensures crash { Survives (held.state S.Store conn.old) (held.state S.Store conn.new) (λ _. ⊥) }
 {
     first_row(
@@ -34,10 +38,14 @@ fn entry_with_key<S: Alter>(conn: &mut Connection<S>, key: &str) -> Result<Optio
 
 /// The id of the entry that has the key.
 pub(crate) fn id_of_key<S: Alter>(conn: &mut Connection<S>, key: &str) -> Result<Option<u64>, Error>
-    ensures found { HasCleanDisk (held.state S.Store conn.new) → (it : Contents) → Stands (IsOutboxOf it) (held.state S.Store conn.old)
+    ensures found { HasCleanDisk (held.state S.Store conn.new) → (it : Contents)
+        → Stands (IsOutboxOf it) (held.state S.Store conn.old)
         → IfOk result (λ id. id ≡ option_map (λ x. x.0) (find (has_text key.now) (numbered it.entries))) }
-    ensures kept { HasCleanDisk (held.state S.Store conn.new) → (it : Contents) → Stands (IsOutboxOf it) (held.state S.Store conn.old) → Stands (IsOutboxOf it) (held.state S.Store conn.new) }
-    ensures open { HasCleanDisk (held.state S.Store conn.new) → (it : Contents) → Stands (IsOutboxOf it) (held.state S.Store conn.old) → OnOk result (IsTrue (held.state S.Store conn.new).is_open) }
+    ensures kept { HasCleanDisk (held.state S.Store conn.new) → (it : Contents)
+        → Stands (IsOutboxOf it) (held.state S.Store conn.old) → Stands (IsOutboxOf it) (held.state S.Store conn.new) }
+    ensures open { HasCleanDisk (held.state S.Store conn.new) → (it : Contents)
+        → Stands (IsOutboxOf it) (held.state S.Store conn.old)
+        → OnOk result (IsTrue (held.state S.Store conn.new).is_open) }
     ensures crash { Survives (held.state S.Store conn.old) (held.state S.Store conn.new) (λ _. ⊥) }
 {
     let row = entry_with_key(conn, key)?;
@@ -53,10 +61,14 @@ pub(crate) fn entry_with_id<S: Alter>(
     id: u64,
 ) -> Result<Option<Row>, Error>
     requires { id < 2 ^ 63 }
-    ensures found { HasCleanDisk (held.state S.Store conn.new) → (it : Contents) → Stands (IsOutboxOf it) (held.state S.Store conn.old)
+    ensures found { HasCleanDisk (held.state S.Store conn.new) → (it : Contents)
+        → Stands (IsOutboxOf it) (held.state S.Store conn.old)
         → IfOk result (λ row. row ≡ option_map entry_row (find (has_id id) (numbered it.entries))) }
-    ensures kept { HasCleanDisk (held.state S.Store conn.new) → (it : Contents) → Stands (IsOutboxOf it) (held.state S.Store conn.old) → Stands (IsOutboxOf it) (held.state S.Store conn.new) }
-    ensures open { HasCleanDisk (held.state S.Store conn.new) → (it : Contents) → Stands (IsOutboxOf it) (held.state S.Store conn.old) → OnOk result (IsTrue (held.state S.Store conn.new).is_open) }
+    ensures kept { HasCleanDisk (held.state S.Store conn.new) → (it : Contents)
+        → Stands (IsOutboxOf it) (held.state S.Store conn.old) → Stands (IsOutboxOf it) (held.state S.Store conn.new) }
+    ensures open { HasCleanDisk (held.state S.Store conn.new) → (it : Contents)
+        → Stands (IsOutboxOf it) (held.state S.Store conn.old)
+        → OnOk result (IsTrue (held.state S.Store conn.new).is_open) }
     ensures crash { Survives (held.state S.Store conn.old) (held.state S.Store conn.new) (λ _. ⊥) }
 {
     first_row(
@@ -68,10 +80,14 @@ pub(crate) fn entry_with_id<S: Alter>(
 
 /// The row of the open entry with the least id.
 pub(crate) fn first_open_entry<S: Alter>(conn: &mut Connection<S>) -> Result<Option<Row>, Error>
-    ensures found { HasCleanDisk (held.state S.Store conn.new) → (it : Contents) → Stands (IsOutboxOf it) (held.state S.Store conn.old)
+    ensures found { HasCleanDisk (held.state S.Store conn.new) → (it : Contents)
+        → Stands (IsOutboxOf it) (held.state S.Store conn.old)
         → IfOk result (λ row. row ≡ option_map entry_row (find is_open (numbered it.entries))) }
-    ensures kept { HasCleanDisk (held.state S.Store conn.new) → (it : Contents) → Stands (IsOutboxOf it) (held.state S.Store conn.old) → Stands (IsOutboxOf it) (held.state S.Store conn.new) }
-    ensures open { HasCleanDisk (held.state S.Store conn.new) → (it : Contents) → Stands (IsOutboxOf it) (held.state S.Store conn.old) → OnOk result (IsTrue (held.state S.Store conn.new).is_open) }
+    ensures kept { HasCleanDisk (held.state S.Store conn.new) → (it : Contents)
+        → Stands (IsOutboxOf it) (held.state S.Store conn.old) → Stands (IsOutboxOf it) (held.state S.Store conn.new) }
+    ensures open { HasCleanDisk (held.state S.Store conn.new) → (it : Contents)
+        → Stands (IsOutboxOf it) (held.state S.Store conn.old)
+        → OnOk result (IsTrue (held.state S.Store conn.new).is_open) }
     ensures crash { Survives (held.state S.Store conn.old) (held.state S.Store conn.new) (λ _. ⊥) }
 {
     first_row(
@@ -83,9 +99,11 @@ pub(crate) fn first_open_entry<S: Alter>(conn: &mut Connection<S>) -> Result<Opt
 
 /// The id, the state and the number of each entry, in the order of the ids.
 pub(crate) fn state_rows<S: Alter>(conn: &mut Connection<S>) -> Result<Vec<Row>, Error>
-    ensures found { HasCleanDisk (held.state S.Store conn.new) → (it : Contents) → Stands (IsOutboxOf it) (held.state S.Store conn.old)
+    ensures found { HasCleanDisk (held.state S.Store conn.new) → (it : Contents)
+        → Stands (IsOutboxOf it) (held.state S.Store conn.old)
         → IfOk result (λ rows. rows.items ≡ map state_row (numbered it.entries)) }
-    ensures kept { HasCleanDisk (held.state S.Store conn.new) → (it : Contents) → Stands (IsOutboxOf it) (held.state S.Store conn.old) → Stands (IsOutboxOf it) (held.state S.Store conn.new) }
+    ensures kept { HasCleanDisk (held.state S.Store conn.new) → (it : Contents)
+        → Stands (IsOutboxOf it) (held.state S.Store conn.old) → Stands (IsOutboxOf it) (held.state S.Store conn.new) }
     ensures crash { Survives (held.state S.Store conn.old) (held.state S.Store conn.new) (λ _. ⊥) }
 {
     conn.query_all("SELECT id, state, number FROM entry ORDER BY id", &[])
@@ -93,12 +111,18 @@ pub(crate) fn state_rows<S: Alter>(conn: &mut Connection<S>) -> Result<Vec<Row>,
 
 /// The rows of `outbox_meta`.
 pub(crate) fn meta_rows<S: Alter>(conn: &mut Connection<S>) -> Result<Vec<Row>, Error>
-    ensures shown { HasCleanDisk (held.state S.Store conn.new) → IfOk result (λ rows. Shown meta_text [] (held.state S.Store conn.old) (held.state S.Store conn.new) rows.items) }
+    ensures shown { HasCleanDisk (held.state S.Store conn.new)
+        → IfOk result (λ rows.
+        Shown meta_text [] (held.state S.Store conn.old) (held.state S.Store conn.new) rows.items) }
     ensures held { HasCleanDisk (held.state S.Store conn.new) → HasCommon (held.state S.Store conn.old).now.schema
-        → IfOk result (λ rows. Holds (held.state S.Store conn.old).now meta_table rows.items × IsUnchanged (held.state S.Store conn.old) (held.state S.Store conn.new)) }
-    ensures failed { HasCleanDisk (held.state S.Store conn.new) → IfErr result (FailsToQuery meta_text [] (held.state S.Store conn.old) (held.state S.Store conn.new)) }
+        → IfOk result (λ rows.
+        Holds (held.state S.Store conn.old).now meta_table rows.items
+        × IsUnchanged (held.state S.Store conn.old) (held.state S.Store conn.new)) }
+    ensures failed { HasCleanDisk (held.state S.Store conn.new)
+        → IfErr result (FailsToQuery meta_text [] (held.state S.Store conn.old) (held.state S.Store conn.new)) }
     ensures mode { conn.old.in_transaction ≡ false → conn.new.in_transaction ≡ false }
-    ensures kept { HasCleanDisk (held.state S.Store conn.new) → KeepsCommit (held.state S.Store conn.old) (held.state S.Store conn.new) }
+    ensures kept { HasCleanDisk (held.state S.Store conn.new)
+        → KeepsCommit (held.state S.Store conn.old) (held.state S.Store conn.new) }
     ensures clean { HasCleanDisk (held.state S.Store conn.new) → HasCleanDisk (held.state S.Store conn.old) }
     ensures limit { conn.new.step_limit ≡ conn.old.step_limit }
     ensures crash { Survives (held.state S.Store conn.old) (held.state S.Store conn.new) (λ _. ⊥) }
@@ -108,12 +132,18 @@ pub(crate) fn meta_rows<S: Alter>(conn: &mut Connection<S>) -> Result<Vec<Row>, 
 
 /// The rows of all entries, in the order of the ids.
 pub(crate) fn all_rows<S: Alter>(conn: &mut Connection<S>) -> Result<Vec<Row>, Error>
-    ensures shown { HasCleanDisk (held.state S.Store conn.new) → IfOk result (λ rows. Shown entries_text [] (held.state S.Store conn.old) (held.state S.Store conn.new) rows.items) }
+    ensures shown { HasCleanDisk (held.state S.Store conn.new)
+        → IfOk result (λ rows.
+        Shown entries_text [] (held.state S.Store conn.old) (held.state S.Store conn.new) rows.items) }
     ensures held { HasCleanDisk (held.state S.Store conn.new) → HasCommon (held.state S.Store conn.old).now.schema
-        → IfOk result (λ rows. Holds (held.state S.Store conn.old).now entry_table rows.items × IsUnchanged (held.state S.Store conn.old) (held.state S.Store conn.new)) }
-    ensures failed { HasCleanDisk (held.state S.Store conn.new) → IfErr result (FailsToQuery entries_text [] (held.state S.Store conn.old) (held.state S.Store conn.new)) }
+        → IfOk result (λ rows.
+        Holds (held.state S.Store conn.old).now entry_table rows.items
+        × IsUnchanged (held.state S.Store conn.old) (held.state S.Store conn.new)) }
+    ensures failed { HasCleanDisk (held.state S.Store conn.new)
+        → IfErr result (FailsToQuery entries_text [] (held.state S.Store conn.old) (held.state S.Store conn.new)) }
     ensures mode { conn.old.in_transaction ≡ false → conn.new.in_transaction ≡ false }
-    ensures kept { HasCleanDisk (held.state S.Store conn.new) → KeepsCommit (held.state S.Store conn.old) (held.state S.Store conn.new) }
+    ensures kept { HasCleanDisk (held.state S.Store conn.new)
+        → KeepsCommit (held.state S.Store conn.old) (held.state S.Store conn.new) }
     ensures clean { HasCleanDisk (held.state S.Store conn.new) → HasCleanDisk (held.state S.Store conn.old) }
     ensures crash { Survives (held.state S.Store conn.old) (held.state S.Store conn.new) (λ _. ⊥) }
 {
@@ -125,12 +155,18 @@ pub(crate) fn all_rows<S: Alter>(conn: &mut Connection<S>) -> Result<Vec<Row>, E
 
 /// The rows of `target`.
 pub(crate) fn target_rows<S: Alter>(conn: &mut Connection<S>) -> Result<Vec<Row>, Error>
-    ensures shown { HasCleanDisk (held.state S.Store conn.new) → IfOk result (λ rows. Shown targets_text [] (held.state S.Store conn.old) (held.state S.Store conn.new) rows.items) }
+    ensures shown { HasCleanDisk (held.state S.Store conn.new)
+        → IfOk result (λ rows.
+        Shown targets_text [] (held.state S.Store conn.old) (held.state S.Store conn.new) rows.items) }
     ensures held { HasCleanDisk (held.state S.Store conn.new) → IsDeclared (held.state S.Store conn.old).now.schema
-        → IfOk result (λ rows. Holds (held.state S.Store conn.old).now target_table rows.items × IsUnchanged (held.state S.Store conn.old) (held.state S.Store conn.new)) }
-    ensures failed { HasCleanDisk (held.state S.Store conn.new) → IfErr result (FailsToQuery targets_text [] (held.state S.Store conn.old) (held.state S.Store conn.new)) }
+        → IfOk result (λ rows.
+        Holds (held.state S.Store conn.old).now target_table rows.items
+        × IsUnchanged (held.state S.Store conn.old) (held.state S.Store conn.new)) }
+    ensures failed { HasCleanDisk (held.state S.Store conn.new)
+        → IfErr result (FailsToQuery targets_text [] (held.state S.Store conn.old) (held.state S.Store conn.new)) }
     ensures mode { conn.old.in_transaction ≡ false → conn.new.in_transaction ≡ false }
-    ensures kept { HasCleanDisk (held.state S.Store conn.new) → KeepsCommit (held.state S.Store conn.old) (held.state S.Store conn.new) }
+    ensures kept { HasCleanDisk (held.state S.Store conn.new)
+        → KeepsCommit (held.state S.Store conn.old) (held.state S.Store conn.new) }
     ensures clean { HasCleanDisk (held.state S.Store conn.new) → HasCleanDisk (held.state S.Store conn.old) }
     ensures limit { conn.new.step_limit ≡ conn.old.step_limit }
     ensures crash { Survives (held.state S.Store conn.old) (held.state S.Store conn.new) (λ _. ⊥) }
@@ -141,10 +177,14 @@ pub(crate) fn target_rows<S: Alter>(conn: &mut Connection<S>) -> Result<Vec<Row>
 /// The row of the target of the entry that has the id.
 fn target_with_id<S: Alter>(conn: &mut Connection<S>, id: u64) -> Result<Option<Row>, Error>
     requires { id < 2 ^ 63 }
-    ensures found { HasCleanDisk (held.state S.Store conn.new) → (it : Contents) → Stands (IsOutboxOf it) (held.state S.Store conn.old)
+    ensures found { HasCleanDisk (held.state S.Store conn.new) → (it : Contents)
+        → Stands (IsOutboxOf it) (held.state S.Store conn.old)
         → IfOk result (λ row. row ≡ option_map (λ number. Int (pos number) ∷ []) (target_at it.entries id)) }
-    ensures kept { HasCleanDisk (held.state S.Store conn.new) → (it : Contents) → Stands (IsOutboxOf it) (held.state S.Store conn.old) → Stands (IsOutboxOf it) (held.state S.Store conn.new) }
-    ensures open { HasCleanDisk (held.state S.Store conn.new) → (it : Contents) → Stands (IsOutboxOf it) (held.state S.Store conn.old) → OnOk result (IsTrue (held.state S.Store conn.new).is_open) }
+    ensures kept { HasCleanDisk (held.state S.Store conn.new) → (it : Contents)
+        → Stands (IsOutboxOf it) (held.state S.Store conn.old) → Stands (IsOutboxOf it) (held.state S.Store conn.new) }
+    ensures open { HasCleanDisk (held.state S.Store conn.new) → (it : Contents)
+        → Stands (IsOutboxOf it) (held.state S.Store conn.old)
+        → OnOk result (IsTrue (held.state S.Store conn.new).is_open) }
     ensures crash { Survives (held.state S.Store conn.old) (held.state S.Store conn.new) (λ _. ⊥) }
 {
     first_row(
@@ -157,10 +197,14 @@ fn target_with_id<S: Alter>(conn: &mut Connection<S>, id: u64) -> Result<Option<
 /// The target of the entry that has the id, if it has one.
 pub(crate) fn target_of<S: Alter>(conn: &mut Connection<S>, id: u64) -> Result<Option<u64>, Error>
     requires { id < 2 ^ 63 }
-    ensures found { HasCleanDisk (held.state S.Store conn.new) → (it : Contents) → Stands (IsOutboxOf it) (held.state S.Store conn.old)
+    ensures found { HasCleanDisk (held.state S.Store conn.new) → (it : Contents)
+        → Stands (IsOutboxOf it) (held.state S.Store conn.old)
         → IfOk result (λ target. target ≡ target_at it.entries id) }
-    ensures kept { HasCleanDisk (held.state S.Store conn.new) → (it : Contents) → Stands (IsOutboxOf it) (held.state S.Store conn.old) → Stands (IsOutboxOf it) (held.state S.Store conn.new) }
-    ensures open { HasCleanDisk (held.state S.Store conn.new) → (it : Contents) → Stands (IsOutboxOf it) (held.state S.Store conn.old) → OnOk result (IsTrue (held.state S.Store conn.new).is_open) }
+    ensures kept { HasCleanDisk (held.state S.Store conn.new) → (it : Contents)
+        → Stands (IsOutboxOf it) (held.state S.Store conn.old) → Stands (IsOutboxOf it) (held.state S.Store conn.new) }
+    ensures open { HasCleanDisk (held.state S.Store conn.new) → (it : Contents)
+        → Stands (IsOutboxOf it) (held.state S.Store conn.old)
+        → OnOk result (IsTrue (held.state S.Store conn.new).is_open) }
     ensures crash { Survives (held.state S.Store conn.old) (held.state S.Store conn.new) (λ _. ⊥) }
 {
     let row = target_with_id(conn, id)?;
@@ -180,9 +224,12 @@ pub(crate) fn insert_entry<S: Alter>(
     requires { id < 2 ^ 63 }
     ensures same_reference { tx.new.conn.ghost_name ≡ tx.old.conn.ghost_name }
     ensures was_inside { OnOk result (IsTrue (held.state S.Store tx.old.conn.now).in_transaction) }
-    ensures gains { HasCleanDisk (held.state S.Store tx.new.conn.now) → OnOk result (GainsRows entry_table
-        ((Int (pos id) ∷ Text key.now ∷ Blob body.now ∷ Int (pos 0) ∷ Null ∷ []) ∷ []) (held.state S.Store tx.old.conn.now) (held.state S.Store tx.new.conn.now)) }
-    ensures keeps { HasCleanDisk (held.state S.Store tx.new.conn.now) → KeepsCommit (held.state S.Store tx.old.conn.now) (held.state S.Store tx.new.conn.now) }
+    ensures gains { HasCleanDisk (held.state S.Store tx.new.conn.now)
+        → OnOk result
+        (GainsRows entry_table ((Int (pos id) ∷ Text key.now ∷ Blob body.now ∷ Int (pos 0) ∷ Null ∷ []) ∷ [])
+        (held.state S.Store tx.old.conn.now) (held.state S.Store tx.new.conn.now)) }
+    ensures keeps { HasCleanDisk (held.state S.Store tx.new.conn.now)
+        → KeepsCommit (held.state S.Store tx.old.conn.now) (held.state S.Store tx.new.conn.now) }
     ensures survives { Survives (held.state S.Store tx.old.conn.now) (held.state S.Store tx.new.conn.now) (λ _. ⊥) }
 {
     tx.execute(
@@ -202,9 +249,12 @@ pub(crate) fn insert_target<S: Alter>(
     requires number { number < 2 ^ 63 }
     ensures same_reference { tx.new.conn.ghost_name ≡ tx.old.conn.ghost_name }
     ensures was_inside { OnOk result (IsTrue (held.state S.Store tx.old.conn.now).in_transaction) }
-    ensures gains { HasCleanDisk (held.state S.Store tx.new.conn.now) → OnOk result (GainsRows target_table
-        ((Int (pos id) ∷ Int (pos number) ∷ []) ∷ []) (held.state S.Store tx.old.conn.now) (held.state S.Store tx.new.conn.now)) }
-    ensures keeps { HasCleanDisk (held.state S.Store tx.new.conn.now) → KeepsCommit (held.state S.Store tx.old.conn.now) (held.state S.Store tx.new.conn.now) }
+    ensures gains { HasCleanDisk (held.state S.Store tx.new.conn.now)
+        → OnOk result
+        (GainsRows target_table ((Int (pos id) ∷ Int (pos number) ∷ []) ∷ []) (held.state S.Store tx.old.conn.now)
+        (held.state S.Store tx.new.conn.now)) }
+    ensures keeps { HasCleanDisk (held.state S.Store tx.new.conn.now)
+        → KeepsCommit (held.state S.Store tx.old.conn.now) (held.state S.Store tx.new.conn.now) }
     ensures survives { Survives (held.state S.Store tx.old.conn.now) (held.state S.Store tx.new.conn.now) (λ _. ⊥) }
 {
     tx.execute(
@@ -243,12 +293,17 @@ pub(crate) fn set_state<S: Alter>(
 ) -> Result<usize, Error>
     requires id { id < 2 ^ 63 }
     requires number { FitsNumber (view_state state) }
-    ensures moved { HasCleanDisk (held.state S.Store conn.new) → (it : Contents) → Stands (IsOutboxOf it) (held.state S.Store conn.old) → IsTrue (held.state S.Store conn.old).is_open
+    ensures moved { HasCleanDisk (held.state S.Store conn.new) → (it : Contents)
+        → Stands (IsOutboxOf it) (held.state S.Store conn.old) → IsTrue (held.state S.Store conn.old).is_open
         → IsSome (entry_at it.entries id)
-        → OnOk result (Stands (IsOutboxOf (with_state it id (view_state state))) (held.state S.Store conn.new) × IsTrue (held.state S.Store conn.new).is_open) }
-    ensures kept { HasCleanDisk (held.state S.Store conn.new) → (it : Contents) → Stands (IsOutboxOf it) (held.state S.Store conn.old) → OnErr result (Stands (IsOutboxOf it) (held.state S.Store conn.new)) }
-    ensures crash { Survives (held.state S.Store conn.old) (held.state S.Store conn.new) (Commits IsOutboxOf (held.state S.Store conn.old)
-        (λ it trees. IsSome (entry_at it.entries id) → Leaves (with_state it id (view_state state)) trees)) }
+        → OnOk result (Stands (IsOutboxOf (with_state it id (view_state state))) (held.state S.Store conn.new)
+        × IsTrue (held.state S.Store conn.new).is_open) }
+    ensures kept { HasCleanDisk (held.state S.Store conn.new) → (it : Contents)
+        → Stands (IsOutboxOf it) (held.state S.Store conn.old)
+        → OnErr result (Stands (IsOutboxOf it) (held.state S.Store conn.new)) }
+    ensures crash { Survives (held.state S.Store conn.old) (held.state S.Store conn.new)
+        (Commits IsOutboxOf (held.state S.Store conn.old) (λ it trees.
+        IsSome (entry_at it.entries id) → Leaves (with_state it id (view_state state)) trees)) }
 {
     conn.execute(
         "UPDATE entry SET state = ?2, number = ?3 WHERE id = ?1",

@@ -25,7 +25,8 @@ pub(crate) enum Said {
 
 /// What is said with one row more, which may have the number of a filing.
 fn after(said: Said, fits: bool) -> Said
-    ensures { (rows : List Stored) (row : Stored) → said ≡ said_by rows → fits ≡ is_number (column row 1) → result ≡ said_by (rows ++ row ∷ []) }
+    ensures { (rows : List Stored) (row : Stored) → said ≡ said_by rows → fits ≡ is_number (column row 1)
+        → result ≡ said_by (rows ++ row ∷ []) }
 {
     match said {
         Said::Nothing if fits => Said::Number,
@@ -36,7 +37,8 @@ fn after(said: Said, fits: bool) -> Said
 /// The place, from 0, of the entry among so many that the row is of.
 fn place_of(row: &Row, count: usize) -> Option<usize>
     requires { count < 2 ^ 63 }
-    ensures { MatchOption result (is_id_to count (column row.now 0) ≡ false) (λ place. (place < count) × (column row.now 0 ≡ Int (pos (suc place)))) }
+    ensures { MatchOption result (is_id_to count (column row.now 0) ≡ false) (λ place.
+        (place < count) × (column row.now 0 ≡ Int (pos (suc place)))) }
 {
     match value_at(row, 0) {
         ValueRef::Int(id) => {
@@ -54,7 +56,9 @@ fn place_of(row: &Row, count: usize) -> Option<usize>
 pub(crate) fn said_of(alloc: Global, targets: &[Row], count: usize) -> Result<Vec<Said>, AllocError>
     requires { count < 2 ^ 63 }
     ensures long { IfOk result (λ said. vec_len said ≡ count) }
-    ensures each { IfOk result (λ said. (place : ℕ) (d : Said) → place < count → get_or said.items place d ≡ said_by (with_id (suc place) targets.now)) }
+    ensures each { IfOk result (λ said.
+        (place : ℕ) (d : Said) → place < count
+        → get_or said.items place d ≡ said_by (with_id (suc place) targets.now)) }
 {
     let mut said = vec![in alloc; Said::Nothing; count]?;
     for at in 0..targets.len() {

@@ -21,8 +21,12 @@ fn write_entry<S: Alter>(
     requires id { id < 2 ^ 63 }
     requires target { IsTarget target }
     ensures same_reference { tx.new.conn.ghost_name ≡ tx.old.conn.ghost_name }
-    ensures adds { HasCleanDisk (state S.Store tx.new.conn.now) → OnOk result (AddsInside id (opened key.now target body.now) (state S.Store tx.old.conn.now) (state S.Store tx.new.conn.now)) }
-    ensures keeps { HasCleanDisk (state S.Store tx.new.conn.now) → KeepsCommit (state S.Store tx.old.conn.now) (state S.Store tx.new.conn.now) }
+    ensures adds { HasCleanDisk (state S.Store tx.new.conn.now)
+        → OnOk result
+        (AddsInside id (opened key.now target body.now) (state S.Store tx.old.conn.now)
+        (state S.Store tx.new.conn.now)) }
+    ensures keeps { HasCleanDisk (state S.Store tx.new.conn.now)
+        → KeepsCommit (state S.Store tx.old.conn.now) (state S.Store tx.new.conn.now) }
     ensures survives { Survives (state S.Store tx.old.conn.now) (state S.Store tx.new.conn.now) (λ _. ⊥) }
 {
     insert_entry(tx, id, key, body)?;
@@ -44,9 +48,12 @@ pub(crate) fn keep_entry<S: Alter>(
     requires id { id < 2 ^ 63 }
     requires target { IsTarget target }
     ensures autocommit { conn.new.in_transaction ≡ false }
-    ensures adds { HasCleanDisk (state S.Store conn.new) → OnOk result (Adds id (opened key.now target body.now) (state S.Store conn.old) (state S.Store conn.new)) }
-    ensures neither { HasCleanDisk (state S.Store conn.new) → OnErr result (AddsNothing (state S.Store conn.old) (state S.Store conn.new)) }
-    ensures crash { Survives (state S.Store conn.old) (state S.Store conn.new) (AddsTo id (opened key.now target body.now) (state S.Store conn.old).now) }
+    ensures adds { HasCleanDisk (state S.Store conn.new)
+        → OnOk result (Adds id (opened key.now target body.now) (state S.Store conn.old) (state S.Store conn.new)) }
+    ensures neither { HasCleanDisk (state S.Store conn.new)
+        → OnErr result (AddsNothing (state S.Store conn.old) (state S.Store conn.new)) }
+    ensures crash { Survives (state S.Store conn.old) (state S.Store conn.new)
+        (AddsTo id (opened key.now target body.now) (state S.Store conn.old).now) }
 {
     let mut tx = conn.transaction();
     write_entry(&mut tx, id, key, target, body)?;

@@ -4,7 +4,7 @@ use Rattle.xbrl_report.specs.Amendment.{amendment_findings}
 use Rattle.xbrl_report.specs.Pair.{Pair}
 use Rattle.xbrl_report.proofs.FindingLaws.{amendment-free}
 use Rattle.filing_model.specs.Request.{Request}
-use Rattle.filing_model.specs.Register.{Outcome, Filing, filings, verdict, outcome_by, is_free, judged, kept, register}
+use Rattle.filing_model.specs.Register.{Outcome, filings, verdict, outcome_by, is_free, judged, kept, register}
 use Rattle.filing_model.proofs.Keeping.{filings-append}
 use Rattle.filing_model.proofs.Lists.{append_nil}
 

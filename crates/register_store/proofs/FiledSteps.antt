@@ -1,5 +1,5 @@
 -- The filings of kept requests whose rows are read one after another.
-use Rattle.std.proofs.Common.{◌≡◌, ℕ, ◌+◌, true, List, [], ◌∷◌, ◌++◌, append_assoc, length-append, ◌<◌, ◌≤◌, nat_eq, false, ⊎_elim, append-nil, take, drop, suc, zero, length, Option, Some, None, String, Global, refl, sym, ap, ap₂, ◌∙◌, arith}
+use Rattle.std.proofs.Common.{◌≡◌, ℕ, ◌+◌, true, List, [], ◌∷◌, ◌++◌, append_assoc, length-append, ◌<◌, ◌≤◌, nat_eq, false, ⊎_elim, append-nil, take, drop, suc, length, Option, Some, None, String, Global, refl, sym, ap, ap₂, ◌∙◌, arith}
 use Rattle.std.specs.Prelude.{option_map, string_bytes, MatchOption}
 use Rattle.sqlite.specs.Order.{Row, column}
 use Rattle.std.proofs.lemmas.Bool.{cases_Bool}

@@ -1,12 +1,12 @@
 -- Filings that count from 1, and one more.
 use Rattle.std.proofs.Common.{◌≡◌, ℕ, ◌<◌, ◌≤◌, ◌+◌, ◌≢◌, ◌⊎◌, Bool, true, false, not, List, [], ◌∷◌, ◌++◌, length, map, suc, zero, inl, inr, Option, Some, None, refl, sym, ap, ◌∙◌, ⊎_elim, length-append, append-nil, take, arith}
-use Rattle.std.specs.Prelude.{filter, find, option_map, nat_eq, nat_lt, nat_le, bytes_eq, ◌&&◌, ◌||◌, get_or, set, is_none, is_some, ◌-◌}
+use Rattle.std.specs.Prelude.{filter, find, option_map, nat_eq, nat_lt, nat_le, bytes_eq, ◌&&◌, ◌||◌, get_or, set, is_none, is_some}
 use Rattle.std.specs.Option.{option_or}
 use Rattle.std.specs.List.{list_any, range_with_len, AllByRecursion}
 use Rattle.std.proofs.Math.Bool.{and-false}
 use Rattle.std.proofs.lemmas.Bool.{cases_Bool, and_parts}
 use Rattle.std.proofs.lemmas.Bool.Decides.{nat_tests}
-use Rattle.std.proofs.lemmas.List.{get_or-map, map-append, map-set, take_more}
+use Rattle.std.proofs.lemmas.List.{get_or-map, map-append, take_more}
 use Rattle.std.proofs.lemmas.List.Folds.{find-append}
 use Rattle.std.proofs.lemmas.List.FromFn.{get_or-range_with_len}
 use Rattle.filing_model.proofs.Lists.{length-map}

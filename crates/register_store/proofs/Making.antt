@@ -1,7 +1,8 @@
 -- The statements that make the tables of a register, in turn.
 use Rattle.std.proofs.Common.{◌≡◌, inl, inr, ℕ, List, [], ◌∷◌, ◌++◌, refl, sym, subst, ◌∙◌, arith}
 use Rattle.sqlite.specs.declared.error.Error.{Error}
-use Rattle.sqlite.specs.Effect.{Database}
+use Rattle.sqlite.specs.Effect.{Database, IsDatabase}
+use Rattle.sqlite.specs.State.{State}
 use Rattle.sqlite.specs.Store.{Ghosts}
 use Rattle.sqlite.specs.Held.{Held, state}
 use Rattle.sqlite.specs.Tree.{Trees}
@@ -13,11 +14,16 @@ use Rattle.table_rows.proofs.CreateLemmas.{IsFreshly, creates, none_held}
 use Rattle.table_rows.proofs.GainLemmas.{same_rows, still_declared}
 use Rattle.register_store.specs.Schema.{register_tables, IsDeclared, meta_table, kept_table, finding_table, filing_table, fact_table, migrated_table, amends_table}
 use Rattle.register_store.specs.Register.{HasRows, StandsFor, meta_row, migrated_row}
-use Rattle.register_store.specs.Changes.{MakesTables}
 use Rattle.register_store.specs.Making.{create_meta, create_kept, create_finding, create_filing, create_fact, create_migrated, create_amends, making_texts, AreRun, StopsWith, begun, Makes}
 use Rattle.register_store.specs.Store.{IsRegisterOf, Leaves}
 use Rattle.register_store.proofs.CreateTexts.{creates_meta, creates_kept, creates_finding, creates_filing, creates_fact, creates_migrated, creates_amends, first_schema, second_schema, third_schema, fourth_schema, fifth_schema, sixth_schema, own_indexes}
 use Rattle.register_store.proofs.OurGains.{meta_gains, none_early_gains}
+
+-- inside a transaction, which goes on, there are the tables of a register with no request
+pub record MakesTables (old new : State) : Type 0 where
+  pub rows : HasRows new.now 0 [] [] [] [] []
+  pub sound : IsDatabase new.now
+  pub committed : new.committed ≡ old.committed
 
 -- the tables, then the meta row, and then the row that tells of none before
 has_no_rows : (old mid new : Database) → IsFreshly (schema_with register_tables [] own_indexes []) old → Gains register_tables meta_table (meta_row ∷ []) old mid

@@ -20,20 +20,19 @@ use Rattle.table_rows.specs.declared.cause.Cause.TheVariants as cause
 use Rattle.table_rows.proofs.TextLemmas.{IsQueryText, query_same, query_failed, keeps_on}
 use Rattle.table_rows.proofs.OrderLemmas.{counted_rise}
 use Rattle.table_rows.proofs.ReadingLemmas.{reads_rows}
-use Rattle.register_store.specs.declared.audit.Verdict.TheVariants.{Damaged}
 use Rattle.register_store.specs.Audit.{Others, AreRowsOf}
 use Rattle.register_store.specs.declared.fault.OpenFault.{OpenFault}
 use Rattle.register_store.specs.declared.fault.OpenFault.TheVariants as fault
 use Rattle.register_store.specs.Opening.{all_meta, all_kept, all_findings, all_filings, all_facts, all_migrated, all_amends, row_texts, new_texts, table_texts, Later, SaysEarly, IsRead, AreRead, StopsFor, IsRefused}
 use Rattle.register_store.specs.Register.{meta_row, migrated_row, kept_row, amends_rows, joined_from}
 use Rattle.register_store.specs.Store.{IsRegisterOf}
-use Rattle.register_store.specs.Reads.{Knows, every, whole, by_first, by_both}
+use Rattle.register_store.specs.Reads.{Knows, every, whole, by_first}
 use Rattle.register_store.specs.Schema.{IsDeclared, HasCommon, common_tables, register_tables, meta_table, kept_table, finding_table, filing_table, fact_table, migrated_table, amends_table}
 use Rattle.register_store.proofs.ReadTexts.{columns, asks_meta, asks_findings, asks_filings, asks_facts, asks_migrated, asks_amends, query_meta, query_kept, query_findings, query_filings, query_facts, query_migrated, query_amends}
 use Rattle.register_store.proofs.ReadLemmas.{reads_kept}
 use Rattle.register_store.proofs.ListLemmas.{filter_every, map_whole, amends_rise}
 use Rattle.register_store.proofs.MoreRequests.{kept_length}
-use Rattle.register_store.proofs.RisingLemmas.{findings_rise, filings_rise, facts_rise}
+use Rattle.register_store.proofs.RisingLemmas.{by_both, findings_rise, filings_rise, facts_rise}
 use Rattle.register_store.proofs.SegmentLemmas.{length_counted}
 
 -- ---- one table

@@ -1,18 +1,16 @@
 -- Whether a filing is there, whose it is, and whether another one replaces it, as the rows say it.
-use Rattle.std.proofs.Common.{◌≡◌, ℕ, ◌+◌, ◌<◌, ◌≤◌, ◌≢◌, ◌⊎◌, ℤ, inl, inr, pos, zero, suc, Bool, true, false, List, [], ◌∷◌, ◌++◌, map, filter, take, get_or, length, Option, Some, None, nat_eq, refl, sym, ap, ap₂, subst, ◌∙◌, arith, ⊎_elim, append-nil}
+use Rattle.std.proofs.Common.{◌≡◌, ℕ, ◌+◌, ◌<◌, ◌⊎◌, ℤ, inl, inr, pos, zero, suc, Bool, true, false, List, [], ◌∷◌, ◌++◌, map, filter, get_or, length, Option, Some, None, nat_eq, refl, sym, ap, ap₂, subst, ◌∙◌, arith, ⊎_elim}
 use Rattle.std.specs.Prelude.{bytes_eq, is_some, ◌||◌, ◌&&◌}
 use Rattle.std.specs.List.{list_any}
 use Rattle.std.proofs.Math.Bool.{and-false}
 use Rattle.std.proofs.lemmas.Bool.{cases_Bool}
 use Rattle.std.proofs.lemmas.Bool.Decides.{nat_tests}
-use Rattle.std.proofs.lemmas.List.Elements.{filter-append}
-use Rattle.sqlite.specs.declared.types.Value.TheVariants.{Int, Text}
-use Rattle.sqlite.specs.Values.{or_null}
+use Rattle.sqlite.specs.declared.types.Value.TheVariants.{Int}
 use Rattle.sqlite.specs.Order.{Row}
 use Rattle.sqlite.specs.State.{State}
 use Rattle.sqlite_keyed.proofs.ListLemmas.{ascending-filter}
 use Rattle.filing_model.specs.Request.{Request, same_target}
-use Rattle.filing_model.specs.Register.{Outcome, Kept, Filing, filings, is_amendment_of, is_filing_of, kept, register}
+use Rattle.filing_model.specs.Register.{Outcome, Kept, filings, is_amendment_of, is_filing_of, kept}
 use Rattle.filing_model.specs.Register.Outcome.{Registered, Refused}
 use Rattle.filing_model.proofs.Keeping.{register_numbered}
 use Rattle.table_rows.specs.Rows.{counted_from}
@@ -21,7 +19,7 @@ use Rattle.table_rows.specs.Standing.{Stands}
 use Rattle.table_rows.proofs.OrderLemmas.{counted_rise, same_number, and_true}
 use Rattle.register_store.specs.Columns.{request_in}
 use Rattle.register_store.specs.Found.{IsPlaced, IsPlaceOf, has_seq}
-use Rattle.register_store.specs.Reads.{by_first, has_number, has_second, filer_alone, number_alone, second_alone}
+use Rattle.register_store.specs.Reads.{by_first, has_number, has_second, second_alone}
 use Rattle.register_store.specs.Register.{kept_row, filing_rows, filing_rows_by, amends_rows, amends_rows_by, joined_from, number_of}
 use Rattle.register_store.specs.Schema.{kept_table, filing_table, amends_table}
 use Rattle.register_store.specs.Store.{IsRegisterOf}

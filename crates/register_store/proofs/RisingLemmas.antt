@@ -4,7 +4,7 @@ use Rattle.std.specs.Prelude.{flat_map}
 use Rattle.std.specs.List.{AllByRecursion, range_with_len}
 use Rattle.std.proofs.lemmas.Int.{ints}
 use Rattle.sqlite.specs.declared.types.Value.TheVariants.{Int}
-use Rattle.sqlite.specs.Order.{Row}
+use Rattle.sqlite.specs.Order.{Row, column}
 use Rattle.sqlite_sql.specs.Query.{key_cmp}
 use Rattle.sqlite_value.proofs.OrderLemmas.{value_cmp-Int}
 use Rattle.sqlite_keyed.proofs.KeyedLemmas.{Less-from_lt}
@@ -18,11 +18,14 @@ use Rattle.filing_model.proofs.Keeping.{register_numbered}
 use Rattle.table_rows.specs.Rows.{counted_from}
 use Rattle.table_rows.specs.Reading.{ascending, RisesBy}
 use Rattle.table_rows.proofs.OrderLemmas.{int_less}
-use Rattle.register_store.specs.Reads.{by_first, by_both}
+use Rattle.register_store.specs.Reads.{by_first}
 use Rattle.register_store.specs.Register.{fact_row, finding_row, finding_rows, findings_of, filing_rows, fact_rows, joined_from}
 use Rattle.register_store.proofs.FactLemmas.{rows_of, table_is}
 
 -- ---- a key of two columns
+
+abbrev pub by_both : Row → Row
+by_both row = column row 0 ∷ column row 1 ∷ []
 
 abbrev Before : Row → Row → Type 0
 Before a b = key_cmp 0 (map (λ _. ascending) (by_both a)) (by_both a) (by_both b) ≡ Less

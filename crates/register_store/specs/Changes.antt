@@ -10,12 +10,6 @@ use Rattle.table_rows.specs.Rows.{GainsInside}
 use Rattle.register_store.specs.Schema.{IsDeclared, register_tables}
 use Rattle.register_store.specs.Register.{HasRows, kept_row, finding_rows, filing_rows, fact_rows, amends_rows}
 
--- inside a transaction, which goes on, there are the tables of a register with no request
-pub record MakesTables (old new : State) : Type 0 where
-  pub rows : HasRows new.now 0 [] [] [] [] []
-  pub sound : IsDatabase new.now
-  pub committed : new.committed ≡ old.committed
-
 -- a table of ours gains these rows inside a transaction, and the others stay
 abbrev pub GainsRows : Table → List Row → State → State → Type 0
 GainsRows = GainsInside register_tables

@@ -1,5 +1,5 @@
 -- What the SELECTs of a register read.
-use Rattle.std.specs.Prelude.{Bool, true, pos, ℕ, ◌&&◌, List, [], ◌∷◌, IsTrue}
+use Rattle.std.specs.Prelude.{Bool, true, pos, ℕ, ◌&&◌, [], ◌∷◌, IsTrue}
 use Rattle.sqlite.specs.declared.types.Value.TheVariants.{Int}
 use Rattle.sqlite.specs.Collation.TheVariants.{Binary}
 use Rattle.sqlite.specs.Order.{Row, column}
@@ -28,9 +28,6 @@ by_first row = column row 0 ∷ []
 
 abbrev pub by_second : Row → Row
 by_second row = column row 1 ∷ []
-
-abbrev pub by_both : Row → Row
-by_both row = column row 0 ∷ column row 1 ∷ []
 
 -- the first column equals this number, as SQL compares
 abbrev pub has_number : ℕ → Row → Bool

@@ -77,7 +77,9 @@ pub(crate) fn bytes_at(row: &Row, at: usize) -> &[u8]
 /// The place, from 0, of the first row whose filer and key an earlier one has, or how many rows there are. The error is want
 /// of memory.
 pub(crate) fn first_repeated(alloc: Global, kept: &[Row]) -> Result<usize, AllocError>
-    ensures { IfOk result (λ first. (first ≤ length kept.now) × ((at : ℕ) → at < first → is_repeated_at kept.now at ≡ false) × (first < length kept.now → is_repeated_at kept.now first ≡ true)) }
+    ensures { IfOk result (λ first.
+        (first ≤ length kept.now) × ((at : ℕ) → at < first → is_repeated_at kept.now at ≡ false)
+        × (first < length kept.now → is_repeated_at kept.now first ≡ true)) }
 {
     let mut seen = BTreeSet::new(alloc);
     for at in 0..kept.len() {
@@ -104,7 +106,9 @@ fn number_cell(number: Option<u64>) -> Cell<'static>
 pub(crate) fn is_kept_row(row: &Row, seq: u64, number: Option<u64>) -> bool
     requires seq { seq < 2 ^ 63 }
     requires number { IfSome number (λ n. n < 2 ^ 63) }
-    ensures { IsTrue result ↔ (row.now ≡ Int (pos seq) ∷ Text (request_in None row.now).filer ∷ Text (request_in None row.now).key ∷ Blob (request_in None row.now).body ∷ or_null (λ n. Int (pos n)) number ∷ []) }
+    ensures { IsTrue result
+        ↔ (row.now ≡ Int (pos seq) ∷ Text (request_in None row.now).filer ∷ Text (request_in None row.now).key ∷ Blob
+        (request_in None row.now).body ∷ or_null (λ n. Int (pos n)) number ∷ []) }
 {
     is_row(
         row,
@@ -135,7 +139,8 @@ fn after_valid<'a>(row: &Row, seq: u64, facts: &[Fact], rest: Rest<'a>) -> Optio
     requires seq { seq < 2 ^ 63 }
     requires number { rest.number < 2 ^ 63 }
     requires facts { facts.now ≡ facts_of (request_in None row.now).body }
-    ensures { (target : Option ℕ) → IsAfter seq row.now target (Outcome.Registered rest.entry.number) rest.entry result }
+    ensures { (target : Option ℕ)
+        → IsAfter seq row.now target (Outcome.Registered rest.entry.number) rest.entry result }
 {
     if !is_kept_row(row, seq, Some(rest.number)) {
         return None;
@@ -156,7 +161,8 @@ fn after_judged<'a>(row: &Row, seq: u64, judged: &Judged, rest: Rest<'a>) -> Opt
     requires seq { seq < 2 ^ 63 }
     requires number { rest.number < 2 ^ 63 }
     requires facts { HasFacts (request_in None row.now).body judged.now }
-    ensures { (target : Option ℕ) → IsAfter seq row.now target (outcome_of rest.entry.number judged.now) rest.entry result }
+    ensures { (target : Option ℕ)
+        → IsAfter seq row.now target (outcome_of rest.entry.number judged.now) rest.entry result }
 {
     match judged {
         Judged::Valid(report) => after_valid(row, seq, report.facts(), rest),
@@ -205,7 +211,9 @@ pub(crate) fn is_target(target: Option<u64>) -> bool
 
 /// The filer of a row whose request may be completed, where it is to replace such a filing.
 pub(crate) fn filer_of<'a>(row: &'a Row) -> Option<&'a str>
-    ensures { (target : Option ℕ) → IsTarget target → MatchOption result (IsCompleted (request_in target row.now) → ⊥) (λ filer. (filer.now ≡ (request_in None row.now).filer) × IsCompleted (request_in target row.now)) }
+    ensures { (target : Option ℕ) → IsTarget target
+        → MatchOption result (IsCompleted (request_in target row.now) → ⊥) (λ filer.
+        (filer.now ≡ (request_in None row.now).filer) × IsCompleted (request_in target row.now)) }
 {
     let key = text_at(row, 2);
     let Some(filer) = read_filer(text_at(row, 1)) else {
@@ -233,9 +241,14 @@ fn check_filed<'a>(
     requires seq { seq < 2 ^ 63 }
     requires number { rest.number < 2 ^ 63 }
     requires filer { filer.now ≡ (request_in None row.now).filer }
-    ensures { (F : List Request) → AreFiled (register F) filed.old → rest.entry.number ≡ suc (length (register F)) → IsCompleted (request_in target row.now) → has_key F (request_in target row.now) ≡ false
-        → IfOk result (λ next. MatchOption next ((tail : Others) → IsNext F seq row.now target (with_target seq target (view_rest rest.entry)) tail → ⊥)
-        (λ tail. IsNext F seq row.now target (with_target seq target (view_rest rest.entry)) (view_rest tail) × AreFiled (register (F ++ request_in target row.now ∷ [])) filed.new
+    ensures { (F : List Request) → AreFiled (register F) filed.old → rest.entry.number ≡ suc (length (register F))
+        → IsCompleted (request_in target row.now) → has_key F (request_in target row.now) ≡ false
+        → IfOk result (λ next.
+        MatchOption next
+        ((tail : Others) → IsNext F seq row.now target (with_target seq target (view_rest rest.entry)) tail → ⊥)
+        (λ tail.
+        IsNext F seq row.now target (with_target seq target (view_rest rest.entry)) (view_rest tail)
+        × AreFiled (register (F ++ request_in target row.now ∷ [])) filed.new
         × (tail.number ≡ suc (length (register (F ++ request_in target row.now ∷ [])))))) }
 {
     let judged = filed.judge(alloc, filer, target, bytes_at(row, 3))?;
@@ -264,9 +277,14 @@ fn check_next<'a>(
 ) -> Result<Option<Rest<'a>>, AllocError>
     requires seq { seq < 2 ^ 63 }
     requires number { rest.number < 2 ^ 63 }
-    ensures { (F : List Request) → AreFiled (register F) filed.old → rest.entry.number ≡ suc (length (register F)) → is_repeated ≡ has_key F (request_in None row.now)
-        → IfOk result (λ next. MatchOption next ((target : Option ℕ) (tail : Others) → IsNext F seq row.now target (view_rest rest.entry) tail → ⊥)
-        (λ tail. (target : Option ℕ) × IsNext F seq row.now target (view_rest rest.entry) (view_rest tail) × AreFiled (register (F ++ request_in target row.now ∷ [])) filed.new
+    ensures { (F : List Request) → AreFiled (register F) filed.old → rest.entry.number ≡ suc (length (register F))
+        → is_repeated ≡ has_key F (request_in None row.now)
+        → IfOk result (λ next.
+        MatchOption next
+        ((target : Option ℕ) (tail : Others) → IsNext F seq row.now target (view_rest rest.entry) tail → ⊥)
+        (λ tail.
+        (target : Option ℕ) × IsNext F seq row.now target (view_rest rest.entry) (view_rest tail)
+        × AreFiled (register (F ++ request_in target row.now ∷ [])) filed.new
         × (tail.number ≡ suc (length (register (F ++ request_in target row.now ∷ [])))))) }
 {
     if is_repeated {
@@ -301,8 +319,19 @@ fn audit_in_order(
     amends: &[Row],
 ) -> Result<Option<u64>, AllocError>
     requires { length kept.now ≤ 2 ^ 62 }
-    ensures found { IfOk result (λ found. MatchOption found (StandForNone kept.now (record { finding = findings.now; filing = filings.now; fact = facts.now; amends = amends.now }))
-        (λ filings_are. IsVerdict kept.now (record { finding = findings.now; filing = filings.now; fact = facts.now; amends = amends.now }) (Verdict.Sound filings_are) × (filings_are ≤ length kept.now))) }
+    ensures found { IfOk result (λ found.
+        MatchOption found
+        (StandForNone kept.now (record {
+          finding = findings.now;
+          filing = filings.now;
+          fact = facts.now;
+          amends = amends.now;
+        }))
+        (λ filings_are.
+        IsVerdict kept.now
+        (record { finding = findings.now; filing = filings.now; fact = facts.now; amends = amends.now })
+        (Verdict.Sound filings_are)
+        × (filings_are ≤ length kept.now))) }
 {
     let mut rest = Rest {
         findings,
@@ -341,10 +370,25 @@ pub(crate) fn audit(
     facts: &[Row],
     amends: &[Row],
 ) -> Result<Verdict, AllocError>
-    ensures verdict { IfOk result (λ verdict. IsVerdict kept.now (record { finding = findings.now; filing = filings.now; fact = facts.now; amends = amends.now }) verdict) }
-    ensures complete { IfOk result (λ verdict. (F : List Request) → AreRowsOf kept.now (record { finding = findings.now; filing = filings.now; fact = facts.now; amends = amends.now }) F
+    ensures verdict { IfOk result (λ verdict.
+        IsVerdict kept.now (record {
+          finding = findings.now;
+          filing = filings.now;
+          fact = facts.now;
+          amends = amends.now;
+        }) verdict) }
+    ensures complete { IfOk result (λ verdict.
+        (F : List Request)
+        → AreRowsOf kept.now (record {
+          finding = findings.now;
+          filing = filings.now;
+          fact = facts.now;
+          amends = amends.now;
+        }) F
         → verdict ≡ Verdict.Sound (length (register F))) }
-    ensures few { IfOk result (λ verdict. (filings : ℕ) → verdict ≡ Verdict.Sound filings → (filings ≤ length kept.now) × (length kept.now ≤ 2 ^ 62)) }
+    ensures few { IfOk result (λ verdict.
+        (filings : ℕ) → verdict ≡ Verdict.Sound filings
+        → (filings ≤ length kept.now) × (length kept.now ≤ 2 ^ 62)) }
 {
     if kept.len() as u64 > MAX_KEPT {
         return Err(AllocError);

@@ -67,7 +67,9 @@ fn read_request(row: &Row, target: Option<u64>) -> Result<Completed, StoreFault>
 
 /// The filing that such a row is, if it has a number.
 fn read_filing(row: &Row, replaces: Option<u64>) -> Result<Option<Registered>, StoreFault>
-    ensures { IfOk result (λ f. f ≡ option_map (λ n. record { number = n; request = request_in replaces row.now }) (number_in (column row.now 4))) }
+    ensures { IfOk result (λ f.
+        f ≡ option_map (λ n. record { number = n; request = request_in replaces row.now })
+        (number_in (column row.now 4))) }
 {
     let number: Option<u64> = row.get(4)?;
     let Some(number) = number else {

@@ -20,7 +20,8 @@ impl Outcome {
     /// The content of the reply to the request in this style, as compact JSON: the number, or the findings. A repeat gets the same.
     #[tactic(auto, using(crate::proofs::Floats::answer_data_no_float), unfolding(filing_model::specs::Reply::reply_as))]
     pub fn content(&self, alloc: Global, style: Style) -> Result<Vec<u8>, AllocError>
-        ensures { (repeat : Bool) → IfOk result (λ text. text.items ≡ (reply_as style (answer_by (view_outcome self.now) repeat)).content) }
+        ensures { (repeat : Bool)
+            → IfOk result (λ text. text.items ≡ (reply_as style (answer_by (view_outcome self.now) repeat)).content) }
     {
         let value = outcome_value(alloc, style, self)?;
         Ok(value.to_string(alloc)?.into_bytes())
@@ -28,7 +29,8 @@ impl Outcome {
 }
 
 fn outcome_value(alloc: Global, style: Style, outcome: &Outcome) -> Result<Value, AllocError>
-    ensures { (repeat : Bool) → IfOk result (λ v. view v ≡ answer_data style (answer_by (view_outcome outcome.now) repeat)) }
+    ensures { (repeat : Bool)
+        → IfOk result (λ v. view v ≡ answer_data style (answer_by (view_outcome outcome.now) repeat)) }
 {
     match outcome {
         Outcome::Registered(number) => registered_value(alloc, *number),

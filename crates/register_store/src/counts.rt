@@ -30,9 +30,15 @@ pub(crate) const MAX_NUMBER: u64 = i64::MAX as u64;
 
 /// How many facts the filing of this number has, none where there is no such filing.
 fn count_facts<S: Alter>(conn: &mut Connection<S>, number: u64) -> Result<usize, StoreFault>
-    ensures counted { HasCleanDisk (state S.Store conn.new) → (early : ℕ) (F : List Request) → Stands (IsRegisterOf early F) (state S.Store conn.old) → IfOk result (λ count. count ≡ length (unwrap_or (facts_numbered number (register F)) [])) }
-    ensures same { HasCleanDisk (state S.Store conn.new) → (early : ℕ) (F : List Request) → Stands (IsRegisterOf early F) (state S.Store conn.old) → Stands (IsRegisterOf early F) (state S.Store conn.new) }
-    ensures open { HasCleanDisk (state S.Store conn.new) → (early : ℕ) (F : List Request) → Stands (IsRegisterOf early F) (state S.Store conn.old) → OnOk result (IsTrue (state S.Store conn.new).is_open) }
+    ensures counted { HasCleanDisk (state S.Store conn.new) → (early : ℕ) (F : List Request)
+        → Stands (IsRegisterOf early F) (state S.Store conn.old)
+        → IfOk result (λ count. count ≡ length (unwrap_or (facts_numbered number (register F)) [])) }
+    ensures same { HasCleanDisk (state S.Store conn.new) → (early : ℕ) (F : List Request)
+        → Stands (IsRegisterOf early F) (state S.Store conn.old)
+        → Stands (IsRegisterOf early F) (state S.Store conn.new) }
+    ensures open { HasCleanDisk (state S.Store conn.new) → (early : ℕ) (F : List Request)
+        → Stands (IsRegisterOf early F) (state S.Store conn.old)
+        → OnOk result (IsTrue (state S.Store conn.new).is_open) }
     ensures mode { conn.old.in_transaction ≡ false → conn.new.in_transaction ≡ false }
     ensures survives { Survives (state S.Store conn.old) (state S.Store conn.new) (λ _. ⊥) }
 {
@@ -47,7 +53,9 @@ fn count_facts<S: Alter>(conn: &mut Connection<S>, number: u64) -> Result<usize,
 
 /// The filer of a row with the columns `seq`, `filer` and `number`, if it has a number.
 fn owner_of(row: &Row) -> Result<Option<String>, StoreFault>
-    ensures { IfOk result (λ owner. option_map (λ s. string_bytes s) owner ≡ option_map (λ _. text_in (column row.now 1)) (number_in (column row.now 2))) }
+    ensures { IfOk result (λ owner.
+        option_map (λ s. string_bytes s) owner ≡ option_map (λ _. text_in (column row.now 1))
+        (number_in (column row.now 2))) }
 {
     let number: Option<u64> = row.get(2)?;
     let Some(_) = number else {
@@ -60,7 +68,8 @@ fn owner_of(row: &Row) -> Result<Option<String>, StoreFault>
 /// The filings of such rows with the columns `seq`, `filer` and `number`, and the rows of `amends`, both in the order of the places,
 /// which are from 1 on.
 fn file_all(alloc: Global, rows: &[Row], amends: &[Row]) -> Result<Filed, StoreFault>
-    ensures { (F : List Request) → rows.now ≡ map filer_and_number (counted_from kept_row 1 (kept F)) → amends.now ≡ joined_from amends_rows 1 (kept F) → IfOk result (AreFiled (register F)) }
+    ensures { (F : List Request) → rows.now ≡ map filer_and_number (counted_from kept_row 1 (kept F))
+        → amends.now ≡ joined_from amends_rows 1 (kept F) → IfOk result (AreFiled (register F)) }
 {
     let mut filed = Filed::new(alloc);
     let mut rest = amends;
@@ -76,9 +85,14 @@ fn file_all(alloc: Global, rows: &[Row], amends: &[Row]) -> Result<Filed, StoreF
 
 /// All filings, without their facts.
 fn read_filed<S: Alter>(conn: &mut Connection<S>, alloc: Global) -> Result<Filed, StoreFault>
-    ensures filed { HasCleanDisk (state S.Store conn.new) → (early : ℕ) (F : List Request) → Stands (IsRegisterOf early F) (state S.Store conn.old) → IfOk result (AreFiled (register F)) }
-    ensures same { HasCleanDisk (state S.Store conn.new) → (early : ℕ) (F : List Request) → Stands (IsRegisterOf early F) (state S.Store conn.old) → Stands (IsRegisterOf early F) (state S.Store conn.new) }
-    ensures open { HasCleanDisk (state S.Store conn.new) → (early : ℕ) (F : List Request) → Stands (IsRegisterOf early F) (state S.Store conn.old) → OnOk result (IsTrue (state S.Store conn.new).is_open) }
+    ensures filed { HasCleanDisk (state S.Store conn.new) → (early : ℕ) (F : List Request)
+        → Stands (IsRegisterOf early F) (state S.Store conn.old) → IfOk result (AreFiled (register F)) }
+    ensures same { HasCleanDisk (state S.Store conn.new) → (early : ℕ) (F : List Request)
+        → Stands (IsRegisterOf early F) (state S.Store conn.old)
+        → Stands (IsRegisterOf early F) (state S.Store conn.new) }
+    ensures open { HasCleanDisk (state S.Store conn.new) → (early : ℕ) (F : List Request)
+        → Stands (IsRegisterOf early F) (state S.Store conn.old)
+        → OnOk result (IsTrue (state S.Store conn.new).is_open) }
     ensures mode { conn.old.in_transaction ≡ false → conn.new.in_transaction ≡ false }
     ensures survives { Survives (state S.Store conn.old) (state S.Store conn.new) (λ _. ⊥) }
 {
@@ -98,10 +112,15 @@ fn list_each<S: Alter>(
     filed: &Filed,
     filer: &str,
 ) -> Result<Vec<FilingRow>, StoreFault>
-    ensures rows { HasCleanDisk (state S.Store conn.new) → (early : ℕ) (F : List Request) → Stands (IsRegisterOf early F) (state S.Store conn.old) → AreFiled (register F) filed.now
+    ensures rows { HasCleanDisk (state S.Store conn.new) → (early : ℕ) (F : List Request)
+        → Stands (IsRegisterOf early F) (state S.Store conn.old) → AreFiled (register F) filed.now
         → IfOk result (λ rows. map view_row rows.items ≡ listings filer.now None (register F)) }
-    ensures same { HasCleanDisk (state S.Store conn.new) → (early : ℕ) (F : List Request) → Stands (IsRegisterOf early F) (state S.Store conn.old) → Stands (IsRegisterOf early F) (state S.Store conn.new) }
-    ensures open { HasCleanDisk (state S.Store conn.new) → (early : ℕ) (F : List Request) → Stands (IsRegisterOf early F) (state S.Store conn.old) → IsTrue (state S.Store conn.old).is_open → OnOk result (IsTrue (state S.Store conn.new).is_open) }
+    ensures same { HasCleanDisk (state S.Store conn.new) → (early : ℕ) (F : List Request)
+        → Stands (IsRegisterOf early F) (state S.Store conn.old)
+        → Stands (IsRegisterOf early F) (state S.Store conn.new) }
+    ensures open { HasCleanDisk (state S.Store conn.new) → (early : ℕ) (F : List Request)
+        → Stands (IsRegisterOf early F) (state S.Store conn.old) → IsTrue (state S.Store conn.old).is_open
+        → OnOk result (IsTrue (state S.Store conn.new).is_open) }
     ensures mode { conn.old.in_transaction ≡ false → conn.new.in_transaction ≡ false }
     ensures survives { Survives (state S.Store conn.old) (state S.Store conn.new) (λ _. ⊥) }
 {
@@ -122,9 +141,15 @@ pub(crate) fn filings_of<S: Alter>(
     alloc: Global,
     filer: &str,
 ) -> Result<Vec<FilingRow>, StoreFault>
-    ensures rows { HasCleanDisk (state S.Store conn.new) → (early : ℕ) (F : List Request) → Stands (IsRegisterOf early F) (state S.Store conn.old) → IfOk result (λ rows. map view_row rows.items ≡ listings filer.now None (register F)) }
-    ensures same { HasCleanDisk (state S.Store conn.new) → (early : ℕ) (F : List Request) → Stands (IsRegisterOf early F) (state S.Store conn.old) → Stands (IsRegisterOf early F) (state S.Store conn.new) }
-    ensures open { HasCleanDisk (state S.Store conn.new) → (early : ℕ) (F : List Request) → Stands (IsRegisterOf early F) (state S.Store conn.old) → OnOk result (IsTrue (state S.Store conn.new).is_open) }
+    ensures rows { HasCleanDisk (state S.Store conn.new) → (early : ℕ) (F : List Request)
+        → Stands (IsRegisterOf early F) (state S.Store conn.old)
+        → IfOk result (λ rows. map view_row rows.items ≡ listings filer.now None (register F)) }
+    ensures same { HasCleanDisk (state S.Store conn.new) → (early : ℕ) (F : List Request)
+        → Stands (IsRegisterOf early F) (state S.Store conn.old)
+        → Stands (IsRegisterOf early F) (state S.Store conn.new) }
+    ensures open { HasCleanDisk (state S.Store conn.new) → (early : ℕ) (F : List Request)
+        → Stands (IsRegisterOf early F) (state S.Store conn.old)
+        → OnOk result (IsTrue (state S.Store conn.new).is_open) }
     ensures mode { conn.old.in_transaction ≡ false → conn.new.in_transaction ≡ false }
     ensures survives { Survives (state S.Store conn.old) (state S.Store conn.new) (λ _. ⊥) }
 {

@@ -63,7 +63,8 @@ impl Spans {
 
     /// Rows among which are all that have the place or the number; in the order of the keys, these alone.
     fn part_of<'a>(&self, beside: Beside<'a>, seq: u64, number: u64) -> Beside<'a>
-        requires seq { (seq < vec_len self.now.findings) × (seq < vec_len self.now.filings) × (seq < vec_len self.now.amends) }
+        requires seq { (seq < vec_len self.now.findings) × (seq < vec_len self.now.filings)
+            × (seq < vec_len self.now.amends) }
         requires number { number < vec_len self.now.facts }
         requires covers { AreSpansOf (view_beside beside) self.now }
         ensures { AgreeAt seq number (view_beside result) (view_beside beside.entry) }
@@ -141,7 +142,8 @@ fn is_filing_row(row: &Row, number: &i64, seq: u64) -> bool
 /// Whether the filings of the request at this place have these numbers, in order.
 fn has_filings(rows: &[Row], seq: u64, numbers: &[i64]) -> bool
     requires { seq < 2 ^ 63 }
-    ensures { IsTrue result ↔ (with_number 1 seq rows.now ≡ counted_from (λ _ n. Int n ∷ Int (pos seq) ∷ []) 1 numbers.now) }
+    ensures { IsTrue result
+        ↔ (with_number 1 seq rows.now ≡ counted_from (λ _ n. Int n ∷ Int (pos seq) ∷ []) 1 numbers.now) }
 {
     let mut found = 0;
     for at in 0..rows.len() {
@@ -162,8 +164,10 @@ fn has_filings(rows: &[Row], seq: u64, numbers: &[i64]) -> bool
 /// The filing that the request at this place is to replace, if any, or `None` where its rows say no such thing.
 fn target_at(rows: &[Row], seq: u64) -> Option<Option<u64>>
     requires { seq < 2 ^ 63 }
-    ensures some { IfSome result (λ target. IsTarget target × (with_number 0 seq rows.now ≡ amends_rows_by seq target)) }
-    ensures none { result ≡ None → (target : Option ℕ) → IsTarget target → with_number 0 seq rows.now ≡ amends_rows_by seq target → ⊥ }
+    ensures some { IfSome result (λ target.
+        IsTarget target × (with_number 0 seq rows.now ≡ amends_rows_by seq target)) }
+    ensures none { result ≡ None → (target : Option ℕ) → IsTarget target
+        → with_number 0 seq rows.now ≡ amends_rows_by seq target → ⊥ }
 {
     let mut found = None;
     for at in 0..rows.len() {
@@ -182,7 +186,9 @@ fn target_at(rows: &[Row], seq: u64) -> Option<Option<u64>>
 fn is_refused(row: &Row, seq: u64, findings: &[Finding], beside: Beside<'_>) -> bool
     requires { seq < 2 ^ 63 }
     ensures { (target : Option ℕ) → with_number 0 seq beside.entry.amends.now ≡ amends_rows_by seq target
-        → IsTrue result ↔ IsKeptAs seq (request_outcome (request_in target row.now) (Outcome.Refused findings.now)) row.now (view_beside beside.entry) }
+        → IsTrue result
+        ↔ IsKeptAs seq (request_outcome (request_in target row.now) (Outcome.Refused findings.now)) row.now
+        (view_beside beside.entry) }
 {
     is_kept_row(row, seq, None)
         && has_findings(beside.findings, seq, findings)
@@ -195,7 +201,9 @@ fn is_registered(row: &Row, seq: u64, number: u64, facts: &[Fact], beside: Besid
     requires number { number < 2 ^ 63 }
     requires facts { facts.now ≡ facts_of (request_in None row.now).body }
     ensures { (target : Option ℕ) → with_number 0 seq beside.entry.amends.now ≡ amends_rows_by seq target
-        → IsTrue result ↔ IsKeptAs seq (request_outcome (request_in target row.now) (Outcome.Registered number)) row.now (view_beside beside.entry) }
+        → IsTrue result
+        ↔ IsKeptAs seq (request_outcome (request_in target row.now) (Outcome.Registered number)) row.now
+        (view_beside beside.entry) }
 {
     is_kept_row(row, seq, Some(number))
         && has_findings(beside.findings, seq, &[])
@@ -209,7 +217,9 @@ fn is_kept_as(row: &Row, seq: u64, number: u64, judged: &Judged, beside: Beside<
     requires number { number < 2 ^ 63 }
     requires facts { HasFacts (request_in None row.now).body judged.now }
     ensures { (target : Option ℕ) → with_number 0 seq beside.entry.amends.now ≡ amends_rows_by seq target
-        → IsTrue result ↔ IsKeptAs seq (request_outcome (request_in target row.now) (outcome_of number judged.now)) row.now (view_beside beside.entry) }
+        → IsTrue result
+        ↔ IsKeptAs seq (request_outcome (request_in target row.now) (outcome_of number judged.now)) row.now
+        (view_beside beside.entry) }
 {
     match judged {
         Judged::Valid(report) => is_registered(row, seq, number, report.facts(), beside),
@@ -240,9 +250,13 @@ fn filings_if_sound(
     requires seq { seq < 2 ^ 63 }
     requires number { number < 2 ^ 63 }
     ensures { (F : List Request) → AreFiled (register F) filed.old → number ≡ suc (length (register F))
-        → IfOk result (λ found. MatchOption found
-        ((r : Request) → IsCompleted r → IsKeptAs seq (judged (kept F) r) row.now (view_beside beside.entry) → ⊥)
-        (λ more. (r : Request) × IsCompleted r × IsKeptAs seq (judged (kept F) r) row.now (view_beside beside.entry) × AreFiled (filings (kept F ++ judged (kept F) r ∷ [])) filed.new
+        → IfOk result (λ found.
+        MatchOption found
+        ((r : Request) → IsCompleted r → IsKeptAs seq (judged (kept F) r) row.now (view_beside beside.entry)
+        → ⊥)
+        (λ more.
+        (r : Request) × IsCompleted r × IsKeptAs seq (judged (kept F) r) row.now (view_beside beside.entry)
+        × AreFiled (filings (kept F ++ judged (kept F) r ∷ [])) filed.new
         × (more ≡ filings_by (judged (kept F) r).outcome))) }
 {
     let Some(target) = target_at(beside.amends, seq) else {

@@ -80,8 +80,10 @@ fn form_in(rows: &[Row]) -> Option<Earlier>
 
 /// Reads `intake_meta`, whose rows are to be the one row of an earlier form.
 fn read_form<S: Alter>(conn: &mut Connection<S>) -> Result<Earlier, OpenFault>
-    ensures read { HasCleanDisk (state S.Store conn.new) → IfOk result (λ form. IsRead S.Store all_meta conn.old conn.new (form_row (form_number form) ∷ [])) }
-    ensures refused { HasCleanDisk (state S.Store conn.new) → IfErr result (λ fault. HasNoForm S.Store fault conn.old conn.new) }
+    ensures read { HasCleanDisk (state S.Store conn.new)
+        → IfOk result (λ form. IsRead S.Store all_meta conn.old conn.new (form_row (form_number form) ∷ [])) }
+    ensures refused { HasCleanDisk (state S.Store conn.new)
+        → IfErr result (λ fault. HasNoForm S.Store fault conn.old conn.new) }
     ensures mode { conn.old.in_transaction ≡ false → conn.new.in_transaction ≡ false }
     ensures survives { Survives (state S.Store conn.old) (state S.Store conn.new) (λ _. ⊥) }
 {
@@ -102,9 +104,18 @@ fn totals_in(
     filings: &[Row],
     facts: &[Row],
 ) -> Result<Totals, OpenFault>
-    ensures counted { IfOk result (λ totals. (totals.kept ≡ length kept.now) × IsVerdict kept.now (record { finding = findings.now; filing = filings.now; fact = facts.now; amends = [] }) (Verdict.Sound totals.filings)) }
+    ensures counted { IfOk result (λ totals.
+        (totals.kept ≡ length kept.now)
+        × IsVerdict kept.now
+        (record { finding = findings.now; filing = filings.now; fact = facts.now; amends = [] })
+        (Verdict.Sound totals.filings)) }
     ensures few { IfOk result (λ totals. (totals.kept ≤ 2 ^ 62) × (totals.filings ≤ totals.kept)) }
-    ensures refused { IfErr result (λ fault. (fault ≡ OpenFault.Memory) ⊎ ((row : ℕ) × (fault ≡ OpenFault.Damaged row) × IsVerdict kept.now (record { finding = findings.now; filing = filings.now; fact = facts.now; amends = [] }) (Verdict.Damaged row))) }
+    ensures refused { IfErr result (λ fault.
+        (fault ≡ OpenFault.Memory)
+        ⊎ ((row : ℕ) × (fault ≡ OpenFault.Damaged row)
+        × IsVerdict kept.now
+        (record { finding = findings.now; filing = filings.now; fact = facts.now; amends = [] })
+        (Verdict.Damaged row))) }
 {
     match audit(alloc, kept, findings, filings, facts, &[]) {
         Ok(Verdict::Sound { filings }) => Ok(Totals {
@@ -118,9 +129,11 @@ fn totals_in(
 
 /// Counts what the four tables stand for, which are read whole.
 fn count_whole<S: Alter>(alloc: Global, conn: &mut Connection<S>) -> Result<Totals, OpenFault>
-    ensures counted { HasCleanDisk (state S.Store conn.new) → IfOk result (λ totals. AreTotals totals (state S.Store conn.old) (state S.Store conn.new)) }
+    ensures counted { HasCleanDisk (state S.Store conn.new)
+        → IfOk result (λ totals. AreTotals totals (state S.Store conn.old) (state S.Store conn.new)) }
     ensures few { IfOk result (λ totals. (totals.kept ≤ 2 ^ 62) × (totals.filings ≤ totals.kept)) }
-    ensures refused { HasCleanDisk (state S.Store conn.new) → IfErr result (λ fault. HasNoTotals S.Store fault conn.old conn.new) }
+    ensures refused { HasCleanDisk (state S.Store conn.new)
+        → IfErr result (λ fault. HasNoTotals S.Store fault conn.old conn.new) }
     ensures mode { conn.old.in_transaction ≡ false → conn.new.in_transaction ≡ false }
     ensures survives { Survives (state S.Store conn.old) (state S.Store conn.new) (λ _. ⊥) }
 {
@@ -141,10 +154,15 @@ fn count_walked<S: Alter>(
     alloc: Global,
     conn: &mut Connection<S>,
 ) -> Result<Option<Totals>, OpenFault>
-    ensures counted { HasCleanDisk (state S.Store conn.new) → IfOk result (λ found. IfSome found (λ totals. AreTotals totals (state S.Store conn.old) (state S.Store conn.new))) }
-    ensures few { IfOk result (λ found. IfSome found (λ totals. (totals.kept ≤ 2 ^ 62) × (totals.filings ≤ totals.kept))) }
-    ensures refused { HasCleanDisk (state S.Store conn.new) → IfErr result (λ fault. HasNoTotals S.Store fault conn.old conn.new) }
-    ensures same { HasCleanDisk (state S.Store conn.new) → OnOk result (IsUnchanged (state S.Store conn.old) (state S.Store conn.new)) }
+    ensures counted { HasCleanDisk (state S.Store conn.new)
+        → IfOk result (λ found.
+        IfSome found (λ totals. AreTotals totals (state S.Store conn.old) (state S.Store conn.new))) }
+    ensures few { IfOk result (λ found.
+        IfSome found (λ totals. (totals.kept ≤ 2 ^ 62) × (totals.filings ≤ totals.kept))) }
+    ensures refused { HasCleanDisk (state S.Store conn.new)
+        → IfErr result (λ fault. HasNoTotals S.Store fault conn.old conn.new) }
+    ensures same { HasCleanDisk (state S.Store conn.new)
+        → OnOk result (IsUnchanged (state S.Store conn.old) (state S.Store conn.new)) }
     ensures mode { conn.old.in_transaction ≡ false → conn.new.in_transaction ≡ false }
     ensures survives { Survives (state S.Store conn.old) (state S.Store conn.new) (λ _. ⊥) }
 {
@@ -160,9 +178,11 @@ fn count_walked<S: Alter>(
 
 /// Counts what the four tables stand for.
 fn count_four<S: Alter>(alloc: Global, conn: &mut Connection<S>) -> Result<Totals, OpenFault>
-    ensures counted { HasCleanDisk (state S.Store conn.new) → IfOk result (λ totals. AreTotals totals (state S.Store conn.old) (state S.Store conn.new)) }
+    ensures counted { HasCleanDisk (state S.Store conn.new)
+        → IfOk result (λ totals. AreTotals totals (state S.Store conn.old) (state S.Store conn.new)) }
     ensures few { IfOk result (λ totals. (totals.kept ≤ 2 ^ 62) × (totals.filings ≤ totals.kept)) }
-    ensures refused { HasCleanDisk (state S.Store conn.new) → IfErr result (λ fault. HasNoTotals S.Store fault conn.old conn.new) }
+    ensures refused { HasCleanDisk (state S.Store conn.new)
+        → IfErr result (λ fault. HasNoTotals S.Store fault conn.old conn.new) }
     ensures mode { conn.old.in_transaction ≡ false → conn.new.in_transaction ≡ false }
     ensures survives { Survives (state S.Store conn.old) (state S.Store conn.new) (λ _. ⊥) }
 {
@@ -186,9 +206,12 @@ fn early_of(rows: &[Row], kept: u64) -> Option<u64>
 
 /// How much is held in the second form.
 fn count_second<S: Alter>(alloc: Global, conn: &mut Connection<S>) -> Result<Counts, OpenFault>
-    ensures counted { HasCleanDisk (state S.Store conn.new) → IfOk result (λ counts. IsCounted S.Store Earlier.Second counts conn.old conn.new) }
-    ensures few { IfOk result (λ counts. (counts.kept ≤ 2 ^ 62) × (counts.filings ≤ counts.kept) × (counts.early ≤ counts.kept)) }
-    ensures refused { HasCleanDisk (state S.Store conn.new) → IfErr result (λ fault. HasNoCounts S.Store Earlier.Second fault conn.old conn.new) }
+    ensures counted { HasCleanDisk (state S.Store conn.new)
+        → IfOk result (λ counts. IsCounted S.Store Earlier.Second counts conn.old conn.new) }
+    ensures few { IfOk result (λ counts.
+        (counts.kept ≤ 2 ^ 62) × (counts.filings ≤ counts.kept) × (counts.early ≤ counts.kept)) }
+    ensures refused { HasCleanDisk (state S.Store conn.new)
+        → IfErr result (λ fault. HasNoCounts S.Store Earlier.Second fault conn.old conn.new) }
     ensures mode { conn.old.in_transaction ≡ false → conn.new.in_transaction ≡ false }
     ensures survives { Survives (state S.Store conn.old) (state S.Store conn.new) (λ _. ⊥) }
 {
@@ -204,7 +227,9 @@ fn count_second<S: Alter>(alloc: Global, conn: &mut Connection<S>) -> Result<Cou
 
 /// So much is held in the third form, where the rows of `migrated` are these.
 fn counts_with(totals: Totals, migrated: &[Row]) -> Result<Counts, OpenFault>
-    ensures told { IfOk result (λ counts. (counts.kept ≡ totals.kept) × (counts.filings ≡ totals.filings) × (migrated.now ≡ migrated_row counts.early ∷ []) × (counts.early ≤ counts.kept)) }
+    ensures told { IfOk result (λ counts.
+        (counts.kept ≡ totals.kept) × (counts.filings ≡ totals.filings)
+        × (migrated.now ≡ migrated_row counts.early ∷ []) × (counts.early ≤ counts.kept)) }
     ensures refused { IfErr result (λ fault. (fault ≡ OpenFault.Damaged 0) × SaysNone totals.kept migrated.now) }
 {
     match early_of(migrated, totals.kept) {
@@ -219,9 +244,12 @@ fn counts_with(totals: Totals, migrated: &[Row]) -> Result<Counts, OpenFault>
 
 /// How much is held in the third form.
 fn count_third<S: Alter>(alloc: Global, conn: &mut Connection<S>) -> Result<Counts, OpenFault>
-    ensures counted { HasCleanDisk (state S.Store conn.new) → IfOk result (λ counts. IsCounted S.Store Earlier.Third counts conn.old conn.new) }
-    ensures few { IfOk result (λ counts. (counts.kept ≤ 2 ^ 62) × (counts.filings ≤ counts.kept) × (counts.early ≤ counts.kept)) }
-    ensures refused { HasCleanDisk (state S.Store conn.new) → IfErr result (λ fault. HasNoCounts S.Store Earlier.Third fault conn.old conn.new) }
+    ensures counted { HasCleanDisk (state S.Store conn.new)
+        → IfOk result (λ counts. IsCounted S.Store Earlier.Third counts conn.old conn.new) }
+    ensures few { IfOk result (λ counts.
+        (counts.kept ≤ 2 ^ 62) × (counts.filings ≤ counts.kept) × (counts.early ≤ counts.kept)) }
+    ensures refused { HasCleanDisk (state S.Store conn.new)
+        → IfErr result (λ fault. HasNoCounts S.Store Earlier.Third fault conn.old conn.new) }
     ensures mode { conn.old.in_transaction ≡ false → conn.new.in_transaction ≡ false }
     ensures survives { Survives (state S.Store conn.old) (state S.Store conn.new) (λ _. ⊥) }
 {
@@ -246,9 +274,12 @@ fn count_in<S: Alter>(
     conn: &mut Connection<S>,
     form: Earlier,
 ) -> Result<Counts, OpenFault>
-    ensures counted { HasCleanDisk (state S.Store conn.new) → IfOk result (λ counts. IsCounted S.Store form counts conn.old conn.new) }
-    ensures few { IfOk result (λ counts. (counts.kept ≤ 2 ^ 62) × (counts.filings ≤ counts.kept) × (counts.early ≤ counts.kept)) }
-    ensures refused { HasCleanDisk (state S.Store conn.new) → IfErr result (λ fault. HasNoCounts S.Store form fault conn.old conn.new) }
+    ensures counted { HasCleanDisk (state S.Store conn.new)
+        → IfOk result (λ counts. IsCounted S.Store form counts conn.old conn.new) }
+    ensures few { IfOk result (λ counts.
+        (counts.kept ≤ 2 ^ 62) × (counts.filings ≤ counts.kept) × (counts.early ≤ counts.kept)) }
+    ensures refused { HasCleanDisk (state S.Store conn.new)
+        → IfErr result (λ fault. HasNoCounts S.Store form fault conn.old conn.new) }
     ensures mode { conn.old.in_transaction ≡ false → conn.new.in_transaction ≡ false }
     ensures survives { Survives (state S.Store conn.old) (state S.Store conn.new) (λ _. ⊥) }
 {
@@ -263,9 +294,13 @@ pub(crate) fn read_earlier<S: Alter>(
     alloc: Global,
     conn: &mut Connection<S>,
 ) -> Result<Survey, OpenFault>
-    ensures found { HasCleanDisk (state S.Store conn.new) → IfOk result (λ found. IsSurveyed S.Store found.form found.counts conn.old conn.new) }
-    ensures few { IfOk result (λ found. (found.counts.kept ≤ 2 ^ 62) × (found.counts.filings ≤ found.counts.kept) × (found.counts.early ≤ found.counts.kept)) }
-    ensures refused { HasCleanDisk (state S.Store conn.new) → IfErr result (λ fault. IsNotSurveyed S.Store fault conn.old conn.new) }
+    ensures found { HasCleanDisk (state S.Store conn.new)
+        → IfOk result (λ found. IsSurveyed S.Store found.form found.counts conn.old conn.new) }
+    ensures few { IfOk result (λ found.
+        (found.counts.kept ≤ 2 ^ 62) × (found.counts.filings ≤ found.counts.kept)
+        × (found.counts.early ≤ found.counts.kept)) }
+    ensures refused { HasCleanDisk (state S.Store conn.new)
+        → IfErr result (λ fault. IsNotSurveyed S.Store fault conn.old conn.new) }
     ensures mode { conn.old.in_transaction ≡ false → conn.new.in_transaction ≡ false }
     ensures survives { Survives (state S.Store conn.old) (state S.Store conn.new) (λ _. ⊥) }
 {

@@ -40,7 +40,8 @@ impl Filed {
 
     /// How many filings there are.
     pub(crate) fn len(&self) -> usize
-        ensures { (result ≡ vec_len self.now.entries) × ((fs : List Filing) → AreFiled fs self.now → result ≡ length fs) }
+        ensures { (result ≡ vec_len self.now.entries)
+            × ((fs : List Filing) → AreFiled fs self.now → result ≡ length fs) }
     {
         self.entries.len()
     }
@@ -68,7 +69,8 @@ impl Filed {
 
     /// The next filing replaces the one of this number, if it replaces one.
     fn replace(&mut self, target: Option<u64>)
-        ensures { (fs : List Filing) (r : Request) → AreFiled fs self.old → r.target ≡ target → is_free fs r.filer r.target ≡ true
+        ensures { (fs : List Filing) (r : Request) → AreFiled fs self.old → r.target ≡ target
+            → is_free fs r.filer r.target ≡ true
             → map view_entry self.new.entries.items ≡ map (line_of (fs ++ next_filing fs r ∷ [])) fs }
     {
         let next = self.entries.len() as u64 + 1;
@@ -86,8 +88,8 @@ impl Filed {
         filer: &str,
         target: Option<u64>,
     ) -> Result<(), AllocError>
-        ensures { (fs : List Filing) (r : Request) → AreFiled fs self.old → r.filer ≡ filer.now → r.target ≡ target → is_free fs r.filer r.target ≡ true
-            → OnOk result (AreFiled (fs ++ next_filing fs r ∷ []) self.new) }
+        ensures { (fs : List Filing) (r : Request) → AreFiled fs self.old → r.filer ≡ filer.now → r.target ≡ target
+            → is_free fs r.filer r.target ≡ true → OnOk result (AreFiled (fs ++ next_filing fs r ∷ []) self.new) }
     {
         self.replace(target);
         let filer = String::from_str(alloc, filer)?;
@@ -102,7 +104,8 @@ impl Filed {
     /// Whether the filing at this place, from 0, is the filer's.
     pub(crate) fn is_of(&self, at: usize, filer: &str) -> bool
         requires { at < vec_len self.now.entries }
-        ensures { (fs : List Filing) (f : Filing) → AreFiled fs self.now → f ≡ get_or fs at f → result ≡ bytes_eq f.request.filer filer.now }
+        ensures { (fs : List Filing) (f : Filing) → AreFiled fs self.now → f ≡ get_or fs at f
+            → result ≡ bytes_eq f.request.filer filer.now }
     {
         self.entries[at].filer.as_bytes() == filer.as_bytes()
     }
@@ -110,7 +113,8 @@ impl Filed {
     /// The filing at this place, from 0, as it is listed with so many facts.
     pub(crate) fn row(&self, at: usize, facts: usize) -> FilingRow
         requires { at < vec_len self.now.entries }
-        ensures { (fs : List Filing) (f : Filing) → AreFiled fs self.now → f ≡ get_or fs at f → facts ≡ fact_count f.request.body → view_row result ≡ listing fs f }
+        ensures { (fs : List Filing) (f : Filing) → AreFiled fs self.now → f ≡ get_or fs at f
+            → facts ≡ fact_count f.request.body → view_row result ≡ listing fs f }
     {
         let entry = &self.entries[at];
         FilingRow {
@@ -129,7 +133,8 @@ impl Filed {
         target: Option<u64>,
         body: &[u8],
     ) -> Result<Judged, AllocError>
-        ensures judged { (F : List Request) (r : Request) → AreFiled (register F) self.now → r.filer ≡ filer.now → r.target ≡ target → r.body ≡ body.now
+        ensures judged { (F : List Request) (r : Request) → AreFiled (register F) self.now → r.filer ≡ filer.now
+            → r.target ≡ target → r.body ≡ body.now
             → IfOk result (λ j. (judged (kept F) r).outcome ≡ outcome_of (suc (length (register F))) j) }
         ensures facts { IfOk result (HasFacts body.now) }
     {
@@ -144,8 +149,8 @@ impl Filed {
         target: Option<u64>,
         found: &Judged,
     ) -> Result<(), AllocError>
-        ensures { (F : List Request) (r : Request) → AreFiled (register F) self.old → r.filer ≡ filer.now → r.target ≡ target
-            → (judged (kept F) r).outcome ≡ outcome_of (suc (length (register F))) found.now
+        ensures { (F : List Request) (r : Request) → AreFiled (register F) self.old → r.filer ≡ filer.now
+            → r.target ≡ target → (judged (kept F) r).outcome ≡ outcome_of (suc (length (register F))) found.now
             → OnOk result (AreFiled (filings (kept F ++ judged (kept F) r ∷ [])) self.new) }
     {
         match found {

@@ -19,9 +19,12 @@ impl<D: Disk + Drop> Store<FileStore<D>> {
     /// fault for which it isn't all there, but in the log still. A store that a fault of the disk shut has files too, where
     /// the disk takes part again.
     pub fn close(self) -> Result<Files<D>, (StoreFault, Files<D>)>
-        ensures kept { IfOk result (λ files. AreClean D.Disk files.log files.db → (F : List Request) → HasRequests over_files self F → HoldRegister D.Disk files self.early F) }
+        ensures kept { IfOk result (λ files.
+            AreClean D.Disk files.log files.db → (F : List Request) → HasRequests over_files self F
+            → HoldRegister D.Disk files self.early F) }
         ensures copied { IfOk result (λ files. AreClean D.Disk files.log files.db → IsCopied self.conn files) }
-        ensures usable { IfOk result (λ files. IsTrue (D.Disk.is_usable files.log) × IsTrue (D.Disk.is_usable files.db)) }
+        ensures usable { IfOk result (λ files.
+            IsTrue (D.Disk.is_usable files.log) × IsTrue (D.Disk.is_usable files.db)) }
 
         // A refusal has its cause in the close, and the files are those of the store as that left it.
         ensures left { IfErr result (λ e. AreLeft self.conn e.0 e.1) }
@@ -34,9 +37,12 @@ impl<D: Disk + Drop> Store<FileStore<D>> {
 
     /// The files, with all that was committed in the database file. A refusal gives the files up: `close` gives them back.
     pub fn into_files(self) -> Result<Files<D>, StoreFault>
-        ensures kept { IfOk result (λ files. AreClean D.Disk files.log files.db → (F : List Request) → HasRequests over_files self F → HoldRegister D.Disk files self.early F) }
+        ensures kept { IfOk result (λ files.
+            AreClean D.Disk files.log files.db → (F : List Request) → HasRequests over_files self F
+            → HoldRegister D.Disk files self.early F) }
         ensures copied { IfOk result (λ files. AreClean D.Disk files.log files.db → IsCopied self.conn files) }
-        ensures usable { IfOk result (λ files. IsTrue (D.Disk.is_usable files.log) × IsTrue (D.Disk.is_usable files.db)) }
+        ensures usable { IfOk result (λ files.
+            IsTrue (D.Disk.is_usable files.log) × IsTrue (D.Disk.is_usable files.db)) }
 
         // A refusal has its cause in the close.
         ensures failed { IfErr result (λ fault. (last : Stored D D.Disk) × IsNotCopied self.conn last fault) }

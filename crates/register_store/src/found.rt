@@ -100,9 +100,14 @@ fn look_up<S: Alter>(
     filer: &str,
     key: &str,
 ) -> Result<Option<Found>, StoreFault>
-    ensures found { HasCleanDisk (state S.Store conn.new) → (early : ℕ) (F : List Request) → Stands (IsRegisterOf early F) (state S.Store conn.old) → IfOk result (IsLookUp filer.now key.now F) }
-    ensures same { HasCleanDisk (state S.Store conn.new) → (early : ℕ) (F : List Request) → Stands (IsRegisterOf early F) (state S.Store conn.old) → Stands (IsRegisterOf early F) (state S.Store conn.new) }
-    ensures open { HasCleanDisk (state S.Store conn.new) → (early : ℕ) (F : List Request) → Stands (IsRegisterOf early F) (state S.Store conn.old) → OnOk result (IsTrue (state S.Store conn.new).is_open) }
+    ensures found { HasCleanDisk (state S.Store conn.new) → (early : ℕ) (F : List Request)
+        → Stands (IsRegisterOf early F) (state S.Store conn.old) → IfOk result (IsLookUp filer.now key.now F) }
+    ensures same { HasCleanDisk (state S.Store conn.new) → (early : ℕ) (F : List Request)
+        → Stands (IsRegisterOf early F) (state S.Store conn.old)
+        → Stands (IsRegisterOf early F) (state S.Store conn.new) }
+    ensures open { HasCleanDisk (state S.Store conn.new) → (early : ℕ) (F : List Request)
+        → Stands (IsRegisterOf early F) (state S.Store conn.old)
+        → OnOk result (IsTrue (state S.Store conn.new).is_open) }
     ensures mode { conn.old.in_transaction ≡ false → conn.new.in_transaction ≡ false }
     ensures survives { Survives (state S.Store conn.old) (state S.Store conn.new) (λ _. ⊥) }
 {
@@ -118,10 +123,15 @@ fn findings_at<S: Alter>(
     alloc: Global,
     seq: i64,
 ) -> Result<Findings, StoreFault>
-    ensures found { HasCleanDisk (state S.Store conn.new) → (early : ℕ) (F : List Request) → Stands (IsRegisterOf early F) (state S.Store conn.old)
-        → (n : ℕ) (k : Kept) → seq ≡ pos n → IsPlaced 1 n (kept F) k → IfOk result (λ findings. findings ≡ findings_of k.outcome) }
-    ensures same { HasCleanDisk (state S.Store conn.new) → (early : ℕ) (F : List Request) → Stands (IsRegisterOf early F) (state S.Store conn.old) → Stands (IsRegisterOf early F) (state S.Store conn.new) }
-    ensures open { HasCleanDisk (state S.Store conn.new) → (early : ℕ) (F : List Request) → Stands (IsRegisterOf early F) (state S.Store conn.old) → OnOk result (IsTrue (state S.Store conn.new).is_open) }
+    ensures found { HasCleanDisk (state S.Store conn.new) → (early : ℕ) (F : List Request)
+        → Stands (IsRegisterOf early F) (state S.Store conn.old) → (n : ℕ) (k : Kept) → seq ≡ pos n
+        → IsPlaced 1 n (kept F) k → IfOk result (λ findings. findings ≡ findings_of k.outcome) }
+    ensures same { HasCleanDisk (state S.Store conn.new) → (early : ℕ) (F : List Request)
+        → Stands (IsRegisterOf early F) (state S.Store conn.old)
+        → Stands (IsRegisterOf early F) (state S.Store conn.new) }
+    ensures open { HasCleanDisk (state S.Store conn.new) → (early : ℕ) (F : List Request)
+        → Stands (IsRegisterOf early F) (state S.Store conn.old)
+        → OnOk result (IsTrue (state S.Store conn.new).is_open) }
     ensures mode { conn.old.in_transaction ≡ false → conn.new.in_transaction ≡ false }
     ensures survives { Survives (state S.Store conn.old) (state S.Store conn.new) (λ _. ⊥) }
 {
@@ -133,7 +143,8 @@ fn findings_at<S: Alter>(
 
 /// The number in such a row's one column, if there is a row.
 fn read_target(rows: &[Row]) -> Result<Option<u64>, StoreFault>
-    ensures { IfOk result (λ target. (seq : ℕ) (wanted : Option ℕ) → rows.now ≡ map target_alone (amends_rows_by seq wanted) → target ≡ wanted) }
+    ensures { IfOk result (λ target.
+        (seq : ℕ) (wanted : Option ℕ) → rows.now ≡ map target_alone (amends_rows_by seq wanted) → target ≡ wanted) }
 {
     match rows.first() {
         None => Ok(None),
@@ -143,10 +154,15 @@ fn read_target(rows: &[Row]) -> Result<Option<u64>, StoreFault>
 
 /// The filing that the request at this place is to replace, if any.
 fn target_at<S: Alter>(conn: &mut Connection<S>, seq: i64) -> Result<Option<u64>, StoreFault>
-    ensures found { HasCleanDisk (state S.Store conn.new) → (early : ℕ) (F : List Request) → Stands (IsRegisterOf early F) (state S.Store conn.old)
-        → (n : ℕ) (k : Kept) → seq ≡ pos n → IsPlaced 1 n (kept F) k → IfOk result (λ target. target ≡ k.request.target) }
-    ensures same { HasCleanDisk (state S.Store conn.new) → (early : ℕ) (F : List Request) → Stands (IsRegisterOf early F) (state S.Store conn.old) → Stands (IsRegisterOf early F) (state S.Store conn.new) }
-    ensures open { HasCleanDisk (state S.Store conn.new) → (early : ℕ) (F : List Request) → Stands (IsRegisterOf early F) (state S.Store conn.old) → OnOk result (IsTrue (state S.Store conn.new).is_open) }
+    ensures found { HasCleanDisk (state S.Store conn.new) → (early : ℕ) (F : List Request)
+        → Stands (IsRegisterOf early F) (state S.Store conn.old) → (n : ℕ) (k : Kept) → seq ≡ pos n
+        → IsPlaced 1 n (kept F) k → IfOk result (λ target. target ≡ k.request.target) }
+    ensures same { HasCleanDisk (state S.Store conn.new) → (early : ℕ) (F : List Request)
+        → Stands (IsRegisterOf early F) (state S.Store conn.old)
+        → Stands (IsRegisterOf early F) (state S.Store conn.new) }
+    ensures open { HasCleanDisk (state S.Store conn.new) → (early : ℕ) (F : List Request)
+        → Stands (IsRegisterOf early F) (state S.Store conn.old)
+        → OnOk result (IsTrue (state S.Store conn.new).is_open) }
     ensures mode { conn.old.in_transaction ≡ false → conn.new.in_transaction ≡ false }
     ensures survives { Survives (state S.Store conn.old) (state S.Store conn.new) (λ _. ⊥) }
 {
@@ -174,11 +190,15 @@ fn complete<S: Alter>(
     target: Option<u64>,
     found: Found,
 ) -> Result<KeptRow, StoreFault>
-    ensures found { HasCleanDisk (state S.Store conn.new) → (filer key : List ℕ) (n : ℕ) (F : List Request) → Stands (IsRegisterOf n F) (state S.Store conn.old)
-        → (is : IsFound filer key F found) → target ≡ is.k.request.target → IfOk result (λ row. kept_as filer key row ≡ is.k) }
+    ensures found { HasCleanDisk (state S.Store conn.new) → (filer key : List ℕ) (n : ℕ) (F : List Request)
+        → Stands (IsRegisterOf n F) (state S.Store conn.old) → (is : IsFound filer key F found)
+        → target ≡ is.k.request.target → IfOk result (λ row. kept_as filer key row ≡ is.k) }
     ensures style { (place : ℕ) → found.seq ≡ pos place → IfOk result (λ row. row.style ≡ style_at early place) }
-    ensures same { HasCleanDisk (state S.Store conn.new) → (n : ℕ) (F : List Request) → Stands (IsRegisterOf n F) (state S.Store conn.old) → Stands (IsRegisterOf n F) (state S.Store conn.new) }
-    ensures open { HasCleanDisk (state S.Store conn.new) → (n : ℕ) (F : List Request) → Stands (IsRegisterOf n F) (state S.Store conn.old) → IsTrue (state S.Store conn.old).is_open → OnOk result (IsTrue (state S.Store conn.new).is_open) }
+    ensures same { HasCleanDisk (state S.Store conn.new) → (n : ℕ) (F : List Request)
+        → Stands (IsRegisterOf n F) (state S.Store conn.old) → Stands (IsRegisterOf n F) (state S.Store conn.new) }
+    ensures open { HasCleanDisk (state S.Store conn.new) → (n : ℕ) (F : List Request)
+        → Stands (IsRegisterOf n F) (state S.Store conn.old) → IsTrue (state S.Store conn.old).is_open
+        → OnOk result (IsTrue (state S.Store conn.new).is_open) }
     ensures mode { conn.old.in_transaction ≡ false → conn.new.in_transaction ≡ false }
     ensures survives { Survives (state S.Store conn.old) (state S.Store conn.new) (λ _. ⊥) }
 {
@@ -210,11 +230,15 @@ fn complete_found<S: Alter>(
     early: u64,
     found: Found,
 ) -> Result<KeptRow, StoreFault>
-    ensures found { HasCleanDisk (state S.Store conn.new) → (filer key : List ℕ) (n : ℕ) (F : List Request) → Stands (IsRegisterOf n F) (state S.Store conn.old)
-        → (is : IsFound filer key F found) → IfOk result (λ row. kept_as filer key row ≡ is.k) }
+    ensures found { HasCleanDisk (state S.Store conn.new) → (filer key : List ℕ) (n : ℕ) (F : List Request)
+        → Stands (IsRegisterOf n F) (state S.Store conn.old) → (is : IsFound filer key F found)
+        → IfOk result (λ row. kept_as filer key row ≡ is.k) }
     ensures style { (place : ℕ) → found.seq ≡ pos place → IfOk result (λ row. row.style ≡ style_at early place) }
-    ensures same { HasCleanDisk (state S.Store conn.new) → (n : ℕ) (F : List Request) → Stands (IsRegisterOf n F) (state S.Store conn.old) → Stands (IsRegisterOf n F) (state S.Store conn.new) }
-    ensures open { HasCleanDisk (state S.Store conn.new) → (n : ℕ) (F : List Request) → Stands (IsRegisterOf n F) (state S.Store conn.old) → IsTrue (state S.Store conn.old).is_open → OnOk result (IsTrue (state S.Store conn.new).is_open) }
+    ensures same { HasCleanDisk (state S.Store conn.new) → (n : ℕ) (F : List Request)
+        → Stands (IsRegisterOf n F) (state S.Store conn.old) → Stands (IsRegisterOf n F) (state S.Store conn.new) }
+    ensures open { HasCleanDisk (state S.Store conn.new) → (n : ℕ) (F : List Request)
+        → Stands (IsRegisterOf n F) (state S.Store conn.old) → IsTrue (state S.Store conn.old).is_open
+        → OnOk result (IsTrue (state S.Store conn.new).is_open) }
     ensures mode { conn.old.in_transaction ≡ false → conn.new.in_transaction ≡ false }
     ensures survives { Survives (state S.Store conn.old) (state S.Store conn.new) (λ _. ⊥) }
 {
@@ -232,12 +256,19 @@ pub fn find_kept<S: Alter>(
     filer: &str,
     key: &str,
 ) -> Result<Option<KeptRow>, StoreFault>
-    ensures found { HasCleanDisk (state S.Store conn.new) → (n : ℕ) (F : List Request) → Stands (IsRegisterOf n F) (state S.Store conn.old)
-        → (target : Option ℕ) (body : List ℕ) → IfOk result (λ row. option_map (kept_as filer.now key.now) row ≡ kept_for (kept F) (the_request filer.now key.now target body)) }
-    ensures style { HasCleanDisk (state S.Store conn.new) → (F : List Request) → Stands (IsRegisterOf early F) (state S.Store conn.old)
-        → (target : Option ℕ) (body : List ℕ) → IfOk result (λ row. IfSome row (λ r. r.style ≡ style_of (take early F) (the_request filer.now key.now target body))) }
-    ensures same { HasCleanDisk (state S.Store conn.new) → (n : ℕ) (F : List Request) → Stands (IsRegisterOf n F) (state S.Store conn.old) → Stands (IsRegisterOf n F) (state S.Store conn.new) }
-    ensures open { HasCleanDisk (state S.Store conn.new) → (n : ℕ) (F : List Request) → Stands (IsRegisterOf n F) (state S.Store conn.old) → OnOk result (IsTrue (state S.Store conn.new).is_open) }
+    ensures found { HasCleanDisk (state S.Store conn.new) → (n : ℕ) (F : List Request)
+        → Stands (IsRegisterOf n F) (state S.Store conn.old) → (target : Option ℕ) (body : List ℕ)
+        → IfOk result (λ row.
+        option_map (kept_as filer.now key.now) row ≡ kept_for (kept F)
+        (the_request filer.now key.now target body)) }
+    ensures style { HasCleanDisk (state S.Store conn.new) → (F : List Request)
+        → Stands (IsRegisterOf early F) (state S.Store conn.old) → (target : Option ℕ) (body : List ℕ)
+        → IfOk result (λ row.
+        IfSome row (λ r. r.style ≡ style_of (take early F) (the_request filer.now key.now target body))) }
+    ensures same { HasCleanDisk (state S.Store conn.new) → (n : ℕ) (F : List Request)
+        → Stands (IsRegisterOf n F) (state S.Store conn.old) → Stands (IsRegisterOf n F) (state S.Store conn.new) }
+    ensures open { HasCleanDisk (state S.Store conn.new) → (n : ℕ) (F : List Request)
+        → Stands (IsRegisterOf n F) (state S.Store conn.old) → OnOk result (IsTrue (state S.Store conn.new).is_open) }
     ensures mode { conn.old.in_transaction ≡ false → conn.new.in_transaction ≡ false }
     ensures crash { Survives (state S.Store conn.old) (state S.Store conn.new) (λ _. ⊥) }
 {

@@ -32,10 +32,17 @@ struct Both {
 }
 
 fn read_both<S: Alter>(conn: &mut Connection<S>) -> Result<Both, StoreFault>
-    ensures read { HasCleanDisk (state S.Store conn.new) → (early : ℕ) (F : List Request) → Stands (IsRegisterOf early F) (state S.Store conn.old)
-        → IfOk result (λ both. (firsts F ≡ F) × (both.kept.items ≡ counted_from kept_row 1 (kept F)) × (both.amends.items ≡ joined_from amends_rows 1 (kept F))) }
-    ensures same { HasCleanDisk (state S.Store conn.new) → (early : ℕ) (F : List Request) → Stands (IsRegisterOf early F) (state S.Store conn.old) → Stands (IsRegisterOf early F) (state S.Store conn.new) }
-    ensures open { HasCleanDisk (state S.Store conn.new) → (early : ℕ) (F : List Request) → Stands (IsRegisterOf early F) (state S.Store conn.old) → OnOk result (IsTrue (state S.Store conn.new).is_open) }
+    ensures read { HasCleanDisk (state S.Store conn.new) → (early : ℕ) (F : List Request)
+        → Stands (IsRegisterOf early F) (state S.Store conn.old)
+        → IfOk result (λ both.
+        (firsts F ≡ F) × (both.kept.items ≡ counted_from kept_row 1 (kept F))
+        × (both.amends.items ≡ joined_from amends_rows 1 (kept F))) }
+    ensures same { HasCleanDisk (state S.Store conn.new) → (early : ℕ) (F : List Request)
+        → Stands (IsRegisterOf early F) (state S.Store conn.old)
+        → Stands (IsRegisterOf early F) (state S.Store conn.new) }
+    ensures open { HasCleanDisk (state S.Store conn.new) → (early : ℕ) (F : List Request)
+        → Stands (IsRegisterOf early F) (state S.Store conn.old)
+        → OnOk result (IsTrue (state S.Store conn.new).is_open) }
     ensures mode { conn.old.in_transaction ≡ false → conn.new.in_transaction ≡ false }
     ensures survives { Survives (state S.Store conn.old) (state S.Store conn.new) (λ _. ⊥) }
 {
@@ -52,13 +59,16 @@ fn read_both<S: Alter>(conn: &mut Connection<S>) -> Result<Both, StoreFault>
 impl<S: Alter> Store<S> {
     /// The kept requests, in the order in which they were completed.
     pub fn requests(&mut self) -> Result<Vec<Completed>, StoreFault>
-        ensures rows { HasCleanDisk (shows S.Store self.new) → (F : List Request) → HasRequests S.Store self.old F → IfOk result (λ rows. rows.items ≡ F) }
-        ensures same { HasCleanDisk (shows S.Store self.new) → (F : List Request) → HasRequests S.Store self.old F → HasRequests S.Store self.new F }
+        ensures rows { HasCleanDisk (shows S.Store self.new) → (F : List Request) → HasRequests S.Store self.old F
+            → IfOk result (λ rows. rows.items ≡ F) }
+        ensures same { HasCleanDisk (shows S.Store self.new) → (F : List Request) → HasRequests S.Store self.old F
+            → HasRequests S.Store self.new F }
         ensures counts { (self.new.kept ≡ self.old.kept) × (self.new.filings ≡ self.old.filings) }
         ensures early { self.new.early ≡ self.old.early }
         ensures crash { Survives (shows S.Store self.old) (shows S.Store self.new) (λ _. ⊥) }
         ensures durable { HasCleanDisk (shows S.Store self.new) → (F : List Request) → HasRequests S.Store self.old F
-            → OnOk result (IsTrue (shows S.Store self.new).is_open × ((trees : Trees) → (shows S.Store self.new).may_leave trees → Leaves self.old.early F trees)) }
+            → OnOk result (IsTrue (shows S.Store self.new).is_open
+            × ((trees : Trees) → (shows S.Store self.new).may_leave trees → Leaves self.old.early F trees)) }
     {
         match read_both(&mut self.conn) {
             Ok(both) => read_requests(self.alloc, &both.kept, &both.amends),
@@ -68,13 +78,16 @@ impl<S: Alter> Store<S> {
 
     /// The registered requests under their numbers, ascending.
     pub fn all_filings(&mut self) -> Result<Vec<Registered>, StoreFault>
-        ensures rows { HasCleanDisk (shows S.Store self.new) → (F : List Request) → HasRequests S.Store self.old F → IfOk result (λ rows. rows.items ≡ register F) }
-        ensures same { HasCleanDisk (shows S.Store self.new) → (F : List Request) → HasRequests S.Store self.old F → HasRequests S.Store self.new F }
+        ensures rows { HasCleanDisk (shows S.Store self.new) → (F : List Request) → HasRequests S.Store self.old F
+            → IfOk result (λ rows. rows.items ≡ register F) }
+        ensures same { HasCleanDisk (shows S.Store self.new) → (F : List Request) → HasRequests S.Store self.old F
+            → HasRequests S.Store self.new F }
         ensures counts { (self.new.kept ≡ self.old.kept) × (self.new.filings ≡ self.old.filings) }
         ensures early { self.new.early ≡ self.old.early }
         ensures crash { Survives (shows S.Store self.old) (shows S.Store self.new) (λ _. ⊥) }
         ensures durable { HasCleanDisk (shows S.Store self.new) → (F : List Request) → HasRequests S.Store self.old F
-            → OnOk result (IsTrue (shows S.Store self.new).is_open × ((trees : Trees) → (shows S.Store self.new).may_leave trees → Leaves self.old.early F trees)) }
+            → OnOk result (IsTrue (shows S.Store self.new).is_open
+            × ((trees : Trees) → (shows S.Store self.new).may_leave trees → Leaves self.old.early F trees)) }
     {
         match read_both(&mut self.conn) {
             Ok(both) => read_filings(self.alloc, &both.kept, &both.amends),
@@ -85,13 +98,16 @@ impl<S: Alter> Store<S> {
     /// The filings of a filer, each with how many facts it has, which filing it replaces and which one replaces it, ascending by number.
     /// A filer that never came has none.
     pub fn filings(&mut self, filer: &str) -> Result<Vec<FilingRow>, StoreFault>
-        ensures rows { HasCleanDisk (shows S.Store self.new) → (F : List Request) → HasRequests S.Store self.old F → IfOk result (λ rows. map view_row rows.items ≡ listings filer.now None (register F)) }
-        ensures same { HasCleanDisk (shows S.Store self.new) → (F : List Request) → HasRequests S.Store self.old F → HasRequests S.Store self.new F }
+        ensures rows { HasCleanDisk (shows S.Store self.new) → (F : List Request) → HasRequests S.Store self.old F
+            → IfOk result (λ rows. map view_row rows.items ≡ listings filer.now None (register F)) }
+        ensures same { HasCleanDisk (shows S.Store self.new) → (F : List Request) → HasRequests S.Store self.old F
+            → HasRequests S.Store self.new F }
         ensures counts { (self.new.kept ≡ self.old.kept) × (self.new.filings ≡ self.old.filings) }
         ensures early { self.new.early ≡ self.old.early }
         ensures crash { Survives (shows S.Store self.old) (shows S.Store self.new) (λ _. ⊥) }
         ensures durable { HasCleanDisk (shows S.Store self.new) → (F : List Request) → HasRequests S.Store self.old F
-            → OnOk result (IsTrue (shows S.Store self.new).is_open × ((trees : Trees) → (shows S.Store self.new).may_leave trees → Leaves self.old.early F trees)) }
+            → OnOk result (IsTrue (shows S.Store self.new).is_open
+            × ((trees : Trees) → (shows S.Store self.new).may_leave trees → Leaves self.old.early F trees)) }
     {
         filings_of(&mut self.conn, self.alloc, filer)
     }
@@ -99,13 +115,16 @@ impl<S: Alter> Store<S> {
     /// The facts of the filing of this number, in the byte order of their identifiers, or `None` where there is no such
     /// filing.
     pub fn facts(&mut self, number: u64) -> Result<Option<Vec<Fact>>, StoreFault>
-        ensures facts { HasCleanDisk (shows S.Store self.new) → (F : List Request) → HasRequests S.Store self.old F → IfOk result (λ facts. option_map (λ list. list.items) facts ≡ facts_numbered number (register F)) }
-        ensures same { HasCleanDisk (shows S.Store self.new) → (F : List Request) → HasRequests S.Store self.old F → HasRequests S.Store self.new F }
+        ensures facts { HasCleanDisk (shows S.Store self.new) → (F : List Request) → HasRequests S.Store self.old F
+            → IfOk result (λ facts. option_map (λ list. list.items) facts ≡ facts_numbered number (register F)) }
+        ensures same { HasCleanDisk (shows S.Store self.new) → (F : List Request) → HasRequests S.Store self.old F
+            → HasRequests S.Store self.new F }
         ensures counts { (self.new.kept ≡ self.old.kept) × (self.new.filings ≡ self.old.filings) }
         ensures early { self.new.early ≡ self.old.early }
         ensures crash { Survives (shows S.Store self.old) (shows S.Store self.new) (λ _. ⊥) }
-        ensures durable { HasCleanDisk (shows S.Store self.new) → (F : List Request) → HasRequests S.Store self.old F → IsTrue (shows S.Store self.new).is_open
-            → (trees : Trees) → (shows S.Store self.new).may_leave trees → Leaves self.old.early F trees }
+        ensures durable { HasCleanDisk (shows S.Store self.new) → (F : List Request) → HasRequests S.Store self.old F
+            → IsTrue (shows S.Store self.new).is_open → (trees : Trees) → (shows S.Store self.new).may_leave trees
+            → Leaves self.old.early F trees }
     {
         if number == 0 || self.filings < number {
             return Ok(None);

@@ -37,10 +37,16 @@ fn tell_early<S: Alter>(tx: &mut Transaction<'_, S>, early: u64) -> Result<(), E
     requires { early < 2 ^ 63 }
     ensures same_reference { tx.new.conn.ghost_name ≡ tx.old.conn.ghost_name }
     ensures ran { HasCleanDisk (state S.Store tx.new.conn.now)
-        → OnOk result ((count : ℕ) × ExecutesInside 0 insert_early (Int (pos early) ∷ []) (state S.Store tx.old.conn.now) (state S.Store tx.new.conn.now) (Ok count)) }
-    ensures failed { HasCleanDisk (state S.Store tx.new.conn.now) → IsTrue (state S.Store tx.old.conn.now).in_transaction
-        → IfErr result (λ error. ExecutesInside 0 insert_early (Int (pos early) ∷ []) (state S.Store tx.old.conn.now) (state S.Store tx.new.conn.now) (Err error)) }
-    ensures keeps { HasCleanDisk (state S.Store tx.new.conn.now) → KeepsCommit (state S.Store tx.old.conn.now) (state S.Store tx.new.conn.now) }
+        → OnOk result ((count : ℕ)
+        × ExecutesInside 0 insert_early (Int (pos early) ∷ []) (state S.Store tx.old.conn.now)
+        (state S.Store tx.new.conn.now) (Ok count)) }
+    ensures failed { HasCleanDisk (state S.Store tx.new.conn.now)
+        → IsTrue (state S.Store tx.old.conn.now).in_transaction
+        → IfErr result (λ error.
+        ExecutesInside 0 insert_early (Int (pos early) ∷ []) (state S.Store tx.old.conn.now)
+        (state S.Store tx.new.conn.now) (Err error)) }
+    ensures keeps { HasCleanDisk (state S.Store tx.new.conn.now)
+        → KeepsCommit (state S.Store tx.old.conn.now) (state S.Store tx.new.conn.now) }
     ensures survives { Survives (state S.Store tx.old.conn.now) (state S.Store tx.new.conn.now) (λ _. ⊥) }
 {
     tx.execute("INSERT INTO migrated VALUES (1, ?1)", params![early as i64])?;
@@ -51,10 +57,14 @@ fn tell_early<S: Alter>(tx: &mut Transaction<'_, S>, early: u64) -> Result<(), E
 fn write_second<S: Alter>(tx: &mut Transaction<'_, S>, early: u64) -> Result<(), Error>
     requires { early < 2 ^ 63 }
     ensures same_reference { tx.new.conn.ghost_name ≡ tx.old.conn.ghost_name }
-    ensures done { HasCleanDisk (state S.Store tx.new.conn.now) → OnOk result (AreDone S.Store (migrating Earlier.Second early) tx.old.conn.now tx.new.conn.now) }
-    ensures stopped { HasCleanDisk (state S.Store tx.new.conn.now) → IsTrue (state S.Store tx.old.conn.now).in_transaction
-        → IfErr result (λ error. StopsAt S.Store error (migrating Earlier.Second early) tx.old.conn.now tx.new.conn.now) }
-    ensures keeps { HasCleanDisk (state S.Store tx.new.conn.now) → KeepsCommit (state S.Store tx.old.conn.now) (state S.Store tx.new.conn.now) }
+    ensures done { HasCleanDisk (state S.Store tx.new.conn.now)
+        → OnOk result (AreDone S.Store (migrating Earlier.Second early) tx.old.conn.now tx.new.conn.now) }
+    ensures stopped { HasCleanDisk (state S.Store tx.new.conn.now)
+        → IsTrue (state S.Store tx.old.conn.now).in_transaction
+        → IfErr result (λ error.
+        StopsAt S.Store error (migrating Earlier.Second early) tx.old.conn.now tx.new.conn.now) }
+    ensures keeps { HasCleanDisk (state S.Store tx.new.conn.now)
+        → KeepsCommit (state S.Store tx.old.conn.now) (state S.Store tx.new.conn.now) }
     ensures survives { Survives (state S.Store tx.old.conn.now) (state S.Store tx.new.conn.now) (λ _. ⊥) }
 {
     run(
@@ -72,10 +82,13 @@ fn write_second<S: Alter>(tx: &mut Transaction<'_, S>, early: u64) -> Result<(),
 /// Writes what a register of the third form has not.
 fn write_third<S: Alter>(tx: &mut Transaction<'_, S>) -> Result<(), Error>
     ensures same_reference { tx.new.conn.ghost_name ≡ tx.old.conn.ghost_name }
-    ensures done { HasCleanDisk (state S.Store tx.new.conn.now) → OnOk result (AreDone S.Store (migrating Earlier.Third 0) tx.old.conn.now tx.new.conn.now) }
-    ensures stopped { HasCleanDisk (state S.Store tx.new.conn.now) → IsTrue (state S.Store tx.old.conn.now).in_transaction
+    ensures done { HasCleanDisk (state S.Store tx.new.conn.now)
+        → OnOk result (AreDone S.Store (migrating Earlier.Third 0) tx.old.conn.now tx.new.conn.now) }
+    ensures stopped { HasCleanDisk (state S.Store tx.new.conn.now)
+        → IsTrue (state S.Store tx.old.conn.now).in_transaction
         → IfErr result (λ error. StopsAt S.Store error (migrating Earlier.Third 0) tx.old.conn.now tx.new.conn.now) }
-    ensures keeps { HasCleanDisk (state S.Store tx.new.conn.now) → KeepsCommit (state S.Store tx.old.conn.now) (state S.Store tx.new.conn.now) }
+    ensures keeps { HasCleanDisk (state S.Store tx.new.conn.now)
+        → KeepsCommit (state S.Store tx.old.conn.now) (state S.Store tx.new.conn.now) }
     ensures survives { Survives (state S.Store tx.old.conn.now) (state S.Store tx.new.conn.now) (λ _. ⊥) }
 {
     run(
@@ -88,10 +101,13 @@ fn write_third<S: Alter>(tx: &mut Transaction<'_, S>) -> Result<(), Error>
 fn write_all<S: Alter>(tx: &mut Transaction<'_, S>, form: Earlier, early: u64) -> Result<(), Error>
     requires { early < 2 ^ 63 }
     ensures same_reference { tx.new.conn.ghost_name ≡ tx.old.conn.ghost_name }
-    ensures done { HasCleanDisk (state S.Store tx.new.conn.now) → OnOk result (AreDone S.Store (migrating form early) tx.old.conn.now tx.new.conn.now) }
-    ensures stopped { HasCleanDisk (state S.Store tx.new.conn.now) → IsTrue (state S.Store tx.old.conn.now).in_transaction
+    ensures done { HasCleanDisk (state S.Store tx.new.conn.now)
+        → OnOk result (AreDone S.Store (migrating form early) tx.old.conn.now tx.new.conn.now) }
+    ensures stopped { HasCleanDisk (state S.Store tx.new.conn.now)
+        → IsTrue (state S.Store tx.old.conn.now).in_transaction
         → IfErr result (λ error. StopsAt S.Store error (migrating form early) tx.old.conn.now tx.new.conn.now) }
-    ensures keeps { HasCleanDisk (state S.Store tx.new.conn.now) → KeepsCommit (state S.Store tx.old.conn.now) (state S.Store tx.new.conn.now) }
+    ensures keeps { HasCleanDisk (state S.Store tx.new.conn.now)
+        → KeepsCommit (state S.Store tx.old.conn.now) (state S.Store tx.new.conn.now) }
     ensures survives { Survives (state S.Store tx.old.conn.now) (state S.Store tx.new.conn.now) (λ _. ⊥) }
 {
     match form {
@@ -105,11 +121,17 @@ fn write<S: Alter>(conn: &mut Connection<S>, form: Earlier, early: u64) -> Resul
     requires autocommit { conn.old.in_transaction ≡ false }
     requires early { early < 2 ^ 63 }
     ensures autocommit { conn.new.in_transaction ≡ false }
-    ensures written { HasCleanDisk (state S.Store conn.new) → OnOk result (AreCommitted S.Store (migrating form early) conn.old conn.new) }
-    ensures durable { HasCleanDisk (state S.Store conn.new) → OnOk result ((trees : Trees) → (state S.Store conn.new).may_leave trees → trees ≡ (state S.Store conn.new).now.trees) }
-    ensures undone { HasCleanDisk (state S.Store conn.new) → IfErr result (λ error. AreUndone S.Store error (migrating form early) conn.old conn.new) }
-    ensures neither { HasCleanDisk (state S.Store conn.new) → OnErr result (AddsNothing (state S.Store conn.old) (state S.Store conn.new)) }
-    ensures crash { Survives (state S.Store conn.old) (state S.Store conn.new) (AreTreesOf S.Store (migrating form early) conn.old) }
+    ensures written { HasCleanDisk (state S.Store conn.new)
+        → OnOk result (AreCommitted S.Store (migrating form early) conn.old conn.new) }
+    ensures durable { HasCleanDisk (state S.Store conn.new)
+        → OnOk result ((trees : Trees) → (state S.Store conn.new).may_leave trees
+        → trees ≡ (state S.Store conn.new).now.trees) }
+    ensures undone { HasCleanDisk (state S.Store conn.new)
+        → IfErr result (λ error. AreUndone S.Store error (migrating form early) conn.old conn.new) }
+    ensures neither { HasCleanDisk (state S.Store conn.new)
+        → OnErr result (AddsNothing (state S.Store conn.old) (state S.Store conn.new)) }
+    ensures crash { Survives (state S.Store conn.old) (state S.Store conn.new)
+        (AreTreesOf S.Store (migrating form early) conn.old) }
 {
     let mut tx = conn.transaction();
     write_all(&mut tx, form, early)?;
@@ -127,27 +149,41 @@ pub fn migrate_register<S: Alter>(
     ensures autocommit { conn.new.in_transaction ≡ false }
 
     // The rows stood for requests, and stand for them in the present form. Others than those that are counted they didn't stand for.
-    ensures migrated { HasCleanDisk (state S.Store conn.new) → (form : Earlier) → IsAlone form (state S.Store conn.old).now.schema
+    ensures migrated { HasCleanDisk (state S.Store conn.new) → (form : Earlier)
+        → IsAlone form (state S.Store conn.old).now.schema
         → IfOk result (λ counts. Migrates S.Store form counts conn.old conn.new) }
-    ensures only { HasCleanDisk (state S.Store conn.new) → IfOk result (λ counts. (form : Earlier) (early : ℕ) (F : List Request) → IsAlone form (state S.Store conn.old).now.schema
-        → IsEarlierOf form early F (state S.Store conn.old).now → (counts.early ≡ early) × Stands (IsRegisterOf early F) (state S.Store conn.new)
-        × (counts.kept ≡ length F) × (counts.filings ≡ length (register F))) }
-    ensures few { IfOk result (λ counts. (counts.kept ≤ 2 ^ 62) × (counts.filings ≤ counts.kept) × (counts.early ≤ counts.kept)) }
+    ensures only { HasCleanDisk (state S.Store conn.new)
+        → IfOk result (λ counts.
+        (form : Earlier) (early : ℕ) (F : List Request) → IsAlone form (state S.Store conn.old).now.schema
+        → IsEarlierOf form early F (state S.Store conn.old).now
+        → (counts.early ≡ early) × Stands (IsRegisterOf early F) (state S.Store conn.new) × (counts.kept ≡ length F)
+        × (counts.filings ≡ length (register F))) }
+    ensures few { IfOk result (λ counts.
+        (counts.kept ≤ 2 ^ 62) × (counts.filings ≤ counts.kept) × (counts.early ≤ counts.kept)) }
 
     // The statements of the form that was read, and they alone, were run in one transaction and committed.
-    ensures ran { HasCleanDisk (state S.Store conn.new) → IfOk result (λ counts. (form : Earlier) × IsMigrated S.Store form counts conn.old conn.new) }
+    ensures ran { HasCleanDisk (state S.Store conn.new)
+        → IfOk result (λ counts. (form : Earlier) × IsMigrated S.Store form counts conn.old conn.new) }
 
     // A refusal says why; where the rows stand for requests and no name is in the way, it is by memory, or by the disk or another
     // failure of a statement that writes. It leaves the rows as they were.
-    ensures refused { HasCleanDisk (state S.Store conn.new) → IfErr result (λ fault. IsNotMigrated S.Store fault conn.old conn.new) }
-    ensures sound { HasCleanDisk (state S.Store conn.new) → IfErr result (λ fault. (form : Earlier) (early : ℕ) (F : List Request)
-        → IsEarlierOf form early F (state S.Store conn.old).now → is_blocked (state S.Store conn.old).now.schema form ≡ false → (fault ≡ OpenFault.Memory) ⊎ (fault ≡ OpenFault.Disk)) }
-    ensures neither { HasCleanDisk (state S.Store conn.new) → OnErr result (AddsNothing (state S.Store conn.old) (state S.Store conn.new)) }
+    ensures refused { HasCleanDisk (state S.Store conn.new)
+        → IfErr result (λ fault. IsNotMigrated S.Store fault conn.old conn.new) }
+    ensures sound { HasCleanDisk (state S.Store conn.new)
+        → IfErr result (λ fault.
+        (form : Earlier) (early : ℕ) (F : List Request) → IsEarlierOf form early F (state S.Store conn.old).now
+        → is_blocked (state S.Store conn.old).now.schema form ≡ false
+        → (fault ≡ OpenFault.Memory) ⊎ (fault ≡ OpenFault.Disk)) }
+    ensures neither { HasCleanDisk (state S.Store conn.new)
+        → OnErr result (AddsNothing (state S.Store conn.old) (state S.Store conn.new)) }
 
     // A crash leaves what it could leave before, or what all the statements make, and after the call the migrated rows alone.
     ensures crash { Survives (state S.Store conn.old) (state S.Store conn.new) (MigratesTo S.Store conn.old) }
-    ensures durable { HasCleanDisk (state S.Store conn.new) → OnOk result ((form : Earlier) (early : ℕ) (F : List Request) → IsAlone form (state S.Store conn.old).now.schema
-        → IsEarlierOf form early F (state S.Store conn.old).now → IsTrue (state S.Store conn.new).is_open × ((trees : Trees) → (state S.Store conn.new).may_leave trees → Leaves early F trees)) }
+    ensures durable { HasCleanDisk (state S.Store conn.new)
+        → OnOk result ((form : Earlier) (early : ℕ) (F : List Request)
+        → IsAlone form (state S.Store conn.old).now.schema → IsEarlierOf form early F (state S.Store conn.old).now
+        → IsTrue (state S.Store conn.new).is_open
+        × ((trees : Trees) → (state S.Store conn.new).may_leave trees → Leaves early F trees)) }
 {
     prove!(is_settled(conn));
     match read_earlier(alloc, conn) {

@@ -66,8 +66,10 @@ fn is_register(rows: &[Row]) -> bool
 
 /// Reads `intake_meta`, whose rows are to be the one row.
 fn read_meta<S: Alter>(conn: &mut Connection<S>) -> Result<(), OpenFault>
-    ensures read { HasCleanDisk (state S.Store conn.new) → OnOk result (IsRead S.Store all_meta conn.old conn.new (meta_row ∷ [])) }
-    ensures refused { HasCleanDisk (state S.Store conn.new) → IfErr result (λ fault. IsRefused S.Store fault conn.old conn.new) }
+    ensures read { HasCleanDisk (state S.Store conn.new)
+        → OnOk result (IsRead S.Store all_meta conn.old conn.new (meta_row ∷ [])) }
+    ensures refused { HasCleanDisk (state S.Store conn.new)
+        → IfErr result (λ fault. IsRefused S.Store fault conn.old conn.new) }
     ensures mode { conn.old.in_transaction ≡ false → conn.new.in_transaction ≡ false }
     ensures survives { Survives (state S.Store conn.old) (state S.Store conn.new) (λ _. ⊥) }
 {
@@ -93,8 +95,12 @@ pub(crate) struct Tables {
 }
 
 pub(crate) fn read_tables<S: Alter>(conn: &mut Connection<S>) -> Result<Tables, Error>
-    ensures read { HasCleanDisk (state S.Store conn.new) → IfOk result (λ tables. AreRead S.Store row_texts conn.old conn.new (tables.kept.items ∷ tables.findings.items ∷ tables.filings.items ∷ tables.facts.items ∷ [])) }
-    ensures failed { HasCleanDisk (state S.Store conn.new) → IfErr result (λ error. StopsFor S.Store (cause_of error) row_texts conn.old conn.new) }
+    ensures read { HasCleanDisk (state S.Store conn.new)
+        → IfOk result (λ tables.
+        AreRead S.Store row_texts conn.old conn.new
+        (tables.kept.items ∷ tables.findings.items ∷ tables.filings.items ∷ tables.facts.items ∷ [])) }
+    ensures failed { HasCleanDisk (state S.Store conn.new)
+        → IfErr result (λ error. StopsFor S.Store (cause_of error) row_texts conn.old conn.new) }
     ensures mode { conn.old.in_transaction ≡ false → conn.new.in_transaction ≡ false }
     ensures survives { Survives (state S.Store conn.old) (state S.Store conn.new) (λ _. ⊥) }
 {
@@ -126,8 +132,11 @@ pub(crate) struct Later {
 }
 
 fn read_later<S: Alter>(conn: &mut Connection<S>) -> Result<Later, Error>
-    ensures read { HasCleanDisk (state S.Store conn.new) → IfOk result (λ later. AreRead S.Store new_texts conn.old conn.new (later.migrated.items ∷ later.amends.items ∷ [])) }
-    ensures failed { HasCleanDisk (state S.Store conn.new) → IfErr result (λ error. StopsFor S.Store (cause_of error) new_texts conn.old conn.new) }
+    ensures read { HasCleanDisk (state S.Store conn.new)
+        → IfOk result (λ later.
+        AreRead S.Store new_texts conn.old conn.new (later.migrated.items ∷ later.amends.items ∷ [])) }
+    ensures failed { HasCleanDisk (state S.Store conn.new)
+        → IfErr result (λ error. StopsFor S.Store (cause_of error) new_texts conn.old conn.new) }
     ensures mode { conn.old.in_transaction ≡ false → conn.new.in_transaction ≡ false }
     ensures survives { Survives (state S.Store conn.old) (state S.Store conn.new) (λ _. ⊥) }
 {
@@ -174,8 +183,10 @@ pub(crate) fn number_of(row: &Row, kept: u64) -> Option<u64>
 
 /// The number in the row of `migrated`, where it is one of so many kept requests.
 fn early_in(kept: u64, later: &Later) -> Option<u64>
-    ensures some { IfSome result (λ early. SaysEarly kept early (record { migrated = later.now.migrated.items; amends = later.now.amends.items })) }
-    ensures none { result ≡ None → SaysNothing kept (record { migrated = later.now.migrated.items; amends = later.now.amends.items }) }
+    ensures some { IfSome result (λ early.
+        SaysEarly kept early (record { migrated = later.now.migrated.items; amends = later.now.amends.items })) }
+    ensures none { result ≡ None
+        → SaysNothing kept (record { migrated = later.now.migrated.items; amends = later.now.amends.items }) }
 {
     match later.migrated.as_slice() {
         [row] => number_of(row, kept),
@@ -192,9 +203,28 @@ fn count(
     facts: &[Row],
     later: &Later,
 ) -> Result<Counts, OpenFault>
-    ensures counted { IfOk result (λ counts. (counts.kept ≡ length kept.now) × SaysEarly counts.kept counts.early (record { migrated = later.now.migrated.items; amends = later.now.amends.items }) × IsVerdict kept.now (record { finding = findings.now; filing = filings.now; fact = facts.now; amends = later.now.amends.items }) (Verdict.Sound counts.filings)) }
-    ensures few { IfOk result (λ counts. (counts.kept ≤ 2 ^ 62) × (counts.filings ≤ counts.kept) × (counts.early ≤ counts.kept)) }
-    ensures refused { IfErr result (λ fault. (fault ≡ OpenFault.Memory) ⊎ ((row : ℕ) × (fault ≡ OpenFault.Damaged row) × AreDamaged kept.now (record { finding = findings.now; filing = filings.now; fact = facts.now; amends = later.now.amends.items }) (record { migrated = later.now.migrated.items; amends = later.now.amends.items }) row)) }
+    ensures counted { IfOk result (λ counts.
+        (counts.kept ≡ length kept.now)
+        × SaysEarly counts.kept counts.early (record {
+          migrated = later.now.migrated.items;
+          amends = later.now.amends.items;
+        })
+        × IsVerdict kept.now
+        (record { finding = findings.now; filing = filings.now; fact = facts.now; amends = later.now.amends.items })
+        (Verdict.Sound counts.filings)) }
+    ensures few { IfOk result (λ counts.
+        (counts.kept ≤ 2 ^ 62) × (counts.filings ≤ counts.kept) × (counts.early ≤ counts.kept)) }
+    ensures refused { IfErr result (λ fault.
+        (fault ≡ OpenFault.Memory)
+        ⊎ ((row : ℕ) × (fault ≡ OpenFault.Damaged row)
+        × AreDamaged kept.now
+        (record {
+          finding = findings.now;
+          filing = filings.now;
+          fact = facts.now;
+          amends = later.now.amends.items;
+        })
+        (record { migrated = later.now.migrated.items; amends = later.now.amends.items }) row)) }
 {
     match audit(alloc, kept, findings, filings, facts, &later.amends) {
         Ok(Verdict::Sound { filings }) => match early_in(kept.len() as u64, later) {
@@ -212,7 +242,12 @@ fn count(
 
 /// So much is held, where the rows of the later tables are those of so many kept requests.
 fn counts_of(totals: Totals, later: &Later) -> Option<Counts>
-    ensures { IfSome result (λ counts. (counts.kept ≡ totals.kept) × (counts.filings ≡ totals.filings) × SaysEarly counts.kept counts.early (record { migrated = later.now.migrated.items; amends = later.now.amends.items })) }
+    ensures { IfSome result (λ counts.
+        (counts.kept ≡ totals.kept) × (counts.filings ≡ totals.filings)
+        × SaysEarly counts.kept counts.early (record {
+          migrated = later.now.migrated.items;
+          amends = later.now.amends.items;
+        })) }
 {
     Some(Counts {
         kept: totals.kept,
@@ -229,11 +264,19 @@ fn count_one_by_one<S: Alter>(
     later: &Later,
 ) -> Result<Option<Counts>, OpenFault>
     ensures found { HasCleanDisk (state S.Store conn.new) → HasCommon (state S.Store conn.old).now.schema
-        → IfOk result (λ found. IfSome found (λ counts. AreCounted counts (record { migrated = later.now.migrated.items; amends = later.now.amends.items }) (state S.Store conn.old).now)) }
-    ensures few { IfOk result (λ found. IfSome found (λ counts. (counts.kept ≤ 2 ^ 62) × (counts.filings ≤ counts.kept) × (counts.early ≤ counts.kept))) }
+        → IfOk result (λ found.
+        IfSome found (λ counts.
+        AreCounted counts (record { migrated = later.now.migrated.items; amends = later.now.amends.items })
+        (state S.Store conn.old).now)) }
+    ensures few { IfOk result (λ found.
+        IfSome found (λ counts.
+        (counts.kept ≤ 2 ^ 62) × (counts.filings ≤ counts.kept) × (counts.early ≤ counts.kept))) }
     ensures failed { HasCleanDisk (state S.Store conn.new)
-        → IfErr result (λ fault. (error : Error) × (fault ≡ table_fault error) × StopsFor S.Store (cause_of error) row_texts conn.old conn.new) }
-    ensures same { HasCleanDisk (state S.Store conn.new) → OnOk result (IsUnchanged (state S.Store conn.old) (state S.Store conn.new)) }
+        → IfErr result (λ fault.
+        (error : Error) × (fault ≡ table_fault error)
+        × StopsFor S.Store (cause_of error) row_texts conn.old conn.new) }
+    ensures same { HasCleanDisk (state S.Store conn.new)
+        → OnOk result (IsUnchanged (state S.Store conn.old) (state S.Store conn.new)) }
     ensures mode { conn.old.in_transaction ≡ false → conn.new.in_transaction ≡ false }
     ensures survives { Survives (state S.Store conn.old) (state S.Store conn.new) (λ _. ⊥) }
 {
@@ -252,7 +295,8 @@ fn count_one_by_one<S: Alter>(
 pub(crate) fn is_settled<S: Alter>(conn: &Connection<S>) -> bool
     ensures value { result ≡ not conn.now.in_transaction }
     ensures live { IsLive (state S.Store conn.now) }
-    ensures settled { IsTrue result → IsTrue (state S.Store conn.now).is_open → (state S.Store conn.now).now ≡ (state S.Store conn.now).committed }
+    ensures settled { IsTrue result → IsTrue (state S.Store conn.now).is_open
+        → (state S.Store conn.now).now ≡ (state S.Store conn.now).committed }
 {
     let _schema = conn.schema();
     conn.is_autocommit()
@@ -264,10 +308,20 @@ fn count_all<S: Alter>(
     conn: &mut Connection<S>,
     later: &Later,
 ) -> Result<Counts, OpenFault>
-    ensures counted { HasCleanDisk (state S.Store conn.new) → IfOk result (λ counts. IsUnchanged (state S.Store conn.old) (state S.Store conn.new)
-        × (HasCommon (state S.Store conn.old).now.schema → AreCounted counts (record { migrated = later.now.migrated.items; amends = later.now.amends.items }) (state S.Store conn.old).now)) }
-    ensures few { IfOk result (λ counts. (counts.kept ≤ 2 ^ 62) × (counts.filings ≤ counts.kept) × (counts.early ≤ counts.kept)) }
-    ensures refused { HasCleanDisk (state S.Store conn.new) → IfErr result (λ fault. IsRefusedAfter S.Store (record { migrated = later.now.migrated.items; amends = later.now.amends.items }) fault conn.old conn.new) }
+    ensures counted { HasCleanDisk (state S.Store conn.new)
+        → IfOk result (λ counts.
+        IsUnchanged (state S.Store conn.old) (state S.Store conn.new)
+        × (HasCommon (state S.Store conn.old).now.schema
+        → AreCounted counts (record { migrated = later.now.migrated.items; amends = later.now.amends.items })
+        (state S.Store conn.old).now)) }
+    ensures few { IfOk result (λ counts.
+        (counts.kept ≤ 2 ^ 62) × (counts.filings ≤ counts.kept) × (counts.early ≤ counts.kept)) }
+    ensures refused { HasCleanDisk (state S.Store conn.new)
+        → IfErr result (λ fault.
+        IsRefusedAfter S.Store (record {
+          migrated = later.now.migrated.items;
+          amends = later.now.amends.items;
+        }) fault conn.old conn.new) }
     ensures mode { conn.old.in_transaction ≡ false → conn.new.in_transaction ≡ false }
     ensures survives { Survives (state S.Store conn.old) (state S.Store conn.new) (λ _. ⊥) }
 {
@@ -296,20 +350,31 @@ pub fn read_register<S: Alter>(alloc: Global, conn: &mut Connection<S>) -> Resul
 
     // The rows stand for requests, and these are counted. Others than those that are counted they don't stand for.
     ensures found { HasCleanDisk (state S.Store conn.new) → IsDeclared (state S.Store conn.old).now.schema
-        → IfOk result (λ counts. (F : List Request) × IsRegisterOf counts.early F (state S.Store conn.old).now × Stands (IsRegisterOf counts.early F) (state S.Store conn.new)
-        × (counts.kept ≡ length F) × (counts.filings ≡ length (register F))) }
-    ensures only { HasCleanDisk (state S.Store conn.new) → IfOk result (λ counts. (early : ℕ) (F : List Request) → IsRegisterOf early F (state S.Store conn.old).now
-        → (counts.early ≡ early) × Stands (IsRegisterOf early F) (state S.Store conn.new) × (counts.kept ≡ length F) × (counts.filings ≡ length (register F))) }
-    ensures few { IfOk result (λ counts. (counts.kept ≤ 2 ^ 62) × (counts.filings ≤ counts.kept) × (counts.early ≤ counts.kept)) }
+        → IfOk result (λ counts.
+        (F : List Request) × IsRegisterOf counts.early F (state S.Store conn.old).now
+        × Stands (IsRegisterOf counts.early F) (state S.Store conn.new) × (counts.kept ≡ length F)
+        × (counts.filings ≡ length (register F))) }
+    ensures only { HasCleanDisk (state S.Store conn.new)
+        → IfOk result (λ counts.
+        (early : ℕ) (F : List Request) → IsRegisterOf early F (state S.Store conn.old).now
+        → (counts.early ≡ early) × Stands (IsRegisterOf early F) (state S.Store conn.new) × (counts.kept ≡ length F)
+        × (counts.filings ≡ length (register F))) }
+    ensures few { IfOk result (λ counts.
+        (counts.kept ≤ 2 ^ 62) × (counts.filings ≤ counts.kept) × (counts.early ≤ counts.kept)) }
 
     // A refusal says why; where the rows stand for requests, it is by memory or disk.
-    ensures refused { HasCleanDisk (state S.Store conn.new) → IfErr result (λ fault. IsRefused S.Store fault conn.old conn.new) }
-    ensures sound { HasCleanDisk (state S.Store conn.new) → IfErr result (λ fault. (early : ℕ) (F : List Request) → IsRegisterOf early F (state S.Store conn.old).now
+    ensures refused { HasCleanDisk (state S.Store conn.new)
+        → IfErr result (λ fault. IsRefused S.Store fault conn.old conn.new) }
+    ensures sound { HasCleanDisk (state S.Store conn.new)
+        → IfErr result (λ fault.
+        (early : ℕ) (F : List Request) → IsRegisterOf early F (state S.Store conn.old).now
         → (fault ≡ OpenFault.Memory) ⊎ (fault ≡ OpenFault.Disk)) }
 
     // The connection is as it was, and after a refusal at least what is committed. A crash leaves what it could leave before.
-    ensures same { HasCleanDisk (state S.Store conn.new) → OnOk result (IsUnchanged (state S.Store conn.old) (state S.Store conn.new)) }
-    ensures keeps { HasCleanDisk (state S.Store conn.new) → OnErr result (KeepsCommit (state S.Store conn.old) (state S.Store conn.new)) }
+    ensures same { HasCleanDisk (state S.Store conn.new)
+        → OnOk result (IsUnchanged (state S.Store conn.old) (state S.Store conn.new)) }
+    ensures keeps { HasCleanDisk (state S.Store conn.new)
+        → OnErr result (KeepsCommit (state S.Store conn.old) (state S.Store conn.new)) }
     ensures mode { conn.new.in_transaction ≡ false }
     ensures survives { Survives (state S.Store conn.old) (state S.Store conn.new) (λ _. ⊥) }
 {

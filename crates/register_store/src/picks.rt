@@ -20,8 +20,10 @@ pub(crate) fn kept_at<S: Alter>(conn: &mut Connection<S>, seq: u64) -> Result<Ve
     requires { seq < 2 ^ 63 }
     ensures picks { HasCleanDisk (state S.Store conn.new) → HasCommon (state S.Store conn.old).now.schema
         → IfOk result (λ rows. Picks kept_table (has_number seq) rows.items (state S.Store conn.old).now) }
-    ensures same { HasCleanDisk (state S.Store conn.new) → OnOk result (IsUnchanged (state S.Store conn.old) (state S.Store conn.new)) }
-    ensures stopped { HasCleanDisk (state S.Store conn.new) → IfErr result (IsStopped (state S.Store conn.old) (state S.Store conn.new)) }
+    ensures same { HasCleanDisk (state S.Store conn.new)
+        → OnOk result (IsUnchanged (state S.Store conn.old) (state S.Store conn.new)) }
+    ensures stopped { HasCleanDisk (state S.Store conn.new)
+        → IfErr result (IsStopped (state S.Store conn.old) (state S.Store conn.new)) }
     ensures mode { conn.old.in_transaction ≡ false → conn.new.in_transaction ≡ false }
     ensures survives { Survives (state S.Store conn.old) (state S.Store conn.new) (λ _. ⊥) }
 {
@@ -36,8 +38,10 @@ pub(crate) fn findings_at<S: Alter>(conn: &mut Connection<S>, seq: u64) -> Resul
     requires { seq < 2 ^ 63 }
     ensures picks { HasCleanDisk (state S.Store conn.new) → HasCommon (state S.Store conn.old).now.schema
         → IfOk result (λ rows. Picks finding_table (has_number seq) rows.items (state S.Store conn.old).now) }
-    ensures same { HasCleanDisk (state S.Store conn.new) → OnOk result (IsUnchanged (state S.Store conn.old) (state S.Store conn.new)) }
-    ensures stopped { HasCleanDisk (state S.Store conn.new) → IfErr result (IsStopped (state S.Store conn.old) (state S.Store conn.new)) }
+    ensures same { HasCleanDisk (state S.Store conn.new)
+        → OnOk result (IsUnchanged (state S.Store conn.old) (state S.Store conn.new)) }
+    ensures stopped { HasCleanDisk (state S.Store conn.new)
+        → IfErr result (IsStopped (state S.Store conn.old) (state S.Store conn.new)) }
     ensures mode { conn.old.in_transaction ≡ false → conn.new.in_transaction ≡ false }
     ensures survives { Survives (state S.Store conn.old) (state S.Store conn.new) (λ _. ⊥) }
 {
@@ -55,8 +59,10 @@ pub(crate) fn filings_numbered<S: Alter>(
     requires { number < 2 ^ 63 }
     ensures picks { HasCleanDisk (state S.Store conn.new) → HasCommon (state S.Store conn.old).now.schema
         → IfOk result (λ rows. Picks filing_table (has_number number) rows.items (state S.Store conn.old).now) }
-    ensures same { HasCleanDisk (state S.Store conn.new) → OnOk result (IsUnchanged (state S.Store conn.old) (state S.Store conn.new)) }
-    ensures stopped { HasCleanDisk (state S.Store conn.new) → IfErr result (IsStopped (state S.Store conn.old) (state S.Store conn.new)) }
+    ensures same { HasCleanDisk (state S.Store conn.new)
+        → OnOk result (IsUnchanged (state S.Store conn.old) (state S.Store conn.new)) }
+    ensures stopped { HasCleanDisk (state S.Store conn.new)
+        → IfErr result (IsStopped (state S.Store conn.old) (state S.Store conn.new)) }
     ensures mode { conn.old.in_transaction ≡ false → conn.new.in_transaction ≡ false }
     ensures survives { Survives (state S.Store conn.old) (state S.Store conn.new) (λ _. ⊥) }
 {
@@ -74,8 +80,10 @@ pub(crate) fn facts_numbered<S: Alter>(
     requires { number < 2 ^ 63 }
     ensures picks { HasCleanDisk (state S.Store conn.new) → HasCommon (state S.Store conn.old).now.schema
         → IfOk result (λ rows. Picks fact_table (has_number number) rows.items (state S.Store conn.old).now) }
-    ensures same { HasCleanDisk (state S.Store conn.new) → OnOk result (IsUnchanged (state S.Store conn.old) (state S.Store conn.new)) }
-    ensures stopped { HasCleanDisk (state S.Store conn.new) → IfErr result (IsStopped (state S.Store conn.old) (state S.Store conn.new)) }
+    ensures same { HasCleanDisk (state S.Store conn.new)
+        → OnOk result (IsUnchanged (state S.Store conn.old) (state S.Store conn.new)) }
+    ensures stopped { HasCleanDisk (state S.Store conn.new)
+        → IfErr result (IsStopped (state S.Store conn.old) (state S.Store conn.new)) }
     ensures mode { conn.old.in_transaction ≡ false → conn.new.in_transaction ≡ false }
     ensures survives { Survives (state S.Store conn.old) (state S.Store conn.new) (λ _. ⊥) }
 {
@@ -92,9 +100,12 @@ pub(crate) fn count_with_key<S: Alter>(
     key: &[u8],
 ) -> Result<usize, Error>
     ensures counted { HasCleanDisk (state S.Store conn.new) → HasCommon (state S.Store conn.old).now.schema
-        → IfOk result (λ count. count ≡ length (filter (has_texts filer.now key.now) (rows_in (state S.Store conn.old).now kept_table))) }
-    ensures same { HasCleanDisk (state S.Store conn.new) → OnOk result (IsUnchanged (state S.Store conn.old) (state S.Store conn.new)) }
-    ensures stopped { HasCleanDisk (state S.Store conn.new) → IfErr result (IsStopped (state S.Store conn.old) (state S.Store conn.new)) }
+        → IfOk result (λ count.
+        count ≡ length (filter (has_texts filer.now key.now) (rows_in (state S.Store conn.old).now kept_table))) }
+    ensures same { HasCleanDisk (state S.Store conn.new)
+        → OnOk result (IsUnchanged (state S.Store conn.old) (state S.Store conn.new)) }
+    ensures stopped { HasCleanDisk (state S.Store conn.new)
+        → IfErr result (IsStopped (state S.Store conn.old) (state S.Store conn.new)) }
     ensures mode { conn.old.in_transaction ≡ false → conn.new.in_transaction ≡ false }
     ensures survives { Survives (state S.Store conn.old) (state S.Store conn.new) (λ _. ⊥) }
 {
@@ -130,8 +141,10 @@ fn read_count(rows: &[Row]) -> Option<u64>
 pub(crate) fn count_kept<S: Alter>(conn: &mut Connection<S>) -> Result<Option<u64>, Error>
     ensures counted { HasCleanDisk (state S.Store conn.new) → HasCommon (state S.Store conn.old).now.schema
         → IfOk result (λ found. IfSome found (λ count. CountsTo kept_table count (state S.Store conn.old).now)) }
-    ensures same { HasCleanDisk (state S.Store conn.new) → OnOk result (IsUnchanged (state S.Store conn.old) (state S.Store conn.new)) }
-    ensures stopped { HasCleanDisk (state S.Store conn.new) → IfErr result (IsStopped (state S.Store conn.old) (state S.Store conn.new)) }
+    ensures same { HasCleanDisk (state S.Store conn.new)
+        → OnOk result (IsUnchanged (state S.Store conn.old) (state S.Store conn.new)) }
+    ensures stopped { HasCleanDisk (state S.Store conn.new)
+        → IfErr result (IsStopped (state S.Store conn.old) (state S.Store conn.new)) }
     ensures mode { conn.old.in_transaction ≡ false → conn.new.in_transaction ≡ false }
     ensures survives { Survives (state S.Store conn.old) (state S.Store conn.new) (λ _. ⊥) }
 {
@@ -145,8 +158,10 @@ pub(crate) fn count_kept<S: Alter>(conn: &mut Connection<S>) -> Result<Option<u6
 pub(crate) fn count_findings<S: Alter>(conn: &mut Connection<S>) -> Result<Option<u64>, Error>
     ensures counted { HasCleanDisk (state S.Store conn.new) → HasCommon (state S.Store conn.old).now.schema
         → IfOk result (λ found. IfSome found (λ count. CountsTo finding_table count (state S.Store conn.old).now)) }
-    ensures same { HasCleanDisk (state S.Store conn.new) → OnOk result (IsUnchanged (state S.Store conn.old) (state S.Store conn.new)) }
-    ensures stopped { HasCleanDisk (state S.Store conn.new) → IfErr result (IsStopped (state S.Store conn.old) (state S.Store conn.new)) }
+    ensures same { HasCleanDisk (state S.Store conn.new)
+        → OnOk result (IsUnchanged (state S.Store conn.old) (state S.Store conn.new)) }
+    ensures stopped { HasCleanDisk (state S.Store conn.new)
+        → IfErr result (IsStopped (state S.Store conn.old) (state S.Store conn.new)) }
     ensures mode { conn.old.in_transaction ≡ false → conn.new.in_transaction ≡ false }
     ensures survives { Survives (state S.Store conn.old) (state S.Store conn.new) (λ _. ⊥) }
 {
@@ -160,8 +175,10 @@ pub(crate) fn count_findings<S: Alter>(conn: &mut Connection<S>) -> Result<Optio
 pub(crate) fn count_filings<S: Alter>(conn: &mut Connection<S>) -> Result<Option<u64>, Error>
     ensures counted { HasCleanDisk (state S.Store conn.new) → HasCommon (state S.Store conn.old).now.schema
         → IfOk result (λ found. IfSome found (λ count. CountsTo filing_table count (state S.Store conn.old).now)) }
-    ensures same { HasCleanDisk (state S.Store conn.new) → OnOk result (IsUnchanged (state S.Store conn.old) (state S.Store conn.new)) }
-    ensures stopped { HasCleanDisk (state S.Store conn.new) → IfErr result (IsStopped (state S.Store conn.old) (state S.Store conn.new)) }
+    ensures same { HasCleanDisk (state S.Store conn.new)
+        → OnOk result (IsUnchanged (state S.Store conn.old) (state S.Store conn.new)) }
+    ensures stopped { HasCleanDisk (state S.Store conn.new)
+        → IfErr result (IsStopped (state S.Store conn.old) (state S.Store conn.new)) }
     ensures mode { conn.old.in_transaction ≡ false → conn.new.in_transaction ≡ false }
     ensures survives { Survives (state S.Store conn.old) (state S.Store conn.new) (λ _. ⊥) }
 {
@@ -175,8 +192,10 @@ pub(crate) fn count_filings<S: Alter>(conn: &mut Connection<S>) -> Result<Option
 pub(crate) fn count_facts<S: Alter>(conn: &mut Connection<S>) -> Result<Option<u64>, Error>
     ensures counted { HasCleanDisk (state S.Store conn.new) → HasCommon (state S.Store conn.old).now.schema
         → IfOk result (λ found. IfSome found (λ count. CountsTo fact_table count (state S.Store conn.old).now)) }
-    ensures same { HasCleanDisk (state S.Store conn.new) → OnOk result (IsUnchanged (state S.Store conn.old) (state S.Store conn.new)) }
-    ensures stopped { HasCleanDisk (state S.Store conn.new) → IfErr result (IsStopped (state S.Store conn.old) (state S.Store conn.new)) }
+    ensures same { HasCleanDisk (state S.Store conn.new)
+        → OnOk result (IsUnchanged (state S.Store conn.old) (state S.Store conn.new)) }
+    ensures stopped { HasCleanDisk (state S.Store conn.new)
+        → IfErr result (IsStopped (state S.Store conn.old) (state S.Store conn.new)) }
     ensures mode { conn.old.in_transaction ≡ false → conn.new.in_transaction ≡ false }
     ensures survives { Survives (state S.Store conn.old) (state S.Store conn.new) (λ _. ⊥) }
 {

@@ -14,9 +14,13 @@ use sqlite::{Alter, Connection, Error, Row, params};
 
 /// All kept rows, by `seq`.
 pub(crate) fn kept_rows<S: Alter>(conn: &mut Connection<S>) -> Result<Vec<Row>, Error>
-    ensures shown { HasCleanDisk (state S.Store conn.new) → IfOk result (λ rows. Shown all_kept [] (state S.Store conn.old) (state S.Store conn.new) rows.items) }
-    ensures failed { HasCleanDisk (state S.Store conn.new) → IfErr result (FailsToQuery all_kept [] (state S.Store conn.old) (state S.Store conn.new)) }
-    ensures read { HasCleanDisk (state S.Store conn.new) → Knows (state S.Store conn.old) → IfOk result (λ rows. ReadsRows kept_table every by_first whole rows.items (state S.Store conn.old) (state S.Store conn.new)) }
+    ensures shown { HasCleanDisk (state S.Store conn.new)
+        → IfOk result (λ rows. Shown all_kept [] (state S.Store conn.old) (state S.Store conn.new) rows.items) }
+    ensures failed { HasCleanDisk (state S.Store conn.new)
+        → IfErr result (FailsToQuery all_kept [] (state S.Store conn.old) (state S.Store conn.new)) }
+    ensures read { HasCleanDisk (state S.Store conn.new) → Knows (state S.Store conn.old)
+        → IfOk result (λ rows.
+        ReadsRows kept_table every by_first whole rows.items (state S.Store conn.old) (state S.Store conn.new)) }
     ensures keeps { HasCleanDisk (state S.Store conn.new) → Keeps (state S.Store conn.old) (state S.Store conn.new) }
     ensures mode { conn.old.in_transaction ≡ false → conn.new.in_transaction ≡ false }
     ensures survives { Survives (state S.Store conn.old) (state S.Store conn.new) (λ _. ⊥) }
@@ -29,7 +33,10 @@ pub(crate) fn kept_rows<S: Alter>(conn: &mut Connection<S>) -> Result<Vec<Row>, 
 
 /// The columns `seq`, `filer` and `number` of all kept rows, by `seq`.
 pub(crate) fn filers_and_numbers<S: Alter>(conn: &mut Connection<S>) -> Result<Vec<Row>, Error>
-    ensures read { HasCleanDisk (state S.Store conn.new) → Knows (state S.Store conn.old) → IfOk result (λ rows. ReadsRows kept_table every by_first filer_and_number rows.items (state S.Store conn.old) (state S.Store conn.new)) }
+    ensures read { HasCleanDisk (state S.Store conn.new) → Knows (state S.Store conn.old)
+        → IfOk result (λ rows.
+        ReadsRows kept_table every by_first filer_and_number rows.items (state S.Store conn.old)
+        (state S.Store conn.new)) }
     ensures keeps { HasCleanDisk (state S.Store conn.new) → Keeps (state S.Store conn.old) (state S.Store conn.new) }
     ensures mode { conn.old.in_transaction ≡ false → conn.new.in_transaction ≡ false }
     ensures survives { Survives (state S.Store conn.old) (state S.Store conn.new) (λ _. ⊥) }
@@ -43,7 +50,10 @@ pub(crate) fn place_of_filing<S: Alter>(
     number: u64,
 ) -> Result<Vec<Row>, Error>
     requires { number < 2 ^ 63 }
-    ensures read { HasCleanDisk (state S.Store conn.new) → Knows (state S.Store conn.old) → IfOk result (λ rows. ReadsRows filing_table (has_number number) by_first second_alone rows.items (state S.Store conn.old) (state S.Store conn.new)) }
+    ensures read { HasCleanDisk (state S.Store conn.new) → Knows (state S.Store conn.old)
+        → IfOk result (λ rows.
+        ReadsRows filing_table (has_number number) by_first second_alone rows.items (state S.Store conn.old)
+        (state S.Store conn.new)) }
     ensures keeps { HasCleanDisk (state S.Store conn.new) → Keeps (state S.Store conn.old) (state S.Store conn.new) }
     ensures mode { conn.old.in_transaction ≡ false → conn.new.in_transaction ≡ false }
     ensures survives { Survives (state S.Store conn.old) (state S.Store conn.new) (λ _. ⊥) }
@@ -56,7 +66,10 @@ pub(crate) fn place_of_filing<S: Alter>(
 
 /// The filer of the kept row at this place.
 pub(crate) fn filer_at<S: Alter>(conn: &mut Connection<S>, seq: i64) -> Result<Vec<Row>, Error>
-    ensures read { HasCleanDisk (state S.Store conn.new) → Knows (state S.Store conn.old) → IfOk result (λ rows. ReadsRows kept_table (has_seq seq) by_first filer_alone rows.items (state S.Store conn.old) (state S.Store conn.new)) }
+    ensures read { HasCleanDisk (state S.Store conn.new) → Knows (state S.Store conn.old)
+        → IfOk result (λ rows.
+        ReadsRows kept_table (has_seq seq) by_first filer_alone rows.items (state S.Store conn.old)
+        (state S.Store conn.new)) }
     ensures keeps { HasCleanDisk (state S.Store conn.new) → Keeps (state S.Store conn.old) (state S.Store conn.new) }
     ensures mode { conn.old.in_transaction ≡ false → conn.new.in_transaction ≡ false }
     ensures survives { Survives (state S.Store conn.old) (state S.Store conn.new) (λ _. ⊥) }
@@ -69,7 +82,10 @@ pub(crate) fn filer_at<S: Alter>(conn: &mut Connection<S>, seq: i64) -> Result<V
 
 /// The number of the kept row at this place.
 pub(crate) fn number_at<S: Alter>(conn: &mut Connection<S>, seq: i64) -> Result<Vec<Row>, Error>
-    ensures read { HasCleanDisk (state S.Store conn.new) → Knows (state S.Store conn.old) → IfOk result (λ rows. ReadsRows kept_table (has_seq seq) by_first number_alone rows.items (state S.Store conn.old) (state S.Store conn.new)) }
+    ensures read { HasCleanDisk (state S.Store conn.new) → Knows (state S.Store conn.old)
+        → IfOk result (λ rows.
+        ReadsRows kept_table (has_seq seq) by_first number_alone rows.items (state S.Store conn.old)
+        (state S.Store conn.new)) }
     ensures keeps { HasCleanDisk (state S.Store conn.new) → Keeps (state S.Store conn.old) (state S.Store conn.new) }
     ensures mode { conn.old.in_transaction ≡ false → conn.new.in_transaction ≡ false }
     ensures survives { Survives (state S.Store conn.old) (state S.Store conn.new) (λ _. ⊥) }
@@ -86,7 +102,10 @@ pub(crate) fn places_with_target<S: Alter>(
     target: u64,
 ) -> Result<Vec<Row>, Error>
     requires { target < 2 ^ 63 }
-    ensures read { HasCleanDisk (state S.Store conn.new) → KnowsAll (state S.Store conn.old) → IfOk result (λ rows. ReadsRows amends_table (has_second target) by_first by_first rows.items (state S.Store conn.old) (state S.Store conn.new)) }
+    ensures read { HasCleanDisk (state S.Store conn.new) → KnowsAll (state S.Store conn.old)
+        → IfOk result (λ rows.
+        ReadsRows amends_table (has_second target) by_first by_first rows.items (state S.Store conn.old)
+        (state S.Store conn.new)) }
     ensures keeps { HasCleanDisk (state S.Store conn.new) → Keeps (state S.Store conn.old) (state S.Store conn.new) }
     ensures mode { conn.old.in_transaction ≡ false → conn.new.in_transaction ≡ false }
     ensures survives { Survives (state S.Store conn.old) (state S.Store conn.new) (λ _. ⊥) }
@@ -103,7 +122,10 @@ pub(crate) fn fact_places<S: Alter>(
     number: u64,
 ) -> Result<Vec<Row>, Error>
     requires { number < 2 ^ 63 }
-    ensures read { HasCleanDisk (state S.Store conn.new) → Knows (state S.Store conn.old) → IfOk result (λ rows. ReadsRows fact_table (has_number number) by_second place_alone rows.items (state S.Store conn.old) (state S.Store conn.new)) }
+    ensures read { HasCleanDisk (state S.Store conn.new) → Knows (state S.Store conn.old)
+        → IfOk result (λ rows.
+        ReadsRows fact_table (has_number number) by_second place_alone rows.items (state S.Store conn.old)
+        (state S.Store conn.new)) }
     ensures keeps { HasCleanDisk (state S.Store conn.new) → Keeps (state S.Store conn.old) (state S.Store conn.new) }
     ensures mode { conn.old.in_transaction ≡ false → conn.new.in_transaction ≡ false }
     ensures survives { Survives (state S.Store conn.old) (state S.Store conn.new) (λ _. ⊥) }
@@ -120,7 +142,10 @@ pub(crate) fn facts_of_filing<S: Alter>(
     number: u64,
 ) -> Result<Vec<Row>, Error>
     requires { number < 2 ^ 63 }
-    ensures read { HasCleanDisk (state S.Store conn.new) → Knows (state S.Store conn.old) → IfOk result (λ rows. ReadsRows fact_table (has_number number) by_second said rows.items (state S.Store conn.old) (state S.Store conn.new)) }
+    ensures read { HasCleanDisk (state S.Store conn.new) → Knows (state S.Store conn.old)
+        → IfOk result (λ rows.
+        ReadsRows fact_table (has_number number) by_second said rows.items (state S.Store conn.old)
+        (state S.Store conn.new)) }
     ensures keeps { HasCleanDisk (state S.Store conn.new) → Keeps (state S.Store conn.old) (state S.Store conn.new) }
     ensures mode { conn.old.in_transaction ≡ false → conn.new.in_transaction ≡ false }
     ensures survives { Survives (state S.Store conn.old) (state S.Store conn.new) (λ _. ⊥) }
@@ -133,8 +158,10 @@ pub(crate) fn facts_of_filing<S: Alter>(
 
 /// The rows of `intake_meta`, by `id`.
 pub(crate) fn meta_rows<S: Alter>(conn: &mut Connection<S>) -> Result<Vec<Row>, Error>
-    ensures shown { HasCleanDisk (state S.Store conn.new) → IfOk result (λ rows. Shown all_meta [] (state S.Store conn.old) (state S.Store conn.new) rows.items) }
-    ensures failed { HasCleanDisk (state S.Store conn.new) → IfErr result (FailsToQuery all_meta [] (state S.Store conn.old) (state S.Store conn.new)) }
+    ensures shown { HasCleanDisk (state S.Store conn.new)
+        → IfOk result (λ rows. Shown all_meta [] (state S.Store conn.old) (state S.Store conn.new) rows.items) }
+    ensures failed { HasCleanDisk (state S.Store conn.new)
+        → IfErr result (FailsToQuery all_meta [] (state S.Store conn.old) (state S.Store conn.new)) }
     ensures mode { conn.old.in_transaction ≡ false → conn.new.in_transaction ≡ false }
     ensures survives { Survives (state S.Store conn.old) (state S.Store conn.new) (λ _. ⊥) }
 {
@@ -143,8 +170,10 @@ pub(crate) fn meta_rows<S: Alter>(conn: &mut Connection<S>) -> Result<Vec<Row>, 
 
 /// All findings, by `seq` and `pos`.
 pub(crate) fn finding_rows<S: Alter>(conn: &mut Connection<S>) -> Result<Vec<Row>, Error>
-    ensures shown { HasCleanDisk (state S.Store conn.new) → IfOk result (λ rows. Shown all_findings [] (state S.Store conn.old) (state S.Store conn.new) rows.items) }
-    ensures failed { HasCleanDisk (state S.Store conn.new) → IfErr result (FailsToQuery all_findings [] (state S.Store conn.old) (state S.Store conn.new)) }
+    ensures shown { HasCleanDisk (state S.Store conn.new)
+        → IfOk result (λ rows. Shown all_findings [] (state S.Store conn.old) (state S.Store conn.new) rows.items) }
+    ensures failed { HasCleanDisk (state S.Store conn.new)
+        → IfErr result (FailsToQuery all_findings [] (state S.Store conn.old) (state S.Store conn.new)) }
     ensures mode { conn.old.in_transaction ≡ false → conn.new.in_transaction ≡ false }
     ensures survives { Survives (state S.Store conn.old) (state S.Store conn.new) (λ _. ⊥) }
 {
@@ -156,8 +185,10 @@ pub(crate) fn finding_rows<S: Alter>(conn: &mut Connection<S>) -> Result<Vec<Row
 
 /// All filings, by `number`.
 pub(crate) fn filing_rows<S: Alter>(conn: &mut Connection<S>) -> Result<Vec<Row>, Error>
-    ensures shown { HasCleanDisk (state S.Store conn.new) → IfOk result (λ rows. Shown all_filings [] (state S.Store conn.old) (state S.Store conn.new) rows.items) }
-    ensures failed { HasCleanDisk (state S.Store conn.new) → IfErr result (FailsToQuery all_filings [] (state S.Store conn.old) (state S.Store conn.new)) }
+    ensures shown { HasCleanDisk (state S.Store conn.new)
+        → IfOk result (λ rows. Shown all_filings [] (state S.Store conn.old) (state S.Store conn.new) rows.items) }
+    ensures failed { HasCleanDisk (state S.Store conn.new)
+        → IfErr result (FailsToQuery all_filings [] (state S.Store conn.old) (state S.Store conn.new)) }
     ensures mode { conn.old.in_transaction ≡ false → conn.new.in_transaction ≡ false }
     ensures survives { Survives (state S.Store conn.old) (state S.Store conn.new) (λ _. ⊥) }
 {
@@ -166,8 +197,10 @@ pub(crate) fn filing_rows<S: Alter>(conn: &mut Connection<S>) -> Result<Vec<Row>
 
 /// All facts, by `number` and `pos`.
 pub(crate) fn fact_rows<S: Alter>(conn: &mut Connection<S>) -> Result<Vec<Row>, Error>
-    ensures shown { HasCleanDisk (state S.Store conn.new) → IfOk result (λ rows. Shown all_facts [] (state S.Store conn.old) (state S.Store conn.new) rows.items) }
-    ensures failed { HasCleanDisk (state S.Store conn.new) → IfErr result (FailsToQuery all_facts [] (state S.Store conn.old) (state S.Store conn.new)) }
+    ensures shown { HasCleanDisk (state S.Store conn.new)
+        → IfOk result (λ rows. Shown all_facts [] (state S.Store conn.old) (state S.Store conn.new) rows.items) }
+    ensures failed { HasCleanDisk (state S.Store conn.new)
+        → IfErr result (FailsToQuery all_facts [] (state S.Store conn.old) (state S.Store conn.new)) }
     ensures mode { conn.old.in_transaction ≡ false → conn.new.in_transaction ≡ false }
     ensures survives { Survives (state S.Store conn.old) (state S.Store conn.new) (λ _. ⊥) }
 {
@@ -179,8 +212,10 @@ pub(crate) fn fact_rows<S: Alter>(conn: &mut Connection<S>) -> Result<Vec<Row>, 
 
 /// The rows of `migrated`, by `id`.
 pub(crate) fn migrated_rows<S: Alter>(conn: &mut Connection<S>) -> Result<Vec<Row>, Error>
-    ensures shown { HasCleanDisk (state S.Store conn.new) → IfOk result (λ rows. Shown all_migrated [] (state S.Store conn.old) (state S.Store conn.new) rows.items) }
-    ensures failed { HasCleanDisk (state S.Store conn.new) → IfErr result (FailsToQuery all_migrated [] (state S.Store conn.old) (state S.Store conn.new)) }
+    ensures shown { HasCleanDisk (state S.Store conn.new)
+        → IfOk result (λ rows. Shown all_migrated [] (state S.Store conn.old) (state S.Store conn.new) rows.items) }
+    ensures failed { HasCleanDisk (state S.Store conn.new)
+        → IfErr result (FailsToQuery all_migrated [] (state S.Store conn.old) (state S.Store conn.new)) }
     ensures mode { conn.old.in_transaction ≡ false → conn.new.in_transaction ≡ false }
     ensures survives { Survives (state S.Store conn.old) (state S.Store conn.new) (λ _. ⊥) }
 {
@@ -189,9 +224,13 @@ pub(crate) fn migrated_rows<S: Alter>(conn: &mut Connection<S>) -> Result<Vec<Ro
 
 /// The rows of `amends`, by `seq`.
 pub(crate) fn amends_rows<S: Alter>(conn: &mut Connection<S>) -> Result<Vec<Row>, Error>
-    ensures shown { HasCleanDisk (state S.Store conn.new) → IfOk result (λ rows. Shown all_amends [] (state S.Store conn.old) (state S.Store conn.new) rows.items) }
-    ensures failed { HasCleanDisk (state S.Store conn.new) → IfErr result (FailsToQuery all_amends [] (state S.Store conn.old) (state S.Store conn.new)) }
-    ensures read { HasCleanDisk (state S.Store conn.new) → KnowsAll (state S.Store conn.old) → IfOk result (λ rows. ReadsRows amends_table every by_first whole rows.items (state S.Store conn.old) (state S.Store conn.new)) }
+    ensures shown { HasCleanDisk (state S.Store conn.new)
+        → IfOk result (λ rows. Shown all_amends [] (state S.Store conn.old) (state S.Store conn.new) rows.items) }
+    ensures failed { HasCleanDisk (state S.Store conn.new)
+        → IfErr result (FailsToQuery all_amends [] (state S.Store conn.old) (state S.Store conn.new)) }
+    ensures read { HasCleanDisk (state S.Store conn.new) → KnowsAll (state S.Store conn.old)
+        → IfOk result (λ rows.
+        ReadsRows amends_table every by_first whole rows.items (state S.Store conn.old) (state S.Store conn.new)) }
     ensures keeps { HasCleanDisk (state S.Store conn.new) → Keeps (state S.Store conn.old) (state S.Store conn.new) }
     ensures mode { conn.old.in_transaction ≡ false → conn.new.in_transaction ≡ false }
     ensures survives { Survives (state S.Store conn.old) (state S.Store conn.new) (λ _. ⊥) }

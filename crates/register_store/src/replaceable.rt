@@ -24,7 +24,9 @@ use sqlite::{Alter, Connection, Row};
 
 /// The place in the one column of the first row, if there is a row.
 fn first_place(rows: &[Row]) -> Result<Option<i64>, StoreFault>
-    ensures { IfOk result (λ place. (rows.now ≡ [] → place ≡ None) × ((seq : ℕ) → rows.now ≡ (Int (pos seq) ∷ []) ∷ [] → place ≡ Some (pos seq))) }
+    ensures { IfOk result (λ place.
+        (rows.now ≡ [] → place ≡ None)
+        × ((seq : ℕ) → rows.now ≡ (Int (pos seq) ∷ []) ∷ [] → place ≡ Some (pos seq))) }
 {
     match rows.first() {
         None => Ok(None),
@@ -51,7 +53,9 @@ fn is_text(rows: &[Row], text: &str) -> bool
 
 /// Whether the one column of the first row is a number.
 fn is_numbered(rows: &[Row]) -> Result<bool, StoreFault>
-    ensures { IfOk result (λ numbered. (number : Option ℕ) → rows.now ≡ (or_null (λ n. Int (pos n)) number ∷ []) ∷ [] → numbered ≡ is_some number) }
+    ensures { IfOk result (λ numbered.
+        (number : Option ℕ) → rows.now ≡ (or_null (λ n. Int (pos n)) number ∷ []) ∷ []
+        → numbered ≡ is_some number) }
 {
     match rows.first() {
         None => Ok(false),
@@ -64,10 +68,15 @@ fn is_numbered(rows: &[Row]) -> Result<bool, StoreFault>
 
 /// Whether the kept request at this place is the filer's.
 fn is_filers<S: Alter>(conn: &mut Connection<S>, filer: &str, seq: i64) -> Result<bool, StoreFault>
-    ensures found { HasCleanDisk (state S.Store conn.new) → (early : ℕ) (F : List Request) → Stands (IsRegisterOf early F) (state S.Store conn.old)
-        → (n : ℕ) (k : Kept) → seq ≡ pos n → IsPlaced 1 n (kept F) k → IfOk result (λ so. so ≡ bytes_eq k.request.filer filer.now) }
-    ensures same { HasCleanDisk (state S.Store conn.new) → (early : ℕ) (F : List Request) → Stands (IsRegisterOf early F) (state S.Store conn.old) → Stands (IsRegisterOf early F) (state S.Store conn.new) }
-    ensures open { HasCleanDisk (state S.Store conn.new) → (early : ℕ) (F : List Request) → Stands (IsRegisterOf early F) (state S.Store conn.old) → OnOk result (IsTrue (state S.Store conn.new).is_open) }
+    ensures found { HasCleanDisk (state S.Store conn.new) → (early : ℕ) (F : List Request)
+        → Stands (IsRegisterOf early F) (state S.Store conn.old) → (n : ℕ) (k : Kept) → seq ≡ pos n
+        → IsPlaced 1 n (kept F) k → IfOk result (λ so. so ≡ bytes_eq k.request.filer filer.now) }
+    ensures same { HasCleanDisk (state S.Store conn.new) → (early : ℕ) (F : List Request)
+        → Stands (IsRegisterOf early F) (state S.Store conn.old)
+        → Stands (IsRegisterOf early F) (state S.Store conn.new) }
+    ensures open { HasCleanDisk (state S.Store conn.new) → (early : ℕ) (F : List Request)
+        → Stands (IsRegisterOf early F) (state S.Store conn.old)
+        → OnOk result (IsTrue (state S.Store conn.new).is_open) }
     ensures mode { conn.old.in_transaction ≡ false → conn.new.in_transaction ≡ false }
     ensures survives { Survives (state S.Store conn.old) (state S.Store conn.new) (λ _. ⊥) }
 {
@@ -79,10 +88,15 @@ fn is_filers<S: Alter>(conn: &mut Connection<S>, filer: &str, seq: i64) -> Resul
 
 /// Whether the kept request at this place is a filing.
 fn is_filing<S: Alter>(conn: &mut Connection<S>, seq: i64) -> Result<bool, StoreFault>
-    ensures found { HasCleanDisk (state S.Store conn.new) → (early : ℕ) (F : List Request) → Stands (IsRegisterOf early F) (state S.Store conn.old)
-        → (n : ℕ) (k : Kept) → seq ≡ pos n → IsPlaced 1 n (kept F) k → IfOk result (λ so. so ≡ is_some (number_of k.outcome)) }
-    ensures same { HasCleanDisk (state S.Store conn.new) → (early : ℕ) (F : List Request) → Stands (IsRegisterOf early F) (state S.Store conn.old) → Stands (IsRegisterOf early F) (state S.Store conn.new) }
-    ensures open { HasCleanDisk (state S.Store conn.new) → (early : ℕ) (F : List Request) → Stands (IsRegisterOf early F) (state S.Store conn.old) → OnOk result (IsTrue (state S.Store conn.new).is_open) }
+    ensures found { HasCleanDisk (state S.Store conn.new) → (early : ℕ) (F : List Request)
+        → Stands (IsRegisterOf early F) (state S.Store conn.old) → (n : ℕ) (k : Kept) → seq ≡ pos n
+        → IsPlaced 1 n (kept F) k → IfOk result (λ so. so ≡ is_some (number_of k.outcome)) }
+    ensures same { HasCleanDisk (state S.Store conn.new) → (early : ℕ) (F : List Request)
+        → Stands (IsRegisterOf early F) (state S.Store conn.old)
+        → Stands (IsRegisterOf early F) (state S.Store conn.new) }
+    ensures open { HasCleanDisk (state S.Store conn.new) → (early : ℕ) (F : List Request)
+        → Stands (IsRegisterOf early F) (state S.Store conn.old)
+        → OnOk result (IsTrue (state S.Store conn.new).is_open) }
     ensures mode { conn.old.in_transaction ≡ false → conn.new.in_transaction ≡ false }
     ensures survives { Survives (state S.Store conn.old) (state S.Store conn.new) (λ _. ⊥) }
 {
@@ -95,9 +109,14 @@ fn is_filing<S: Alter>(conn: &mut Connection<S>, seq: i64) -> Result<bool, Store
 /// The place of the filing of this number, if there is one.
 fn place_of<S: Alter>(conn: &mut Connection<S>, number: u64) -> Result<Option<i64>, StoreFault>
     requires { number < 2 ^ 63 }
-    ensures found { HasCleanDisk (state S.Store conn.new) → (early : ℕ) (F : List Request) → Stands (IsRegisterOf early F) (state S.Store conn.old) → IfOk result (IsPlaceOf number F) }
-    ensures same { HasCleanDisk (state S.Store conn.new) → (early : ℕ) (F : List Request) → Stands (IsRegisterOf early F) (state S.Store conn.old) → Stands (IsRegisterOf early F) (state S.Store conn.new) }
-    ensures open { HasCleanDisk (state S.Store conn.new) → (early : ℕ) (F : List Request) → Stands (IsRegisterOf early F) (state S.Store conn.old) → OnOk result (IsTrue (state S.Store conn.new).is_open) }
+    ensures found { HasCleanDisk (state S.Store conn.new) → (early : ℕ) (F : List Request)
+        → Stands (IsRegisterOf early F) (state S.Store conn.old) → IfOk result (IsPlaceOf number F) }
+    ensures same { HasCleanDisk (state S.Store conn.new) → (early : ℕ) (F : List Request)
+        → Stands (IsRegisterOf early F) (state S.Store conn.old)
+        → Stands (IsRegisterOf early F) (state S.Store conn.new) }
+    ensures open { HasCleanDisk (state S.Store conn.new) → (early : ℕ) (F : List Request)
+        → Stands (IsRegisterOf early F) (state S.Store conn.old)
+        → OnOk result (IsTrue (state S.Store conn.new).is_open) }
     ensures mode { conn.old.in_transaction ≡ false → conn.new.in_transaction ≡ false }
     ensures survives { Survives (state S.Store conn.old) (state S.Store conn.new) (λ _. ⊥) }
 {
@@ -114,9 +133,15 @@ fn has_filing<S: Alter>(
     number: u64,
 ) -> Result<bool, StoreFault>
     requires { number < 2 ^ 63 }
-    ensures found { HasCleanDisk (state S.Store conn.new) → (early : ℕ) (F : List Request) → Stands (IsRegisterOf early F) (state S.Store conn.old) → IfOk result (λ so. so ≡ list_any (is_filing_of filer.now number) (register F)) }
-    ensures same { HasCleanDisk (state S.Store conn.new) → (early : ℕ) (F : List Request) → Stands (IsRegisterOf early F) (state S.Store conn.old) → Stands (IsRegisterOf early F) (state S.Store conn.new) }
-    ensures open { HasCleanDisk (state S.Store conn.new) → (early : ℕ) (F : List Request) → Stands (IsRegisterOf early F) (state S.Store conn.old) → OnOk result (IsTrue (state S.Store conn.new).is_open) }
+    ensures found { HasCleanDisk (state S.Store conn.new) → (early : ℕ) (F : List Request)
+        → Stands (IsRegisterOf early F) (state S.Store conn.old)
+        → IfOk result (λ so. so ≡ list_any (is_filing_of filer.now number) (register F)) }
+    ensures same { HasCleanDisk (state S.Store conn.new) → (early : ℕ) (F : List Request)
+        → Stands (IsRegisterOf early F) (state S.Store conn.old)
+        → Stands (IsRegisterOf early F) (state S.Store conn.new) }
+    ensures open { HasCleanDisk (state S.Store conn.new) → (early : ℕ) (F : List Request)
+        → Stands (IsRegisterOf early F) (state S.Store conn.old)
+        → OnOk result (IsTrue (state S.Store conn.new).is_open) }
     ensures mode { conn.old.in_transaction ≡ false → conn.new.in_transaction ≡ false }
     ensures survives { Survives (state S.Store conn.old) (state S.Store conn.new) (λ _. ⊥) }
 {
@@ -129,10 +154,16 @@ fn has_filing<S: Alter>(
 
 /// Whether one of the kept requests at these places is a filing.
 fn is_any_filing<S: Alter>(conn: &mut Connection<S>, rows: &[Row]) -> Result<bool, StoreFault>
-    ensures found { HasCleanDisk (state S.Store conn.new) → (early : ℕ) (F : List Request) → Stands (IsRegisterOf early F) (state S.Store conn.old)
-        → (number : ℕ) → rows.now ≡ map by_first (filter (has_second number) (joined_from amends_rows 1 (kept F))) → IfOk result (λ so. so ≡ list_any (is_amendment_of number) (register F)) }
-    ensures same { HasCleanDisk (state S.Store conn.new) → (early : ℕ) (F : List Request) → Stands (IsRegisterOf early F) (state S.Store conn.old) → Stands (IsRegisterOf early F) (state S.Store conn.new) }
-    ensures open { HasCleanDisk (state S.Store conn.new) → (early : ℕ) (F : List Request) → Stands (IsRegisterOf early F) (state S.Store conn.old) → IsTrue (state S.Store conn.old).is_open → OnOk result (IsTrue (state S.Store conn.new).is_open) }
+    ensures found { HasCleanDisk (state S.Store conn.new) → (early : ℕ) (F : List Request)
+        → Stands (IsRegisterOf early F) (state S.Store conn.old) → (number : ℕ)
+        → rows.now ≡ map by_first (filter (has_second number) (joined_from amends_rows 1 (kept F)))
+        → IfOk result (λ so. so ≡ list_any (is_amendment_of number) (register F)) }
+    ensures same { HasCleanDisk (state S.Store conn.new) → (early : ℕ) (F : List Request)
+        → Stands (IsRegisterOf early F) (state S.Store conn.old)
+        → Stands (IsRegisterOf early F) (state S.Store conn.new) }
+    ensures open { HasCleanDisk (state S.Store conn.new) → (early : ℕ) (F : List Request)
+        → Stands (IsRegisterOf early F) (state S.Store conn.old) → IsTrue (state S.Store conn.old).is_open
+        → OnOk result (IsTrue (state S.Store conn.new).is_open) }
     ensures mode { conn.old.in_transaction ≡ false → conn.new.in_transaction ≡ false }
     ensures survives { Survives (state S.Store conn.old) (state S.Store conn.new) (λ _. ⊥) }
 {
@@ -147,9 +178,15 @@ fn is_any_filing<S: Alter>(conn: &mut Connection<S>, rows: &[Row]) -> Result<boo
 /// Whether a filing replaces the one of this number. A refused request that was to replace it does not.
 fn is_replaced<S: Alter>(conn: &mut Connection<S>, number: u64) -> Result<bool, StoreFault>
     requires { number < 2 ^ 63 }
-    ensures found { HasCleanDisk (state S.Store conn.new) → (early : ℕ) (F : List Request) → Stands (IsRegisterOf early F) (state S.Store conn.old) → IfOk result (λ so. so ≡ list_any (is_amendment_of number) (register F)) }
-    ensures same { HasCleanDisk (state S.Store conn.new) → (early : ℕ) (F : List Request) → Stands (IsRegisterOf early F) (state S.Store conn.old) → Stands (IsRegisterOf early F) (state S.Store conn.new) }
-    ensures open { HasCleanDisk (state S.Store conn.new) → (early : ℕ) (F : List Request) → Stands (IsRegisterOf early F) (state S.Store conn.old) → OnOk result (IsTrue (state S.Store conn.new).is_open) }
+    ensures found { HasCleanDisk (state S.Store conn.new) → (early : ℕ) (F : List Request)
+        → Stands (IsRegisterOf early F) (state S.Store conn.old)
+        → IfOk result (λ so. so ≡ list_any (is_amendment_of number) (register F)) }
+    ensures same { HasCleanDisk (state S.Store conn.new) → (early : ℕ) (F : List Request)
+        → Stands (IsRegisterOf early F) (state S.Store conn.old)
+        → Stands (IsRegisterOf early F) (state S.Store conn.new) }
+    ensures open { HasCleanDisk (state S.Store conn.new) → (early : ℕ) (F : List Request)
+        → Stands (IsRegisterOf early F) (state S.Store conn.old)
+        → OnOk result (IsTrue (state S.Store conn.new).is_open) }
     ensures mode { conn.old.in_transaction ≡ false → conn.new.in_transaction ≡ false }
     ensures survives { Survives (state S.Store conn.old) (state S.Store conn.new) (λ _. ⊥) }
 {
@@ -166,9 +203,15 @@ fn may_replace<S: Alter>(
     number: u64,
 ) -> Result<bool, StoreFault>
     requires { number < 2 ^ 63 }
-    ensures found { HasCleanDisk (state S.Store conn.new) → (early : ℕ) (F : List Request) → Stands (IsRegisterOf early F) (state S.Store conn.old) → IfOk result (λ free. free ≡ is_replaceable (register F) filer.now number) }
-    ensures same { HasCleanDisk (state S.Store conn.new) → (early : ℕ) (F : List Request) → Stands (IsRegisterOf early F) (state S.Store conn.old) → Stands (IsRegisterOf early F) (state S.Store conn.new) }
-    ensures open { HasCleanDisk (state S.Store conn.new) → (early : ℕ) (F : List Request) → Stands (IsRegisterOf early F) (state S.Store conn.old) → OnOk result (IsTrue (state S.Store conn.new).is_open) }
+    ensures found { HasCleanDisk (state S.Store conn.new) → (early : ℕ) (F : List Request)
+        → Stands (IsRegisterOf early F) (state S.Store conn.old)
+        → IfOk result (λ free. free ≡ is_replaceable (register F) filer.now number) }
+    ensures same { HasCleanDisk (state S.Store conn.new) → (early : ℕ) (F : List Request)
+        → Stands (IsRegisterOf early F) (state S.Store conn.old)
+        → Stands (IsRegisterOf early F) (state S.Store conn.new) }
+    ensures open { HasCleanDisk (state S.Store conn.new) → (early : ℕ) (F : List Request)
+        → Stands (IsRegisterOf early F) (state S.Store conn.old)
+        → OnOk result (IsTrue (state S.Store conn.new).is_open) }
     ensures mode { conn.old.in_transaction ≡ false → conn.new.in_transaction ≡ false }
     ensures survives { Survives (state S.Store conn.old) (state S.Store conn.new) (λ _. ⊥) }
 {
@@ -185,15 +228,18 @@ fn may_replace<S: Alter>(
 impl<S: Alter> Store<S> {
     /// Whether the filer may replace the filing of this number: it is the filer's, and none replaces it.
     pub fn replaceable(&mut self, filer: &str, number: u64) -> Result<bool, StoreFault>
-        ensures answer { HasCleanDisk (shows S.Store self.new) → (F : List Request) → HasRequests S.Store self.old F → IfOk result (λ free. free ≡ is_replaceable (register F) filer.now number) }
+        ensures answer { HasCleanDisk (shows S.Store self.new) → (F : List Request) → HasRequests S.Store self.old F
+            → IfOk result (λ free. free ≡ is_replaceable (register F) filer.now number) }
 
         // The rows are those of before, whatever the answer is, and a crash leaves what it could leave before.
-        ensures same { HasCleanDisk (shows S.Store self.new) → (F : List Request) → HasRequests S.Store self.old F → HasRequests S.Store self.new F }
+        ensures same { HasCleanDisk (shows S.Store self.new) → (F : List Request) → HasRequests S.Store self.old F
+            → HasRequests S.Store self.new F }
         ensures counts { (self.new.kept ≡ self.old.kept) × (self.new.filings ≡ self.old.filings) }
         ensures early { self.new.early ≡ self.old.early }
         ensures crash { Survives (shows S.Store self.old) (shows S.Store self.new) (λ _. ⊥) }
         ensures durable { HasCleanDisk (shows S.Store self.new) → (F : List Request) → HasRequests S.Store self.old F
-            → OnOk result (IsTrue (shows S.Store self.new).is_open × ((trees : Trees) → (shows S.Store self.new).may_leave trees → Leaves self.old.early F trees)) }
+            → OnOk result (IsTrue (shows S.Store self.new).is_open
+            × ((trees : Trees) → (shows S.Store self.new).may_leave trees → Leaves self.old.early F trees)) }
     {
         // No filing has the number 0, and none a greater one than the number of filings.
         let number = if number > MAX_NUMBER { 0 } else { number };

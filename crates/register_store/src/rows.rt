@@ -42,10 +42,12 @@ pub fn insert_kept<S: Alter>(
     ensures same_reference { tx.new.conn.ghost_name ≡ tx.old.conn.ghost_name }
     ensures key { IsKey row.now.key.now }
     ensures was_inside { OnOk result (IsTrue (state S.Store tx.old.conn.now).in_transaction) }
-    ensures gains { HasCleanDisk (state S.Store tx.new.conn.now) → OnOk result (GainsRows kept_table
+    ensures gains { HasCleanDisk (state S.Store tx.new.conn.now)
+        → OnOk result (GainsRows kept_table
         ((Int (pos seq) ∷ Text row.now.filer.now ∷ Text row.now.key.now ∷ Blob row.now.body.now ∷ or_null (λ n. Int (pos n)) number ∷ []) ∷ [])
         (state S.Store tx.old.conn.now) (state S.Store tx.new.conn.now)) }
-    ensures keeps { HasCleanDisk (state S.Store tx.new.conn.now) → KeepsCommit (state S.Store tx.old.conn.now) (state S.Store tx.new.conn.now) }
+    ensures keeps { HasCleanDisk (state S.Store tx.new.conn.now)
+        → KeepsCommit (state S.Store tx.old.conn.now) (state S.Store tx.new.conn.now) }
     ensures survives { Survives (state S.Store tx.old.conn.now) (state S.Store tx.new.conn.now) (λ _. ⊥) }
 {
     let number = signed(number);
@@ -66,8 +68,12 @@ pub fn insert_filing<S: Alter>(
     requires seq { seq < 2 ^ 63 }
     ensures same_reference { tx.new.conn.ghost_name ≡ tx.old.conn.ghost_name }
     ensures was_inside { OnOk result (IsTrue (state S.Store tx.old.conn.now).in_transaction) }
-    ensures gains { HasCleanDisk (state S.Store tx.new.conn.now) → OnOk result (GainsRows filing_table ((Int (pos number) ∷ Int (pos seq) ∷ []) ∷ []) (state S.Store tx.old.conn.now) (state S.Store tx.new.conn.now)) }
-    ensures keeps { HasCleanDisk (state S.Store tx.new.conn.now) → KeepsCommit (state S.Store tx.old.conn.now) (state S.Store tx.new.conn.now) }
+    ensures gains { HasCleanDisk (state S.Store tx.new.conn.now)
+        → OnOk result
+        (GainsRows filing_table ((Int (pos number) ∷ Int (pos seq) ∷ []) ∷ []) (state S.Store tx.old.conn.now)
+        (state S.Store tx.new.conn.now)) }
+    ensures keeps { HasCleanDisk (state S.Store tx.new.conn.now)
+        → KeepsCommit (state S.Store tx.old.conn.now) (state S.Store tx.new.conn.now) }
     ensures survives { Survives (state S.Store tx.old.conn.now) (state S.Store tx.new.conn.now) (λ _. ⊥) }
 {
     tx.execute(
@@ -87,8 +93,12 @@ pub fn insert_amends<S: Alter>(
     requires target { target < 2 ^ 63 }
     ensures same_reference { tx.new.conn.ghost_name ≡ tx.old.conn.ghost_name }
     ensures was_inside { OnOk result (IsTrue (state S.Store tx.old.conn.now).in_transaction) }
-    ensures gains { HasCleanDisk (state S.Store tx.new.conn.now) → OnOk result (GainsRows amends_table ((Int (pos seq) ∷ Int (pos target) ∷ []) ∷ []) (state S.Store tx.old.conn.now) (state S.Store tx.new.conn.now)) }
-    ensures keeps { HasCleanDisk (state S.Store tx.new.conn.now) → KeepsCommit (state S.Store tx.old.conn.now) (state S.Store tx.new.conn.now) }
+    ensures gains { HasCleanDisk (state S.Store tx.new.conn.now)
+        → OnOk result
+        (GainsRows amends_table ((Int (pos seq) ∷ Int (pos target) ∷ []) ∷ []) (state S.Store tx.old.conn.now)
+        (state S.Store tx.new.conn.now)) }
+    ensures keeps { HasCleanDisk (state S.Store tx.new.conn.now)
+        → KeepsCommit (state S.Store tx.old.conn.now) (state S.Store tx.new.conn.now) }
     ensures survives { Survives (state S.Store tx.old.conn.now) (state S.Store tx.new.conn.now) (λ _. ⊥) }
 {
     tx.execute(
@@ -109,8 +119,12 @@ fn insert_finding<S: Alter>(
     requires at { at < 2 ^ 63 }
     ensures same_reference { tx.new.conn.ghost_name ≡ tx.old.conn.ghost_name }
     ensures was_inside { OnOk result (IsTrue (state S.Store tx.old.conn.now).in_transaction) }
-    ensures gains { HasCleanDisk (state S.Store tx.new.conn.now) → OnOk result (GainsRows finding_table (finding_row seq at finding.now ∷ []) (state S.Store tx.old.conn.now) (state S.Store tx.new.conn.now)) }
-    ensures keeps { HasCleanDisk (state S.Store tx.new.conn.now) → KeepsCommit (state S.Store tx.old.conn.now) (state S.Store tx.new.conn.now) }
+    ensures gains { HasCleanDisk (state S.Store tx.new.conn.now)
+        → OnOk result
+        (GainsRows finding_table (finding_row seq at finding.now ∷ []) (state S.Store tx.old.conn.now)
+        (state S.Store tx.new.conn.now)) }
+    ensures keeps { HasCleanDisk (state S.Store tx.new.conn.now)
+        → KeepsCommit (state S.Store tx.old.conn.now) (state S.Store tx.new.conn.now) }
     ensures survives { Survives (state S.Store tx.old.conn.now) (state S.Store tx.new.conn.now) (λ _. ⊥) }
 {
     let code = u32::from(finding.code.number());
@@ -131,8 +145,11 @@ pub fn insert_findings<S: Alter>(
     requires { seq < 2 ^ 63 }
     ensures same_reference { tx.new.conn.ghost_name ≡ tx.old.conn.ghost_name }
     ensures gains { HasCleanDisk (state S.Store tx.new.conn.now) → IsTrue (state S.Store tx.old.conn.now).in_transaction
-        → OnOk result (GainsRows finding_table (counted_from (finding_row seq) 1 findings.now) (state S.Store tx.old.conn.now) (state S.Store tx.new.conn.now)) }
-    ensures keeps { HasCleanDisk (state S.Store tx.new.conn.now) → KeepsCommit (state S.Store tx.old.conn.now) (state S.Store tx.new.conn.now) }
+        → OnOk result
+        (GainsRows finding_table (counted_from (finding_row seq) 1 findings.now) (state S.Store tx.old.conn.now)
+        (state S.Store tx.new.conn.now)) }
+    ensures keeps { HasCleanDisk (state S.Store tx.new.conn.now)
+        → KeepsCommit (state S.Store tx.old.conn.now) (state S.Store tx.new.conn.now) }
     ensures survives { Survives (state S.Store tx.old.conn.now) (state S.Store tx.new.conn.now) (λ _. ⊥) }
 {
     let mut at = 0u64;
@@ -164,8 +181,12 @@ fn insert_fact<S: Alter>(
     requires at { at < 2 ^ 63 }
     ensures same_reference { tx.new.conn.ghost_name ≡ tx.old.conn.ghost_name }
     ensures was_inside { OnOk result (IsTrue (state S.Store tx.old.conn.now).in_transaction) }
-    ensures gains { HasCleanDisk (state S.Store tx.new.conn.now) → OnOk result (GainsRows fact_table (fact_row number at fact.now ∷ []) (state S.Store tx.old.conn.now) (state S.Store tx.new.conn.now)) }
-    ensures keeps { HasCleanDisk (state S.Store tx.new.conn.now) → KeepsCommit (state S.Store tx.old.conn.now) (state S.Store tx.new.conn.now) }
+    ensures gains { HasCleanDisk (state S.Store tx.new.conn.now)
+        → OnOk result
+        (GainsRows fact_table (fact_row number at fact.now ∷ []) (state S.Store tx.old.conn.now)
+        (state S.Store tx.new.conn.now)) }
+    ensures keeps { HasCleanDisk (state S.Store tx.new.conn.now)
+        → KeepsCommit (state S.Store tx.old.conn.now) (state S.Store tx.new.conn.now) }
     ensures survives { Survives (state S.Store tx.old.conn.now) (state S.Store tx.new.conn.now) (λ _. ⊥) }
 {
     let id = fact.id.as_bytes();
@@ -196,8 +217,11 @@ pub fn insert_facts<S: Alter>(
     requires { number < 2 ^ 63 }
     ensures same_reference { tx.new.conn.ghost_name ≡ tx.old.conn.ghost_name }
     ensures gains { HasCleanDisk (state S.Store tx.new.conn.now) → IsTrue (state S.Store tx.old.conn.now).in_transaction
-        → OnOk result (GainsRows fact_table (counted_from (fact_row number) 1 facts.now) (state S.Store tx.old.conn.now) (state S.Store tx.new.conn.now)) }
-    ensures keeps { HasCleanDisk (state S.Store tx.new.conn.now) → KeepsCommit (state S.Store tx.old.conn.now) (state S.Store tx.new.conn.now) }
+        → OnOk result
+        (GainsRows fact_table (counted_from (fact_row number) 1 facts.now) (state S.Store tx.old.conn.now)
+        (state S.Store tx.new.conn.now)) }
+    ensures keeps { HasCleanDisk (state S.Store tx.new.conn.now)
+        → KeepsCommit (state S.Store tx.old.conn.now) (state S.Store tx.new.conn.now) }
     ensures survives { Survives (state S.Store tx.old.conn.now) (state S.Store tx.new.conn.now) (λ _. ⊥) }
 {
     let mut at = 0u64;
@@ -214,7 +238,10 @@ pub fn rows_with_key<S: Alter>(
     filer: &str,
     key: &str,
 ) -> Result<Vec<Row>, Error>
-    ensures read { HasCleanDisk (state S.Store conn.new) → Knows (state S.Store conn.old) → IfOk result (λ rows. ReadsRows kept_table (has_texts filer.now key.now) unsorted found_in rows.items (state S.Store conn.old) (state S.Store conn.new)) }
+    ensures read { HasCleanDisk (state S.Store conn.new) → Knows (state S.Store conn.old)
+        → IfOk result (λ rows.
+        ReadsRows kept_table (has_texts filer.now key.now) unsorted found_in rows.items (state S.Store conn.old)
+        (state S.Store conn.new)) }
     ensures keeps { HasCleanDisk (state S.Store conn.new) → Keeps (state S.Store conn.old) (state S.Store conn.new) }
     ensures mode { conn.old.in_transaction ≡ false → conn.new.in_transaction ≡ false }
     ensures survives { Survives (state S.Store conn.old) (state S.Store conn.new) (λ _. ⊥) }
@@ -227,7 +254,10 @@ pub fn rows_with_key<S: Alter>(
 
 /// The columns `code` and `place` of the findings of the request at this place, in order.
 pub fn rows_of_findings<S: Alter>(conn: &mut Connection<S>, seq: i64) -> Result<Vec<Row>, Error>
-    ensures read { HasCleanDisk (state S.Store conn.new) → Knows (state S.Store conn.old) → IfOk result (λ rows. ReadsRows finding_table (has_seq seq) by_second pair_in rows.items (state S.Store conn.old) (state S.Store conn.new)) }
+    ensures read { HasCleanDisk (state S.Store conn.new) → Knows (state S.Store conn.old)
+        → IfOk result (λ rows.
+        ReadsRows finding_table (has_seq seq) by_second pair_in rows.items (state S.Store conn.old)
+        (state S.Store conn.new)) }
     ensures keeps { HasCleanDisk (state S.Store conn.new) → Keeps (state S.Store conn.old) (state S.Store conn.new) }
     ensures mode { conn.old.in_transaction ≡ false → conn.new.in_transaction ≡ false }
     ensures survives { Survives (state S.Store conn.old) (state S.Store conn.new) (λ _. ⊥) }
@@ -240,7 +270,10 @@ pub fn rows_of_findings<S: Alter>(conn: &mut Connection<S>, seq: i64) -> Result<
 
 /// The column `target` of the rows of `amends` with this place.
 pub fn rows_of_target<S: Alter>(conn: &mut Connection<S>, seq: i64) -> Result<Vec<Row>, Error>
-    ensures read { HasCleanDisk (state S.Store conn.new) → KnowsAll (state S.Store conn.old) → IfOk result (λ rows. ReadsRows amends_table (has_seq seq) unsorted target_alone rows.items (state S.Store conn.old) (state S.Store conn.new)) }
+    ensures read { HasCleanDisk (state S.Store conn.new) → KnowsAll (state S.Store conn.old)
+        → IfOk result (λ rows.
+        ReadsRows amends_table (has_seq seq) unsorted target_alone rows.items (state S.Store conn.old)
+        (state S.Store conn.new)) }
     ensures keeps { HasCleanDisk (state S.Store conn.new) → Keeps (state S.Store conn.old) (state S.Store conn.new) }
     ensures mode { conn.old.in_transaction ≡ false → conn.new.in_transaction ≡ false }
     ensures survives { Survives (state S.Store conn.old) (state S.Store conn.new) (λ _. ⊥) }

@@ -74,7 +74,9 @@ pub(crate) fn after_findings<'a>(
     findings: &[Finding],
 ) -> Option<&'a [Row]>
     requires { seq < 2 ^ 63 }
-    ensures { MatchOption result ((tail : List Row) → rows.now ≡ counted_from (finding_row seq) 1 findings.now ++ tail → ⊥) (λ tail. rows.now ≡ counted_from (finding_row seq) 1 findings.now ++ tail.now) }
+    ensures { MatchOption result
+        ((tail : List Row) → rows.now ≡ counted_from (finding_row seq) 1 findings.now ++ tail → ⊥)
+        (λ tail. rows.now ≡ counted_from (finding_row seq) 1 findings.now ++ tail.now) }
 {
     if rows.len() < findings.len() {
         return None;
@@ -90,7 +92,8 @@ pub(crate) fn after_findings<'a>(
 /// The rows behind those of the facts, if the rows begin with these.
 pub(crate) fn after_facts<'a>(rows: &'a [Row], number: u64, facts: &[Fact]) -> Option<&'a [Row]>
     requires { number < 2 ^ 63 }
-    ensures { MatchOption result ((tail : List Row) → rows.now ≡ counted_from (fact_row number) 1 facts.now ++ tail → ⊥) (λ tail. rows.now ≡ counted_from (fact_row number) 1 facts.now ++ tail.now) }
+    ensures { MatchOption result ((tail : List Row) → rows.now ≡ counted_from (fact_row number) 1 facts.now ++ tail → ⊥)
+        (λ tail. rows.now ≡ counted_from (fact_row number) 1 facts.now ++ tail.now) }
 {
     if rows.len() < facts.len() {
         return None;
@@ -107,7 +110,8 @@ pub(crate) fn after_facts<'a>(rows: &'a [Row], number: u64, facts: &[Fact]) -> O
 pub(crate) fn after_filing<'a>(rows: &'a [Row], number: u64, seq: u64) -> Option<&'a [Row]>
     requires number { number < 2 ^ 63 }
     requires seq { seq < 2 ^ 63 }
-    ensures { MatchOption result ((tail : List Row) → rows.now ≡ (Int (pos number) ∷ Int (pos seq) ∷ []) ∷ tail → ⊥) (λ tail. rows.now ≡ (Int (pos number) ∷ Int (pos seq) ∷ []) ∷ tail.now) }
+    ensures { MatchOption result ((tail : List Row) → rows.now ≡ (Int (pos number) ∷ Int (pos seq) ∷ []) ∷ tail → ⊥)
+        (λ tail. rows.now ≡ (Int (pos number) ∷ Int (pos seq) ∷ []) ∷ tail.now) }
 {
     match rows {
         [first, rest @ ..] => {
@@ -141,8 +145,8 @@ pub(crate) fn target_of<'a>(rows: &'a [Row], seq: u64) -> (Option<u64>, &'a [Row
     requires { seq < 2 ^ 63 }
     ensures begins { rows.now ≡ amends_rows_by seq result.0 ++ result.1.now }
     ensures few { IfSome result.0 (λ target. target < 2 ^ 63) }
-    ensures only { (target : Option ℕ) (tail : List Row) → rows.now ≡ amends_rows_by seq target ++ tail → begins_with 0 seq tail ≡ false
-        → (target ≡ result.0) × (tail ≡ result.1.now) }
+    ensures only { (target : Option ℕ) (tail : List Row) → rows.now ≡ amends_rows_by seq target ++ tail
+        → begins_with 0 seq tail ≡ false → (target ≡ result.0) × (tail ≡ result.1.now) }
 {
     match rows {
         [first, rest @ ..] => match target_in(first, seq) {

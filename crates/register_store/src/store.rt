@@ -76,7 +76,9 @@ impl<S: Alter + Drop> Store<S> {
     pub fn create(alloc: Global, mut conn: Connection<S>) -> Result<Store<S>, CreateFault>
         requires autocommit { conn.in_transaction ≡ false }
         requires unlimited { conn.step_limit ≡ None }
-        ensures made { IfOk result (λ store. HasCleanDisk (shows S.Store store) → (state S.Store conn).now.schema ≡ no_schema → HasRequests S.Store store []) }
+        ensures made { IfOk result (λ store.
+            HasCleanDisk (shows S.Store store) → (state S.Store conn).now.schema ≡ no_schema
+            → HasRequests S.Store store []) }
 
         ensures counts { IfOk result (λ store. (store.kept ≡ 0) × (store.filings ≡ 0) × (store.early ≡ 0)) }
 
@@ -85,14 +87,20 @@ impl<S: Alter + Drop> Store<S> {
 
         // After a refusal nothing was written, of the connection as it was given up (`make_register` names it), and another than
         // Taken has its cause in a statement or in the commit.
-        ensures refused { IfErr result (λ fault. (last : Held S) × Survives (state S.Store conn) (state S.Store last) (Makes S.Store conn)
+        ensures refused { IfErr result (λ fault.
+            (last : Held S) × Survives (state S.Store conn) (state S.Store last) (Makes S.Store conn)
             × (HasCleanDisk (state S.Store last) → AddsNothing (state S.Store conn) (state S.Store last))
-            × (HasCleanDisk (state S.Store last) → fault ≢ CreateFault.Taken → (error : Error) × (fault ≡ create_fault error) × FailsToMake S.Store error conn last)) }
+            × (HasCleanDisk (state S.Store last) → fault ≢ CreateFault.Taken
+            → (error : Error) × (fault ≡ create_fault error) × FailsToMake S.Store error conn last)) }
 
         // A crash leaves what one before the call could leave, or the empty register, and after the call that alone.
-        ensures crash { IfOk result (λ store. Survives (state S.Store conn) (shows S.Store store) (λ trees. (state S.Store conn).now.schema ≡ no_schema → Leaves 0 [] trees)) }
-        ensures durable { IfOk result (λ store. HasCleanDisk (shows S.Store store) → (state S.Store conn).now.schema ≡ no_schema
-            → IsTrue (shows S.Store store).is_open × ((trees : Trees) → (shows S.Store store).may_leave trees → Leaves 0 [] trees)) }
+        ensures crash { IfOk result (λ store.
+            Survives (state S.Store conn) (shows S.Store store) (λ trees.
+            (state S.Store conn).now.schema ≡ no_schema → Leaves 0 [] trees)) }
+        ensures durable { IfOk result (λ store.
+            HasCleanDisk (shows S.Store store) → (state S.Store conn).now.schema ≡ no_schema
+            → IsTrue (shows S.Store store).is_open
+            × ((trees : Trees) → (shows S.Store store).may_leave trees → Leaves 0 [] trees)) }
     {
         match make_register(&mut conn) {
             Ok(()) => Ok(Store {
@@ -120,21 +128,33 @@ impl<S: Alter + Drop> Store<S> {
         requires unlimited { conn.step_limit ≡ None }
 
         // The store has the requests that the rows stand for, and there is one such list at most.
-        ensures opened { IfOk result (λ store. HasCleanDisk (shows S.Store store) → IsDeclared (state S.Store conn).now.schema
-            → (F : List Request) × IsRegisterOf store.early F (state S.Store conn).now × HasRequests S.Store store F) }
-        ensures only { IfOk result (λ store. HasCleanDisk (shows S.Store store) → (early : ℕ) (F : List Request) → IsRegisterOf early F (state S.Store conn).now → (store.early ≡ early) × HasRequests S.Store store F) }
-        ensures same { IfOk result (λ store. HasCleanDisk (shows S.Store store) → IsUnchanged (state S.Store conn) (shows S.Store store)) }
+        ensures opened { IfOk result (λ store.
+            HasCleanDisk (shows S.Store store) → IsDeclared (state S.Store conn).now.schema
+            → (F : List Request) × IsRegisterOf store.early F (state S.Store conn).now
+            × HasRequests S.Store store F) }
+        ensures only { IfOk result (λ store.
+            HasCleanDisk (shows S.Store store) → (early : ℕ) (F : List Request)
+            → IsRegisterOf early F (state S.Store conn).now → (store.early ≡ early) × HasRequests S.Store store F) }
+        ensures same { IfOk result (λ store.
+            HasCleanDisk (shows S.Store store) → IsUnchanged (state S.Store conn) (shows S.Store store)) }
 
         // A refusal says why, of the connection as it was given up (`read_register` names it); where the rows stand for requests,
         // it is by memory or disk.
-        ensures refused { IfErr result (λ fault. (last : Held S) × Survives (state S.Store conn) (state S.Store last) (λ _. ⊥)
-            × (HasCleanDisk (state S.Store last) → KeepsCommit (state S.Store conn) (state S.Store last) × IsRefused S.Store fault conn last)
-            × (HasCleanDisk (state S.Store last) → (early : ℕ) (F : List Request) → IsRegisterOf early F (state S.Store conn).now → (fault ≡ OpenFault.Memory) ⊎ (fault ≡ OpenFault.Disk))) }
+        ensures refused { IfErr result (λ fault.
+            (last : Held S) × Survives (state S.Store conn) (state S.Store last) (λ _. ⊥)
+            × (HasCleanDisk (state S.Store last)
+            → KeepsCommit (state S.Store conn) (state S.Store last) × IsRefused S.Store fault conn last)
+            × (HasCleanDisk (state S.Store last) → (early : ℕ) (F : List Request)
+            → IsRegisterOf early F (state S.Store conn).now
+            → (fault ≡ OpenFault.Memory) ⊎ (fault ≡ OpenFault.Disk))) }
 
         // A crash leaves what it could leave before, and after the call these requests alone.
         ensures crash { IfOk result (λ store. Survives (state S.Store conn) (shows S.Store store) (λ _. ⊥)) }
-        ensures durable { IfOk result (λ store. HasCleanDisk (shows S.Store store) → (early : ℕ) (F : List Request) → IsRegisterOf early F (state S.Store conn).now
-            → IsTrue (shows S.Store store).is_open × ((trees : Trees) → (shows S.Store store).may_leave trees → Leaves early F trees)) }
+        ensures durable { IfOk result (λ store.
+            HasCleanDisk (shows S.Store store) → (early : ℕ) (F : List Request)
+            → IsRegisterOf early F (state S.Store conn).now
+            → IsTrue (shows S.Store store).is_open
+            × ((trees : Trees) → (shows S.Store store).may_leave trees → Leaves early F trees)) }
     {
         let mut conn = conn;
         match read_register(alloc, &mut conn) {
@@ -163,19 +183,27 @@ impl<S: Alter> Store<S> {
     /// What is kept of this filer and key: the first request with its outcome, or `None` where they are new.
     pub fn find(&mut self, filer: &str, key: &KeyText) -> Result<Option<KeptRow>, StoreFault>
         ensures found { HasCleanDisk (shows S.Store self.new) → (F : List Request) → HasRequests S.Store self.old F
-            → (target : Option ℕ) (body : List ℕ) → IfOk result (λ row. option_map (kept_as filer.now key.now) row ≡ kept_for (kept F) (the_request filer.now key.now target body)) }
+            → (target : Option ℕ) (body : List ℕ)
+            → IfOk result (λ row.
+            option_map (kept_as filer.now key.now) row ≡ kept_for (kept F)
+            (the_request filer.now key.now target body)) }
 
         // It is answered in the style of before where it is among the first that were kept then.
         ensures style { HasCleanDisk (shows S.Store self.new) → (F : List Request) → HasRequests S.Store self.old F
-            → (target : Option ℕ) (body : List ℕ) → IfOk result (λ row. IfSome row (λ r. r.style ≡ style_of (take self.old.early F) (the_request filer.now key.now target body))) }
+            → (target : Option ℕ) (body : List ℕ)
+            → IfOk result (λ row.
+            IfSome row (λ r.
+            r.style ≡ style_of (take self.old.early F) (the_request filer.now key.now target body))) }
 
         // The rows are those of before, whatever the answer is, and a crash leaves what it could leave before.
-        ensures same { HasCleanDisk (shows S.Store self.new) → (F : List Request) → HasRequests S.Store self.old F → HasRequests S.Store self.new F }
+        ensures same { HasCleanDisk (shows S.Store self.new) → (F : List Request) → HasRequests S.Store self.old F
+            → HasRequests S.Store self.new F }
         ensures counts { (self.new.kept ≡ self.old.kept) × (self.new.filings ≡ self.old.filings) }
         ensures early { self.new.early ≡ self.old.early }
         ensures crash { Survives (shows S.Store self.old) (shows S.Store self.new) (λ _. ⊥) }
         ensures durable { HasCleanDisk (shows S.Store self.new) → (F : List Request) → HasRequests S.Store self.old F
-            → OnOk result (IsTrue (shows S.Store self.new).is_open × ((trees : Trees) → (shows S.Store self.new).may_leave trees → Leaves self.old.early F trees)) }
+            → OnOk result (IsTrue (shows S.Store self.new).is_open
+            × ((trees : Trees) → (shows S.Store self.new).may_leave trees → Leaves self.old.early F trees)) }
     {
         find_kept(&mut self.conn, self.alloc, self.early, filer, key.as_str())
     }
@@ -190,24 +218,39 @@ impl<S: Alter> Store<S> {
         requires facts { HasFacts row.now.body.now row.now.judged.now }
         requires few { self.old.kept < 2 ^ 62 }
         ensures added { HasCleanDisk (shows S.Store self.new) → (F : List Request) → HasRequests S.Store self.old F
-            → has_key F (the_request row.now.filer.now row.now.key.now row.now.target row.now.body.now) ≡ false → IsAmendmentJudgement row.now.filer.now row.now.body.now (is_free (register F) row.now.filer.now row.now.target) row.now.judged.now
-            → IfOk result (λ outcome. (view_outcome outcome ≡ (judged (kept F) (the_request row.now.filer.now row.now.key.now row.now.target row.now.body.now)).outcome)
-            × HasRequests S.Store self.new (F ++ the_request row.now.filer.now row.now.key.now row.now.target row.now.body.now ∷ [])) }
+            → has_key F (the_request row.now.filer.now row.now.key.now row.now.target row.now.body.now) ≡ false
+            → IsAmendmentJudgement row.now.filer.now row.now.body.now
+            (is_free (register F) row.now.filer.now row.now.target) row.now.judged.now
+            → IfOk result (λ outcome.
+            (view_outcome outcome
+            ≡ (judged (kept F) (the_request row.now.filer.now row.now.key.now row.now.target
+            row.now.body.now)).outcome)
+            × HasRequests S.Store self.new
+            (F ++ the_request row.now.filer.now row.now.key.now row.now.target row.now.body.now ∷ [])) }
 
         // A refusal changes nothing.
-        ensures same { HasCleanDisk (shows S.Store self.new) → (F : List Request) → HasRequests S.Store self.old F → OnErr result (HasRequests S.Store self.new F) }
+        ensures same { HasCleanDisk (shows S.Store self.new) → (F : List Request) → HasRequests S.Store self.old F
+            → OnErr result (HasRequests S.Store self.new F) }
         ensures count { OnOk result (self.new.kept ≡ self.old.kept + 1) }
         ensures counts { OnErr result ((self.new.kept ≡ self.old.kept) × (self.new.filings ≡ self.old.filings)) }
         ensures early { self.new.early ≡ self.old.early }
 
         // A crash leaves what one before the call could leave, or the rows with this request, and after Ok these alone.
-        ensures crash { Survives (shows S.Store self.old) (shows S.Store self.new) (λ trees. (F : List Request) → HasRequests S.Store self.old F → IsTrue (shows S.Store self.old).is_open
-            → has_key F (the_request row.now.filer.now row.now.key.now row.now.target row.now.body.now) ≡ false → IsAmendmentJudgement row.now.filer.now row.now.body.now (is_free (register F) row.now.filer.now row.now.target) row.now.judged.now
-            → Leaves self.old.early (F ++ the_request row.now.filer.now row.now.key.now row.now.target row.now.body.now ∷ []) trees) }
+        ensures crash { Survives (shows S.Store self.old) (shows S.Store self.new) (λ trees.
+            (F : List Request) → HasRequests S.Store self.old F → IsTrue (shows S.Store self.old).is_open
+            → has_key F (the_request row.now.filer.now row.now.key.now row.now.target row.now.body.now) ≡ false
+            → IsAmendmentJudgement row.now.filer.now row.now.body.now
+            (is_free (register F) row.now.filer.now row.now.target) row.now.judged.now
+            → Leaves self.old.early
+            (F ++ the_request row.now.filer.now row.now.key.now row.now.target row.now.body.now ∷ []) trees) }
         ensures durable { HasCleanDisk (shows S.Store self.new) → (F : List Request) → HasRequests S.Store self.old F
-            → has_key F (the_request row.now.filer.now row.now.key.now row.now.target row.now.body.now) ≡ false → IsAmendmentJudgement row.now.filer.now row.now.body.now (is_free (register F) row.now.filer.now row.now.target) row.now.judged.now
-            → OnOk result (IsTrue (shows S.Store self.new).is_open × ((trees : Trees) → (shows S.Store self.new).may_leave trees
-            → Leaves self.old.early (F ++ the_request row.now.filer.now row.now.key.now row.now.target row.now.body.now ∷ []) trees)) }
+            → has_key F (the_request row.now.filer.now row.now.key.now row.now.target row.now.body.now) ≡ false
+            → IsAmendmentJudgement row.now.filer.now row.now.body.now
+            (is_free (register F) row.now.filer.now row.now.target) row.now.judged.now
+            → OnOk result (IsTrue (shows S.Store self.new).is_open
+            × ((trees : Trees) → (shows S.Store self.new).may_leave trees
+            → Leaves self.old.early
+            (F ++ the_request row.now.filer.now row.now.key.now row.now.target row.now.body.now ∷ []) trees)) }
     {
         let number = self.filings + 1;
         let outcome = Outcome::of(self.alloc, row.judged, number)?;
@@ -273,24 +316,36 @@ impl<S: Alter + Drop> Store<S> {
         requires unlimited { conn.step_limit ≡ None }
 
         // The store has the requests that the rows stood for, and there is one such list at most.
-        ensures migrated { IfOk result (λ store. HasCleanDisk (shows S.Store store) → (form : Earlier) → IsAlone form (state S.Store conn).now.schema
-            → (F : List Request) × IsEarlierOf form store.early F (state S.Store conn).now × HasRequests S.Store store F) }
-        ensures only { IfOk result (λ store. HasCleanDisk (shows S.Store store) → (form : Earlier) (early : ℕ) (F : List Request) → IsAlone form (state S.Store conn).now.schema
-            → IsEarlierOf form early F (state S.Store conn).now → (store.early ≡ early) × HasRequests S.Store store F) }
+        ensures migrated { IfOk result (λ store.
+            HasCleanDisk (shows S.Store store) → (form : Earlier) → IsAlone form (state S.Store conn).now.schema
+            → (F : List Request) × IsEarlierOf form store.early F (state S.Store conn).now
+            × HasRequests S.Store store F) }
+        ensures only { IfOk result (λ store.
+            HasCleanDisk (shows S.Store store) → (form : Earlier) (early : ℕ) (F : List Request)
+            → IsAlone form (state S.Store conn).now.schema → IsEarlierOf form early F (state S.Store conn).now
+            → (store.early ≡ early) × HasRequests S.Store store F) }
 
         // A refusal says why, of the connection as it was given up (`migrate_register` names it); where the rows stand for requests
         // and no name is in the way, it is by memory, or by the disk or another failure of a statement that writes.
-        ensures refused { IfErr result (λ fault. (last : Held S) × Survives (state S.Store conn) (state S.Store last) (MigratesTo S.Store conn)
-            × (HasCleanDisk (state S.Store last) → AddsNothing (state S.Store conn) (state S.Store last) × IsNotMigrated S.Store fault conn last)
-            × (HasCleanDisk (state S.Store last) → (form : Earlier) (early : ℕ) (F : List Request) → IsEarlierOf form early F (state S.Store conn).now
-            → is_blocked (state S.Store conn).now.schema form ≡ false → (fault ≡ OpenFault.Memory) ⊎ (fault ≡ OpenFault.Disk))) }
+        ensures refused { IfErr result (λ fault.
+            (last : Held S) × Survives (state S.Store conn) (state S.Store last) (MigratesTo S.Store conn)
+            × (HasCleanDisk (state S.Store last)
+            → AddsNothing (state S.Store conn) (state S.Store last) × IsNotMigrated S.Store fault conn last)
+            × (HasCleanDisk (state S.Store last) → (form : Earlier) (early : ℕ) (F : List Request)
+            → IsEarlierOf form early F (state S.Store conn).now
+            → is_blocked (state S.Store conn).now.schema form ≡ false
+            → (fault ≡ OpenFault.Memory) ⊎ (fault ≡ OpenFault.Disk))) }
 
         // A crash leaves what it could leave before, or the migrated rows, and after the call these alone.
-        ensures crash { IfOk result (λ store. Survives (state S.Store conn) (shows S.Store store) (λ trees. (form : Earlier) (early : ℕ) (F : List Request) → IsAlone form (state S.Store conn).now.schema
+        ensures crash { IfOk result (λ store.
+            Survives (state S.Store conn) (shows S.Store store) (λ trees.
+            (form : Earlier) (early : ℕ) (F : List Request) → IsAlone form (state S.Store conn).now.schema
             → IsEarlierOf form early F (state S.Store conn).now → Leaves early F trees)) }
-        ensures durable { IfOk result (λ store. HasCleanDisk (shows S.Store store) → (form : Earlier) (early : ℕ) (F : List Request) → IsAlone form (state S.Store conn).now.schema
-            → IsEarlierOf form early F (state S.Store conn).now
-            → IsTrue (shows S.Store store).is_open × ((trees : Trees) → (shows S.Store store).may_leave trees → Leaves early F trees)) }
+        ensures durable { IfOk result (λ store.
+            HasCleanDisk (shows S.Store store) → (form : Earlier) (early : ℕ) (F : List Request)
+            → IsAlone form (state S.Store conn).now.schema → IsEarlierOf form early F (state S.Store conn).now
+            → IsTrue (shows S.Store store).is_open
+            × ((trees : Trees) → (shows S.Store store).may_leave trees → Leaves early F trees)) }
     {
         let mut conn = conn;
         match migrate_register(alloc, &mut conn) {

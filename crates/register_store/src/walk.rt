@@ -77,9 +77,14 @@ fn has_findings<S: Alter>(
 ) -> Result<bool, Error>
     requires { seq < 2 ^ 63 }
     ensures found { HasCleanDisk (state S.Store conn.new) → HasCommon (state S.Store conn.old).now.schema
-        → IfOk result (λ found. IsTrue found → Picks finding_table (has_number seq) (counted_from (finding_row seq) 1 findings.now) (state S.Store conn.old).now) }
-    ensures same { HasCleanDisk (state S.Store conn.new) → OnOk result (IsUnchanged (state S.Store conn.old) (state S.Store conn.new)) }
-    ensures stopped { HasCleanDisk (state S.Store conn.new) → IfErr result (IsStopped (state S.Store conn.old) (state S.Store conn.new)) }
+        → IfOk result (λ found.
+        IsTrue found
+        → Picks finding_table (has_number seq) (counted_from (finding_row seq) 1 findings.now)
+        (state S.Store conn.old).now) }
+    ensures same { HasCleanDisk (state S.Store conn.new)
+        → OnOk result (IsUnchanged (state S.Store conn.old) (state S.Store conn.new)) }
+    ensures stopped { HasCleanDisk (state S.Store conn.new)
+        → IfErr result (IsStopped (state S.Store conn.old) (state S.Store conn.new)) }
     ensures mode { conn.old.in_transaction ≡ false → conn.new.in_transaction ≡ false }
     ensures survives { Survives (state S.Store conn.old) (state S.Store conn.new) (λ _. ⊥) }
 {
@@ -94,9 +99,14 @@ fn has_filing<S: Alter>(conn: &mut Connection<S>, number: u64, seq: u64) -> Resu
     requires number { number < 2 ^ 63 }
     requires seq { seq < 2 ^ 63 }
     ensures found { HasCleanDisk (state S.Store conn.new) → HasCommon (state S.Store conn.old).now.schema
-        → IfOk result (λ found. IsTrue found → Picks filing_table (has_number number) ((Int (pos number) ∷ Int (pos seq) ∷ []) ∷ []) (state S.Store conn.old).now) }
-    ensures same { HasCleanDisk (state S.Store conn.new) → OnOk result (IsUnchanged (state S.Store conn.old) (state S.Store conn.new)) }
-    ensures stopped { HasCleanDisk (state S.Store conn.new) → IfErr result (IsStopped (state S.Store conn.old) (state S.Store conn.new)) }
+        → IfOk result (λ found.
+        IsTrue found
+        → Picks filing_table (has_number number) ((Int (pos number) ∷ Int (pos seq) ∷ []) ∷ [])
+        (state S.Store conn.old).now) }
+    ensures same { HasCleanDisk (state S.Store conn.new)
+        → OnOk result (IsUnchanged (state S.Store conn.old) (state S.Store conn.new)) }
+    ensures stopped { HasCleanDisk (state S.Store conn.new)
+        → IfErr result (IsStopped (state S.Store conn.old) (state S.Store conn.new)) }
     ensures mode { conn.old.in_transaction ≡ false → conn.new.in_transaction ≡ false }
     ensures survives { Survives (state S.Store conn.old) (state S.Store conn.new) (λ _. ⊥) }
 {
@@ -110,9 +120,14 @@ fn has_filing<S: Alter>(conn: &mut Connection<S>, number: u64, seq: u64) -> Resu
 fn has_facts<S: Alter>(conn: &mut Connection<S>, number: u64, facts: &[Fact]) -> Result<bool, Error>
     requires { number < 2 ^ 63 }
     ensures found { HasCleanDisk (state S.Store conn.new) → HasCommon (state S.Store conn.old).now.schema
-        → IfOk result (λ found. IsTrue found → Picks fact_table (has_number number) (counted_from (fact_row number) 1 facts.now) (state S.Store conn.old).now) }
-    ensures same { HasCleanDisk (state S.Store conn.new) → OnOk result (IsUnchanged (state S.Store conn.old) (state S.Store conn.new)) }
-    ensures stopped { HasCleanDisk (state S.Store conn.new) → IfErr result (IsStopped (state S.Store conn.old) (state S.Store conn.new)) }
+        → IfOk result (λ found.
+        IsTrue found
+        → Picks fact_table (has_number number) (counted_from (fact_row number) 1 facts.now)
+        (state S.Store conn.old).now) }
+    ensures same { HasCleanDisk (state S.Store conn.new)
+        → OnOk result (IsUnchanged (state S.Store conn.old) (state S.Store conn.new)) }
+    ensures stopped { HasCleanDisk (state S.Store conn.new)
+        → IfErr result (IsStopped (state S.Store conn.old) (state S.Store conn.new)) }
     ensures mode { conn.old.in_transaction ≡ false → conn.new.in_transaction ≡ false }
     ensures survives { Survives (state S.Store conn.old) (state S.Store conn.new) (λ _. ⊥) }
 {
@@ -125,9 +140,15 @@ fn has_facts<S: Alter>(conn: &mut Connection<S>, number: u64, facts: &[Fact]) ->
 /// Whether no other kept row has the filer and key of this one.
 fn is_alone<S: Alter>(conn: &mut Connection<S>, row: &Row) -> Result<bool, Error>
     ensures found { HasCleanDisk (state S.Store conn.new) → HasCommon (state S.Store conn.old).now.schema
-        → IfOk result (λ alone. IsTrue alone → length (filter (has_texts (request_in None row.now).filer (request_in None row.now).key) (rows_in (state S.Store conn.old).now kept_table)) ≡ 1) }
-    ensures same { HasCleanDisk (state S.Store conn.new) → OnOk result (IsUnchanged (state S.Store conn.old) (state S.Store conn.new)) }
-    ensures stopped { HasCleanDisk (state S.Store conn.new) → IfErr result (IsStopped (state S.Store conn.old) (state S.Store conn.new)) }
+        → IfOk result (λ alone.
+        IsTrue alone
+        → length (filter (has_texts (request_in None row.now).filer (request_in None row.now).key)
+        (rows_in (state S.Store conn.old).now kept_table))
+        ≡ 1) }
+    ensures same { HasCleanDisk (state S.Store conn.new)
+        → OnOk result (IsUnchanged (state S.Store conn.old) (state S.Store conn.new)) }
+    ensures stopped { HasCleanDisk (state S.Store conn.new)
+        → IfErr result (IsStopped (state S.Store conn.old) (state S.Store conn.new)) }
     ensures mode { conn.old.in_transaction ≡ false → conn.new.in_transaction ≡ false }
     ensures survives { Survives (state S.Store conn.old) (state S.Store conn.new) (λ _. ⊥) }
 {
@@ -139,8 +160,10 @@ fn is_alone<S: Alter>(conn: &mut Connection<S>, row: &Row) -> Result<bool, Error
 
 /// What is left with so many findings less.
 fn without_findings<'a>(left: Left<'a>, count: u64) -> Option<Left<'a>>
-    ensures { IfSome result (λ tail. (left.entry.findings ≡ tail.findings + count) × (tail.filings ≡ left.entry.filings) × (tail.facts ≡ left.entry.facts)
-        × (tail.number ≡ left.entry.number) × (tail.amends.now ≡ left.entry.amends.now)) }
+    ensures { IfSome result (λ tail.
+        (left.entry.findings ≡ tail.findings + count) × (tail.filings ≡ left.entry.filings)
+        × (tail.facts ≡ left.entry.facts) × (tail.number ≡ left.entry.number)
+        × (tail.amends.now ≡ left.entry.amends.now)) }
 {
     let findings = left.findings.checked_sub(count)?;
     Some(Left { findings, ..left })
@@ -149,8 +172,10 @@ fn without_findings<'a>(left: Left<'a>, count: u64) -> Option<Left<'a>>
 /// What is left with a filing less that has so many facts.
 fn without_filing<'a>(left: Left<'a>, count: u64) -> Option<Left<'a>>
     requires { left.number < 2 ^ 63 }
-    ensures { IfSome result (λ tail. (tail.findings ≡ left.entry.findings) × (left.entry.filings ≡ tail.filings + 1) × (left.entry.facts ≡ tail.facts + count)
-        × (tail.number ≡ left.entry.number + 1) × (tail.amends.now ≡ left.entry.amends.now)) }
+    ensures { IfSome result (λ tail.
+        (tail.findings ≡ left.entry.findings) × (left.entry.filings ≡ tail.filings + 1)
+        × (left.entry.facts ≡ tail.facts + count) × (tail.number ≡ left.entry.number + 1)
+        × (tail.amends.now ≡ left.entry.amends.now)) }
 {
     let filings = left.filings.checked_sub(1)?;
     let facts = left.facts.checked_sub(count)?;
@@ -171,10 +196,16 @@ fn pass_refused<'a, S: Alter>(
 ) -> Result<Option<Left<'a>>, Error>
     requires { seq < 2 ^ 63 }
     ensures beyond { HasCleanDisk (state S.Store conn.new) → HasCommon (state S.Store conn.old).now.schema
-        → IfOk result (λ passed. IfSome passed (λ tail. (k : Kept) → k.outcome ≡ Outcome.Refused findings.now → Beyond seq k left.entry tail (state S.Store conn.old).now)) }
-    ensures rest { IfOk result (λ passed. IfSome passed (λ tail. (tail.number ≤ left.entry.number + 1) × (tail.amends.now ≡ left.entry.amends.now))) }
-    ensures same { HasCleanDisk (state S.Store conn.new) → OnOk result (IsUnchanged (state S.Store conn.old) (state S.Store conn.new)) }
-    ensures stopped { HasCleanDisk (state S.Store conn.new) → IfErr result (IsStopped (state S.Store conn.old) (state S.Store conn.new)) }
+        → IfOk result (λ passed.
+        IfSome passed (λ tail.
+        (k : Kept) → k.outcome ≡ Outcome.Refused findings.now
+        → Beyond seq k left.entry tail (state S.Store conn.old).now)) }
+    ensures rest { IfOk result (λ passed.
+        IfSome passed (λ tail. (tail.number ≤ left.entry.number + 1) × (tail.amends.now ≡ left.entry.amends.now))) }
+    ensures same { HasCleanDisk (state S.Store conn.new)
+        → OnOk result (IsUnchanged (state S.Store conn.old) (state S.Store conn.new)) }
+    ensures stopped { HasCleanDisk (state S.Store conn.new)
+        → IfErr result (IsStopped (state S.Store conn.old) (state S.Store conn.new)) }
     ensures mode { conn.old.in_transaction ≡ false → conn.new.in_transaction ≡ false }
     ensures survives { Survives (state S.Store conn.old) (state S.Store conn.new) (λ _. ⊥) }
 {
@@ -195,10 +226,16 @@ fn pass_registered<'a, S: Alter>(
     requires seq { seq < 2 ^ 63 }
     requires number { left.number < 2 ^ 63 }
     ensures beyond { HasCleanDisk (state S.Store conn.new) → HasCommon (state S.Store conn.old).now.schema
-        → IfOk result (λ passed. IfSome passed (λ tail. (k : Kept) → k.outcome ≡ Outcome.Registered left.entry.number → facts.now ≡ facts_of k.request.body → Beyond seq k left.entry tail (state S.Store conn.old).now)) }
-    ensures rest { IfOk result (λ passed. IfSome passed (λ tail. (tail.number ≤ left.entry.number + 1) × (tail.amends.now ≡ left.entry.amends.now))) }
-    ensures same { HasCleanDisk (state S.Store conn.new) → OnOk result (IsUnchanged (state S.Store conn.old) (state S.Store conn.new)) }
-    ensures stopped { HasCleanDisk (state S.Store conn.new) → IfErr result (IsStopped (state S.Store conn.old) (state S.Store conn.new)) }
+        → IfOk result (λ passed.
+        IfSome passed (λ tail.
+        (k : Kept) → k.outcome ≡ Outcome.Registered left.entry.number → facts.now ≡ facts_of k.request.body
+        → Beyond seq k left.entry tail (state S.Store conn.old).now)) }
+    ensures rest { IfOk result (λ passed.
+        IfSome passed (λ tail. (tail.number ≤ left.entry.number + 1) × (tail.amends.now ≡ left.entry.amends.now))) }
+    ensures same { HasCleanDisk (state S.Store conn.new)
+        → OnOk result (IsUnchanged (state S.Store conn.old) (state S.Store conn.new)) }
+    ensures stopped { HasCleanDisk (state S.Store conn.new)
+        → IfErr result (IsStopped (state S.Store conn.old) (state S.Store conn.new)) }
     ensures mode { conn.old.in_transaction ≡ false → conn.new.in_transaction ≡ false }
     ensures survives { Survives (state S.Store conn.old) (state S.Store conn.new) (λ _. ⊥) }
 {
@@ -224,13 +261,23 @@ fn pass_as<'a, S: Alter>(
     requires seq { seq < 2 ^ 63 }
     requires number { left.number < 2 ^ 63 }
     requires facts { HasFacts (request_in None row.now).body judged.now }
-    ensures row { (target : Option ℕ) → IfOk result (λ passed. IfSome passed (λ tail. row.now ≡ kept_row seq (request_outcome (request_in target row.now) (outcome_of left.entry.number judged.now)))) }
+    ensures row { (target : Option ℕ)
+        → IfOk result (λ passed.
+        IfSome passed (λ tail.
+        row.now ≡ kept_row seq
+        (request_outcome (request_in target row.now) (outcome_of left.entry.number judged.now)))) }
     ensures beyond { HasCleanDisk (state S.Store conn.new) → HasCommon (state S.Store conn.old).now.schema
-        → (target : Option ℕ) → IfOk result (λ passed. IfSome passed (λ tail. Beyond seq (request_outcome (request_in target row.now) (outcome_of left.entry.number judged.now)) left.entry tail (state S.Store conn.old).now)) }
-    ensures rest { IfOk result (λ passed. IfSome passed (λ tail. (tail.number ≤ left.entry.number + 1) × (tail.amends.now ≡ left.entry.amends.now))) }
+        → (target : Option ℕ)
+        → IfOk result (λ passed.
+        IfSome passed (λ tail.
+        Beyond seq (request_outcome (request_in target row.now) (outcome_of left.entry.number judged.now))
+        left.entry tail (state S.Store conn.old).now)) }
+    ensures rest { IfOk result (λ passed.
+        IfSome passed (λ tail. (tail.number ≤ left.entry.number + 1) × (tail.amends.now ≡ left.entry.amends.now))) }
     ensures same { HasCleanDisk (state S.Store conn.new) → IsTrue (state S.Store conn.old).is_open
         → OnOk result (IsUnchanged (state S.Store conn.old) (state S.Store conn.new)) }
-    ensures stopped { HasCleanDisk (state S.Store conn.new) → IfErr result (IsStopped (state S.Store conn.old) (state S.Store conn.new)) }
+    ensures stopped { HasCleanDisk (state S.Store conn.new)
+        → IfErr result (IsStopped (state S.Store conn.old) (state S.Store conn.new)) }
     ensures mode { conn.old.in_transaction ≡ false → conn.new.in_transaction ≡ false }
     ensures survives { Survives (state S.Store conn.old) (state S.Store conn.new) (λ _. ⊥) }
 {
@@ -268,15 +315,22 @@ fn pass_filed<'a, S: Alter>(
     requires number { left.number < 2 ^ 63 }
     requires filer { filer.now ≡ (request_in None row.now).filer }
     ensures row { (F : List Request) → AreFiled (register F) filed.old → left.entry.number ≡ suc (length (register F))
-        → IfOk result (λ passed. IfSome passed (λ tail. (row.now ≡ kept_row seq (judged (kept F) (request_in target row.now)))
+        → IfOk result (λ passed.
+        IfSome passed (λ tail.
+        (row.now ≡ kept_row seq (judged (kept F) (request_in target row.now)))
         × AreFiled (filings (kept F ++ judged (kept F) (request_in target row.now) ∷ [])) filed.new)) }
     ensures beyond { HasCleanDisk (state S.Store conn.new) → HasCommon (state S.Store conn.old).now.schema
         → (F : List Request) → AreFiled (register F) filed.old → left.entry.number ≡ suc (length (register F))
-        → IfOk result (λ passed. IfSome passed (λ tail. Beyond seq (judged (kept F) (request_in target row.now)) left.entry tail (state S.Store conn.old).now)) }
-    ensures rest { IfOk result (λ passed. IfSome passed (λ tail. (tail.number ≤ left.entry.number + 1) × (tail.amends.now ≡ left.entry.amends.now))) }
+        → IfOk result (λ passed.
+        IfSome passed (λ tail.
+        Beyond seq (judged (kept F) (request_in target row.now)) left.entry tail
+        (state S.Store conn.old).now)) }
+    ensures rest { IfOk result (λ passed.
+        IfSome passed (λ tail. (tail.number ≤ left.entry.number + 1) × (tail.amends.now ≡ left.entry.amends.now))) }
     ensures same { HasCleanDisk (state S.Store conn.new) → IsTrue (state S.Store conn.old).is_open
         → OnOk result (IsUnchanged (state S.Store conn.old) (state S.Store conn.new)) }
-    ensures stopped { HasCleanDisk (state S.Store conn.new) → IfErr result (IsStopped (state S.Store conn.old) (state S.Store conn.new)) }
+    ensures stopped { HasCleanDisk (state S.Store conn.new)
+        → IfErr result (IsStopped (state S.Store conn.old) (state S.Store conn.new)) }
     ensures mode { conn.old.in_transaction ≡ false → conn.new.in_transaction ≡ false }
     ensures survives { Survives (state S.Store conn.old) (state S.Store conn.new) (λ _. ⊥) }
 {
@@ -314,7 +368,8 @@ fn pass_judged<'a, S: Alter>(
     ensures number { IfOk result (λ passed. IfSome passed (λ tail. tail.number ≤ left.entry.number + 1)) }
     ensures same { HasCleanDisk (state S.Store conn.new) → IsTrue (state S.Store conn.old).is_open
         → OnOk result (IsUnchanged (state S.Store conn.old) (state S.Store conn.new)) }
-    ensures stopped { HasCleanDisk (state S.Store conn.new) → IfErr result (IsStopped (state S.Store conn.old) (state S.Store conn.new)) }
+    ensures stopped { HasCleanDisk (state S.Store conn.new)
+        → IfErr result (IsStopped (state S.Store conn.old) (state S.Store conn.new)) }
     ensures mode { conn.old.in_transaction ≡ false → conn.new.in_transaction ≡ false }
     ensures survives { Survives (state S.Store conn.old) (state S.Store conn.new) (λ _. ⊥) }
 {
@@ -341,11 +396,15 @@ fn pass<'a, S: Alter>(
     requires number { left.number < 2 ^ 63 }
     ensures passes { HasCleanDisk (state S.Store conn.new) → HasCommon (state S.Store conn.old).now.schema
         → (F : List Request) → AreFiled (register F) filed.old → left.entry.number ≡ suc (length (register F))
-        → IfOk result (λ passed. IfSome passed (λ tail. (r : Request) × Passes F seq left.entry tail (state S.Store conn.old).now r
+        → IfOk result (λ passed.
+        IfSome passed (λ tail.
+        (r : Request) × Passes F seq left.entry tail (state S.Store conn.old).now r
         × AreFiled (filings (kept F ++ judged (kept F) r ∷ [])) filed.new)) }
     ensures number { IfOk result (λ passed. IfSome passed (λ tail. tail.number ≤ left.entry.number + 1)) }
-    ensures same { HasCleanDisk (state S.Store conn.new) → OnOk result (IsUnchanged (state S.Store conn.old) (state S.Store conn.new)) }
-    ensures stopped { HasCleanDisk (state S.Store conn.new) → IfErr result (IsStopped (state S.Store conn.old) (state S.Store conn.new)) }
+    ensures same { HasCleanDisk (state S.Store conn.new)
+        → OnOk result (IsUnchanged (state S.Store conn.old) (state S.Store conn.new)) }
+    ensures stopped { HasCleanDisk (state S.Store conn.new)
+        → IfErr result (IsStopped (state S.Store conn.old) (state S.Store conn.new)) }
     ensures mode { conn.old.in_transaction ≡ false → conn.new.in_transaction ≡ false }
     ensures survives { Survives (state S.Store conn.old) (state S.Store conn.new) (λ _. ⊥) }
 {
@@ -372,8 +431,11 @@ fn walk<'a, S: Alter>(
     requires total { total ≤ 2 ^ 62 }
     requires first { start.number ≡ 1 }
     ensures walked { HasCleanDisk (state S.Store conn.new) → HasCommon (state S.Store conn.old).now.schema
-        → IsTrue (state S.Store conn.old).is_open → Walked start.entry.amends.now total 0 start.entry (state S.Store conn.old).now []
-        → IfOk result (λ passed. IfSome passed (λ tail. (F : List Request) × Walked start.entry.amends.now total total tail (state S.Store conn.old).now F)) }
+        → IsTrue (state S.Store conn.old).is_open
+        → Walked start.entry.amends.now total 0 start.entry (state S.Store conn.old).now []
+        → IfOk result (λ passed.
+        IfSome passed (λ tail.
+        (F : List Request) × Walked start.entry.amends.now total total tail (state S.Store conn.old).now F)) }
     ensures number { IfOk result (λ passed. IfSome passed (λ tail. tail.number ≤ total + 1)) }
     ensures same { HasCleanDisk (state S.Store conn.new) → IsTrue (state S.Store conn.old).is_open
         → OnOk result (IsUnchanged (state S.Store conn.old) (state S.Store conn.new)) }
@@ -406,10 +468,14 @@ fn count_tables<'a, S: Alter>(
     amends: &'a [Row],
 ) -> Result<Option<Sizes<'a>>, Error>
     ensures start { HasCleanDisk (state S.Store conn.new) → HasCommon (state S.Store conn.old).now.schema
-        → IfOk result (λ sizes. IfSome sizes (λ s. Walked amends.now s.kept 0 s.others (state S.Store conn.old).now [])) }
-    ensures first { IfOk result (λ sizes. IfSome sizes (λ s. (s.others.number ≡ 1) × (s.others.amends.now ≡ amends.now))) }
-    ensures same { HasCleanDisk (state S.Store conn.new) → OnOk result (IsUnchanged (state S.Store conn.old) (state S.Store conn.new)) }
-    ensures stopped { HasCleanDisk (state S.Store conn.new) → IfErr result (IsStopped (state S.Store conn.old) (state S.Store conn.new)) }
+        → IfOk result (λ sizes.
+        IfSome sizes (λ s. Walked amends.now s.kept 0 s.others (state S.Store conn.old).now [])) }
+    ensures first { IfOk result (λ sizes.
+        IfSome sizes (λ s. (s.others.number ≡ 1) × (s.others.amends.now ≡ amends.now))) }
+    ensures same { HasCleanDisk (state S.Store conn.new)
+        → OnOk result (IsUnchanged (state S.Store conn.old) (state S.Store conn.new)) }
+    ensures stopped { HasCleanDisk (state S.Store conn.new)
+        → IfErr result (IsStopped (state S.Store conn.old) (state S.Store conn.new)) }
     ensures mode { conn.old.in_transaction ≡ false → conn.new.in_transaction ≡ false }
     ensures survives { Survives (state S.Store conn.old) (state S.Store conn.new) (λ _. ⊥) }
 {
@@ -435,7 +501,8 @@ fn sizes_of<'a>(
     facts: Option<u64>,
     amends: &'a [Row],
 ) -> Option<Sizes<'a>>
-    ensures { IfSome result (λ s. (kept ≡ Some s.kept) × (findings ≡ Some s.others.findings) × (filings ≡ Some s.others.filings)
+    ensures { IfSome result (λ s.
+        (kept ≡ Some s.kept) × (findings ≡ Some s.others.findings) × (filings ≡ Some s.others.filings)
         × (facts ≡ Some s.others.facts) × (s.others.number ≡ 1) × (s.others.amends.now ≡ amends.now)) }
 {
     Some(Sizes {
@@ -459,7 +526,8 @@ pub(crate) struct Totals {
 
 /// How much was walked past, if nothing is left.
 fn counts_of(kept: u64, left: Left<'_>) -> Option<Totals>
-    ensures { IfSome result (λ counts. (counts.kept ≡ kept) × (left.entry.findings ≡ 0) × (left.entry.filings ≡ 0) × (left.entry.facts ≡ 0)
+    ensures { IfSome result (λ counts.
+        (counts.kept ≡ kept) × (left.entry.findings ≡ 0) × (left.entry.filings ≡ 0) × (left.entry.facts ≡ 0)
         × (left.entry.number ≡ counts.filings + 1) × (left.entry.amends.now ≡ [])) }
 {
     if left.findings == 0
@@ -485,9 +553,12 @@ pub(crate) fn count_by_walk<S: Alter>(
 ) -> Result<Option<Totals>, Error>
     ensures found { HasCleanDisk (state S.Store conn.new) → HasCommon (state S.Store conn.old).now.schema
         → IfOk result (λ found. IfSome found (λ counts. Amounts counts amends.now (state S.Store conn.old).now)) }
-    ensures few { IfOk result (λ found. IfSome found (λ counts. (counts.kept ≤ 2 ^ 62) × (counts.filings ≤ counts.kept))) }
-    ensures same { HasCleanDisk (state S.Store conn.new) → OnOk result (IsUnchanged (state S.Store conn.old) (state S.Store conn.new)) }
-    ensures stopped { HasCleanDisk (state S.Store conn.new) → IfErr result (IsStopped (state S.Store conn.old) (state S.Store conn.new)) }
+    ensures few { IfOk result (λ found.
+        IfSome found (λ counts. (counts.kept ≤ 2 ^ 62) × (counts.filings ≤ counts.kept))) }
+    ensures same { HasCleanDisk (state S.Store conn.new)
+        → OnOk result (IsUnchanged (state S.Store conn.old) (state S.Store conn.new)) }
+    ensures stopped { HasCleanDisk (state S.Store conn.new)
+        → IfErr result (IsStopped (state S.Store conn.old) (state S.Store conn.new)) }
     ensures mode { conn.old.in_transaction ≡ false → conn.new.in_transaction ≡ false }
     ensures survives { Survives (state S.Store conn.old) (state S.Store conn.new) (λ _. ⊥) }
 {

@@ -28,10 +28,16 @@ fn write_refused<S: Alter>(
     requires { seq < 2 ^ 63 }
     ensures key { IsKey row.now.key.now }
     ensures same_reference { tx.new.conn.ghost_name ≡ tx.old.conn.ghost_name }
-    ensures adds { HasCleanDisk (state S.Store tx.new.conn.now) → OnOk result (AddsInside seq
-        (record { request = the_request row.now.filer.now row.now.key.now None row.now.body.now; outcome = Outcome.Refused findings.now })
+    ensures adds { HasCleanDisk (state S.Store tx.new.conn.now)
+        → OnOk result
+        (AddsInside seq
+        (record {
+          request = the_request row.now.filer.now row.now.key.now None row.now.body.now;
+          outcome = Outcome.Refused findings.now;
+        })
         (state S.Store tx.old.conn.now) (state S.Store tx.new.conn.now)) }
-    ensures keeps { HasCleanDisk (state S.Store tx.new.conn.now) → KeepsCommit (state S.Store tx.old.conn.now) (state S.Store tx.new.conn.now) }
+    ensures keeps { HasCleanDisk (state S.Store tx.new.conn.now)
+        → KeepsCommit (state S.Store tx.old.conn.now) (state S.Store tx.new.conn.now) }
     ensures survives { Survives (state S.Store tx.old.conn.now) (state S.Store tx.new.conn.now) (λ _. ⊥) }
 {
     insert_kept(tx, seq, row, None)?;
@@ -52,10 +58,16 @@ fn write_accepted<S: Alter>(
     requires facts { facts.now ≡ facts_of row.now.body.now }
     ensures key { IsKey row.now.key.now }
     ensures same_reference { tx.new.conn.ghost_name ≡ tx.old.conn.ghost_name }
-    ensures adds { HasCleanDisk (state S.Store tx.new.conn.now) → OnOk result (AddsInside seq
-        (record { request = the_request row.now.filer.now row.now.key.now None row.now.body.now; outcome = Outcome.Registered number })
+    ensures adds { HasCleanDisk (state S.Store tx.new.conn.now)
+        → OnOk result
+        (AddsInside seq
+        (record {
+          request = the_request row.now.filer.now row.now.key.now None row.now.body.now;
+          outcome = Outcome.Registered number;
+        })
         (state S.Store tx.old.conn.now) (state S.Store tx.new.conn.now)) }
-    ensures keeps { HasCleanDisk (state S.Store tx.new.conn.now) → KeepsCommit (state S.Store tx.old.conn.now) (state S.Store tx.new.conn.now) }
+    ensures keeps { HasCleanDisk (state S.Store tx.new.conn.now)
+        → KeepsCommit (state S.Store tx.old.conn.now) (state S.Store tx.new.conn.now) }
     ensures survives { Survives (state S.Store tx.old.conn.now) (state S.Store tx.new.conn.now) (λ _. ⊥) }
 {
     insert_kept(tx, seq, row, Some(number))?;
@@ -75,10 +87,16 @@ fn write_judged<S: Alter>(
     requires facts { HasFacts row.now.body.now row.now.judged.now }
     ensures key { IsKey row.now.key.now }
     ensures same_reference { tx.new.conn.ghost_name ≡ tx.old.conn.ghost_name }
-    ensures adds { HasCleanDisk (state S.Store tx.new.conn.now) → OnOk result (AddsInside seq
-        (record { request = the_request row.now.filer.now row.now.key.now None row.now.body.now; outcome = outcome_of number row.now.judged.now })
+    ensures adds { HasCleanDisk (state S.Store tx.new.conn.now)
+        → OnOk result
+        (AddsInside seq
+        (record {
+          request = the_request row.now.filer.now row.now.key.now None row.now.body.now;
+          outcome = outcome_of number row.now.judged.now;
+        })
         (state S.Store tx.old.conn.now) (state S.Store tx.new.conn.now)) }
-    ensures keeps { HasCleanDisk (state S.Store tx.new.conn.now) → KeepsCommit (state S.Store tx.old.conn.now) (state S.Store tx.new.conn.now) }
+    ensures keeps { HasCleanDisk (state S.Store tx.new.conn.now)
+        → KeepsCommit (state S.Store tx.old.conn.now) (state S.Store tx.new.conn.now) }
     ensures survives { Survives (state S.Store tx.old.conn.now) (state S.Store tx.new.conn.now) (λ _. ⊥) }
 {
     match row.judged {
@@ -101,10 +119,16 @@ fn write_amendment<S: Alter>(
     requires facts { HasFacts row.now.body.now row.now.judged.now }
     ensures key { IsKey row.now.key.now }
     ensures same_reference { tx.new.conn.ghost_name ≡ tx.old.conn.ghost_name }
-    ensures adds { HasCleanDisk (state S.Store tx.new.conn.now) → OnOk result (AddsInside seq
-        (record { request = the_request row.now.filer.now row.now.key.now (Some target) row.now.body.now; outcome = outcome_of number row.now.judged.now })
+    ensures adds { HasCleanDisk (state S.Store tx.new.conn.now)
+        → OnOk result
+        (AddsInside seq
+        (record {
+          request = the_request row.now.filer.now row.now.key.now (Some target) row.now.body.now;
+          outcome = outcome_of number row.now.judged.now;
+        })
         (state S.Store tx.old.conn.now) (state S.Store tx.new.conn.now)) }
-    ensures keeps { HasCleanDisk (state S.Store tx.new.conn.now) → KeepsCommit (state S.Store tx.old.conn.now) (state S.Store tx.new.conn.now) }
+    ensures keeps { HasCleanDisk (state S.Store tx.new.conn.now)
+        → KeepsCommit (state S.Store tx.old.conn.now) (state S.Store tx.new.conn.now) }
     ensures survives { Survives (state S.Store tx.old.conn.now) (state S.Store tx.new.conn.now) (λ _. ⊥) }
 {
     let _key = row.key.as_str();
@@ -125,10 +149,16 @@ fn write<S: Alter>(
     requires facts { HasFacts row.now.body.now row.now.judged.now }
     ensures key { IsKey row.now.key.now }
     ensures same_reference { tx.new.conn.ghost_name ≡ tx.old.conn.ghost_name }
-    ensures adds { HasCleanDisk (state S.Store tx.new.conn.now) → OnOk result (AddsInside seq
-        (record { request = the_request row.now.filer.now row.now.key.now row.now.target row.now.body.now; outcome = outcome_of number row.now.judged.now })
+    ensures adds { HasCleanDisk (state S.Store tx.new.conn.now)
+        → OnOk result
+        (AddsInside seq
+        (record {
+          request = the_request row.now.filer.now row.now.key.now row.now.target row.now.body.now;
+          outcome = outcome_of number row.now.judged.now;
+        })
         (state S.Store tx.old.conn.now) (state S.Store tx.new.conn.now)) }
-    ensures keeps { HasCleanDisk (state S.Store tx.new.conn.now) → KeepsCommit (state S.Store tx.old.conn.now) (state S.Store tx.new.conn.now) }
+    ensures keeps { HasCleanDisk (state S.Store tx.new.conn.now)
+        → KeepsCommit (state S.Store tx.old.conn.now) (state S.Store tx.new.conn.now) }
     ensures survives { Survives (state S.Store tx.old.conn.now) (state S.Store tx.new.conn.now) (λ _. ⊥) }
 {
     match row.target {
@@ -151,13 +181,25 @@ pub fn keep<S: Alter>(
     requires facts { HasFacts row.now.body.now row.now.judged.now }
     ensures key { IsKey row.now.key.now }
     ensures autocommit { conn.new.in_transaction ≡ false }
-    ensures adds { HasCleanDisk (state S.Store conn.new) → OnOk result (Adds seq
-        (record { request = the_request row.now.filer.now row.now.key.now row.now.target row.now.body.now; outcome = outcome_of number row.now.judged.now })
+    ensures adds { HasCleanDisk (state S.Store conn.new)
+        → OnOk result
+        (Adds seq
+        (record {
+          request = the_request row.now.filer.now row.now.key.now row.now.target row.now.body.now;
+          outcome = outcome_of number row.now.judged.now;
+        })
         (state S.Store conn.old) (state S.Store conn.new)) }
-    ensures durable { HasCleanDisk (state S.Store conn.new) → OnOk result ((trees : Trees) → (state S.Store conn.new).may_leave trees → trees ≡ (state S.Store conn.new).now.trees) }
-    ensures neither { HasCleanDisk (state S.Store conn.new) → OnErr result (AddsNothing (state S.Store conn.old) (state S.Store conn.new)) }
-    ensures crash { Survives (state S.Store conn.old) (state S.Store conn.new) (AddsTo seq
-        (record { request = the_request row.now.filer.now row.now.key.now row.now.target row.now.body.now; outcome = outcome_of number row.now.judged.now })
+    ensures durable { HasCleanDisk (state S.Store conn.new)
+        → OnOk result ((trees : Trees) → (state S.Store conn.new).may_leave trees
+        → trees ≡ (state S.Store conn.new).now.trees) }
+    ensures neither { HasCleanDisk (state S.Store conn.new)
+        → OnErr result (AddsNothing (state S.Store conn.old) (state S.Store conn.new)) }
+    ensures crash { Survives (state S.Store conn.old) (state S.Store conn.new)
+        (AddsTo seq
+        (record {
+          request = the_request row.now.filer.now row.now.key.now row.now.target row.now.body.now;
+          outcome = outcome_of number row.now.judged.now;
+        })
         (state S.Store conn.old).now) }
 {
     let mut tx = conn.transaction();

@@ -200,7 +200,8 @@ impl<D: Honest> Filer<D> {
     fn hear(&mut self, entry: u64, bytes: &[u8]) -> Result<(), Cause>
         requires { self.old.up ≡ true }
         ensures heard { OnOk result ((what : Item) → numbered self.old.entries entry ≡ Some what
-            → (heard : Option ReplyParts) × Hears bytes.now No heard × (self.new ≡ box_after self.old entry what heard No)) }
+            → (heard : Option ReplyParts) × Hears bytes.now No heard
+            × (self.new ≡ box_after self.old entry what heard No)) }
         ensures other { result ≢ Err Cause.NoSuch }
     {
         let OutboxPlace::Up(outbox) = &mut self.place else {
@@ -237,7 +238,8 @@ impl<D: Honest> Filer<D> {
     /// The number and the state of each entry, in the order of the numbers. `Store` comes where it is down.
     pub(crate) fn states(&mut self) -> Result<Vec<(u64, State)>, StoreFault>
         ensures same { self.new ≡ self.old }
-        ensures list { IfOk result (λ s. (number : ℕ) → map (listed number) s.items ≡ states_of number 1 self.old.entries) }
+        ensures list { IfOk result (λ s.
+            (number : ℕ) → map (listed number) s.items ≡ states_of number 1 self.old.entries) }
         ensures down { self.old.up ≡ false → result ≡ Err StoreFault.Store }
     {
         let OutboxPlace::Up(outbox) = &mut self.place else {
@@ -249,7 +251,8 @@ impl<D: Honest> Filer<D> {
     /// The outbox, where it is up.
     pub(crate) fn outbox(&self) -> Option<&Outbox<FileStore<D>>>
         ensures lent { IsSome result ↔ (self.now.up ≡ true) }
-        ensures keeps { IfSome result (λ b. HasEntries over_files b.now self.now.entries × (b.now.filer ≡ self.now.filer)) }
+        ensures keeps { IfSome result (λ b.
+            HasEntries over_files b.now self.now.entries × (b.now.filer ≡ self.now.filer)) }
     {
         match &self.place {
             OutboxPlace::Up(outbox) => Some(outbox),

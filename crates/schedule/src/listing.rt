@@ -21,7 +21,8 @@ fn append(
     outbox: u64,
     states: &[(u64, State)],
 ) -> Result<(), StoreFault>
-    ensures { OnOk result (map view_listed list.new.items ≡ map view_listed list.old.items ++ map (listed outbox) states.now) }
+    ensures { OnOk result
+        (map view_listed list.new.items ≡ map view_listed list.old.items ++ map (listed outbox) states.now) }
 {
     for &(entry, state) in states {
         match list.reserve(1) {

@@ -106,7 +106,8 @@ pub(crate) fn put_into<S: Faithful>(
 ) -> Result<bool, Cause>
     requires { IsTarget target }
     ensures taken { (entries : List Item) → HasEntries S.Store outbox.old entries
-        → IfOk result (λ is_taken. is_taken ≡ takes (up_with outbox.old.filer entries) (opened key.now target body.now)) }
+        → IfOk result (λ is_taken.
+        is_taken ≡ takes (up_with outbox.old.filer entries) (opened key.now target body.now)) }
     ensures rows { (entries : List Item) → HasEntries S.Store outbox.old entries
         → IfOk result (λ is_taken.
         HasEntries S.Store outbox.new (if is_taken then entries ++ opened key.now target body.now ∷ [] else entries)) }
@@ -136,7 +137,8 @@ pub(crate) fn request_from<S: Faithful>(
         → IfOk result (λ text. IsRequest (up_with outbox.old.filer entries) number text.items) }
     ensures no_such { (entries : List Item) → HasEntries S.Store outbox.old entries
         → result ≡ Err Cause.NoSuch → numbered entries number ≡ None }
-    ensures kept { (entries : List Item) → HasEntries S.Store outbox.old entries → HasEntries S.Store outbox.new entries }
+    ensures kept { (entries : List Item) → HasEntries S.Store outbox.old entries
+        → HasEntries S.Store outbox.new entries }
     ensures filer { outbox.new.filer ≡ outbox.old.filer }
 {
     match request_bytes(alloc, outbox, number) {
@@ -168,8 +170,10 @@ pub(crate) fn hear_in<S: Faithful>(
     bytes: &[u8],
 ) -> Result<Option<State>, Cause>
     ensures heard { (entries : List Item) → HasEntries S.Store outbox.old entries
-        → IfOk result (λ to. (what : Item) → numbered entries number ≡ Some what
-        → (heard : Option ReplyParts) × Hears bytes.now No heard × (state_or what.state to ≡ heard_by what.state heard)) }
+        → IfOk result (λ to.
+        (what : Item) → numbered entries number ≡ Some what
+        → (heard : Option ReplyParts) × Hears bytes.now No heard
+        × (state_or what.state to ≡ heard_by what.state heard)) }
     ensures rows { (entries : List Item) → HasEntries S.Store outbox.old entries
         → IfOk result (λ to. HasEntries S.Store outbox.new (entries_after entries number to)) }
     ensures kept { (entries : List Item) → HasEntries S.Store outbox.old entries
@@ -193,7 +197,8 @@ pub(crate) fn states_in<S: Faithful>(
 ) -> Result<Vec<(u64, State)>, StoreFault>
     ensures list { (entries : List Item) → HasEntries S.Store outbox.old entries
         → IfOk result (λ states. (number : ℕ) → map (listed number) states.items ≡ states_of number 1 entries) }
-    ensures kept { (entries : List Item) → HasEntries S.Store outbox.old entries → HasEntries S.Store outbox.new entries }
+    ensures kept { (entries : List Item) → HasEntries S.Store outbox.old entries
+        → HasEntries S.Store outbox.new entries }
     ensures filer { outbox.new.filer ≡ outbox.old.filer }
 {
     outbox.states()

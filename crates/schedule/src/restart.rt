@@ -15,7 +15,8 @@ pub(crate) fn restart_outbox<D: Honest>(
     outbox: u64,
 ) -> Result<(), Cause>
     ensures step { OnOk result ((server : Served) (sent : List Item) (outputs : List Left)
-        → Restarts (world_of server sent outputs filers.old.items) outbox (world_of server sent outputs filers.new.items)) }
+        → Restarts (world_of server sent outputs filers.old.items) outbox
+        (world_of server sent outputs filers.new.items)) }
     ensures no_such { result ≡ Err Cause.NoSuch → (server : Served) (sent : List Item) (outputs : List Left)
         → CannotPlay (world_of server sent outputs filers.old.items) (RestartOutbox outbox) }
 {

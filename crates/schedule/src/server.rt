@@ -158,7 +158,8 @@ impl<D: Honest> Place<D> {
     /// The register in the place of the files.
     fn started(self, alloc: Global, limit: u64) -> Result<Place<D>, Cause>
         requires { limit ≤ 2 ^ 62 }
-        ensures kept { (F : List Request) → firsts F ≡ F → Keeps self limit F → IfOk result (λ place. Keeps place limit F) }
+        ensures kept { (F : List Request) → firsts F ≡ F → Keeps self limit F
+            → IfOk result (λ place. Keeps place limit F) }
         ensures up { IfOk result (λ place. is_up place ≡ true) }
         ensures other { result ≢ Err Cause.NoSuch }
     {
@@ -247,9 +248,14 @@ impl<D: Honest> Server<D> {
     pub(crate) fn deliver(&mut self, bytes: &[u8], crash: Crash) -> Result<Delivered, Cause>
         requires { self.old.up ≡ true }
         ensures before { IfOk result (λ d. d.before ≡ length self.old.done) }
-        ensures serves { IfOk result (λ d. (places : List Spot)
-            × ServesUntil self.old.limit self.old.done bytes.now (view_crash crash) places d.marks.items d.ended d.text.items
-            × (self.new ≡ record self.old { done = self.old.done ++ completed places d.marks.items; up = is_no (view_crash crash) })) }
+        ensures serves { IfOk result (λ d.
+            (places : List Spot)
+            × ServesUntil self.old.limit self.old.done bytes.now (view_crash crash) places d.marks.items d.ended
+            d.text.items
+            × (self.new ≡ record self.old {
+              done = self.old.done ++ completed places d.marks.items;
+              up = is_no (view_crash crash);
+            })) }
         ensures other { result ≢ Err Cause.NoSuch }
     {
         let before = self.done.len();

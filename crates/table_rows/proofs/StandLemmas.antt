@@ -1,5 +1,5 @@
 -- What the calls of a connection keep of its database.
-use Rattle.std.proofs.Common.{◌≡◌, inl, inr, ℕ, Option, Some, None, Ok, Err, Result, IsTrue, List, [], refl, sym, ap, subst, ◌∙◌, arith}
+use Rattle.std.proofs.Common.{◌≡◌, inl, inr, ℕ, Option, Some, None, Ok, Err, Result, IsTrue, List, [], refl, sym, ap, subst, ◌∙◌}
 use Rattle.sqlite.specs.Order.{Row}
 use Rattle.sqlite.specs.Tree.{Trees}
 use Rattle.sqlite.specs.Effect.{Database, RefusesToRead}
@@ -13,10 +13,9 @@ use Rattle.sqlite.specs.Clock.{timed}
 use Rattle.sqlite.specs.Command.{Command}
 use Rattle.sqlite.specs.Command.TheVariants.{Select, Rows}
 use Rattle.sqlite.specs.Listing.{understood}
-use Rattle.sqlite.specs.State.{State, IsStatement, IsNoStatement, IsUnchanged, RunsCommand, ShowsRows, FailsToShow, FailsToQuery, IsNotRun, Shown, QueriesRow, CommitsShowing, Survives, HasCleanDisk, store_error}
-use Rattle.sqlite.proofs.Callers.{IsPlain, never_commits}
-use Rattle.sqlite.proofs.StateLemmas.{survives_weaker, survives_then}
-use Rattle.table_rows.specs.Standing.{Stands, Keeps, Commits}
+use Rattle.sqlite.specs.State.{State, IsStatement, IsNoStatement, IsUnchanged, RunsCommand, ShowsRows, FailsToShow, FailsToQuery, IsNotRun, Shown, QueriesRow, store_error}
+use Rattle.sqlite.proofs.Callers.{IsPlain}
+use Rattle.table_rows.specs.Standing.{Stands, Keeps}
 
 pub stands_on : (Is : Database → Type 0) (old new : State) → Keeps old new → Stands Is old → Stands Is new
 stands_on Is old new (inl same) was = record {

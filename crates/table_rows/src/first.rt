@@ -15,9 +15,11 @@ pub fn first_row<S: Alter>(
     sql: &str,
     params: &[ValueRef<'_>],
 ) -> Result<Option<Row>, Error>
-    ensures row { HasCleanDisk (state S.Store conn.new) → QueriesRow sql.now (bound params.now) (state S.Store conn.old) (state S.Store conn.new) (row_or_none result) }
+    ensures row { HasCleanDisk (state S.Store conn.new)
+        → QueriesRow sql.now (bound params.now) (state S.Store conn.old) (state S.Store conn.new) (row_or_none result) }
     ensures mode { conn.old.in_transaction ≡ false → conn.new.in_transaction ≡ false }
-    ensures survives { Survives (state S.Store conn.old) (state S.Store conn.new) (CommitsShowing sql.now (bound params.now) (state S.Store conn.old)) }
+    ensures survives { Survives (state S.Store conn.old) (state S.Store conn.new)
+        (CommitsShowing sql.now (bound params.now) (state S.Store conn.old)) }
 {
     match conn.query_row(sql, params) {
         Ok(row) => Ok(Some(row)),

@@ -104,7 +104,8 @@ fn files_after<D: Disk + Drop>(
     alloc: Global,
     mut intake: Intake<FileStore<D>>,
 ) -> Result<Option<Files<D>>, Stop>
-    ensures { IfOk result (λ found. IfSome found (λ files. IsTrue (D.Disk.is_usable files.log) × IsTrue (D.Disk.is_usable files.db))) }
+    ensures { IfOk result (λ found.
+        IfSome found (λ files. IsTrue (D.Disk.is_usable files.log) × IsTrue (D.Disk.is_usable files.db))) }
 {
     if !tells_both(alloc, &mut intake)? {
         return Ok(None);

@@ -66,7 +66,8 @@ fn migrate_fault<S: Alter + Drop>(
 
 /// The files of the outbox, where it has the entry as it was.
 fn files_after<D: Disk + Drop>(mut outbox: Outbox<FileStore<D>>) -> Result<Option<Files<D>>, Stop>
-    ensures { IfOk result (λ found. IfSome found (λ files. IsTrue (D.Disk.is_usable files.log) × IsTrue (D.Disk.is_usable files.db))) }
+    ensures { IfOk result (λ found.
+        IfSome found (λ files. IsTrue (D.Disk.is_usable files.log) × IsTrue (D.Disk.is_usable files.db))) }
 {
     if !is_kept(&mut outbox)? {
         return Ok(None);

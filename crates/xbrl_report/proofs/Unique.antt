@@ -1,5 +1,5 @@
 -- A body has one list of findings.
-use Rattle.std.proofs.Common.{◌≡◌, ℕ, ◌↔◌, List, [], ◌∷◌, length, true, cond, refl, sym, ap, ◌∙◌, subst, arith, eqb, nat_le, Option, inl, inr, Decides, Ordering, Less, Equal, Greater, is_eq, true≢false}
+use Rattle.std.proofs.Common.{◌≡◌, ℕ, ◌↔◌, List, [], ◌∷◌, length, true, cond, refl, sym, ap, ◌∙◌, subst, arith, eqb, nat_le, inl, inr, Decides, Ordering, Less, Equal, Greater, is_eq, true≢false}
 use Rattle.std.specs.List.{AllByRecursion, IsDistinct}
 use Rattle.std.specs.List.Sorted.{IsStrictlySortedBy}
 use Rattle.std.specs.Ordering.{match_ordering, ordering_reverse, eq_by_cmp}

@@ -10,5 +10,6 @@ ghost use Rattle.xbrl_report.specs.ReportParts.{facts};
 
 /// The facts ascend by identifier in byte order, and no two have one identifier.
 pub fn facts_ascend()
-    ensures { (body : List ℕ) → IsStrictlySortedBy (slice_cmp nat_cmp) (map (λ (fact : FactRecord). fact.id) (facts body)) }
+    ensures { (body : List ℕ)
+        → IsStrictlySortedBy (slice_cmp nat_cmp) (map (λ (fact : FactRecord). fact.id) (facts body)) }
 {}

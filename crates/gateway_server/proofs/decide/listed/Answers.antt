@@ -1,4 +1,4 @@
-use Rattle.std.proofs.Common.{◌≡◌, ℕ, List, Some, map, filter, nat_eq, rules, ap, sym, ◌∙◌}
+use Rattle.std.proofs.Common.{map, filter, nat_eq, rules, ap, sym, ◌∙◌}
 use Rattle.std.proofs.lemmas.Fn.{filter_same}
 use Rattle.filing_model.specs.declared.listing.FilingRow.{FilingRow}
 use Rattle.filing_model.specs.Listing.{Listing, listings}

@@ -1,4 +1,4 @@
-use Rattle.std.proofs.Common.{◌≡◌, ◌<◌, ◌≤◌, ◌+◌, suc, length, map, drop, get_or, ap, subst, sym, ◌∙◌, arith}
+use Rattle.std.proofs.Common.{◌≡◌, ◌<◌, ◌≤◌, ◌+◌, suc, length, map, drop, get_or, ap, subst, ◌∙◌, arith}
 use Rattle.filing_model.specs.Register.{Kept}
 use Rattle.table_rows.specs.Rows.{counted_from}
 use Rattle.register_store.specs.Register.{kept_row, amends_rows, joined_from}

@@ -1,4 +1,4 @@
-use Rattle.std.proofs.Common.{◌≡◌, ◌<◌, ◌≤◌, ◌+◌, ◌∷◌, ◌++◌, [], append-nil, suc, length, drop, take, get_or, ap, subst, sym, ◌∙◌, arith}
+use Rattle.std.proofs.Common.{◌≡◌, ◌<◌, ◌+◌, [], suc, length, drop, take, get_or, ap, subst, sym, ◌∙◌, arith}
 use Rattle.filing_model.specs.Register.{filings, kept}
 use Rattle.filing_model.proofs.Lists.{length-map}
 use Rattle.std.proofs.lemmas.List.{get_or-map}

@@ -1,5 +1,5 @@
-use Rattle.std.proofs.Common.{◌≡◌, ◌<◌, ◌+◌, ◌∷◌, ◌++◌, [], ℕ, List, pos, map, take, get_or, length, true, false, refl, ap, sym, ◌∙◌, rules, arith}
-use Rattle.std.specs.Prelude.{filter, is_some, ◌||◌}
+use Rattle.std.proofs.Common.{◌≡◌, ◌<◌, take, get_or, length, ap, sym, ◌∙◌, rules, arith}
+use Rattle.std.specs.Prelude.{is_some}
 use Rattle.std.specs.List.{list_any}
 use Rattle.std.proofs.lemmas.List.{take_all}
 use Rattle.std.proofs.lemmas.List.Folds.{list_any_at, list_any_more}

@@ -1,6 +1,5 @@
 use Rattle.std.proofs.Common.{◌∙◌, w64}
 use Rattle.std.proofs.lemmas.Int.{to_z-of_z}
-use Rattle.sqlite.specs.Held.{state}
 use Rattle.register_store.specs.Reads.{filer_alone}
 use Rattle.register_store.proofs.ListLemmas.{knows}
 use Rattle.register_store.proofs.ReplaceLemmas.{kept_shown}

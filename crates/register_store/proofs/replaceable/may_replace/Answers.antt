@@ -1,4 +1,4 @@
-use Rattle.std.proofs.Common.{◌∙◌, not, true, false, ap, ap₂, sym, arith}
+use Rattle.std.proofs.Common.{◌∙◌, not, ap, sym, arith}
 use Rattle.std.specs.Prelude.{◌&&◌}
 use Rattle.sqlite.specs.Held.{state}
 use Rattle.sqlite.specs.State.{HasCleanDisk}

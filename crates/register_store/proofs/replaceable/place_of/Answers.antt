@@ -1,6 +1,5 @@
-use Rattle.std.proofs.Common.{◌∙◌, ap, map, sym, ⊎_elim}
+use Rattle.std.proofs.Common.{◌∙◌, ap, map}
 use Rattle.std.proofs.lemmas.Result.{IfOk-weaker}
-use Rattle.sqlite.specs.Held.{state}
 use Rattle.register_store.specs.Reads.{second_alone}
 use Rattle.register_store.proofs.ListLemmas.{knows}
 use Rattle.register_store.proofs.ReplaceLemmas.{filing_shown, place_told}

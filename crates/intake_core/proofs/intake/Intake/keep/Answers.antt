@@ -1,9 +1,9 @@
-use Rattle.std.proofs.Common.{◌≡◌, ◌++◌, ◌∷◌, [], List, take, sym, ap, ◌∙◌, subst}
+use Rattle.std.proofs.Common.{◌++◌, ◌∷◌, [], subst}
 use Rattle.sqlite.proofs.StateLemmas.{survives_then}
 use Rattle.filing_model.specs.Request.{Request}
 use Rattle.filing_model.specs.Views.{the_request}
 use Rattle.register_store.specs.Store.{Leaves}
-use Rattle.intake_core.specs.Held.{shows, early_of}
+use Rattle.intake_core.specs.Held.{shows}
 use Rattle.intake_core.proofs.intake.Intake.keep.Goals as goal
 
 pub returns-clause-crash : goal.returns-clause-crash

@@ -1,4 +1,4 @@
-use Rattle.std.proofs.Common.{◌≡◌, ℕ, List, Option, string_bytes, ◌∷◌, ◌++◌, [], map, Some, None, suc, length, ap, ap₂, sym, ◌∙◌}
+use Rattle.std.proofs.Common.{◌≡◌, ℕ, List, Option, string_bytes, ◌∷◌, ◌++◌, [], map, None, ap, ap₂, sym, ◌∙◌}
 use Rattle.std.proofs.lemmas.List.{map-append}
 use Rattle.register_store.specs.Filed.{line_of, next_filing, view_entry}
 use Rattle.register_store.proofs.Filings.{last_unreplaced, numbered_more, reach_more}

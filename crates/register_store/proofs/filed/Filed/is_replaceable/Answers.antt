@@ -1,4 +1,4 @@
-use Rattle.std.proofs.Common.{◌≡◌, ◌<◌, ◌+◌, ◌-◌, inl, inr, length, true, false, refl, ap₂, sym, ◌∙◌, arith}
+use Rattle.std.proofs.Common.{◌≡◌, ◌-◌, inl, inr, true, false, refl, ap₂, sym, ◌∙◌, arith}
 use Rattle.std.specs.Prelude.{string_bytes, bytes_eq}
 use Rattle.register_store.proofs.Filings.{none_told, not_there, replaceable_there}
 use Rattle.register_store.proofs.filed.Filed.is_replaceable.Goals as goal

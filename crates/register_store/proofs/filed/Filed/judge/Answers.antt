@@ -1,4 +1,4 @@
-use Rattle.std.proofs.Common.{◌≡◌, suc, length, ap, sym, ◌∙◌, subst, subst₂}
+use Rattle.std.proofs.Common.{sym, subst, subst₂}
 use Rattle.std.proofs.lemmas.Result.{IfOk-weaker}
 use Rattle.xbrl_report.specs.Judgement.{IsAmendmentJudgement}
 use Rattle.filing_model.specs.Register.{is_free, kept, register}

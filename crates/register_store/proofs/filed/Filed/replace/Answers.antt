@@ -1,4 +1,4 @@
-use Rattle.std.proofs.Common.{◌≡◌, ◌<◌, ◌+◌, ◌-◌, Some, suc, map, get_or, set, length, refl, ap, sym, subst, ◌∙◌, arith}
+use Rattle.std.proofs.Common.{◌≡◌, ◌<◌, ◌+◌, ◌-◌, Some, suc, map, get_or, set, length, ap, sym, ◌∙◌, arith}
 use Rattle.std.proofs.lemmas.List.{get_or-map, map-set}
 use Rattle.register_store.specs.Filed.{Line, line_of, next_filing, view_entry}
 use Rattle.register_store.proofs.Filings.{as_many, free_unreplaced, free_within, line_replaced, lines_as_before}

@@ -1,5 +1,5 @@
 use Rattle.std.proofs.Common.{ℕ, ap, ap₂, sym, ◌∙◌, arith}
-use Rattle.filing_model.specs.Listing.{Listing, replacing}
+use Rattle.filing_model.specs.Listing.{replacing}
 use Rattle.register_store.specs.Filed.{Line}
 use Rattle.register_store.proofs.Filings.{as_many, entry_there, number_there}
 use Rattle.register_store.proofs.filed.Filed.row.Goals as goal
