@@ -12,19 +12,37 @@ use std::fs;
 use std::hash::{BuildHasher, RandomState};
 use std::io::{self, ErrorKind};
 
-/// How many pages of a file are kept in memory once they were read: 32 MiB of pages of 4,096 bytes, which those of a new
-/// file have. A register of 100,000 small reports takes 4,400 pages.
-const PAGES_KEPT: usize = 8_192;
+/// How many pages of a file are kept in memory at most once they were read: 32 MiB. A register of 100,000 small reports takes
+/// 4,400 pages.
+const MOST_PAGES: u64 = 8_192;
+
+/// Pages that are kept beside those that a file has: a report of 1 MiB takes 256 of them, and its facts as many.
+const SPARE_PAGES: u64 = 1_024;
+
+/// The bytes of a page of a new file.
+const PAGE_LEN: u64 = 4_096;
 
 /// A shorter log has nothing in it: its head takes 32 bytes, and a frame 24 and a page, which has 512 at least (SQLite's file
 /// format, section 4.1).
 const LEAST_LOG: u64 = 568;
+
+/// How many pages of a file are kept in memory. Their room is taken at once, so that a command on a small file ends sooner with few.
+#[derive(Clone, Copy, Debug, PartialEq, Eq)]
+pub(crate) enum Cache {
+    /// As many as the file has, and some more: for a command that ends at once.
+    OfTheFile,
+    /// The most: for a file that grows while it is served.
+    Largest,
+}
 
 /// Where the files of databases lie. The commands are written over any such place, so that what they do is proved once,
 /// and not for the files of the system.
 pub trait Place<D: Disk + Drop> {
     /// Whether there is no file of this name.
     fn is_missing(&self, rt: &HostRuntime, name: &str) -> bool;
+
+    /// How many bytes the file of this name has, and 0 where that cannot be told.
+    fn len(&self, rt: &HostRuntime, name: &str) -> u64;
 
     /// Whether a log lies beside the file of this name.
     fn has_log(&self, rt: &HostRuntime, name: &str) -> bool;
@@ -46,6 +64,13 @@ pub struct SystemFiles;
 impl Place<File> for SystemFiles {
     fn is_missing(&self, rt: &HostRuntime, name: &str) -> bool {
         matches!(fs::exists(rt, name), Ok(false))
+    }
+
+    fn len(&self, rt: &HostRuntime, name: &str) -> u64 {
+        match fs::metadata(rt, name) {
+            Ok(found) => found.len(),
+            Err(_) => 0,
+        }
     }
 
     fn has_log(&self, rt: &HostRuntime, name: &str) -> bool {
@@ -100,10 +125,11 @@ fn fault_of_name(rt: &HostRuntime, name: &str) -> DatabaseFault
 }
 
 /// Opens the database of the file with this name. A file that is not there is not made.
-pub fn open_database<D: Disk + Drop, P: Place<D>>(
+pub(crate) fn open_database<D: Disk + Drop, P: Place<D>>(
     rt: &HostRuntime,
     place: &P,
     name: &str,
+    cache: Cache,
 ) -> Result<Connection<FileStore<D>>, DatabaseFault>
     ensures autocommit { IfOk result (λ conn. conn.in_transaction ≡ false) }
     ensures unlimited { IfOk result (λ conn. conn.step_limit ≡ None) }
@@ -111,20 +137,21 @@ pub fn open_database<D: Disk + Drop, P: Place<D>>(
     if place.is_missing(rt, name) {
         return Err(DatabaseFault::Missing);
     }
-    make_database(rt, place, name)
+    make_database(rt, place, name, cache)
 }
 
 /// The same, and a file that is not there or is empty gets a database without tables.
-pub fn make_database<D: Disk + Drop, P: Place<D>>(
+pub(crate) fn make_database<D: Disk + Drop, P: Place<D>>(
     rt: &HostRuntime,
     place: &P,
     name: &str,
+    cache: Cache,
 ) -> Result<Connection<FileStore<D>>, DatabaseFault>
     ensures autocommit { IfOk result (λ conn. conn.in_transaction ≡ false) }
     ensures unlimited { IfOk result (λ conn. conn.step_limit ≡ None) }
     ensures any_name { result ≢ Err DatabaseFault.Missing }
 {
-    let options = options(rt)?;
+    let options = options(rt, pages(cache, place.len(rt, name)))?;
     let had_log = place.has_log(rt, name);
     let files = place.files(rt, name)?;
     match connect(rt, files, options) {
@@ -138,7 +165,7 @@ pub fn make_database<D: Disk + Drop, P: Place<D>>(
 
 /// Removes the log that an opening made, in which nothing is, so that nothing lies beside a file that is not ours. The files are
 /// taken for that, so that no other program has them.
-pub fn remove_new_log<D: Disk + Drop, P: Place<D>>(
+pub(crate) fn remove_new_log<D: Disk + Drop, P: Place<D>>(
     rt: &HostRuntime,
     place: &P,
     name: &str,
@@ -153,13 +180,22 @@ pub fn remove_new_log<D: Disk + Drop, P: Place<D>>(
     }
 }
 
-/// How the files are read and written. The seed is drawn at random.
-fn options(rt: &HostRuntime) -> Result<Options, DatabaseFault>
+/// How many pages are kept of a file of so many bytes.
+fn pages(cache: Cache, len: u64) -> usize {
+    let pages = match cache {
+        Cache::OfTheFile => MOST_PAGES.min(len / PAGE_LEN + SPARE_PAGES),
+        Cache::Largest => MOST_PAGES,
+    };
+    pages as usize
+}
+
+/// How the files are read and written, with so many pages kept. The seed is drawn at random.
+fn options(rt: &HostRuntime, pages: usize) -> Result<Options, DatabaseFault>
     ensures { IfErr result (λ fault. fault ≡ DatabaseFault.Disk) }
 {
     match RandomState::new(rt) {
         Ok(state) => Ok(Options {
-            cache_pages: PAGES_KEPT,
+            cache_pages: pages,
             ..Options::new(state.hash_one(&0u8))
         }),
         Err(_) => Err(DatabaseFault::Disk),

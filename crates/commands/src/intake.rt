@@ -7,6 +7,7 @@ mod finding;
 mod log;
 mod note;
 mod options;
+mod progress;
 mod register;
 mod serving;
 mod tasks;

@@ -7,4 +7,4 @@ pub mod intake;
 pub mod outbox;
 mod report;
 
-pub use database::{Place, SystemFiles, make_database, open_database};
+pub use database::{Place, SystemFiles};

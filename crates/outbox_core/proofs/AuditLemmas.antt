@@ -36,14 +36,14 @@ one_on targets rows i row b low at is = rw (drop-cons rows i row low, at, is) re
 
 -- ---- what a test says of a value
 
-both : (a b : Bool) → (a && b) ≡ true → (a ≡ true) × (b ≡ true)
+pub both : (a b : Bool) → (a && b) ≡ true → (a ≡ true) × (b ≡ true)
 both true b h = (refl, h)
 both false b h = absurd (true≢false (sym h))
 
 never : {X : Type 0} → false ≡ true → X
 never h = absurd (true≢false (sym h))
 
-is_int-of : (n : ℕ) (v : Value) → is_int n v ≡ true → v ≡ Int (pos n)
+pub is_int-of : (n : ℕ) (v : Value) → is_int n v ≡ true → v ≡ Int (pos n)
 is_int-of n Null h = never h
 is_int-of n (Int k) h = ap Int (same_int k (pos n) h)
 is_int-of n (Real x) h = never h

@@ -18,3 +18,5 @@ pub mod RefusalLemmas
 pub mod FileLemmas
 pub mod MigrateTexts
 pub mod EarlierLemmas
+pub mod StopLemmas
+pub mod WalkLemmas

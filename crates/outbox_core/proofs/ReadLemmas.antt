@@ -6,13 +6,13 @@ use Rattle.sqlite.specs.Order.{Row, column}
 use Rattle.filing_model.specs.Outbox.{Entry, State, Open, Confirmed, Refused, Clashed}
 use Rattle.outbox_core.specs.declared.entry.Entry.{Entry as Read}
 use Rattle.outbox_core.specs.Reading.{Shows, view_entry, view_state, state_in, state_told, id_and_state}
-use Rattle.outbox_core.specs.Rows.{entry_row, state_row, code_of, number_of}
+use Rattle.outbox_core.specs.Rows.{entry_row, id_row, state_row, bare_state_row, code_of, number_of}
 
-pub id_shown : (o : Option (ℕ × Entry)) (row : Row) (n : ℕ) → Some row ≡ option_map entry_row o → column row 0 ≡ Int (pos n) → Some n ≡ option_map (λ (x : ℕ × Entry). x.0) o
+pub id_shown : (o : Option (ℕ × Entry)) (row : Row) (n : ℕ) → Some row ≡ option_map id_row o → column row 0 ≡ Int (pos n) → Some n ≡ option_map (λ (x : ℕ × Entry). x.0) o
 id_shown None row n e id = cc
-id_shown (Some x) row n e id = let same : row ≡ entry_row x = cc in let both = rw same at id in cc
+id_shown (Some x) row n e id = let same : row ≡ id_row x = cc in let both = rw same at id in cc
 
-pub none_shown : {Y : Type 0} (f : ℕ × Entry → Y) (o : Option (ℕ × Entry)) → ◌≡◌ {A = Option Row} None (option_map entry_row o) → ◌≡◌ {A = Option Y} None (option_map f o)
+pub none_shown : {Y : Type 0} (f : ℕ × Entry → Y) (o : Option (ℕ × Entry)) → ◌≡◌ {A = Option Row} None (option_map id_row o) → ◌≡◌ {A = Option Y} None (option_map f o)
 none_shown f None e = refl
 none_shown f (Some x) e = cc
 
@@ -63,18 +63,18 @@ pub id_in : (x : ℕ × Entry) (row : Row) (n : ℕ) → row ≡ entry_row x →
 id_in x row n is at = let both = rw is at at in cc
 
 -- its state
-pub state_shown : (x : ℕ × Entry) (row : Row) (s : State) → row ≡ entry_row x → column row 3 ≡ Int (pos (code_of s)) → column row 4 ≡ number_of s → s ≡ x.1.state
+pub state_shown : (x : ℕ × Entry) (row : Row) (s : State) → row ≡ bare_state_row x → column row 0 ≡ Int (pos (code_of s)) → column row 1 ≡ number_of s → s ≡ x.1.state
 state_shown x row s is code number =
     let inside : pos (code_of s) ≡ pos (code_of x.1.state) = let at = rw is at code in cc in
     let same : code_of s ≡ code_of x.1.state = cc in
     one_state s x.1.state same (sym (rw is at number))
 
-pub state_of_row : (o : Option Entry) (id : ℕ) (row : Row) (s : State) → Some row ≡ option_map entry_row (option_map (λ (e : Entry). (id, e)) o)
-    → column row 3 ≡ Int (pos (code_of s)) → column row 4 ≡ number_of s → Some s ≡ option_map (λ (e : Entry). e.state) o
+pub state_of_row : (o : Option Entry) (id : ℕ) (row : Row) (s : State) → Some row ≡ option_map bare_state_row (option_map (λ (e : Entry). (id, e)) o)
+    → column row 0 ≡ Int (pos (code_of s)) → column row 1 ≡ number_of s → Some s ≡ option_map (λ (e : Entry). e.state) o
 state_of_row None id row s is code number = cc
-state_of_row (Some e) id row s is code number = let same : row ≡ entry_row (id, e) = cc in ap Some (state_shown (id, e) row s same code number)
+state_of_row (Some e) id row s is code number = let same : row ≡ bare_state_row (id, e) = cc in ap Some (state_shown (id, e) row s same code number)
 
-pub no_state : (o : Option Entry) (id : ℕ) → ◌≡◌ {A = Option Row} None (option_map entry_row (option_map (λ (e : Entry). (id, e)) o)) → ◌≡◌ {A = Option State} None (option_map (λ (e : Entry). e.state) o)
+pub no_state : (o : Option Entry) (id : ℕ) → ◌≡◌ {A = Option Row} None (option_map bare_state_row (option_map (λ (e : Entry). (id, e)) o)) → ◌≡◌ {A = Option State} None (option_map (λ (e : Entry). e.state) o)
 no_state None id is = refl
 no_state (Some e) id is = cc
 

@@ -95,6 +95,14 @@ selected test columns show keep p keeps es trees params rows held tests shows an
 abbrev pub whole : Row → Row
 whole w = column w 0 ∷ column w 1 ∷ column w 2 ∷ column w 3 ∷ column w 4 ∷ []
 
+-- the id alone
+abbrev pub id_column : Row → Row
+id_column w = column w 0 ∷ []
+
+-- the state alone, and its number
+abbrev pub bare_state_columns : Row → Row
+bare_state_columns w = column w 3 ∷ column w 4 ∷ []
+
 -- without the key and the body
 abbrev pub state_columns : Row → Row
 state_columns w = column w 0 ∷ column w 3 ∷ column w 4 ∷ []
@@ -115,23 +123,25 @@ entries_selected es trees rows held answer =
 
 -- ---- the first of them
 
-module _ (sql : List ℕ) (test : List Term) (asks : (schema : Schema) → IsDeclared schema → Asks schema sql (entry_query test)) (params : Row) (old new : State) (it : Contents) (was : Stands (IsOutboxOf it) old) where
-  asked : (db : Database) → IsOutboxOf it db → Asks db.schema sql (entry_query test)
+module _ (sql : List ℕ) (test columns : List Term) (asks : (schema : Schema) → IsDeclared schema → Asks schema sql (sorted test columns)) (params : Row) (old new : State) (it : Contents) (was : Stands (IsOutboxOf it) old) where
+  asked : (db : Database) → IsOutboxOf it db → Asks db.schema sql (sorted test columns)
   asked db o = asks db.schema o.rows.declared
 
-  pub row_selected : (keep : Row → Bool) (p : ℕ × Entry → Bool) → ((x : ℕ × Entry) → keep (entry_row x) ≡ p x) → ((r : Row) → list_all (holds (params ∷ r ∷ [])) test ≡ keep (shown entry_table r))
-      → (r : Result (Option Row) Error) → QueriesRow sql params old new (row_or_none r) → IfOk r (λ row. row ≡ option_map entry_row (find p (numbered it.entries)))
-  row_selected keep p keeps tests r h =
-      IfOk-weaker r _ _ (λ row told.
-      let rows = selected test entry_columns whole keep p keeps it.entries old.now.trees params told.0 told.1.stood.rows.entries_are tests (λ r. refl) told.1.answer in
-      sym told.2 ∙ ap (λ (l : List Row). slice_get l 0) rows ∙ slice_get-map entry_row (filter p (numbered it.entries)) 0 ∙ ap (option_map entry_row) (slice_get-filter p (numbered it.entries)))
-      (first_told (IsOutboxOf it) sql (entry_query test) asked params old new was r h)
+  pub row_selected : (show : Row → Row) → ((r : Row) → output (sorted test columns) (params ∷ r ∷ []) ≡ told show (shown entry_table r)) → (keep : Row → Bool) (p : ℕ × Entry → Bool)
+      → ((x : ℕ × Entry) → keep (entry_row x) ≡ p x) → ((r : Row) → list_all (holds (params ∷ r ∷ [])) test ≡ keep (shown entry_table r))
+      → (r : Result (Option Row) Error) → QueriesRow sql params old new (row_or_none r) → IfOk r (λ row. row ≡ option_map (λ x. show (entry_row x)) (find p (numbered it.entries)))
+  row_selected show shows keep p keeps tests r h =
+      let row_of = λ (x : ℕ × Entry). show (entry_row x) in
+      IfOk-weaker r _ _ (λ row found.
+      let rows = selected test columns show keep p keeps it.entries old.now.trees params found.0 found.1.stood.rows.entries_are tests shows found.1.answer in
+      sym found.2 ∙ ap (λ (l : List Row). slice_get l 0) rows ∙ slice_get-map row_of (filter p (numbered it.entries)) 0 ∙ ap (option_map row_of) (slice_get-filter p (numbered it.entries)))
+      (first_told (IsOutboxOf it) sql (sorted test columns) asked params old new was r h)
 
   pub row_open : (r : Result (Option Row) Error) → QueriesRow sql params old new (row_or_none r) → OnOk r (IsTrue new.is_open)
-  row_open r h = IfOk-weaker r _ _ (λ row same. same.0.is_open) (first_same (IsOutboxOf it) sql (entry_query test) asked params old new was r h)
+  row_open r h = IfOk-weaker r _ _ (λ row same. same.0.is_open) (first_same (IsOutboxOf it) sql (sorted test columns) asked params old new was r h)
 
   pub row_stands : (r : Result (Option Row) Error) → QueriesRow sql params old new (row_or_none r) → Stands (IsOutboxOf it) new
-  row_stands r h = first_stands (IsOutboxOf it) sql (entry_query test) asked params old new was r h
+  row_stands r h = first_stands (IsOutboxOf it) sql (sorted test columns) asked params old new was r h
 
 -- ---- all of them
 

@@ -1,6 +1,7 @@
 -- What the texts of the statements mean under the declared tables.
 use Rattle.std.proofs.Common.{◌≡◌, ℕ, pos, List, [], ◌∷◌, codes, false, refl, subst, sym, le_refl}
 use Rattle.sqlite_tied.specs.Compute.{everything}
+use Rattle.sqlite_tied.specs.Listing.{counting}
 use Rattle.sqlite.specs.declared.types.Value.TheVariants.{Null, Int}
 use Rattle.sqlite.specs.Table.{Table}
 use Rattle.sqlite.specs.Schema.{Schema}
@@ -26,13 +27,19 @@ use Rattle.outbox_core.specs.Schema.{common_tables, outbox_tables, HasCommon, Is
 use Rattle.outbox_core.specs.Audit.{meta_text, targets_text, entries_text}
 
 abbrev pub by_key_text : List ℕ
-by_key_text = codes "SELECT id, idem, body, state, number FROM entry WHERE idem = ?1 ORDER BY id"
+by_key_text = codes "SELECT id FROM entry WHERE idem = ?1 ORDER BY id"
 
 abbrev pub by_id_text : List ℕ
 by_id_text = codes "SELECT id, idem, body, state, number FROM entry WHERE id = ?1 ORDER BY id"
 
+abbrev pub state_text : List ℕ
+state_text = codes "SELECT state, number FROM entry WHERE id = ?1 ORDER BY id"
+
 abbrev pub by_state_text : List ℕ
 by_state_text = codes "SELECT id, idem, body, state, number FROM entry WHERE state = ?1 ORDER BY id"
+
+abbrev pub count_text : List ℕ
+count_text = codes "SELECT count(*) FROM entry"
 
 abbrev pub insert_text : List ℕ
 insert_text = codes "INSERT INTO entry (id, idem, body, state) VALUES (?1, ?2, ?3, 0)"
@@ -60,6 +67,22 @@ by_id = (col 1 0, record { collation = Binary; descending = false }) ∷ []
 
 abbrev pub entry_query : List Term → Query
 entry_query test = one_table 1 test entry_columns by_id
+
+abbrev pub count_query : Query
+count_query = counting (one_table 1 [] [] [])
+
+abbrev pub id_terms : List Term
+id_terms = col 1 0 ∷ []
+
+abbrev pub key_query : Query
+key_query = one_table 1 (equals 2) id_terms by_id
+
+-- a state and its number
+abbrev pub bare_state_terms : List Term
+bare_state_terms = col 1 4 ∷ col 1 5 ∷ []
+
+abbrev pub state_query : Query
+state_query = one_table 1 (equals 0) bare_state_terms by_id
 
 abbrev pub states_text : List ℕ
 states_text = codes "SELECT id, state, number FROM entry ORDER BY id"
@@ -115,6 +138,14 @@ pub by_id_reads : IsQueryText by_id_text
 unfolding understood everything
 by_id_reads = refl
 
+pub state_reads : IsQueryText state_text
+unfolding understood everything
+state_reads = refl
+
+pub count_reads : IsQueryText count_text
+unfolding understood everything
+count_reads = refl
+
 pub by_state_reads : IsQueryText by_state_text
 unfolding understood everything
 by_state_reads = refl
@@ -154,6 +185,14 @@ module _ (tables : List Table) (indexes : List Index) (views : List View) where
   unfolding understood everything
   asks_entries = record { names = names; is = refl; plain = (refl, refl); listing = refl }
 
+  asks_by_id : Asks common by_id_text (entry_query (equals 0))
+  unfolding understood everything
+  asks_by_id = record { names = names; is = refl; plain = (refl, refl); listing = refl }
+
+  asks_count : Asks common count_text count_query
+  unfolding understood everything
+  asks_count = record { names = codes "count(*)" ∷ []; is = refl; plain = (refl, refl); listing = refl }
+
   whole_meta : IsWhole common meta_text meta_query
   unfolding understood everything
   whole_meta = record { tail = le_refl _; unnamed = refl; typed = refl }
@@ -166,13 +205,13 @@ module _ (tables : List Table) (indexes : List Index) (views : List View) where
   abbrev schema : Schema
   schema = schema_with outbox_tables tables indexes views
 
-  asks_by_key : Asks schema by_key_text (entry_query (equals 2))
+  asks_by_key : Asks schema by_key_text key_query
   unfolding understood everything
-  asks_by_key = record { names = names; is = refl; plain = (refl, refl); listing = refl }
+  asks_by_key = record { names = codes "id" ∷ []; is = refl; plain = (refl, refl); listing = refl }
 
-  asks_by_id : Asks schema by_id_text (entry_query (equals 0))
+  asks_state : Asks schema state_text state_query
   unfolding understood everything
-  asks_by_id = record { names = names; is = refl; plain = (refl, refl); listing = refl }
+  asks_state = record { names = codes "state" ∷ codes "number" ∷ []; is = refl; plain = (refl, refl); listing = refl }
 
   asks_by_state : Asks schema by_state_text (entry_query (equals 4))
   unfolding understood everything
@@ -225,6 +264,12 @@ module _ (schema : Schema) (c : HasCommon schema) where
   pub entries_asks : Asks schema entries_text (entry_query [])
   entries_asks = subst (λ s. Asks s entries_text (entry_query [])) (sym c.is) (asks_entries c.tables c.indexes c.views)
 
+  pub by_id_asks : Asks schema by_id_text (entry_query (equals 0))
+  by_id_asks = subst (λ s. Asks s by_id_text (entry_query (equals 0))) (sym c.is) (asks_by_id c.tables c.indexes c.views)
+
+  pub count_asks : Asks schema count_text count_query
+  count_asks = subst (λ s. Asks s count_text count_query) (sym c.is) (asks_count c.tables c.indexes c.views)
+
   pub meta_whole : IsWhole schema meta_text meta_query
   meta_whole = subst (λ s. IsWhole s meta_text meta_query) (sym c.is) (whole_meta c.tables c.indexes c.views)
 
@@ -235,11 +280,11 @@ module _ (schema : Schema) (d : IsDeclared schema) where
   abbrev b : Schema
   b = schema_with outbox_tables d.begins.tables d.begins.indexes d.begins.views
 
-  pub by_key_asks : Asks schema by_key_text (entry_query (equals 2))
-  by_key_asks = subst (λ s. Asks s by_key_text (entry_query (equals 2))) (sym d.begins.is) (asks_by_key d.begins.tables d.begins.indexes d.begins.views)
+  pub by_key_asks : Asks schema by_key_text key_query
+  by_key_asks = subst (λ s. Asks s by_key_text key_query) (sym d.begins.is) (asks_by_key d.begins.tables d.begins.indexes d.begins.views)
 
-  pub by_id_asks : Asks schema by_id_text (entry_query (equals 0))
-  by_id_asks = subst (λ s. Asks s by_id_text (entry_query (equals 0))) (sym d.begins.is) (asks_by_id d.begins.tables d.begins.indexes d.begins.views)
+  pub state_asks : Asks schema state_text state_query
+  state_asks = subst (λ s. Asks s state_text state_query) (sym d.begins.is) (asks_state d.begins.tables d.begins.indexes d.begins.views)
 
   pub by_state_asks : Asks schema by_state_text (entry_query (equals 4))
   by_state_asks = subst (λ s. Asks s by_state_text (entry_query (equals 4))) (sym d.begins.is) (asks_by_state d.begins.tables d.begins.indexes d.begins.views)

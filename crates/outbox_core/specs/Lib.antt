@@ -10,3 +10,4 @@ pub mod Changes
 pub mod Targets
 pub mod Earlier
 pub mod Files
+pub mod Walk

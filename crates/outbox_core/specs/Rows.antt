@@ -34,6 +34,14 @@ meta_row = form_row 2
 abbrev pub entry_row : ℕ × Entry → Row
 entry_row (id, e) = Int (pos id) ∷ Text e.key ∷ Blob e.body ∷ Int (pos (code_of e.state)) ∷ number_of e.state ∷ []
 
+-- its id alone
+abbrev pub id_row : ℕ × Entry → Row
+id_row (id, e) = Int (pos id) ∷ []
+
+-- its state alone
+abbrev pub bare_state_row : ℕ × Entry → Row
+bare_state_row (id, e) = Int (pos (code_of e.state)) ∷ number_of e.state ∷ []
+
 -- its id and its state
 abbrev pub state_row : ℕ × Entry → Row
 state_row (id, e) = Int (pos id) ∷ Int (pos (code_of e.state)) ∷ number_of e.state ∷ []

@@ -1,9 +1,9 @@
 //! Whether the rows of a database are those of an outbox.
 
-ghost use Rattle.std.specs.Prelude.{◌≡◌, ◌<◌, ◌≤◌, ◌+◌, ◌^◌, ℕ, List, suc, drop, get_or, length, string_bytes, true, option_map, IfOk};
+ghost use Rattle.std.specs.Prelude.{◌≡◌, ◌<◌, ◌+◌, ◌^◌, ℕ, List, suc, get_or, length, true, option_map, IfOk};
 ghost use Rattle.sqlite.specs.Order.{column, Row as Stored};
 ghost use Rattle.sqlite_value.specs.Value.{owned};
-ghost use Rattle.outbox_core.specs.Audit.{is_int, is_absent, is_key_text, is_body, is_number, is_state, is_outbox, filer_text, filer_in, is_entry, is_sound, is_target, with_id, first_damaged, damaged_row};
+ghost use Rattle.outbox_core.specs.Audit.{is_int, is_absent, is_key_text, is_body, is_number, is_state, is_outbox, filer_text, filer_in, is_entry, is_sound, with_id, first_damaged, damaged_row};
 ghost use Rattle.outbox_core.specs.Targets.{said_by};
 
 use crate::targets::{Said, is_left_over, said_of};
@@ -126,7 +126,7 @@ pub(crate) fn filer_in<'a>(rows: &'a [Row], form: u64) -> Option<&'a str>
 }
 
 /// Whether the row of the entry of this id is sound, and so is what is said of its target.
-fn is_sound(id: u64, row: &Row, said: Said) -> bool
+pub(crate) fn is_sound(id: u64, row: &Row, said: Said) -> bool
     requires { id < 2 ^ 63 }
     ensures { (targets : List Stored) → said ≡ said_by (with_id id targets) → result ≡ is_sound targets id row.now }
 {

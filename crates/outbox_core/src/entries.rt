@@ -22,7 +22,8 @@ use http_wire::Reply;
 use sqlite::{Alter, Connection, Error, Row};
 use std::alloc::Global;
 
-const MAX_ENTRIES: u64 = 1 << 62;
+/// No outbox has more entries.
+pub(crate) const MAX_ENTRIES: u64 = 1 << 62;
 
 /// No row has an id as high.
 const ID_LIMIT: u64 = 1 << 63;
@@ -207,7 +208,7 @@ fn state_of_entry<S: Alter>(conn: &mut Connection<S>, id: u64) -> Result<Option<
         → Stands (IsOutboxOf it) (state S.Store conn.old) → OnOk result (IsTrue (state S.Store conn.new).is_open) }
     ensures crash { Survives (state S.Store conn.old) (state S.Store conn.new) (λ _. ⊥) }
 {
-    let row = tables::entry_with_id(conn, id)?;
+    let row = tables::state_with_id(conn, id)?;
     match row {
         Some(row) => Ok(Some(state_in(&row)?)),
         None => Ok(None),

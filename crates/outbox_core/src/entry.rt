@@ -103,14 +103,14 @@ impl Entry {
     }
 }
 
-/// The state of a row of the columns `id`, `idem`, `body`, `state` and `number`.
+/// The state of a row of the columns `state` and `number`.
 pub(crate) fn state_in(row: &Row) -> Result<State, StoreFault>
     ensures { IfOk result (λ state.
-        (column row.now 3 ≡ Int (pos (code_of (view_state state))))
-        × (column row.now 4 ≡ number_of (view_state state))) }
+        (column row.now 0 ≡ Int (pos (code_of (view_state state))))
+        × (column row.now 1 ≡ number_of (view_state state))) }
 {
-    let code = row.get(3)?;
-    let number = row.get(4)?;
+    let code = row.get(0)?;
+    let number = row.get(1)?;
     state_of(code, number).ok_or(StoreFault::Store)
 }
 

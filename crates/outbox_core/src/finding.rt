@@ -1,6 +1,6 @@
 //! What an opening finds in a database.
 
-ghost use Rattle.std.specs.Prelude.{◌≡◌, ◌≢◌, ◌<◌, ◌≤◌, ◌^◌, ◌⊎◌, ◌∷◌, [], ℕ, List, length, IsPermutation, true, false, not, None, Some, Err, IsTrue, IsSome, IfOk, IfErr, OnOk, string_bytes};
+ghost use Rattle.std.specs.Prelude.{◌≡◌, ◌≢◌, ◌<◌, ◌≤◌, ◌^◌, ◌⊎◌, ◌∷◌, [], ℕ, List, length, IsPermutation, true, false, not, None, Some, Err, IsTrue, IfOk, IfErr, IfSome, OnOk, OnErr, string_bytes};
 ghost use Rattle.std.specs.List.{AllByRecursion};
 ghost use Rattle.key_string.specs.Filer.{is_filer};
 ghost use Rattle.filing_model.specs.Outbox.{Entry as Item};
@@ -14,11 +14,13 @@ ghost use Rattle.outbox_core.specs.Entries.{Contents, contents_of};
 ghost use Rattle.outbox_core.specs.Rows.{IsOutboxOf, form_row, entry_rows, target_rows};
 ghost use Rattle.outbox_core.specs.Faults.{meta_fault, entry_fault};
 ghost use Rattle.outbox_core.specs.Audit.{meta_text, targets_text, entries_text, damaged_row, IsKept, IsPair, StopsFor, IsNoOutbox, ReadsFiler, IsDamagedAt, AreDamaged, AreStopped, IsRefused};
+ghost use Rattle.outbox_core.specs.Walk.{AreCounted};
 ghost use Rattle.table_rows.specs.declared.cause.Cause.TheVariants as cause;
 
 use crate::audit::{damaged_row, filer_in};
 use crate::fault::OutboxFault;
 use crate::tables;
+use crate::walk::count_by_walk;
 use sqlite::{Alter, Connection, Error, Row};
 use std::alloc::Global;
 use table_rows::Cause;
@@ -116,8 +118,8 @@ fn read_targets<S: Alter>(conn: &mut Connection<S>) -> Result<Vec<Row>, OutboxFa
     }
 }
 
-/// How many entries the outbox has that the database is, with the targets of these rows.
-pub(crate) fn count_entries<S: Alter>(
+/// How many entries the outbox has that the database is, with the targets of these rows. All are in memory at once.
+pub(crate) fn count_whole<S: Alter>(
     alloc: Global,
     conn: &mut Connection<S>,
     targets: &[Row],
@@ -158,6 +160,76 @@ pub(crate) fn count_entries<S: Alter>(
             Some(row) => Err(OutboxFault::Damaged { row }),
         },
         Err(error) => Err(entry_fault(error)),
+    }
+}
+
+/// Counts the entries with one of them in memory at a time. `None` says nothing of the rows: they are then read whole,
+/// and say what is refused.
+fn count_one_by_one<S: Alter>(
+    alloc: Global,
+    conn: &mut Connection<S>,
+    targets: &[Row],
+) -> Result<Option<u64>, OutboxFault>
+    ensures counted { HasCleanDisk (state S.Store conn.new) → HasCommon (state S.Store conn.old).now.schema
+        → IfOk result (λ found. IfSome found (λ count. AreCounted targets.now count (state S.Store conn.old).now)) }
+    ensures few { IfOk result (λ found. IfSome found (λ count. count ≤ 2 ^ 62)) }
+    ensures disk { HasCleanDisk (state S.Store conn.new) → result ≡ Err OutboxFault.Disk
+        → StopsFor cause.Disk entries_text (state S.Store conn.old) (state S.Store conn.new) }
+    ensures others { IfErr result (λ fault. (fault ≡ OutboxFault.Memory) ⊎ (fault ≡ OutboxFault.Disk)) }
+    ensures same { HasCleanDisk (state S.Store conn.new)
+        → OnOk result (IsUnchanged (state S.Store conn.old) (state S.Store conn.new)) }
+    ensures kept { HasCleanDisk (state S.Store conn.new)
+        → OnErr result (KeepsCommit (state S.Store conn.old) (state S.Store conn.new)) }
+    ensures mode { conn.old.in_transaction ≡ false → conn.new.in_transaction ≡ false }
+    ensures survives { Survives (state S.Store conn.old) (state S.Store conn.new) (λ _. ⊥) }
+{
+    match count_by_walk(alloc, conn, targets) {
+        Ok(found) => Ok(found),
+        Err(error) => match Cause::from(error) {
+            Cause::Memory => Err(OutboxFault::Memory),
+            Cause::Disk => Err(OutboxFault::Disk),
+            Cause::Other => Ok(None),
+        },
+    }
+}
+
+/// How many entries the outbox has that the database is, with the targets of these rows. Where they are sound, one of
+/// them is in memory at a time.
+fn count_entries<S: Alter>(
+    alloc: Global,
+    conn: &mut Connection<S>,
+    targets: &[Row],
+) -> Result<u64, OutboxFault>
+    ensures counted { HasCleanDisk (state S.Store conn.new) → HasCommon (state S.Store conn.old).now.schema
+        → AllByRecursion IsPair targets.now
+        → IfOk result (λ count.
+        (entries : List Item) × Holds (state S.Store conn.old).now entry_table (entry_rows entries)
+        × IsPermutation (target_rows entries) targets.now × AllByRecursion IsKept entries × (count ≡ length entries)
+        × IsUnchanged (state S.Store conn.old) (state S.Store conn.new)) }
+    ensures damaged { HasCleanDisk (state S.Store conn.new) → (row : _) → result ≡ Err (OutboxFault.Damaged row)
+        → IsDamagedAt targets.now row (state S.Store conn.old) (state S.Store conn.new) }
+    ensures disk { HasCleanDisk (state S.Store conn.new) → result ≡ Err OutboxFault.Disk
+        → StopsFor cause.Disk entries_text (state S.Store conn.old) (state S.Store conn.new) }
+    ensures others { IfErr result (λ fault.
+        ((row : _) × (fault ≡ OutboxFault.Damaged row))
+        ⊎ ((fault ≡ OutboxFault.Memory) ⊎ (fault ≡ OutboxFault.Disk))) }
+    ensures few { IfOk result (λ count. count ≤ 2 ^ 62) }
+    ensures whole { HasCleanDisk (state S.Store conn.new) → (entries : List Item)
+        → HasCommon (state S.Store conn.old).now.schema
+        → Holds (state S.Store conn.old).now entry_table (entry_rows entries) → AllByRecursion IsKept entries
+        → IsPermutation (target_rows entries) targets.now → (state S.Store conn.old).step_limit ≡ None
+        → IfErr result (λ fault. (fault ≡ OutboxFault.Memory) ⊎ (fault ≡ OutboxFault.Disk)) }
+    ensures kept { HasCleanDisk (state S.Store conn.new)
+        → KeepsCommit (state S.Store conn.old) (state S.Store conn.new) }
+    ensures limit { conn.new.step_limit ≡ conn.old.step_limit }
+    ensures crash { Survives (state S.Store conn.old) (state S.Store conn.new) (λ _. ⊥) }
+    ensures mode { conn.old.in_transaction ≡ false → conn.new.in_transaction ≡ false }
+    ensures clean { HasCleanDisk (state S.Store conn.new) → HasCleanDisk (state S.Store conn.old) }
+{
+    match count_one_by_one(alloc, conn, targets) {
+        Ok(Some(count)) => Ok(count),
+        Ok(None) => count_whole(alloc, conn, targets),
+        Err(fault) => Err(fault),
     }
 }
 

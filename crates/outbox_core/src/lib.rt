@@ -1,6 +1,6 @@
 //! The outbox of a filer: the reports that are to be sent, and what is known of each. What may live here: the
 //! three tables of an outbox and the statements on them, how a reply moves an entry, and the calls on an outbox.
-//! SQL is known to `tables`, and to `create` and `migrate`, which make them.
+//! SQL is known to `tables` and `picks`, and to `create` and `migrate`, which make them.
 #![tactic(auto)]
 
 mod audit;
@@ -12,10 +12,12 @@ mod finding;
 mod key;
 mod migrate;
 mod outbox;
+mod picks;
 mod state;
 mod stop;
 mod tables;
 mod targets;
+mod walk;
 mod write;
 
 pub use create::make_outbox;

@@ -1,6 +1,6 @@
 //! An outbox in the form before this one is brought into this one.
 
-ghost use Rattle.std.specs.Prelude.{◌≡◌, ◌≤◌, ◌^◌, ◌⊎◌, ℕ, List, [], length, true, false, None, Ok, IsTrue, IfOk, IfErr, OnOk, OnErr, string_bytes};
+ghost use Rattle.std.specs.Prelude.{◌≡◌, ◌≤◌, ◌^◌, ◌⊎◌, List, [], length, true, false, None, Ok, IsTrue, IfOk, IfErr, OnOk, OnErr, string_bytes};
 ghost use Rattle.key_string.specs.Filer.{is_filer};
 ghost use Rattle.filing_model.specs.Outbox.{Entry as Item};
 ghost use Rattle.sqlite.specs.Effect.{IsDatabase};
@@ -15,7 +15,7 @@ ghost use Rattle.outbox_core.specs.Earlier.{IsAlone, IsEarlierOf, IsFound, IsNot
 
 use crate::create::run;
 use crate::fault::OutboxFault;
-use crate::finding::{Found, count_entries, filer_of, is_settled};
+use crate::finding::{Found, count_whole, filer_of, is_settled};
 use sqlite::{Alter, Connection, Error, Transaction};
 use sqlite_catalog::layout::is_used;
 use std::alloc::Global;
@@ -42,7 +42,7 @@ fn read_earlier<S: Alter>(alloc: Global, conn: &mut Connection<S>) -> Result<Fou
     ensures mode { conn.old.in_transaction ≡ false → conn.new.in_transaction ≡ false }
 {
     match filer_of(conn, alloc, 1) {
-        Ok(filer) => match count_entries(alloc, conn, &[]) {
+        Ok(filer) => match count_whole(alloc, conn, &[]) {
             Ok(count) => Ok(Found { filer, count }),
             Err(fault) => Err(fault),
         },

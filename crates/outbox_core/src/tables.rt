@@ -1,6 +1,6 @@
 //! The statements on the rows of the three tables.
 
-ghost use Rattle.std.specs.Prelude.{◌≡◌, ◌+◌, ◌^◌, ◌<◌, pos, codes, OnErr, length, find, map, option_map, IsTrue, IfOk, IfErr, OnOk, IsSome, false, [], ◌∷◌};
+ghost use Rattle.std.specs.Prelude.{◌≡◌, ◌^◌, ◌<◌, pos, OnErr, find, map, option_map, IsTrue, IfOk, IfErr, OnOk, IsSome, false, [], ◌∷◌};
 ghost use Rattle.sqlite.specs.Values.{or_null};
 ghost use Rattle.sqlite.specs.declared.types.Value.TheVariants.{Null, Int, Text, Blob};
 ghost use Rattle.sqlite.specs.State.{HasCleanDisk, Survives, Shown, FailsToQuery, IsUnchanged, KeepsCommit};
@@ -11,17 +11,18 @@ ghost use Rattle.outbox_core.specs.Schema.{IsDeclared, HasCommon, meta_table, en
 ghost use Rattle.outbox_core.specs.Audit.{meta_text, targets_text, entries_text};
 ghost use Rattle.outbox_core.specs.Entries.{Contents, numbered, has_id, has_text, is_open, entry_at, target_at, with_state, FitsNumber};
 ghost use Rattle.outbox_core.specs.Changes.{GainsRows};
-ghost use Rattle.outbox_core.specs.Rows.{IsOutboxOf, Leaves, code_of, number_of, entry_row, state_row};
+ghost use Rattle.outbox_core.specs.Rows.{IsOutboxOf, Leaves, code_of, number_of, entry_row, id_row, state_row, bare_state_row};
 ghost use Rattle.outbox_core.specs.Reading.{view_state};
 
 use crate::state::State;
 use sqlite::{Alter, Connection, Error, Row, Transaction, params};
 use table_rows::first_row;
 
-fn entry_with_key<S: Alter>(conn: &mut Connection<S>, key: &str) -> Result<Option<Row>, Error>
+/// The row of the id of the entry that has the key.
+fn id_row_of_key<S: Alter>(conn: &mut Connection<S>, key: &str) -> Result<Option<Row>, Error>
     ensures found { HasCleanDisk (held.state S.Store conn.new) → (it : Contents)
         → Stands (IsOutboxOf it) (held.state S.Store conn.old)
-        → IfOk result (λ row. row ≡ option_map entry_row (find (has_text key.now) (numbered it.entries))) }
+        → IfOk result (λ row. row ≡ option_map id_row (find (has_text key.now) (numbered it.entries))) }
     ensures kept { HasCleanDisk (held.state S.Store conn.new) → (it : Contents)
         → Stands (IsOutboxOf it) (held.state S.Store conn.old) → Stands (IsOutboxOf it) (held.state S.Store conn.new) }
     ensures open { HasCleanDisk (held.state S.Store conn.new) → (it : Contents)
@@ -31,7 +32,7 @@ fn entry_with_key<S: Alter>(conn: &mut Connection<S>, key: &str) -> Result<Optio
 {
     first_row(
         conn,
-        "SELECT id, idem, body, state, number FROM entry WHERE idem = ?1 ORDER BY id",
+        "SELECT id FROM entry WHERE idem = ?1 ORDER BY id",
         params![key],
     )
 }
@@ -48,7 +49,7 @@ pub(crate) fn id_of_key<S: Alter>(conn: &mut Connection<S>, key: &str) -> Result
         → OnOk result (IsTrue (held.state S.Store conn.new).is_open) }
     ensures crash { Survives (held.state S.Store conn.old) (held.state S.Store conn.new) (λ _. ⊥) }
 {
-    let row = entry_with_key(conn, key)?;
+    let row = id_row_of_key(conn, key)?;
     match row {
         Some(row) => Ok(Some(row.get(0)?)),
         None => Ok(None),
@@ -74,6 +75,29 @@ pub(crate) fn entry_with_id<S: Alter>(
     first_row(
         conn,
         "SELECT id, idem, body, state, number FROM entry WHERE id = ?1 ORDER BY id",
+        params![id as i64],
+    )
+}
+
+/// The state and the number of the entry that has the id.
+pub(crate) fn state_with_id<S: Alter>(
+    conn: &mut Connection<S>,
+    id: u64,
+) -> Result<Option<Row>, Error>
+    requires { id < 2 ^ 63 }
+    ensures found { HasCleanDisk (held.state S.Store conn.new) → (it : Contents)
+        → Stands (IsOutboxOf it) (held.state S.Store conn.old)
+        → IfOk result (λ row. row ≡ option_map bare_state_row (find (has_id id) (numbered it.entries))) }
+    ensures kept { HasCleanDisk (held.state S.Store conn.new) → (it : Contents)
+        → Stands (IsOutboxOf it) (held.state S.Store conn.old) → Stands (IsOutboxOf it) (held.state S.Store conn.new) }
+    ensures open { HasCleanDisk (held.state S.Store conn.new) → (it : Contents)
+        → Stands (IsOutboxOf it) (held.state S.Store conn.old)
+        → OnOk result (IsTrue (held.state S.Store conn.new).is_open) }
+    ensures crash { Survives (held.state S.Store conn.old) (held.state S.Store conn.new) (λ _. ⊥) }
+{
+    first_row(
+        conn,
+        "SELECT state, number FROM entry WHERE id = ?1 ORDER BY id",
         params![id as i64],
     )
 }

@@ -22,7 +22,8 @@ use Rattle.table_rows.specs.Standing.{Stands}
 use Rattle.table_rows.proofs.OrderLemmas.{counted_rise, same_number, and_true}
 use Rattle.register_store.specs.Columns.{maybe_bytes_in, integer_in, fact_in}
 use Rattle.register_store.specs.Numbered.{filing_numbered, facts_numbered}
-use Rattle.register_store.specs.Reads.{has_number, by_second, place_alone, said}
+use Rattle.register_store.specs.Reads.{by_second, place_alone, said}
+use Rattle.table_rows.specs.Picking.{has_number}
 use Rattle.register_store.specs.Register.{fact_row, fact_rows, joined_from}
 use Rattle.register_store.specs.Schema.{fact_table}
 use Rattle.register_store.specs.Store.{IsRegisterOf}

@@ -1,17 +1,16 @@
 -- Filings that count from 1, and one more.
-use Rattle.std.proofs.Common.{◌≡◌, ℕ, ◌<◌, ◌≤◌, ◌+◌, ◌≢◌, ◌⊎◌, Bool, true, false, not, List, [], ◌∷◌, ◌++◌, length, map, suc, zero, inl, inr, Option, Some, None, refl, sym, ap, ◌∙◌, ⊎_elim, length-append, append-nil, take, arith}
-use Rattle.std.specs.Prelude.{filter, find, option_map, nat_eq, nat_lt, nat_le, bytes_eq, ◌&&◌, ◌||◌, get_or, set, is_none, is_some}
+use Rattle.std.proofs.Common.{◌≡◌, ℕ, ◌<◌, ◌≤◌, ◌+◌, ◌≢◌, ◌⊎◌, Bool, true, false, not, List, [], ◌∷◌, ◌++◌, length, map, suc, zero, inl, inr, Option, Some, None, refl, sym, ap, ◌∙◌, ⊎_elim, length-append, arith}
+use Rattle.std.specs.Prelude.{find, option_map, nat_eq, nat_lt, nat_le, bytes_eq, ◌&&◌, ◌||◌, get_or, set, is_none, is_some}
 use Rattle.std.specs.Option.{option_or}
 use Rattle.std.specs.List.{list_any, range_with_len, AllByRecursion}
 use Rattle.std.proofs.Math.Bool.{and-false}
 use Rattle.std.proofs.lemmas.Bool.{cases_Bool, and_parts}
 use Rattle.std.proofs.lemmas.Bool.Decides.{nat_tests}
-use Rattle.std.proofs.lemmas.List.{get_or-map, map-append, take_more}
+use Rattle.std.proofs.lemmas.List.{get_or-map, map-append}
 use Rattle.std.proofs.lemmas.List.Folds.{find-append}
 use Rattle.std.proofs.lemmas.List.FromFn.{get_or-range_with_len}
 use Rattle.filing_model.proofs.Lists.{length-map}
-use Rattle.std.proofs.lemmas.List.Elements.{filter-append}
-use Rattle.filing_model.specs.Listing.{is_listed, listing, replacing}
+use Rattle.filing_model.specs.Listing.{replacing}
 use Rattle.filing_model.specs.Request.{Request, same_target}
 use Rattle.filing_model.specs.Register.{Filing, is_amendment_of, is_filing_of, is_replaceable, is_free}
 use Rattle.filing_model.proofs.Lists.{find_none}
@@ -90,6 +89,21 @@ module _ (fs : List Filing) (f : Filing) where
 
   pub now_replaced : (n : ℕ) → list_any (is_amendment_of n) fs ≡ false → same_target f.request.target (Some n) ≡ true → replacing (fs ++ f ∷ []) n ≡ Some f.number
   now_replaced n none same = found_in_more n ∙ rw (find_none (is_amendment_of n) fs none, same) refl
+
+  pub still_replaced : (n : ℕ) → is_some (replacing fs n) ≡ true → replacing (fs ++ f ∷ []) n ≡ replacing fs n
+  still_replaced n some = found_in_more n ∙ by_found (find (is_amendment_of n) fs) some
+    where
+      by_found : (found : Option Filing) → is_some (option_map (λ (g : Filing). g.number) found) ≡ true
+          → option_map (λ (g : Filing). g.number) (option_or found (find (is_amendment_of n) (f ∷ []))) ≡ option_map (λ (g : Filing). g.number) found
+      by_found None e = absurd (cc e)
+      by_found (Some g) e = refl
+
+  pub first_replaced : (n : ℕ) → is_some (replacing fs n) ≡ false → same_target f.request.target (Some n) ≡ true → replacing (fs ++ f ∷ []) n ≡ Some f.number
+  first_replaced n none same = found_in_more n ∙ rw same (by_found (find (is_amendment_of n) fs) none)
+    where
+      by_found : (found : Option Filing) → is_some (option_map (λ (g : Filing). g.number) found) ≡ false → option_map (λ (g : Filing). g.number) (option_or found (Some f)) ≡ Some f.number
+      by_found None e = refl
+      by_found (Some g) e = absurd (cc e)
 
   line_as_before : (g : Filing) → same_target f.request.target (Some g.number) ≡ false → line_of (fs ++ f ∷ []) g ≡ line_of fs g
   line_as_before g other = ap (λ (by : Option ℕ). record { filer = g.request.filer; replaces = g.request.target; replaced_by = by }) (replaced_as_before g.number other)
@@ -227,18 +241,6 @@ module _ (fs : List Filing) (filed : Filed) (held : AreFiled fs filed) where
         grown : (gs : List Filing) → AllByRecursion (Reaches (length fs)) gs → AllByRecursion (Reaches (length fs + 1)) (gs ++ next_filing fs r ∷ [])
         grown [] all = (λ n is. let low = (free_within r.filer r.target n free is).1 in omega (arith, low), tt)
         grown (g ∷ gs) all = (λ n is. let low = all.0 n is in omega (arith, low), grown gs all.1)
-
--- ---- as they are listed
-
-module _ (fs : List Filing) (filer : List ℕ) (at : ℕ) (f : Filing) (low : at < length fs) (its : f ≡ get_or fs at f) where
-  one_more : filter (is_listed filer None) (take (at + 1) fs) ≡ filter (is_listed filer None) (take at fs) ++ filter (is_listed filer None) (f ∷ [])
-  one_more = ap (filter (is_listed filer None)) (take_more fs at f low ∙ ap (λ (g : Filing). take at fs ++ g ∷ []) (sym its)) ∙ filter-append (is_listed filer None) (take at fs) (f ∷ [])
-
-  pub listed_more : bytes_eq f.request.filer filer ≡ true → map (listing fs) (filter (is_listed filer None) (take (at + 1) fs)) ≡ map (listing fs) (filter (is_listed filer None) (take at fs)) ++ listing fs f ∷ []
-  listed_more is = ap (map (listing fs)) (one_more ∙ rw is refl) ∙ map-append (listing fs) (filter (is_listed filer None) (take at fs)) (f ∷ [])
-
-  pub listed_same : bytes_eq f.request.filer filer ≡ false → map (listing fs) (filter (is_listed filer None) (take (at + 1) fs)) ≡ map (listing fs) (filter (is_listed filer None) (take at fs))
-  listed_same is = ap (map (listing fs)) (one_more ∙ rw is (append-nil (filter (is_listed filer None) (take at fs))))
 
 pub none_told : {X : Type 0} (o : Option X) (b : Bool) → is_some o ≡ not b → b ≡ is_none o
 none_told None true e = refl

@@ -94,7 +94,7 @@ few_kept F r =
     = sym (filter-map (λ (k : Kept). k.request) (λ s. same_key s r) (kept F)) ∙ ap (filter (λ s. same_key s r)) (requests_of_kept F) in
     omega (arith, length-map (λ (k : Kept). k.request) (filter (λ k. same_key k.request r) (kept F)), ap length as_firsts, firsts_once F r)
 
-nothing : (rows : List Row) → IsPermutation [] rows → rows ≡ []
+pub nothing : (rows : List Row) → IsPermutation [] rows → rows ≡ []
 nothing [] same = refl
 nothing (r ∷ rows) same = absurd (omega (arith, length_permutation _ _ same))
 

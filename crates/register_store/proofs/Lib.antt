@@ -21,9 +21,10 @@ pub mod ListLemmas
 pub mod Making
 pub mod MoreRequests
 pub mod NextLemmas
-pub mod NumberLemmas
 pub mod OpenLemmas
 pub mod Opened
+pub mod OwnLemmas
+pub mod OwnRows
 pub mod OurGains
 pub mod ReadLemmas
 pub mod ReadTexts

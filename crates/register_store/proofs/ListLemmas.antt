@@ -13,7 +13,7 @@ use Rattle.table_rows.specs.Standing.{Stands, Keeps}
 use Rattle.table_rows.proofs.StandLemmas.{stands_on}
 use Rattle.table_rows.proofs.OrderLemmas.{counted_rise, int_less}
 use Rattle.register_store.specs.Columns.{request_in}
-use Rattle.register_store.specs.Reads.{Knows, KnowsAll, every, whole, by_first, filer_and_number}
+use Rattle.register_store.specs.Reads.{Knows, KnowsAll, every, whole, by_first}
 use Rattle.register_store.specs.Register.{kept_row, amends_rows, amends_rows_by, joined_from}
 use Rattle.register_store.specs.Schema.{kept_table, amends_table}
 use Rattle.register_store.proofs.CommonLemmas.{has_common}
@@ -78,11 +78,3 @@ amends_read F old new rows was r =
     let has = (was.now r.same.0.was_open).rows.rows.amends_is in
     let same = filter_every wanted in
     r.ordered wanted has (subst (RisesBy by_first) (sym same) (amends_rise 1 (kept F))) ∙ ap (map whole) same ∙ map_whole wanted
-
--- the filers and the numbers of all kept rows, in order
-pub filed_read : {early : ℕ} (F : List Request) (old new : State) (rows : List Row) → Stands (IsRegisterOf early F) old → ReadsRows kept_table every by_first filer_and_number rows old new → rows ≡ map filer_and_number (counted_from kept_row 1 (kept F))
-filed_read F old new rows was r =
-    let wanted = counted_from kept_row 1 (kept F) in
-    let has = (was.now r.same.0.was_open).rows.rows.kept_is in
-    let same = filter_every wanted in
-    r.ordered wanted has (subst (RisesBy by_first) (sym same) (counted_rise kept_row by_first (λ _ _. refl) 1 (kept F))) ∙ ap (map filer_and_number) same

@@ -1,6 +1,6 @@
 -- What each SELECT reads.
 use Rattle.std.proofs.Common.{ℕ, ℤ, pos, List, [], ◌∷◌, refl}
-use Rattle.sqlite.specs.declared.types.Value.TheVariants.{Int}
+use Rattle.sqlite.specs.declared.types.Value.TheVariants.{Int, Text}
 use Rattle.sqlite.specs.Order.{Row}
 use Rattle.sqlite.specs.Term.{col}
 use Rattle.sqlite.specs.State.{State, Shown}
@@ -9,16 +9,22 @@ use Rattle.table_rows.proofs.ReadingLemmas.{reads_rows}
 use Rattle.register_store.specs.Schema.{common_tables, register_tables, kept_table, filing_table, fact_table, amends_table}
 use Rattle.register_store.specs.Opening.{all_kept, all_amends}
 use Rattle.register_store.specs.Found.{has_seq, unsorted, target_alone}
-use Rattle.register_store.specs.Reads.{Knows, KnowsAll, every, whole, by_first, by_second, has_number, has_second, filer_and_number, filer_alone, number_alone, second_alone, place_alone, said}
-use Rattle.register_store.proofs.ReadTexts.{columns, equals, filers_and_numbers, place_of_filing, filer_at, number_at, places_with_target, target_at, fact_places, facts_said, asks_kept, asks_filers, asks_place, asks_filer, asks_number, asks_with_target, asks_target, asks_amends, asks_places, asks_said}
+use Rattle.register_store.specs.Reads.{Knows, KnowsAll, every, whole, by_first, by_second, has_filer, has_place, has_second, filer_alone, number_alone, second_alone, place_alone, said}
+use Rattle.register_store.proofs.ReadTexts.{columns, equals, places_of, filing_at, place_of_filing, filer_at, number_at, places_with_target, target_at, fact_places, facts_said, asks_kept, asks_places_of, asks_filing_at, asks_place, asks_filer, asks_number, asks_with_target, asks_target, asks_amends, asks_places, asks_said}
+use Rattle.table_rows.specs.Picking.{has_number}
 
 module _ (old new : State) (knows : Knows old) (rows : List Row) where
   pub reads_kept : Shown all_kept [] old new rows → ReadsRows kept_table every by_first whole rows old new
   reads_kept h = reads_rows common_tables kept_table all_kept [] (columns (0 ∷ 2 ∷ 3 ∷ 4 ∷ 5 ∷ [])) (col 1 0 ∷ []) asks_kept [] old new knows every (λ _. refl) by_first (λ _. refl) whole (λ _. refl) (λ _. refl) rows h
 
-  pub reads_filers : Shown filers_and_numbers [] old new rows → ReadsRows kept_table every by_first filer_and_number rows old new
-  reads_filers h =
-      reads_rows common_tables kept_table filers_and_numbers [] (columns (0 ∷ 2 ∷ 5 ∷ [])) (col 1 0 ∷ []) asks_filers [] old new knows every (λ _. refl) by_first (λ _. refl) filer_and_number
+  pub reads_places_of : (filer : List ℕ) → Shown places_of (Text filer ∷ []) old new rows → ReadsRows kept_table (has_filer filer) by_first by_first rows old new
+  reads_places_of filer h =
+      reads_rows common_tables kept_table places_of (equals 2) (columns (0 ∷ [])) (col 1 0 ∷ []) asks_places_of (Text filer ∷ []) old new knows (has_filer filer) (λ _. refl) by_first (λ _. refl) by_first
+      (λ _. refl) (λ _. refl) rows h
+
+  pub reads_filing_at : (seq : ℤ) → Shown filing_at (Int seq ∷ []) old new rows → ReadsRows filing_table (has_place seq) by_first by_first rows old new
+  reads_filing_at seq h =
+      reads_rows common_tables filing_table filing_at (equals 2) (columns (0 ∷ [])) (col 1 0 ∷ []) asks_filing_at (Int seq ∷ []) old new knows (has_place seq) (λ _. refl) by_first (λ _. refl) by_first
       (λ _. refl) (λ _. refl) rows h
 
   pub reads_place : (number : ℕ) → Shown place_of_filing (Int (pos number) ∷ []) old new rows → ReadsRows filing_table (has_number number) by_first second_alone rows old new

@@ -19,8 +19,11 @@ use Rattle.table_rows.proofs.TextLemmas.{IsQueryText}
 use Rattle.register_store.specs.Opening.{all_meta, all_kept, all_findings, all_filings, all_facts, all_migrated, all_amends}
 use Rattle.register_store.specs.Schema.{common_tables, register_tables, HasCommon, IsDeclared}
 
-abbrev pub filers_and_numbers : List ℕ
-filers_and_numbers = codes "SELECT seq, filer, number FROM kept ORDER BY seq"
+abbrev pub places_of : List ℕ
+places_of = codes "SELECT seq FROM kept WHERE filer = ?1 ORDER BY seq"
+
+abbrev pub filing_at : List ℕ
+filing_at = codes "SELECT number FROM filing WHERE seq = ?1 ORDER BY number"
 
 abbrev pub place_of_filing : List ℕ
 place_of_filing = codes "SELECT seq FROM filing WHERE number = ?1 ORDER BY number"
@@ -73,9 +76,13 @@ pub query_amends : IsQueryText all_amends
 unfolding everything
 query_amends = refl
 
-pub query_filers : IsQueryText filers_and_numbers
+pub query_places_of : IsQueryText places_of
 unfolding everything
-query_filers = refl
+query_places_of = refl
+
+pub query_filing_at : IsQueryText filing_at
+unfolding everything
+query_filing_at = refl
 
 pub query_place : IsQueryText place_of_filing
 unfolding everything
@@ -143,9 +150,13 @@ module _ (tables : List Table) (indexes : List Index) (views : List View) where
     listing = refl;
   }
 
-  filers_text : Asks schema filers_and_numbers (one_table 1 [] (columns (0 ∷ 2 ∷ 5 ∷ [])) (by_each (col 1 0 ∷ [])))
+  places_of_text : Asks schema places_of (one_table 1 (equals 2) (columns (0 ∷ [])) (by_each (col 1 0 ∷ [])))
   unfolding understood everything
-  filers_text = record { names = codes "seq" ∷ codes "filer" ∷ codes "number" ∷ []; is = refl; plain = (refl, refl); listing = refl }
+  places_of_text = record { names = codes "seq" ∷ []; is = refl; plain = (refl, refl); listing = refl }
+
+  filing_at_text : Asks schema filing_at (one_table 5 (equals 2) (columns (0 ∷ [])) (by_each (col 1 0 ∷ [])))
+  unfolding understood everything
+  filing_at_text = record { names = codes "number" ∷ []; is = refl; plain = (refl, refl); listing = refl }
 
   place_text : Asks schema place_of_filing (one_table 5 (equals 0) (columns (2 ∷ [])) (by_each (col 1 0 ∷ [])))
   unfolding understood everything
@@ -218,8 +229,11 @@ asks_filings = on_ours _ _ filings_text
 pub asks_facts : (s : Schema) → HasCommon s → Asks s all_facts (one_table 7 [] (columns (1 ∷ 2 ∷ 3 ∷ 4 ∷ 5 ∷ 6 ∷ 7 ∷ [])) (by_each (col 1 1 ∷ col 1 2 ∷ [])))
 asks_facts = on_ours _ _ facts_text
 
-pub asks_filers : (s : Schema) → HasCommon s → Asks s filers_and_numbers (one_table 1 [] (columns (0 ∷ 2 ∷ 5 ∷ [])) (by_each (col 1 0 ∷ [])))
-asks_filers = on_ours _ _ filers_text
+pub asks_places_of : (s : Schema) → HasCommon s → Asks s places_of (one_table 1 (equals 2) (columns (0 ∷ [])) (by_each (col 1 0 ∷ [])))
+asks_places_of = on_ours _ _ places_of_text
+
+pub asks_filing_at : (s : Schema) → HasCommon s → Asks s filing_at (one_table 5 (equals 2) (columns (0 ∷ [])) (by_each (col 1 0 ∷ [])))
+asks_filing_at = on_ours _ _ filing_at_text
 
 pub asks_place : (s : Schema) → HasCommon s → Asks s place_of_filing (one_table 5 (equals 0) (columns (2 ∷ [])) (by_each (col 1 0 ∷ [])))
 asks_place = on_ours _ _ place_text

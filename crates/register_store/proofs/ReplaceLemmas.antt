@@ -19,7 +19,8 @@ use Rattle.table_rows.specs.Standing.{Stands}
 use Rattle.table_rows.proofs.OrderLemmas.{counted_rise, same_number, and_true}
 use Rattle.register_store.specs.Columns.{request_in}
 use Rattle.register_store.specs.Found.{IsPlaced, IsPlaceOf, has_seq}
-use Rattle.register_store.specs.Reads.{by_first, has_number, has_second, second_alone}
+use Rattle.register_store.specs.Reads.{by_first, has_second, second_alone}
+use Rattle.table_rows.specs.Picking.{has_number}
 use Rattle.register_store.specs.Register.{kept_row, filing_rows, filing_rows_by, amends_rows, amends_rows_by, joined_from, number_of}
 use Rattle.register_store.specs.Schema.{kept_table, filing_table, amends_table}
 use Rattle.register_store.specs.Store.{IsRegisterOf}
@@ -185,18 +186,18 @@ AreAt at ks [] (g ∷ gs) = ⊥
 AreAt at ks (row ∷ rows) [] = ⊥
 AreAt at ks (row ∷ rows) (g ∷ gs) = ((seq : ℕ) × IsPlaced at seq ks g × (row ≡ Int (pos seq) ∷ [])) × AreAt at ks rows gs
 
+pub behind : (at : ℕ) (x : Kept) (ks gs : List Kept) (rows : List Row) → AreAt (at + 1) ks rows gs → AreAt at (x ∷ ks) rows gs
+behind at x ks [] [] h = tt
+behind at x ks (g ∷ gs) [] h = h
+behind at x ks [] (row ∷ rows) h = h
+behind at x ks (g ∷ gs) (row ∷ rows) h = ((h.0.0, inr h.0.1, h.0.2), behind at x ks gs rows h.1)
+
 module _ (n : ℕ) where
   abbrev pub replacers : List Kept → List Kept
   replacers ks = filter (λ k. same_target k.request.target (Some n)) ks
 
   abbrev shown_of : ℕ → List Kept → List Row
   shown_of at ks = map by_first (filter (has_second n) (joined_from amends_rows at ks))
-
-  behind : (at : ℕ) (x : Kept) (ks gs : List Kept) (rows : List Row) → AreAt (at + 1) ks rows gs → AreAt at (x ∷ ks) rows gs
-  behind at x ks [] [] h = tt
-  behind at x ks (g ∷ gs) [] h = h
-  behind at x ks [] (row ∷ rows) h = h
-  behind at x ks (g ∷ gs) (row ∷ rows) h = ((h.0.0, inr h.0.1, h.0.2), behind at x ks gs rows h.1)
 
   amends_it : (m at : ℕ) → has_second n (Int (pos at) ∷ Int (pos m) ∷ []) ≡ nat_eq m n
   amends_it m at = and_true _ ∙ same_number m n

@@ -1,10 +1,10 @@
 -- A walk over a register's tables, from one kept request to the next.
-use Rattle.std.proofs.Common.{◌≡◌, inl, inr, ◌<◌, ◌≤◌, ℕ, ◌+◌, suc, pos, Bool, true, false, not, List, [], ◌∷◌, ◌++◌, append-nil, append_assoc, map, filter, length, length-append, refl, sym, ap, ap₂, subst, ◌∙◌, nat_eq, arith, ⊎_elim, IsPermutation, get_or, Option, Some, None, IfSome, Result, Ok, Err, IfOk}
+use Rattle.std.proofs.Common.{◌≡◌, inl, inr, ◌<◌, ◌≤◌, ℕ, ◌+◌, suc, pos, Bool, true, false, List, [], ◌∷◌, ◌++◌, append-nil, append_assoc, map, filter, length, length-append, refl, sym, ap, ap₂, subst, ◌∙◌, nat_eq, arith, ⊎_elim, IsPermutation, get_or, Option, Some, None, IfSome, Result, Ok, Err, IfOk}
 use Rattle.std.specs.List.{AllByRecursion, range_with_len}
 use Rattle.std.proofs.lemmas.Bool.{cases_Bool}
 use Rattle.std.proofs.lemmas.Bool.Decides.{nat_tests}
 use Rattle.std.proofs.lemmas.List.Elements.{filter-append}
-use Rattle.std.proofs.lemmas.List.Sorted.{IsPermutation-refl, IsPermutation-sym, IsPermutation-trans, IsPermutation-append_left, IsPermutation-append_right, IsPermutation-filter_both, length_permutation}
+use Rattle.std.proofs.lemmas.List.Sorted.{length_permutation}
 use Rattle.std.proofs.lemmas.Slice.Eq.{bytes_eq-Decides}
 use Rattle.sqlite.specs.declared.types.Value.TheVariants.{Int}
 use Rattle.sqlite.specs.Order.{Row}
@@ -19,8 +19,9 @@ use Rattle.filing_model.specs.Register.{Outcome, Kept, Filing, filings, kept_aft
 use Rattle.filing_model.specs.Register.Outcome.{Registered, Refused}
 use Rattle.filing_model.proofs.Firsts.{firsts_new}
 use Rattle.filing_model.proofs.Keeping.{kept_new, requests_of_kept, register_numbered, all_push}
-use Rattle.table_rows.specs.Rows.{Holds, counted_from}
+use Rattle.table_rows.specs.Rows.{counted_from}
 use Rattle.table_rows.proofs.OrderLemmas.{same_number, and_true}
+use Rattle.table_rows.proofs.TakeLemmas.{take_out, left_after, none_taken}
 use Rattle.xbrl_report.specs.declared.judging.Judged.{Judged}
 use Rattle.register_store.specs.declared.filed.Filed.{Filed}
 use Rattle.register_store.specs.declared.walk.Left.{Left}
@@ -31,53 +32,14 @@ use Rattle.register_store.specs.Columns.{request_in}
 use Rattle.register_store.specs.Filed.{AreFiled}
 use Rattle.register_store.specs.Found.{has_texts}
 use Rattle.register_store.specs.Outcomes.{filings_by, outcome_of}
-use Rattle.register_store.specs.Reads.{has_number}
+use Rattle.table_rows.specs.Picking.{has_number, rows_in, Picks, CountsTo, Finds, HasLeft}
 use Rattle.register_store.specs.Register.{IsCompleted, kept_row, finding_row, finding_rows, findings_of, filing_rows, filing_rows_by, fact_row, fact_rows, fact_rows_by, amends_rows, amends_rows_by, joined_from}
 use Rattle.register_store.specs.Schema.{HasCommon, kept_table, finding_table, filing_table, fact_table}
-use Rattle.register_store.specs.Walk.{rows_in, Beyond, Picks, CountsTo, Finds, Passes, HasLeft, Walked}
+use Rattle.register_store.specs.Walk.{Beyond, Passes, Walked}
 use Rattle.register_store.proofs.AuditSteps.{joined_append, counted_append, one_filing}
 use Rattle.register_store.proofs.FindLemmas.{has_its}
 use Rattle.register_store.proofs.MoreRequests.{kept_length, registered_more}
 use Rattle.register_store.proofs.SegmentLemmas.{length_counted}
-
--- ---- rows that are taken out of those that are left
-
-take_out : (p : Row → Bool) (all taken group rest : List Row) → IsPermutation (taken ++ rest) all → filter p taken ≡ [] → IsPermutation (filter p all) group
-    → (more : List Row) × IsPermutation ((taken ++ group) ++ more) all × (length rest ≡ length more + length group)
-take_out p all taken group rest are none picked =
-    let others = filter (λ r. not (p r)) rest in
-    let mine : IsPermutation (filter p rest) (filter p all) =
-    subst (λ l. IsPermutation l (filter p all)) (filter-append p taken rest ∙ ap (λ l. l ++ filter p rest) none) (IsPermutation-filter p (taken ++ rest) all are) in
-    let here : IsPermutation (filter p rest) group = IsPermutation-trans _ _ _ mine picked in
-    let split : IsPermutation rest (filter p rest ++ others) = IsPermutation-filter_both p (λ r. not (p r)) (λ _. refl) rest in
-    let moved : IsPermutation rest (group ++ others) = IsPermutation-trans _ _ _ split (IsPermutation-append_left others (filter p rest) group here) in
-    let whole : IsPermutation (taken ++ (group ++ others)) all = IsPermutation-trans _ _ _ (IsPermutation-append_right taken (group ++ others) rest (IsPermutation-sym rest (group ++ others) moved)) are in
-    let long : length (group ++ others) ≡ length rest = length_permutation rest (group ++ others) moved in
-    let parts : length (group ++ others) ≡ length group + length others = length-append group others in
-    (others, subst (λ l. IsPermutation l all) (sym (append_assoc taken group others)) whole, omega (arith, long, parts))
-
-module _ (table : Table) (db : Database) where
-  left_after : (p : Row → Bool) (taken group : List Row) (n m : ℕ) → HasLeft table taken n db → filter p taken ≡ [] → Finds table p group db → n ≡ m + length group → HasLeft table (taken ++ group) m db
-  left_after p taken group n m left none (inl empty) fits =
-      subst (λ g. HasLeft table (taken ++ g) m db) (sym empty) (record {
-        rest = left.rest;
-        all = subst (λ l. IsPermutation (l ++ left.rest) (rows_in db table)) (sym (append-nil taken)) left.all;
-        many = let long = ap length empty in let were = left.many in omega (arith, long, were, fits);
-      })
-  left_after p taken group n m left none (inr picked) fits =
-      let out = take_out p (rows_in db table) taken group left.rest left.all none picked in
-      record { rest = out.0; all = out.1; many = let long = out.2 in let were = left.many in omega (arith, long, were, fits) }
-
-  pub none_taken : (n : ℕ) → CountsTo table n db → HasLeft table [] n db
-  none_taken n many = record { rest = rows_in db table; all = IsPermutation-refl (rows_in db table); many = sym many }
-
-  -- where none is left, the table has these rows
-  pub all_taken : (rows : List Row) → HasLeft table rows 0 db → Holds db table rows
-  all_taken rows left = go left.rest left.all left.many
-    where
-      go : (rest : List Row) → IsPermutation (rows ++ rest) (rows_in db table) → length rest ≡ 0 → IsPermutation rows (rows_in db table)
-      go [] all none = subst (λ l. IsPermutation l (rows_in db table)) (append-nil rows) all
-      go (x ∷ rest) all none = absurd (omega (arith, none))
 
 -- ---- rows of requests before
 

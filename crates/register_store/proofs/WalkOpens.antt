@@ -1,5 +1,5 @@
 -- What an opening says of a database that was walked over.
-use Rattle.std.proofs.Common.{◌≡◌, ◌≢◌, inl, inr, ◌<◌, ◌≤◌, ℕ, ◌+◌, Bool, true, false, not, List, [], ◌∷◌, filter, length, nat_eq, refl, sym, ap, ap₂, subst, ◌∙◌, arith, Option, Some, None, Ok, Err, IsPermutation}
+use Rattle.std.proofs.Common.{◌≡◌, ◌≢◌, inl, inr, ◌<◌, ◌≤◌, ℕ, ◌+◌, Bool, true, false, not, List, [], ◌∷◌, filter, length, nat_eq, refl, sym, ap, ap₂, subst, ◌∙◌, arith, IsPermutation}
 use Rattle.std.specs.List.{AllByRecursion}
 use Rattle.std.proofs.lemmas.Bool.Decides.{nat_tests}
 use Rattle.std.proofs.lemmas.List.Sorted.{IsPermutation-sym, IsPermutation-trans, length_permutation}
@@ -7,14 +7,10 @@ use Rattle.sqlite.specs.Order.{Row}
 use Rattle.sqlite.specs.Effect.{Database, IsDatabase}
 use Rattle.sqlite.specs.Store.{Ghosts}
 use Rattle.sqlite.specs.Held.{Held, state}
-use Rattle.sqlite.specs.Clock.{timed}
-use Rattle.sqlite.specs.Listing.{understood, reads_listing, IsSourceOf}
-use Rattle.sqlite.specs.State.{State, IsStatement, IsNoStatement, IsNotRun, IsUnchanged, Shown, ShowsRows, Fails, FailsToQuery, FailsToShow}
+use Rattle.sqlite.specs.State.{IsNotRun, IsUnchanged, FailsToQuery}
 use Rattle.sqlite.specs.declared.error.Error.{Error}
-use Rattle.sqlite.proofs.Callers.{unchanged_then, one_permutation}
+use Rattle.sqlite.proofs.Callers.{one_permutation}
 use Rattle.sqlite_keyed.proofs.ListLemmas.{all_weaker, filter_all, filter_none, IsPermutation-filter}
-use Rattle.sqlite_resolve.specs.declared.compiled.Compiled.{Compiled}
-use Rattle.sqlite_schema.specs.declared.command.Returning.{Returning}
 use Rattle.filing_model.specs.Request.{Request, firsts}
 use Rattle.filing_model.specs.Register.{Kept, kept}
 use Rattle.table_rows.specs.Causes.{cause_of}
@@ -22,27 +18,22 @@ use Rattle.table_rows.specs.Rows.{Holds, counted_from}
 use Rattle.table_rows.specs.declared.cause.Cause.{Cause}
 use Rattle.table_rows.specs.declared.cause.Cause.TheVariants as cause
 use Rattle.table_rows.proofs.OrderLemmas.{same_number, and_true}
-use Rattle.table_rows.proofs.TextLemmas.{IsQueryText, no_returning}
+use Rattle.table_rows.proofs.BeforeLemmas.{failed_by, shown_before, fails_before}
 use Rattle.register_store.specs.declared.opening.Counts.{Counts}
 use Rattle.register_store.specs.declared.audit.Verdict.TheVariants.{Sound}
 use Rattle.register_store.specs.Audit.{Others, AreRowsOf, IsVerdict}
 use Rattle.register_store.specs.Opening.{all_kept, row_texts, Later, SaysEarly, IsRead, AreRead, StopsFor}
-use Rattle.register_store.specs.Reads.{by_first, has_number}
+use Rattle.register_store.specs.Reads.{by_first}
+use Rattle.table_rows.specs.Picking.{has_number, IsStopped}
 use Rattle.register_store.specs.Register.{meta_row, kept_row, amends_rows, joined_from}
 use Rattle.register_store.specs.Schema.{IsDeclared, meta_table, kept_table, finding_table, filing_table, fact_table, migrated_table, amends_table}
 use Rattle.register_store.specs.Store.{IsRegisterOf}
-use Rattle.register_store.specs.Walk.{AreCounted, AreAllOf, IsStopped}
+use Rattle.register_store.specs.Walk.{AreCounted, AreAllOf}
 use Rattle.register_store.proofs.OpenLemmas.{Gets, Four, Two, is_read, rows_many, are_amends, says_early, same_early}
-use Rattle.register_store.proofs.PickLemmas.{failed_after}
 use Rattle.register_store.proofs.ReadTexts.{query_kept}
 use Rattle.register_store.proofs.StepsOfTargets.{same_requests}
 
 -- ---- why the walk stopped
-
-module _ (old new : State) (e : Error) where
-  failed_by : (why : Cause) → why ≢ cause.Other → cause_of e ≡ why → IsStopped old new e → Fails old new ⊥ e
-  failed_by why other is (inl not_run) = absurd (other (sym is ∙ not_run.1))
-  failed_by why other is (inr failed) = failed
 
 -- for memory or the disk, so would the query of all kept rows
 pub stops_for : {S : Type 0} (g : Ghosts S) (a e : Held S) (error : Error) (why : Cause) → why ≢ cause.Other → cause_of error ≡ why → IsStopped (state g a) (state g e) error
@@ -51,44 +42,6 @@ unfolding FailsToQuery IsNotRun
 stops_for g a e error why other is stopped = inl (error, inl (inr (failed_by (state g a) (state g e) error why other is stopped)), refl)
 
 -- ---- the tables read whole after the walk, as if there had been none
-
-module _ (text : List ℕ) (query : IsQueryText text) (a b e : State) (same : IsUnchanged a b) where
-  statement_before : (c : Compiled) → IsStatement b text [] c → IsStatement a text [] c
-  statement_before c it = record {
-    is = subst (λ (db : Database). understood db.schema text ≡ Ok c) same.0.now_is it.is;
-    whole = it.whole;
-    given = it.given;
-    now = it.now;
-  }
-
-  shows_before : (c : Compiled) (full : Row) (rows : List Row) (o : Option Returning) → o ≡ None → ShowsRows b e text c full rows o → ShowsRows a e text c full rows o
-  shows_before c full rows None none h = (h.0, subst (λ (db : Database). IsSourceOf (reads_listing db.schema text) db h.0) same.0.now_is h.1, h.2, unchanged_then a b e same h.3)
-  shows_before c full rows (Some what) none h = absurd cc
-
-  pub shown_before : (rows : List Row) → Shown text [] b e rows → Shown text [] a e rows
-  unfolding Shown statement_before
-  shown_before rows h = (h.0, statement_before h.0 h.1, shows_before h.0 (timed [] h.0.formats h.1.now) rows h.0.returning (no_returning text query [] b e h.0 h.1) h.2)
-
-  no_statement_before : (error : Error) → IsNoStatement b text [] error → IsNoStatement a text [] error
-  no_statement_before error (inl bad) = inl (bad.0, subst (λ (db : Database). understood db.schema text ≡ Err bad.0) same.0.now_is bad.1, bad.2)
-  no_statement_before error (inr h) = inr (h.0, subst (λ (db : Database). understood db.schema text ≡ Ok h.0) same.0.now_is h.1, h.2)
-
-  module _ (limit : b.step_limit ≡ a.step_limit) (low : a.faults ≤ b.faults) where
-    fails_to_show_before : (c : Compiled) (full : Row) (error : Error) (o : Option Returning) → o ≡ None → FailsToShow b e text c full error o → FailsToShow a e text c full error o
-    fails_to_show_before c full error None none h = (
-      h.0,
-      subst (λ (db : Database). IsSourceOf (reads_listing db.schema text) db h.0) same.0.now_is h.1,
-      subst (λ l. Rattle.sqlite.specs.Effect.RefusesToRead l c.command h.0 full error) limit h.2,
-      unchanged_then a b e same h.3,
-    )
-    fails_to_show_before c full error (Some what) none h = absurd cc
-
-    pub fails_before : (error : Error) → FailsToQuery text [] b e error → FailsToQuery text [] a e error
-    unfolding FailsToQuery IsNotRun statement_before
-    fails_before error (inl (inl none)) = inl (inl (no_statement_before error none.0, unchanged_then a b e same none.1))
-    fails_before error (inl (inr failed)) = inl (inr (failed_after a b e error same low failed))
-    fails_before error (inr h) =
-        inr (h.0, statement_before h.0 h.1, fails_to_show_before h.0 (timed [] h.0.formats h.1.now) error h.0.returning (no_returning text query [] b e h.0 h.1) h.2)
 
 module _ {S : Type 0} (g : Ghosts S) (a b e : Held S) (same : IsUnchanged (state g a) (state g b)) (limit : b.step_limit ≡ a.step_limit) where
   read_before : (mid : Held S) (rows : List Row) → IsRead g all_kept b mid rows → IsRead g all_kept a mid rows

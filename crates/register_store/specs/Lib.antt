@@ -12,6 +12,7 @@ pub mod Migrating
 pub mod Numbered
 pub mod Opening
 pub mod Outcomes
+pub mod Own
 pub mod Reads
 pub mod Register
 pub mod Schema

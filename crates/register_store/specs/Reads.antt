@@ -1,6 +1,6 @@
 -- What the SELECTs of a register read.
-use Rattle.std.specs.Prelude.{Bool, true, pos, ℕ, ◌&&◌, [], ◌∷◌, IsTrue}
-use Rattle.sqlite.specs.declared.types.Value.TheVariants.{Int}
+use Rattle.std.specs.Prelude.{Bool, true, pos, ℕ, ℤ, ◌&&◌, List, [], ◌∷◌, IsTrue}
+use Rattle.sqlite.specs.declared.types.Value.TheVariants.{Int, Text}
 use Rattle.sqlite.specs.Collation.TheVariants.{Binary}
 use Rattle.sqlite.specs.Order.{Row, column}
 use Rattle.sqlite.specs.Ops.{binary, is_true}
@@ -29,17 +29,17 @@ by_first row = column row 0 ∷ []
 abbrev pub by_second : Row → Row
 by_second row = column row 1 ∷ []
 
--- the first column equals this number, as SQL compares
-abbrev pub has_number : ℕ → Row → Bool
-has_number number row = is_true (binary (Compare Eq Binary) (column row 0) (Int (pos number))) && true
-
 -- the second column equals this number, as SQL compares
 abbrev pub has_second : ℕ → Row → Bool
 has_second number row = is_true (binary (Compare Eq Binary) (column row 1) (Int (pos number))) && true
 
--- the columns `seq`, `filer` and `number` of a kept row
-abbrev pub filer_and_number : Row → Row
-filer_and_number row = column row 0 ∷ column row 1 ∷ column row 4 ∷ []
+-- the second column, `filer` of a kept row, equals this text, as SQL compares
+abbrev pub has_filer : List ℕ → Row → Bool
+has_filer filer row = is_true (binary (Compare Eq Binary) (column row 1) (Text filer)) && true
+
+-- the second column, `seq` of a filing, equals this number, as SQL compares
+abbrev pub has_place : ℤ → Row → Bool
+has_place seq row = is_true (binary (Compare Eq Binary) (column row 1) (Int seq)) && true
 
 -- of a kept row its filer
 abbrev pub filer_alone : Row → Row

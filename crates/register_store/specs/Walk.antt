@@ -1,14 +1,10 @@
 -- What a walk over a register's tables finds, one kept request after another.
-use Rattle.std.specs.Prelude.{◌≡◌, ◌⊎◌, ◌≤◌, ℕ, ◌+◌, suc, Bool, List, [], ◌∷◌, ◌++◌, length, map, filter, IsPermutation}
+use Rattle.std.specs.Prelude.{◌≡◌, ◌≤◌, ℕ, ◌+◌, suc, List, [], ◌∷◌, ◌++◌, length, filter}
 use Rattle.std.specs.List.{AllByRecursion}
 use Rattle.sqlite.specs.Order.{Row}
-use Rattle.sqlite.specs.Table.{Table}
 use Rattle.sqlite.specs.Effect.{Database}
-use Rattle.sqlite.specs.State.{State, IsUnchanged, Fails}
-use Rattle.sqlite.specs.declared.error.Error.{Error}
-use Rattle.table_rows.specs.Rows.{Holds, shown, counted_from}
-use Rattle.table_rows.specs.Causes.{cause_of}
-use Rattle.table_rows.specs.declared.cause.Cause.TheVariants as cause
+use Rattle.table_rows.specs.Picking.{rows_in, Picks, Finds, HasLeft, has_number}
+use Rattle.table_rows.specs.Rows.{Holds, counted_from}
 use Rattle.filing_model.specs.Request.{Request, firsts}
 use Rattle.filing_model.specs.Register.{Kept, judged, kept, register}
 use Rattle.register_store.specs.declared.walk.Totals.{Totals}
@@ -17,33 +13,10 @@ use Rattle.register_store.specs.declared.opening.Counts.{Counts}
 use Rattle.register_store.specs.Opening.{Later, SaysEarly}
 use Rattle.register_store.specs.Found.{has_texts}
 use Rattle.register_store.specs.Outcomes.{filings_by}
-use Rattle.register_store.specs.Reads.{has_number}
 use Rattle.register_store.specs.Register.{IsCompleted, kept_row, finding_rows, filing_rows, fact_rows, amends_rows, joined_from}
 use Rattle.register_store.specs.Schema.{kept_table, finding_table, filing_table, fact_table}
 
--- the rows of the table, as SELECT * shows them
-abbrev pub rows_in : Database → Table → List Row
-rows_in db table = map (shown table) (db.trees table.tree)
-
--- ---- what a statement tells of a database whose tables are declared as ours
-
--- the rows are those of the table that pass, in some order
-abbrev pub Picks : Table → (Row → Bool) → List Row → Database → Type 0
-Picks table keep rows db = IsPermutation (filter keep (rows_in db table)) rows
-
--- the table has so many rows
-abbrev pub CountsTo : Table → ℕ → Database → Type 0
-CountsTo table count db = count ≡ length (rows_in db table)
-
--- a statement was not run, for another cause than memory or disk, and nothing was written; or the store failed
-abbrev pub IsStopped : State → State → Error → Type 0
-IsStopped old new error = (IsUnchanged old new × (cause_of error ≡ cause.Other)) ⊎ Fails old new ⊥ error
-
 -- ---- one kept request
-
--- there are no rows to ask for, or the table has these and no others that pass
-abbrev pub Finds : Table → (Row → Bool) → List Row → Database → Type 0
-Finds table keep rows db = (rows ≡ []) ⊎ Picks table keep rows db
 
 -- the rows beside `kept` are those of the kept request, and so many are left of each table
 pub record Beyond (seq : ℕ) (k : Kept) (left tail : Left) (db : Database) : Type 0 where
@@ -64,12 +37,6 @@ pub record Passes (before : List Request) (seq : ℕ) (left tail : Left) (db : D
   pub amends_is : left.amends.now ≡ amends_rows seq (judged (kept before) request) ++ tail.amends.now
 
 -- ---- all of them
-
--- the table has these rows, and so many others
-pub record HasLeft (table : Table) (rows : List Row) (count : ℕ) (db : Database) : Type 0 where
-  pub rest : List Row
-  pub all : IsPermutation (rows ++ rest) (rows_in db table)
-  pub many : length rest ≡ count
 
 -- so many of all kept requests were walked past, and their rows are those of these requests, where `amends` has these rows
 pub record Walked (amends_are : List Row) (total count : ℕ) (left : Left) (db : Database) (requests : List Request) : Type 0 where

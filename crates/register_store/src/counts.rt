@@ -1,32 +1,42 @@
-//! The filings of a filer as they are listed.
+//! The filings of a filer as they are listed: what the indexes have of the filer's requests, and of no other filer's.
 
-ghost use Rattle.std.specs.Prelude.{◌≡◌, ℕ, List, [], length, map, unwrap_or, option_map, string_bytes, None, false, IsTrue, IfOk, OnOk};
+ghost use Rattle.std.specs.Prelude.{◌≡◌, ℕ, pos, List, [], length, map, filter, unwrap_or, option_map, None, false, IsTrue, IfOk, OnOk};
+ghost use Rattle.std.specs.Ordering.{nat_cmp};
+ghost use Rattle.std.specs.BTreeMap.{get};
 ghost use Rattle.filing_model.specs.Request.{Request};
-ghost use Rattle.filing_model.specs.Listing.{listings};
-ghost use Rattle.filing_model.specs.Register.{kept, register};
-ghost use Rattle.table_rows.specs.Rows.{counted_from};
+ghost use Rattle.filing_model.specs.Listing.{listing, listings, replacing};
+ghost use Rattle.filing_model.specs.Register.{Filing, Kept, Outcome, filing_of, kept, register};
 ghost use Rattle.filing_model.specs.Views.{view_row};
-ghost use Rattle.sqlite.specs.Order.{column};
-ghost use Rattle.register_store.specs.Columns.{number_in, text_in};
+ghost use Rattle.xbrl_report.specs.ReportParts.{fact_count};
 ghost use Rattle.sqlite.specs.Held.{state};
 ghost use Rattle.sqlite.specs.State.{HasCleanDisk, Survives};
+ghost use Rattle.table_rows.specs.Rows.{counted_from};
 ghost use Rattle.table_rows.specs.Standing.{Stands};
-ghost use Rattle.register_store.specs.Filed.{AreFiled};
+ghost use Rattle.register_store.specs.Found.{IsPlaced};
 ghost use Rattle.register_store.specs.Numbered.{facts_numbered};
-ghost use Rattle.register_store.specs.Reads.{filer_and_number};
-ghost use Rattle.register_store.specs.Register.{kept_row, amends_rows, joined_from};
+ghost use Rattle.register_store.specs.Own.{own_filings, own_of};
+ghost use Rattle.register_store.specs.Reads.{by_first, has_filer};
+ghost use Rattle.register_store.specs.Register.{kept_row, filing_rows_by, number_of};
 ghost use Rattle.register_store.specs.Store.{IsRegisterOf};
 
 use crate::fault::StoreFault;
-use crate::filed::Filed;
+use crate::found::target_at;
 use crate::reads;
-use crate::segments::target_of;
+use crate::replaceable::place_in;
 use filing_model::FilingRow;
 use sqlite::{Alter, Connection, Row};
-use std::alloc::Global;
+use std::alloc::{AllocError, Global};
+use std::collections::BTreeMap;
 
 /// The greatest number that a column holds.
 pub(crate) const MAX_NUMBER: u64 = i64::MAX as u64;
+
+/// A filing of the filer: its number, and which filing it replaces.
+#[derive(Drop)]
+pub(crate) struct Own {
+    pub(crate) number: u64,
+    pub(crate) replaces: Option<u64>,
+}
 
 /// How many facts the filing of this number has, none where there is no such filing.
 fn count_facts<S: Alter>(conn: &mut Connection<S>, number: u64) -> Result<usize, StoreFault>
@@ -51,42 +61,23 @@ fn count_facts<S: Alter>(conn: &mut Connection<S>, number: u64) -> Result<usize,
     }
 }
 
-/// The filer of a row with the columns `seq`, `filer` and `number`, if it has a number.
-fn owner_of(row: &Row) -> Result<Option<String>, StoreFault>
-    ensures { IfOk result (λ owner.
-        option_map (λ s. string_bytes s) owner ≡ option_map (λ _. text_in (column row.now 1))
-        (number_in (column row.now 2))) }
+/// The number in such a row's one column, if there is a row.
+fn first_number(rows: &[Row]) -> Result<Option<u64>, StoreFault>
+    ensures { IfOk result (λ number.
+        (seq : ℕ) (outcome : Outcome) → rows.now ≡ map by_first (filing_rows_by seq outcome)
+        → number ≡ number_of outcome) }
 {
-    let number: Option<u64> = row.get(2)?;
-    let Some(_) = number else {
-        return Ok(None);
-    };
-    let filer = row.get(1)?;
-    Ok(Some(filer))
-}
-
-/// The filings of such rows with the columns `seq`, `filer` and `number`, and the rows of `amends`, both in the order of the places,
-/// which are from 1 on.
-fn file_all(alloc: Global, rows: &[Row], amends: &[Row]) -> Result<Filed, StoreFault>
-    ensures { (F : List Request) → rows.now ≡ map filer_and_number (counted_from kept_row 1 (kept F))
-        → amends.now ≡ joined_from amends_rows 1 (kept F) → IfOk result (AreFiled (register F)) }
-{
-    let mut filed = Filed::new(alloc);
-    let mut rest = amends;
-    for at in 0..rows.len() {
-        let (target, behind) = target_of(rest, at as u64 + 1);
-        rest = behind;
-        if let Some(filer) = owner_of(&rows[at])? {
-            filed.add(alloc, &filer, target)?;
-        }
+    match rows.first() {
+        None => Ok(None),
+        Some(row) => Ok(Some(row.get(0)?)),
     }
-    Ok(filed)
 }
 
-/// All filings, without their facts.
-fn read_filed<S: Alter>(conn: &mut Connection<S>, alloc: Global) -> Result<Filed, StoreFault>
-    ensures filed { HasCleanDisk (state S.Store conn.new) → (early : ℕ) (F : List Request)
-        → Stands (IsRegisterOf early F) (state S.Store conn.old) → IfOk result (AreFiled (register F)) }
+/// The number of the kept request at this place, or `None` where it was refused.
+fn number_at<S: Alter>(conn: &mut Connection<S>, seq: i64) -> Result<Option<u64>, StoreFault>
+    ensures found { HasCleanDisk (state S.Store conn.new) → (early : ℕ) (F : List Request)
+        → Stands (IsRegisterOf early F) (state S.Store conn.old) → (n : ℕ) (k : Kept) → seq ≡ pos n
+        → IsPlaced 1 n (kept F) k → IfOk result (λ number. number ≡ number_of k.outcome) }
     ensures same { HasCleanDisk (state S.Store conn.new) → (early : ℕ) (F : List Request)
         → Stands (IsRegisterOf early F) (state S.Store conn.old)
         → Stands (IsRegisterOf early F) (state S.Store conn.new) }
@@ -96,25 +87,132 @@ fn read_filed<S: Alter>(conn: &mut Connection<S>, alloc: Global) -> Result<Filed
     ensures mode { conn.old.in_transaction ≡ false → conn.new.in_transaction ≡ false }
     ensures survives { Survives (state S.Store conn.old) (state S.Store conn.new) (λ _. ⊥) }
 {
-    match reads::filers_and_numbers(conn) {
-        Ok(rows) => match reads::amends_rows(conn) {
-            Ok(amends) => file_all(alloc, &rows, &amends),
-            Err(error) => Err(StoreFault::from(error)),
-        },
+    match reads::filing_at(conn, seq) {
+        Ok(rows) => first_number(&rows),
         Err(error) => Err(StoreFault::from(error)),
     }
 }
 
-/// The filer's filings among these, as they are listed.
+/// The filing that the kept request at this place is, or `None` where it was refused.
+fn own_at<S: Alter>(conn: &mut Connection<S>, seq: i64) -> Result<Option<Own>, StoreFault>
+    ensures found { HasCleanDisk (state S.Store conn.new) → (early : ℕ) (F : List Request)
+        → Stands (IsRegisterOf early F) (state S.Store conn.old) → (n : ℕ) (k : Kept) → seq ≡ pos n
+        → IsPlaced 1 n (kept F) k
+        → IfOk result (λ own. own ≡ option_map own_of (filing_of k.request k.outcome)) }
+    ensures same { HasCleanDisk (state S.Store conn.new) → (early : ℕ) (F : List Request)
+        → Stands (IsRegisterOf early F) (state S.Store conn.old)
+        → Stands (IsRegisterOf early F) (state S.Store conn.new) }
+    ensures open { HasCleanDisk (state S.Store conn.new) → (early : ℕ) (F : List Request)
+        → Stands (IsRegisterOf early F) (state S.Store conn.old)
+        → OnOk result (IsTrue (state S.Store conn.new).is_open) }
+    ensures mode { conn.old.in_transaction ≡ false → conn.new.in_transaction ≡ false }
+    ensures survives { Survives (state S.Store conn.old) (state S.Store conn.new) (λ _. ⊥) }
+{
+    match number_at(conn, seq) {
+        Ok(Some(number)) => match target_at(conn, seq) {
+            Ok(replaces) => Ok(Some(Own { number, replaces })),
+            Err(fault) => Err(fault),
+        },
+        Ok(None) => Ok(None),
+        Err(fault) => Err(fault),
+    }
+}
+
+/// The filings among the filer's kept requests, which are at these places.
+fn own_among<S: Alter>(
+    conn: &mut Connection<S>,
+    alloc: Global,
+    places: &[Row],
+) -> Result<Vec<Own>, StoreFault>
+    ensures own { HasCleanDisk (state S.Store conn.new) → (early : ℕ) (F : List Request)
+        → Stands (IsRegisterOf early F) (state S.Store conn.old) → (filer : List ℕ)
+        → places.now ≡ map by_first (filter (has_filer filer) (counted_from kept_row 1 (kept F)))
+        → IfOk result (λ own. own.items ≡ map own_of (own_filings filer F)) }
+    ensures same { HasCleanDisk (state S.Store conn.new) → (early : ℕ) (F : List Request)
+        → Stands (IsRegisterOf early F) (state S.Store conn.old)
+        → Stands (IsRegisterOf early F) (state S.Store conn.new) }
+    ensures open { HasCleanDisk (state S.Store conn.new) → (early : ℕ) (F : List Request)
+        → Stands (IsRegisterOf early F) (state S.Store conn.old) → IsTrue (state S.Store conn.old).is_open
+        → OnOk result (IsTrue (state S.Store conn.new).is_open) }
+    ensures mode { conn.old.in_transaction ≡ false → conn.new.in_transaction ≡ false }
+    ensures survives { Survives (state S.Store conn.old) (state S.Store conn.new) (λ _. ⊥) }
+{
+    let mut own = Vec::new(alloc);
+    for place in places {
+        let found = own_at(conn, place_in(place)?)?;
+        if let Some(filing) = found {
+            own.push(filing)?;
+        }
+    }
+    Ok(own)
+}
+
+/// The filer's filings.
+fn read_own<S: Alter>(
+    conn: &mut Connection<S>,
+    alloc: Global,
+    filer: &str,
+) -> Result<Vec<Own>, StoreFault>
+    ensures own { HasCleanDisk (state S.Store conn.new) → (early : ℕ) (F : List Request)
+        → Stands (IsRegisterOf early F) (state S.Store conn.old)
+        → IfOk result (λ own. own.items ≡ map own_of (own_filings filer.now F)) }
+    ensures same { HasCleanDisk (state S.Store conn.new) → (early : ℕ) (F : List Request)
+        → Stands (IsRegisterOf early F) (state S.Store conn.old)
+        → Stands (IsRegisterOf early F) (state S.Store conn.new) }
+    ensures open { HasCleanDisk (state S.Store conn.new) → (early : ℕ) (F : List Request)
+        → Stands (IsRegisterOf early F) (state S.Store conn.old)
+        → OnOk result (IsTrue (state S.Store conn.new).is_open) }
+    ensures mode { conn.old.in_transaction ≡ false → conn.new.in_transaction ≡ false }
+    ensures survives { Survives (state S.Store conn.old) (state S.Store conn.new) (λ _. ⊥) }
+{
+    match reads::places_of(conn, filer) {
+        Ok(places) => own_among(conn, alloc, &places),
+        Err(error) => Err(StoreFault::from(error)),
+    }
+}
+
+/// Under the number of each filing that one of these replaces, the number of the first one that does.
+fn replacing_among(alloc: Global, own: &[Own]) -> Result<BTreeMap<u64, u64>, AllocError>
+    ensures { (fs : List Filing) → own.now ≡ map own_of fs
+        → IfOk result (λ by. (n : ℕ) → get nat_cmp by n ≡ replacing fs n) }
+{
+    let mut by = BTreeMap::new(alloc);
+    for filing in own {
+        if let Some(target) = filing.replaces {
+            if !by.contains_key(&target) {
+                by.insert(target, filing.number)?;
+            }
+        }
+    }
+    Ok(by)
+}
+
+/// The filing as it is listed with so many facts, where it is said which filing replaces which.
+fn row_of(filing: &Own, facts: usize, by: &BTreeMap<u64, u64>) -> FilingRow
+    ensures { (fs : List Filing) (f : Filing) → filing.now ≡ own_of f
+        → ((n : ℕ) → get nat_cmp by.now n ≡ replacing fs n) → facts ≡ fact_count f.request.body
+        → view_row result ≡ listing fs f }
+{
+    FilingRow {
+        number: filing.number,
+        facts,
+        replaces: filing.replaces,
+        replaced_by: by.get(&filing.number).copied(),
+    }
+}
+
+/// The filer's filings as they are listed, where it is said which of them replaces which.
 fn list_each<S: Alter>(
     conn: &mut Connection<S>,
     alloc: Global,
-    filed: &Filed,
-    filer: &str,
+    own: &[Own],
+    by: &BTreeMap<u64, u64>,
 ) -> Result<Vec<FilingRow>, StoreFault>
     ensures rows { HasCleanDisk (state S.Store conn.new) → (early : ℕ) (F : List Request)
-        → Stands (IsRegisterOf early F) (state S.Store conn.old) → AreFiled (register F) filed.now
-        → IfOk result (λ rows. map view_row rows.items ≡ listings filer.now None (register F)) }
+        → Stands (IsRegisterOf early F) (state S.Store conn.old) → (filer : List ℕ)
+        → own.now ≡ map own_of (own_filings filer F)
+        → ((n : ℕ) → get nat_cmp by.now n ≡ replacing (own_filings filer F) n)
+        → IfOk result (λ rows. map view_row rows.items ≡ listings filer None (register F)) }
     ensures same { HasCleanDisk (state S.Store conn.new) → (early : ℕ) (F : List Request)
         → Stands (IsRegisterOf early F) (state S.Store conn.old)
         → Stands (IsRegisterOf early F) (state S.Store conn.new) }
@@ -125,14 +223,36 @@ fn list_each<S: Alter>(
     ensures survives { Survives (state S.Store conn.old) (state S.Store conn.new) (λ _. ⊥) }
 {
     let mut rows = Vec::new(alloc);
-    for at in 0..filed.len() {
-        if filed.is_of(at, filer) {
-            let number = at as u64 + 1;
-            let facts = count_facts(conn, number)?;
-            rows.push(filed.row(at, facts))?;
-        }
+    for filing in own {
+        let facts = count_facts(conn, filing.number)?;
+        rows.push(row_of(filing, facts, by))?;
     }
     Ok(rows)
+}
+
+/// The filer's filings as they are listed.
+fn list_own<S: Alter>(
+    conn: &mut Connection<S>,
+    alloc: Global,
+    own: &[Own],
+) -> Result<Vec<FilingRow>, StoreFault>
+    ensures rows { HasCleanDisk (state S.Store conn.new) → (early : ℕ) (F : List Request)
+        → Stands (IsRegisterOf early F) (state S.Store conn.old) → (filer : List ℕ)
+        → own.now ≡ map own_of (own_filings filer F)
+        → IfOk result (λ rows. map view_row rows.items ≡ listings filer None (register F)) }
+    ensures same { HasCleanDisk (state S.Store conn.new) → (early : ℕ) (F : List Request)
+        → Stands (IsRegisterOf early F) (state S.Store conn.old)
+        → Stands (IsRegisterOf early F) (state S.Store conn.new) }
+    ensures open { HasCleanDisk (state S.Store conn.new) → (early : ℕ) (F : List Request)
+        → Stands (IsRegisterOf early F) (state S.Store conn.old) → IsTrue (state S.Store conn.old).is_open
+        → OnOk result (IsTrue (state S.Store conn.new).is_open) }
+    ensures mode { conn.old.in_transaction ≡ false → conn.new.in_transaction ≡ false }
+    ensures survives { Survives (state S.Store conn.old) (state S.Store conn.new) (λ _. ⊥) }
+{
+    match replacing_among(alloc, own) {
+        Ok(by) => list_each(conn, alloc, own, &by),
+        Err(error) => Err(StoreFault::from(error)),
+    }
 }
 
 /// The filings of a filer as they are listed.
@@ -153,8 +273,8 @@ pub(crate) fn filings_of<S: Alter>(
     ensures mode { conn.old.in_transaction ≡ false → conn.new.in_transaction ≡ false }
     ensures survives { Survives (state S.Store conn.old) (state S.Store conn.new) (λ _. ⊥) }
 {
-    match read_filed(conn, alloc) {
-        Ok(filed) => list_each(conn, alloc, &filed, filer),
+    match read_own(conn, alloc, filer) {
+        Ok(own) => list_own(conn, alloc, &own),
         Err(fault) => Err(fault),
     }
 }

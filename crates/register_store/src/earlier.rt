@@ -15,6 +15,7 @@ use crate::fault::OpenFault;
 use crate::opening::{Counts, meta_fault, number_of, read_tables, table_fault};
 use crate::reads;
 use crate::walk::{Totals, count_by_walk};
+use crate::watch::Unwatched;
 use sqlite::{Alter, Connection, Row};
 use std::alloc::Global;
 use table_rows::Cause;
@@ -166,7 +167,7 @@ fn count_walked<S: Alter>(
     ensures mode { conn.old.in_transaction ≡ false → conn.new.in_transaction ≡ false }
     ensures survives { Survives (state S.Store conn.old) (state S.Store conn.new) (λ _. ⊥) }
 {
-    match count_by_walk(alloc, conn, &[]) {
+    match count_by_walk(alloc, conn, &[], &mut Unwatched) {
         Ok(found) => Ok(found),
         Err(error) => match Cause::from(error) {
             Cause::Memory => Err(OpenFault::Memory),

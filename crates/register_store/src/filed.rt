@@ -1,16 +1,12 @@
 //! The filings of a register, by number: whose each is, which filing it replaces, and which one replaces it.
 
-ghost use Rattle.std.specs.Prelude.{◌≡◌, ◌++◌, ◌∷◌, ◌<◌, [], suc, true, List, length, map, get_or, bytes_eq, vec_len, IfOk, OnOk};
+ghost use Rattle.std.specs.Prelude.{◌≡◌, ◌++◌, ◌∷◌, [], suc, true, List, length, map, IfOk, OnOk};
 ghost use Rattle.xbrl_report.specs.Judgement.{HasFacts};
 ghost use Rattle.filing_model.specs.Request.{Request};
 ghost use Rattle.filing_model.specs.Register.{Filing, filings, is_free, is_replaceable, judged, kept, register};
-ghost use Rattle.filing_model.specs.Listing.{listing};
-ghost use Rattle.xbrl_report.specs.ReportParts.{fact_count};
-ghost use Rattle.filing_model.specs.Views.{view_row};
 ghost use Rattle.register_store.specs.Filed.{AreFiled, line_of, next_filing, view_entry};
 ghost use Rattle.register_store.specs.Outcomes.{outcome_of};
 
-use filing_model::FilingRow;
 use std::alloc::{AllocError, Global};
 use xbrl_report::{Judged, judge_amendment};
 
@@ -36,14 +32,6 @@ impl Filed {
         Filed {
             entries: Vec::new(alloc),
         }
-    }
-
-    /// How many filings there are.
-    pub(crate) fn len(&self) -> usize
-        ensures { (result ≡ vec_len self.now.entries)
-            × ((fs : List Filing) → AreFiled fs self.now → result ≡ length fs) }
-    {
-        self.entries.len()
     }
 
     /// Whether the filer may replace the filing of this number: it is the filer's, and none replaces it.
@@ -99,30 +87,6 @@ impl Filed {
             replaced_by: None,
         })?;
         Ok(())
-    }
-
-    /// Whether the filing at this place, from 0, is the filer's.
-    pub(crate) fn is_of(&self, at: usize, filer: &str) -> bool
-        requires { at < vec_len self.now.entries }
-        ensures { (fs : List Filing) (f : Filing) → AreFiled fs self.now → f ≡ get_or fs at f
-            → result ≡ bytes_eq f.request.filer filer.now }
-    {
-        self.entries[at].filer.as_bytes() == filer.as_bytes()
-    }
-
-    /// The filing at this place, from 0, as it is listed with so many facts.
-    pub(crate) fn row(&self, at: usize, facts: usize) -> FilingRow
-        requires { at < vec_len self.now.entries }
-        ensures { (fs : List Filing) (f : Filing) → AreFiled fs self.now → f ≡ get_or fs at f
-            → facts ≡ fact_count f.request.body → view_row result ≡ listing fs f }
-    {
-        let entry = &self.entries[at];
-        FilingRow {
-            number: at as u64 + 1,
-            facts,
-            replaces: entry.replaces,
-            replaced_by: entry.replaced_by,
-        }
     }
 
     /// Judges a report that comes after these filings. The error is want of memory.

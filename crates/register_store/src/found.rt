@@ -153,7 +153,10 @@ fn read_target(rows: &[Row]) -> Result<Option<u64>, StoreFault>
 }
 
 /// The filing that the request at this place is to replace, if any.
-fn target_at<S: Alter>(conn: &mut Connection<S>, seq: i64) -> Result<Option<u64>, StoreFault>
+pub(crate) fn target_at<S: Alter>(
+    conn: &mut Connection<S>,
+    seq: i64,
+) -> Result<Option<u64>, StoreFault>
     ensures found { HasCleanDisk (state S.Store conn.new) → (early : ℕ) (F : List Request)
         → Stands (IsRegisterOf early F) (state S.Store conn.old) → (n : ℕ) (k : Kept) → seq ≡ pos n
         → IsPlaced 1 n (kept F) k → IfOk result (λ target. target ≡ k.request.target) }

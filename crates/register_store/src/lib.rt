@@ -29,6 +29,7 @@ mod segments;
 mod spans;
 mod store;
 mod walk;
+mod watch;
 mod write;
 
 pub use completed::{Completed, Registered};
@@ -42,3 +43,4 @@ pub use migrate::migrate_register;
 pub use opening::{Counts, read_register};
 pub use outcome::{KeptRow, NewRow, Outcome};
 pub use store::Store;
+pub use watch::{Unwatched, Watch};

@@ -22,6 +22,7 @@ use crate::cells::{Cell, is_row};
 use crate::fault::OpenFault;
 use crate::reads;
 use crate::walk::{Totals, count_by_walk};
+use crate::watch::Watch;
 use sqlite::types::ValueRef;
 use sqlite::{Alter, Connection, Error, Row};
 use std::alloc::Global;
@@ -258,10 +259,11 @@ fn counts_of(totals: Totals, later: &Later) -> Option<Counts>
 
 /// Counts what the rows stand for with one kept request in memory at a time. `None` says nothing of the rows: the tables are
 /// then read whole, and say what is refused.
-fn count_one_by_one<S: Alter>(
+fn count_one_by_one<S: Alter, W: Watch>(
     alloc: Global,
     conn: &mut Connection<S>,
     later: &Later,
+    watch: &mut W,
 ) -> Result<Option<Counts>, OpenFault>
     ensures found { HasCleanDisk (state S.Store conn.new) → HasCommon (state S.Store conn.old).now.schema
         → IfOk result (λ found.
@@ -280,7 +282,7 @@ fn count_one_by_one<S: Alter>(
     ensures mode { conn.old.in_transaction ≡ false → conn.new.in_transaction ≡ false }
     ensures survives { Survives (state S.Store conn.old) (state S.Store conn.new) (λ _. ⊥) }
 {
-    match count_by_walk(alloc, conn, &later.amends) {
+    match count_by_walk(alloc, conn, &later.amends, watch) {
         Ok(Some(totals)) => Ok(counts_of(totals, later)),
         Ok(None) => Ok(None),
         Err(error) => match Cause::from(error) {
@@ -303,10 +305,11 @@ pub(crate) fn is_settled<S: Alter>(conn: &Connection<S>) -> bool
 }
 
 /// Counts what the rows stand for beside those of the later tables.
-fn count_all<S: Alter>(
+fn count_all<S: Alter, W: Watch>(
     alloc: Global,
     conn: &mut Connection<S>,
     later: &Later,
+    watch: &mut W,
 ) -> Result<Counts, OpenFault>
     ensures counted { HasCleanDisk (state S.Store conn.new)
         → IfOk result (λ counts.
@@ -325,7 +328,7 @@ fn count_all<S: Alter>(
     ensures mode { conn.old.in_transaction ≡ false → conn.new.in_transaction ≡ false }
     ensures survives { Survives (state S.Store conn.old) (state S.Store conn.new) (λ _. ⊥) }
 {
-    match count_one_by_one(alloc, conn, later) {
+    match count_one_by_one(alloc, conn, later, watch) {
         Ok(Some(counts)) => Ok(counts),
         Ok(None) => match read_tables(conn) {
             Ok(tables) => count(
@@ -342,9 +345,13 @@ fn count_all<S: Alter>(
     }
 }
 
-/// Reads how much the register holds that the database is: nothing is written, whatever the answer is. How the tables
-/// are declared is not tested.
-pub fn read_register<S: Alter>(alloc: Global, conn: &mut Connection<S>) -> Result<Counts, OpenFault>
+/// Reads how much the register holds that the database is, and tells `watch` how far it is: nothing is written, whatever the
+/// answer is. How the tables are declared is not tested.
+pub fn read_register<S: Alter, W: Watch>(
+    alloc: Global,
+    conn: &mut Connection<S>,
+    watch: &mut W,
+) -> Result<Counts, OpenFault>
     requires autocommit { conn.old.in_transaction ≡ false }
     requires unlimited { conn.old.step_limit ≡ None }
 
@@ -381,7 +388,7 @@ pub fn read_register<S: Alter>(alloc: Global, conn: &mut Connection<S>) -> Resul
     prove!(is_settled(conn));
     match read_meta(conn) {
         Ok(()) => match read_later(conn) {
-            Ok(later) => count_all(alloc, conn, &later),
+            Ok(later) => count_all(alloc, conn, &later, watch),
             Err(error) => Err(table_fault(error)),
         },
         Err(fault) => Err(fault),

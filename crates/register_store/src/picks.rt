@@ -1,19 +1,15 @@
 //! The SELECTs of a walk over a register's tables: the rows of one table with a key, by what is left of its key, or how many rows it has.
 
-ghost use Rattle.std.specs.Prelude.{◌≡◌, ◌<◌, ◌^◌, ◌-◌, pos, false, length, filter, [], ◌∷◌, IfOk, IfErr, IfSome, OnOk};
+ghost use Rattle.std.specs.Prelude.{◌≡◌, ◌<◌, ◌^◌, ◌-◌, pos, false, length, filter, [], IfOk, IfErr, IfSome, OnOk};
 ghost use Rattle.sqlite.specs.Held.{state};
 ghost use Rattle.sqlite.specs.State.{HasCleanDisk, IsUnchanged, Survives};
-ghost use Rattle.sqlite.specs.declared.types.Value.TheVariants.{Int};
 ghost use Rattle.register_store.specs.Found.{has_texts};
-ghost use Rattle.register_store.specs.Reads.{has_number};
+ghost use Rattle.table_rows.specs.Picking.{has_number, CountsTo, IsStopped, Picks, rows_in};
 ghost use Rattle.register_store.specs.Schema.{HasCommon, kept_table, finding_table, filing_table, fact_table};
-ghost use Rattle.register_store.specs.Walk.{CountsTo, IsStopped, Picks, rows_in};
 
 use sqlite::types::ValueRef;
 use sqlite::{Alter, Connection, Error, Row, params};
-
-/// The greatest count that is told; a table that has more rows is told to have as many.
-const MAX_COUNT: i64 = i64::MAX;
+use table_rows::count_in;
 
 /// The kept rows with this place.
 pub(crate) fn kept_at<S: Alter>(conn: &mut Connection<S>, seq: u64) -> Result<Vec<Row>, Error>
@@ -118,25 +114,6 @@ pub(crate) fn count_with_key<S: Alter>(
     }
 }
 
-/// The count that is the one value of the one row.
-fn read_count(rows: &[Row]) -> Option<u64>
-    ensures { IfSome result (λ count. (count < 2 ^ 63 - 1) × (rows.now ≡ (Int (pos count) ∷ []) ∷ [])) }
-{
-    match rows {
-        [row] if row.column_count() == 1 => match row.get_ref(0) {
-            Ok(ValueRef::Int(count)) => {
-                if 0 <= count && count < MAX_COUNT {
-                    Some(count as u64)
-                } else {
-                    None
-                }
-            }
-            _ => None,
-        },
-        _ => None,
-    }
-}
-
 /// How many rows `kept` has, or `None` where it has more than are counted.
 pub(crate) fn count_kept<S: Alter>(conn: &mut Connection<S>) -> Result<Option<u64>, Error>
     ensures counted { HasCleanDisk (state S.Store conn.new) → HasCommon (state S.Store conn.old).now.schema
@@ -149,7 +126,7 @@ pub(crate) fn count_kept<S: Alter>(conn: &mut Connection<S>) -> Result<Option<u6
     ensures survives { Survives (state S.Store conn.old) (state S.Store conn.new) (λ _. ⊥) }
 {
     match conn.query_all("SELECT count(*) FROM kept", &[]) {
-        Ok(rows) => Ok(read_count(&rows)),
+        Ok(rows) => Ok(count_in(&rows)),
         Err(error) => Err(error),
     }
 }
@@ -166,7 +143,7 @@ pub(crate) fn count_findings<S: Alter>(conn: &mut Connection<S>) -> Result<Optio
     ensures survives { Survives (state S.Store conn.old) (state S.Store conn.new) (λ _. ⊥) }
 {
     match conn.query_all("SELECT count(*) FROM finding", &[]) {
-        Ok(rows) => Ok(read_count(&rows)),
+        Ok(rows) => Ok(count_in(&rows)),
         Err(error) => Err(error),
     }
 }
@@ -183,7 +160,7 @@ pub(crate) fn count_filings<S: Alter>(conn: &mut Connection<S>) -> Result<Option
     ensures survives { Survives (state S.Store conn.old) (state S.Store conn.new) (λ _. ⊥) }
 {
     match conn.query_all("SELECT count(*) FROM filing", &[]) {
-        Ok(rows) => Ok(read_count(&rows)),
+        Ok(rows) => Ok(count_in(&rows)),
         Err(error) => Err(error),
     }
 }
@@ -200,7 +177,7 @@ pub(crate) fn count_facts<S: Alter>(conn: &mut Connection<S>) -> Result<Option<u
     ensures survives { Survives (state S.Store conn.old) (state S.Store conn.new) (λ _. ⊥) }
 {
     match conn.query_all("SELECT count(*) FROM fact", &[]) {
-        Ok(rows) => Ok(read_count(&rows)),
+        Ok(rows) => Ok(count_in(&rows)),
         Err(error) => Err(error),
     }
 }

@@ -8,7 +8,8 @@ ghost use Rattle.table_rows.specs.Standing.{Keeps};
 ghost use Rattle.register_store.specs.Schema.{kept_table, filing_table, fact_table, amends_table};
 ghost use Rattle.register_store.specs.Opening.{all_meta, all_kept, all_findings, all_filings, all_facts, all_migrated, all_amends};
 ghost use Rattle.register_store.specs.Found.{has_seq};
-ghost use Rattle.register_store.specs.Reads.{Knows, KnowsAll, every, whole, by_first, by_second, has_number, has_second, filer_and_number, filer_alone, number_alone, second_alone, place_alone, said};
+ghost use Rattle.register_store.specs.Reads.{Knows, KnowsAll, every, whole, by_first, by_second, has_filer, has_place, has_second, filer_alone, number_alone, second_alone, place_alone, said};
+ghost use Rattle.table_rows.specs.Picking.{has_number};
 
 use sqlite::{Alter, Connection, Error, Row, params};
 
@@ -31,17 +32,36 @@ pub(crate) fn kept_rows<S: Alter>(conn: &mut Connection<S>) -> Result<Vec<Row>, 
     )
 }
 
-/// The columns `seq`, `filer` and `number` of all kept rows, by `seq`.
-pub(crate) fn filers_and_numbers<S: Alter>(conn: &mut Connection<S>) -> Result<Vec<Row>, Error>
+/// The places of the filer's kept requests, ascending.
+pub(crate) fn places_of<S: Alter>(conn: &mut Connection<S>, filer: &str) -> Result<Vec<Row>, Error>
     ensures read { HasCleanDisk (state S.Store conn.new) → Knows (state S.Store conn.old)
         → IfOk result (λ rows.
-        ReadsRows kept_table every by_first filer_and_number rows.items (state S.Store conn.old)
+        ReadsRows kept_table (has_filer filer.now) by_first by_first rows.items (state S.Store conn.old)
         (state S.Store conn.new)) }
     ensures keeps { HasCleanDisk (state S.Store conn.new) → Keeps (state S.Store conn.old) (state S.Store conn.new) }
     ensures mode { conn.old.in_transaction ≡ false → conn.new.in_transaction ≡ false }
     ensures survives { Survives (state S.Store conn.old) (state S.Store conn.new) (λ _. ⊥) }
 {
-    conn.query_all("SELECT seq, filer, number FROM kept ORDER BY seq", &[])
+    conn.query_all(
+        "SELECT seq FROM kept WHERE filer = ?1 ORDER BY seq",
+        params![filer],
+    )
+}
+
+/// The number of the filing at this place.
+pub(crate) fn filing_at<S: Alter>(conn: &mut Connection<S>, seq: i64) -> Result<Vec<Row>, Error>
+    ensures read { HasCleanDisk (state S.Store conn.new) → Knows (state S.Store conn.old)
+        → IfOk result (λ rows.
+        ReadsRows filing_table (has_place seq) by_first by_first rows.items (state S.Store conn.old)
+        (state S.Store conn.new)) }
+    ensures keeps { HasCleanDisk (state S.Store conn.new) → Keeps (state S.Store conn.old) (state S.Store conn.new) }
+    ensures mode { conn.old.in_transaction ≡ false → conn.new.in_transaction ≡ false }
+    ensures survives { Survives (state S.Store conn.old) (state S.Store conn.new) (λ _. ⊥) }
+{
+    conn.query_all(
+        "SELECT number FROM filing WHERE seq = ?1 ORDER BY number",
+        params![seq],
+    )
 }
 
 /// The place of the filing of this number.

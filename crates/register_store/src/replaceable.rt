@@ -35,7 +35,7 @@ fn first_place(rows: &[Row]) -> Result<Option<i64>, StoreFault>
 }
 
 /// The place in the one column of the row.
-fn place_in(row: &Row) -> Result<i64, StoreFault>
+pub(crate) fn place_in(row: &Row) -> Result<i64, StoreFault>
     ensures { IfOk result (λ place. (seq : ℕ) → row.now ≡ Int (pos seq) ∷ [] → place ≡ pos seq) }
 {
     Ok(row.get(0)?)

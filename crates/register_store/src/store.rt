@@ -22,6 +22,7 @@ use crate::found::find_kept;
 use crate::migrate::migrate_register;
 use crate::opening::{Counts, read_register};
 use crate::outcome::{KeptRow, NewRow, Outcome};
+use crate::watch::Unwatched;
 use crate::write::keep;
 use key_string::KeyText;
 use sqlite::{Alter, Connection};
@@ -157,7 +158,7 @@ impl<S: Alter + Drop> Store<S> {
             × ((trees : Trees) → (shows S.Store store).may_leave trees → Leaves early F trees)) }
     {
         let mut conn = conn;
-        match read_register(alloc, &mut conn) {
+        match read_register(alloc, &mut conn, &mut Unwatched) {
             Ok(
                 Counts {
                     kept,

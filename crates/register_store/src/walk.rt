@@ -14,15 +14,16 @@ ghost use Rattle.register_store.specs.Columns.{request_in};
 ghost use Rattle.register_store.specs.Filed.{AreFiled};
 ghost use Rattle.register_store.specs.Found.{has_texts};
 ghost use Rattle.register_store.specs.Outcomes.{outcome_of};
-ghost use Rattle.register_store.specs.Reads.{has_number};
+ghost use Rattle.table_rows.specs.Picking.{has_number, IsStopped, Picks, rows_in};
 ghost use Rattle.register_store.specs.Register.{IsCompleted, kept_row, finding_row, fact_row, amends_rows_by};
 ghost use Rattle.register_store.specs.Schema.{HasCommon, kept_table, finding_table, filing_table, fact_table};
-ghost use Rattle.register_store.specs.Walk.{Amounts, Beyond, IsStopped, Passes, Picks, Walked, rows_in};
+ghost use Rattle.register_store.specs.Walk.{Amounts, Beyond, Passes, Walked};
 
 use crate::audit::{MAX_KEPT, bytes_at, filer_of, is_kept_row, is_target, text_at};
 use crate::filed::Filed;
 use crate::picks;
 use crate::segments::{after_facts, after_filing, after_findings, target_of};
+use crate::watch::Watch;
 use sqlite::{Alter, Connection, Error, Row};
 use std::alloc::Global;
 use xbrl_report::{Fact, Finding, Judged};
@@ -422,11 +423,12 @@ fn pass<'a, S: Alter>(
 }
 
 /// What is left behind all kept requests, if their rows are those of requests.
-fn walk<'a, S: Alter>(
+fn walk<'a, S: Alter, W: Watch>(
     alloc: Global,
     conn: &mut Connection<S>,
     total: u64,
     start: Left<'a>,
+    watch: &mut W,
 ) -> Result<Option<Left<'a>>, Error>
     requires total { total ≤ 2 ^ 62 }
     requires first { start.number ≡ 1 }
@@ -448,7 +450,10 @@ fn walk<'a, S: Alter>(
     let mut left = start;
     for at in 0..total {
         match pass(alloc, conn, &mut filed, at + 1, left) {
-            Ok(Some(tail)) => left = tail,
+            Ok(Some(tail)) => {
+                left = tail;
+                watch.passed(at + 1, total);
+            }
             Ok(None) => return Ok(None),
             Err(error) => return Err(error),
         }
@@ -546,10 +551,11 @@ fn counts_of(kept: u64, left: Left<'_>) -> Option<Totals>
 }
 
 /// How much a register holds whose rows stand for requests, where `amends` has these. `None` says nothing of the rows.
-pub(crate) fn count_by_walk<S: Alter>(
+pub(crate) fn count_by_walk<S: Alter, W: Watch>(
     alloc: Global,
     conn: &mut Connection<S>,
     amends: &[Row],
+    watch: &mut W,
 ) -> Result<Option<Totals>, Error>
     ensures found { HasCleanDisk (state S.Store conn.new) → HasCommon (state S.Store conn.old).now.schema
         → IfOk result (λ found. IfSome found (λ counts. Amounts counts amends.now (state S.Store conn.old).now)) }
@@ -568,6 +574,7 @@ pub(crate) fn count_by_walk<S: Alter>(
             conn,
             sizes.kept,
             sizes.others,
+            watch,
         ) {
             Ok(Some(left)) => Ok(counts_of(sizes.kept, left)),
             Ok(None) => Ok(None),

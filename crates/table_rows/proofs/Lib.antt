@@ -15,3 +15,6 @@ pub mod UpdateLemmas
 pub mod CleanLemmas
 pub mod FileLemmas
 pub mod TextLemmas
+pub mod StopLemmas
+pub mod TakeLemmas
+pub mod BeforeLemmas

@@ -4,3 +4,4 @@ pub mod Rows
 pub mod Reading
 pub mod Standing
 pub mod Files
+pub mod Picking

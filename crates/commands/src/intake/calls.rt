@@ -6,7 +6,9 @@ ghost use Rattle.std.specs.Prelude.{◌≡◌, ◌≤◌, ◌^◌, None, false};
 use gateway_server::{Ended, Mark, Served, completed as completed_of, serve as serve_connection};
 use http_wire::{ConnFault, Inbox, Kind, Next, Reply, Sink, Source, write_reply};
 use intake_core::{FilingRow, Intake, Unavailable, word_reply};
-use register_store::{Completed, CreateFault, OpenFault, Store, StoreFault};
+use register_store::{
+    Completed, Counts, CreateFault, OpenFault, Store, StoreFault, Watch, read_register,
+};
 use sqlite::{Alter, Connection, FileStore, MemStore};
 use sqlite_disk::Disk;
 use std::alloc::{AllocError, Global};
@@ -28,6 +30,18 @@ pub fn open<S: Alter + Drop>(alloc: Global, conn: Connection<S>) -> Result<Store
     Store::open(alloc, conn)
 }
 
+/// How much a register holds that is sound.
+pub fn check<S: Alter, W: Watch>(
+    alloc: Global,
+    conn: &mut Connection<S>,
+    watch: &mut W,
+) -> Result<Counts, OpenFault>
+    requires autocommit { conn.old.in_transaction ≡ false }
+    requires unlimited { conn.old.step_limit ≡ None }
+{
+    read_register(alloc, conn, watch)
+}
+
 /// Makes the register of an earlier version one of this version.
 pub fn migrate<S: Alter + Drop>(alloc: Global, conn: Connection<S>) -> Result<Store<S>, OpenFault>
     requires autocommit { conn.in_transaction ≡ false }
@@ -41,6 +55,14 @@ pub fn close<D: Disk + Drop>(register: Store<FileStore<D>>) -> Result<(), StoreF
     match register.into_files() {
         Ok(_) => Ok(()),
         Err(fault) => Err(fault),
+    }
+}
+
+/// Gives up the files of a database, with all that was committed in the database file.
+pub fn close_files<D: Disk + Drop>(conn: Connection<FileStore<D>>) -> Result<(), StoreFault> {
+    match conn.close_files() {
+        Ok(_) => Ok(()),
+        Err((error, _)) => Err(StoreFault::from(error)),
     }
 }
 

@@ -1,21 +1,21 @@
 //! The register of a file: made, opened, migrated, closed.
 
-use crate::database::{Place, make_database, open_database, remove_new_log};
+use crate::database::{Cache, Place, make_database, open_database, remove_new_log};
 use crate::intake::calls;
 use crate::intake::fault::Fault;
 use command_line::CommandFault;
-use register_store::{OpenFault, Store};
-use sqlite::FileStore;
+use register_store::{Counts, OpenFault, Store, Watch};
+use sqlite::{Connection, FileStore};
 use sqlite_disk::Disk;
 use std::io::Write;
 
-/// Makes the tables of a register in the file.
+/// Makes the tables of a register in the file, which is then served.
 pub fn create<'a, D: Disk + Drop, P: Place<D>>(
     rt: &HostRuntime,
     place: &P,
     name: &'a str,
 ) -> Result<Store<FileStore<D>>, Fault<'a>> {
-    let conn = match make_database(rt, place, name) {
+    let conn = match make_database(rt, place, name, Cache::Largest) {
         Ok(conn) => conn,
         Err(fault) => return Err(CommandFault::Database { name, fault }.into()),
     };
@@ -45,7 +45,7 @@ pub fn migrate<'a, D: Disk + Drop, P: Place<D>>(
     name: &'a str,
 ) -> Result<Store<FileStore<D>>, Fault<'a>> {
     let had_log = place.has_log(rt, name);
-    let conn = match open_database(rt, place, name) {
+    let conn = match open_database(rt, place, name, Cache::OfTheFile) {
         Ok(conn) => conn,
         Err(fault) => return Err(CommandFault::Database { name, fault }.into()),
     };
@@ -63,9 +63,10 @@ pub fn open<'a, D: Disk + Drop, P: Place<D>>(
     rt: &HostRuntime,
     place: &P,
     name: &'a str,
+    cache: Cache,
 ) -> Result<Store<FileStore<D>>, Fault<'a>> {
     let had_log = place.has_log(rt, name);
-    let conn = match open_database(rt, place, name) {
+    let conn = match open_database(rt, place, name, cache) {
         Ok(conn) => conn,
         Err(fault) => return Err(CommandFault::Database { name, fault }.into()),
     };
@@ -75,6 +76,39 @@ pub fn open<'a, D: Disk + Drop, P: Place<D>>(
             leave(rt, place, name, had_log, fault);
             Err(Fault::Open { name, fault })
         }
+    }
+}
+
+/// Counts what the register of the file holds, and tells `watch` how far that is. Beside a file that is none of ours nothing is left.
+pub fn check<'a, D: Disk + Drop, P: Place<D>, W: Watch>(
+    rt: &HostRuntime,
+    place: &P,
+    name: &'a str,
+    watch: &mut W,
+) -> Result<(Counts, Connection<FileStore<D>>), Fault<'a>> {
+    let had_log = place.has_log(rt, name);
+    let mut conn = match open_database(rt, place, name, Cache::OfTheFile) {
+        Ok(conn) => conn,
+        Err(fault) => return Err(CommandFault::Database { name, fault }.into()),
+    };
+    match calls::check(rt.alloc(), &mut conn, watch) {
+        Ok(counts) => Ok((counts, conn)),
+        Err(fault) => {
+            drop(conn);
+            leave(rt, place, name, had_log, fault);
+            Err(Fault::Open { name, fault })
+        }
+    }
+}
+
+/// Closes the files of a database, as `close` does those of a register.
+pub fn close_files<D: Disk + Drop, E: Write>(
+    conn: Connection<FileStore<D>>,
+    name: &str,
+    errors: &mut E,
+) {
+    if let Err(fault) = calls::close_files(conn) {
+        Fault::NotClosed { name, fault }.tell(errors);
     }
 }
 

@@ -2,7 +2,7 @@
 
 ghost use Rattle.std.specs.Prelude.{◌≤◌, ◌^◌, IfOk};
 
-use crate::database::Place;
+use crate::database::{Cache, Place};
 use crate::intake::calls;
 use crate::intake::fault::Fault;
 use crate::intake::log::{ConnectionLine, Noted, Statuses};
@@ -82,7 +82,7 @@ fn open_intake<'a, D: Disk + Drop, P: Place<D>>(
 ) -> Result<Intake<FileStore<D>>, Fault<'a>> {
     intake_over(
         rt.alloc(),
-        open(rt, place, serving.database)?,
+        open(rt, place, serving.database, Cache::Largest)?,
         serving.limit,
     )
 }
@@ -272,7 +272,7 @@ fn register_of<'a, D: Disk + Drop, P: Place<D>>(
     if serving.new {
         create(rt, place, serving.database)
     } else {
-        open(rt, place, serving.database)
+        open(rt, place, serving.database, Cache::Largest)
     }
 }
 

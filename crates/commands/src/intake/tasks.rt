@@ -1,9 +1,10 @@
 //! Performs a task, and says how the program ends.
 
-use crate::database::{Place, SystemFiles};
+use crate::database::{Cache, Place, SystemFiles};
 use crate::intake::fault::Fault;
 use crate::intake::options::{DEFAULT_LIMIT, Task};
-use crate::intake::register::{close, migrate, open};
+use crate::intake::progress::Progress;
+use crate::intake::register::{self, close, close_files, migrate, open};
 use crate::intake::serving::{limit_within, serve_file};
 use crate::intake::{calls, finding, options};
 use crate::report::report;
@@ -12,7 +13,7 @@ use gateway_server::{Ended, fact_line};
 use http_wire::Device;
 use intake_core::{FilingRow, Intake, list_reply};
 use key_string::is_filer;
-use register_store::{OpenFault, Store};
+use register_store::{Counts, OpenFault, Store};
 use sqlite::FileStore;
 use sqlite_disk::Disk;
 use std::alloc::{AllocError, Global};
@@ -77,7 +78,11 @@ fn list<'a, D: Disk + Drop, P: Place<D>, O: Write, E: Write>(
     errors: &mut E,
 ) -> Result<(), Fault<'a>> {
     filer(code)?;
-    let mut intake = Intake::new(rt.alloc(), open(rt, place, name)?, DEFAULT_LIMIT);
+    let mut intake = Intake::new(
+        rt.alloc(),
+        open(rt, place, name, Cache::OfTheFile)?,
+        DEFAULT_LIMIT,
+    );
     let shown = match calls::list(&mut intake, code) {
         Ok(rows) => show_rows(rt.alloc(), rows.as_slice(), output),
         Err(fault) => Err(Fault::List { name, fault }),
@@ -114,7 +119,7 @@ fn show_filing<'a, D: Disk + Drop, P: Place<D>, O: Write, E: Write>(
     output: &mut O,
     errors: &mut E,
 ) -> Result<(), Fault<'a>> {
-    let mut register = open(rt, place, name)?;
+    let mut register = open(rt, place, name, Cache::OfTheFile)?;
     let shown = match calls::facts(&mut register, number) {
         Ok(Some(facts)) => show_facts(rt.alloc(), facts.as_slice(), output),
         Ok(None) => Err(Fault::NoFiling { name, number }),
@@ -126,10 +131,10 @@ fn show_filing<'a, D: Disk + Drop, P: Place<D>, O: Write, E: Write>(
 
 fn show_sound<'a, O: Write>(
     alloc: Global,
-    kept: u64,
-    filings: u64,
+    counts: Counts,
     output: &mut O,
 ) -> Result<(), Fault<'a>> {
+    let Counts { kept, filings, .. } = counts;
     let text = format!(in alloc; "sound: {kept} kept, {filings} filings\n")?;
     Ok(show(output, text.as_bytes())?)
 }
@@ -143,20 +148,6 @@ fn show_verdict<'a, O: Write>(
     Ok(show(output, text.as_bytes())?)
 }
 
-/// Prints how many keys and filings a register has that is open, and so sound.
-fn check_open<'a, D: Disk + Drop, O: Write>(
-    alloc: Global,
-    register: &Store<FileStore<D>>,
-    name: &'a str,
-    output: &mut O,
-) -> Result<u8, Fault<'a>> {
-    match calls::counts(register) {
-        Ok((kept, filings)) => show_sound(alloc, kept, filings, output)?,
-        Err(fault) => return Err(Fault::Store { name, fault }),
-    }
-    Ok(DONE)
-}
-
 /// Prints whether the register is sound. Where it is not, what is wrong goes to the output, and file and cause to the errors; the
 /// status is that of the fault.
 fn check<'a, D: Disk + Drop, P: Place<D>, O: Write, E: Write>(
@@ -166,11 +157,15 @@ fn check<'a, D: Disk + Drop, P: Place<D>, O: Write, E: Write>(
     output: &mut O,
     errors: &mut E,
 ) -> Result<u8, Fault<'a>> {
-    match open(rt, place, name) {
-        Ok(register) => {
-            let checked = check_open(rt.alloc(), &register, name, output);
-            close(register, name, errors);
-            checked
+    let mut progress = Progress::new(rt);
+    let checked = register::check(rt, place, name, &mut progress);
+    progress.end();
+    match checked {
+        Ok((counts, conn)) => {
+            let shown = show_sound(rt.alloc(), counts, output);
+            close_files(conn, name, errors);
+            shown?;
+            Ok(DONE)
         }
         Err(fault) => show_fault(rt.alloc(), fault, output),
     }

@@ -1,6 +1,6 @@
 //! The outbox of a file: made, opened, closed.
 
-use crate::database::{Place, make_database, open_database, remove_new_log};
+use crate::database::{Cache, Place, make_database, open_database, remove_new_log};
 use crate::outbox::calls;
 use crate::outbox::fault::Fault;
 use command_line::CommandFault;
@@ -16,7 +16,7 @@ pub fn create<'a, D: Disk + Drop, P: Place<D>>(
     name: &'a str,
     filer: &str,
 ) -> Result<Outbox<FileStore<D>>, Fault<'a>> {
-    let conn = match make_database(rt, place, name) {
+    let conn = match make_database(rt, place, name, Cache::OfTheFile) {
         Ok(conn) => conn,
         Err(fault) => return Err(CommandFault::Database { name, fault }.into()),
     };
@@ -46,7 +46,7 @@ pub fn migrate<'a, D: Disk + Drop, P: Place<D>>(
     name: &'a str,
 ) -> Result<Outbox<FileStore<D>>, Fault<'a>> {
     let had_log = place.has_log(rt, name);
-    let conn = match open_database(rt, place, name) {
+    let conn = match open_database(rt, place, name, Cache::OfTheFile) {
         Ok(conn) => conn,
         Err(fault) => return Err(CommandFault::Database { name, fault }.into()),
     };
@@ -66,7 +66,7 @@ pub fn open<'a, D: Disk + Drop, P: Place<D>>(
     name: &'a str,
 ) -> Result<Outbox<FileStore<D>>, Fault<'a>> {
     let had_log = place.has_log(rt, name);
-    let conn = match open_database(rt, place, name) {
+    let conn = match open_database(rt, place, name, Cache::OfTheFile) {
         Ok(conn) => conn,
         Err(fault) => return Err(CommandFault::Database { name, fault }.into()),
     };

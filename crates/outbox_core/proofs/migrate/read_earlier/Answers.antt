@@ -13,15 +13,15 @@ use Rattle.outbox_core.proofs.SoundLemmas.{kept_entries}
 use Rattle.outbox_core.proofs.EarlierLemmas.{untargeted, no_targets, not_found_later}
 use Rattle.outbox_core.proofs.migrate.read_earlier.Goals as goal
 
-pub returns-in-Ok-count_entries-clause-found : goal.returns-in-Ok-count_entries-clause-found
-returns-in-Ok-count_entries-clause-found g c clean common live =
+pub returns-in-Ok-count_whole-clause-found : goal.returns-in-Ok-count_whole-clause-found
+returns-in-Ok-count_whole-clause-found g c clean common live =
     let old = state g.S.Store c.args.conn.now in
-    let early : HasCleanDisk (state g.S.Store c.filer_of.new.conn) = c.in-Ok-count_entries.ensures.clean clean in
+    let early : HasCleanDisk (state g.S.Store c.filer_of.new.conn) = c.in-Ok-count_whole.ensures.clean clean in
     let one = c.in-Ok.ensures.found early common in
     let same = one.2 in
     let sound = live same.0.was_open in
     let still : HasCommon (state g.S.Store c.filer_of.new.conn).now.schema = subst (λ (d : Database). HasCommon d.schema) (sym same.0.now_is) common in
-    let two = c.in-Ok-count_entries.ensures.counted clean still tt in
+    let two = c.in-Ok-count_whole.ensures.counted clean still tt in
     let entries = subst (λ (d : Database). Holds d entry_table (entry_rows two.0)) same.0.now_is two.1 in (
       two.0,
       record {
@@ -36,24 +36,24 @@ returns-in-Ok-count_entries-clause-found g c clean common live =
       unchanged_then _ _ _ same two.5,
     )
 
-pub returns-in-Ok-count_entries-clause-read : goal.returns-in-Ok-count_entries-clause-read
-returns-in-Ok-count_entries-clause-read g c clean =
-    let early : HasCleanDisk (state g.S.Store c.filer_of.new.conn) = c.in-Ok-count_entries.ensures.clean clean in
-    let two = c.in-Ok-count_entries.ensures.read clean in
+pub returns-in-Ok-count_whole-clause-read : goal.returns-in-Ok-count_whole-clause-read
+returns-in-Ok-count_whole-clause-read g c clean =
+    let early : HasCleanDisk (state g.S.Store c.filer_of.new.conn) = c.in-Ok-count_whole.ensures.clean clean in
+    let two = c.in-Ok-count_whole.ensures.read clean in
     (c.filer_of.new.conn, c.in-Ok.ensures.read early, two.0, two.1, two.2)
 
-pub returns-in-Err-count_entries-clause-refused : goal.returns-in-Err-count_entries-clause-refused
-returns-in-Err-count_entries-clause-refused g c clean =
-    let fault = c.in-Err-count_entries.fault in
-    let early : HasCleanDisk (state g.S.Store c.filer_of.new.conn) = c.in-Err-count_entries.ensures.clean clean in
-    not_found_later g.S.Store fault c.args.conn.now c.filer_of.new.conn c.count_entries.new.conn (c.in-Ok.ensures.read early) c.in-Err-count_entries.ensures.others
-    (λ row is. c.in-Err-count_entries.ensures.damaged clean row (ap Err is)) (λ is. c.in-Err-count_entries.ensures.disk clean (ap Err is))
+pub returns-in-Err-count_whole-clause-refused : goal.returns-in-Err-count_whole-clause-refused
+returns-in-Err-count_whole-clause-refused g c clean =
+    let fault = c.in-Err-count_whole.fault in
+    let early : HasCleanDisk (state g.S.Store c.filer_of.new.conn) = c.in-Err-count_whole.ensures.clean clean in
+    not_found_later g.S.Store fault c.args.conn.now c.filer_of.new.conn c.count_whole.new.conn (c.in-Ok.ensures.read early) c.in-Err-count_whole.ensures.others
+    (λ row is. c.in-Err-count_whole.ensures.damaged clean row (ap Err is)) (λ is. c.in-Err-count_whole.ensures.disk clean (ap Err is))
 
-pub returns-in-Err-count_entries-clause-sound : goal.returns-in-Err-count_entries-clause-sound
-returns-in-Err-count_entries-clause-sound g c clean it is unlimited =
-    let early : HasCleanDisk (state g.S.Store c.filer_of.new.conn) = c.in-Err-count_entries.ensures.clean clean in
+pub returns-in-Err-count_whole-clause-sound : goal.returns-in-Err-count_whole-clause-sound
+returns-in-Err-count_whole-clause-sound g c clean it is unlimited =
+    let early : HasCleanDisk (state g.S.Store c.filer_of.new.conn) = c.in-Err-count_whole.ensures.clean clean in
     let same = (c.in-Ok.ensures.found early is.declared).2.0.now_is in
     let still : HasCommon (state g.S.Store c.filer_of.new.conn).now.schema = subst (λ (d : Database). HasCommon d.schema) (sym same) is.declared in
     let entries = subst (λ (d : Database). Holds d entry_table (entry_rows it.entries)) (sym same) is.entries_are in
     let none : IsPermutation _ [] = subst (λ rows. IsPermutation rows []) (sym (no_targets it.entries is.untargeted)) (IsPermutation-refl []) in
-    c.in-Err-count_entries.ensures.whole clean it.entries still entries (kept_entries it is.list) none (c.filer_of.ensures.limit ∙ unlimited)
+    c.in-Err-count_whole.ensures.whole clean it.entries still entries (kept_entries it is.list) none (c.filer_of.ensures.limit ∙ unlimited)

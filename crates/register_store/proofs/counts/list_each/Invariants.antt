@@ -1,21 +1,23 @@
-use Rattle.std.proofs.Common.{◌≡◌, ℕ, List, map, take, false, IsTrue, None}
-use Rattle.std.specs.Prelude.{filter}
+use Rattle.std.proofs.Common.{◌≡◌, ℕ, List, map, take, false, IsTrue}
+use Rattle.std.specs.Ordering.{nat_cmp}
+use Rattle.std.specs.BTreeMap.{get}
 use Rattle.sqlite.specs.Held.{state}
 use Rattle.sqlite.specs.State.{HasCleanDisk, Survives}
-use Rattle.filing_model.specs.Listing.{is_listed, listing}
+use Rattle.filing_model.specs.Listing.{listing, replacing}
 use Rattle.filing_model.specs.Request.{Request}
-use Rattle.filing_model.specs.Register.{register}
 use Rattle.filing_model.specs.Views.{view_row}
 use Rattle.table_rows.specs.Standing.{Stands}
-use Rattle.register_store.specs.Filed.{AreFiled}
+use Rattle.register_store.specs.Own.{own_filings, own_of}
 use Rattle.register_store.specs.Store.{IsRegisterOf}
 use Rattle.register_store.proofs.counts.list_each.Given as goal
 
-abbrev pub invariant-loop-at : goal.invariant-loop-at
-invariant-loop-at g l =
+abbrev pub invariant-loop-filing : goal.invariant-loop-filing
+invariant-loop-filing g l =
     let old = state g.S.Store l.fn.conn in
     let now = state g.S.Store l.conn in record {
-      rows : HasCleanDisk now → (early : ℕ) (F : List Request) → Stands (IsRegisterOf early F) old → AreFiled (register F) l.filed → map view_row l.rows.items ≡ map (listing (register F)) (filter (is_listed l.filer None) (take l.at (register F)));
+      rows : HasCleanDisk now → (early : ℕ) (F : List Request) → Stands (IsRegisterOf early F) old → (filer : List ℕ) → l.own ≡ map own_of (own_filings filer F)
+          → ((n : ℕ) → get nat_cmp l.by n ≡ replacing (own_filings filer F) n)
+          → map view_row l.rows.items ≡ map (listing (own_filings filer F)) (take l.filing-index (own_filings filer F));
       same : HasCleanDisk now → (early : ℕ) (F : List Request) → Stands (IsRegisterOf early F) old → Stands (IsRegisterOf early F) now;
       alive : HasCleanDisk now → (early : ℕ) (F : List Request) → Stands (IsRegisterOf early F) old → IsTrue old.is_open → IsTrue now.is_open;
       mode : l.fn.conn.in_transaction ≡ false → l.conn.in_transaction ≡ false;

@@ -2,7 +2,8 @@ use Rattle.std.proofs.Common.{◌≡◌, ◌∙◌, length, rules}
 use Rattle.sqlite.specs.Held.{state}
 use Rattle.table_rows.proofs.TextLemmas.{query_same, query_survives}
 use Rattle.register_store.proofs.PickTexts.{with_key_text, query_with_key}
-use Rattle.register_store.proofs.PickLemmas.{counts_with_key, query_stopped}
+use Rattle.table_rows.proofs.StopLemmas.{query_stopped}
+use Rattle.register_store.proofs.PickLemmas.{counts_with_key}
 use Rattle.register_store.proofs.picks.count_with_key.Goals as goal
 
 pub returns-in-Ok-clause-counted : goal.returns-in-Ok-clause-counted

@@ -4,7 +4,8 @@ use Rattle.std.proofs.lemmas.Int.{to_z-of_z}
 use Rattle.sqlite.specs.Held.{state}
 use Rattle.table_rows.proofs.TextLemmas.{query_same, query_survives}
 use Rattle.register_store.proofs.PickTexts.{facts_numbered_text, query_facts_numbered}
-use Rattle.register_store.proofs.PickLemmas.{picks_facts_numbered, query_stopped}
+use Rattle.table_rows.proofs.StopLemmas.{query_stopped}
+use Rattle.register_store.proofs.PickLemmas.{picks_facts_numbered}
 use Rattle.register_store.proofs.picks.facts_numbered.Goals as goal
 
 pub returns-clause-picks : goal.returns-clause-picks

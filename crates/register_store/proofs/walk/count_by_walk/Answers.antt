@@ -1,7 +1,7 @@
 use Rattle.std.proofs.Common.{arith}
 use Rattle.sqlite.specs.Held.{state}
 use Rattle.sqlite.specs.State.{HasCleanDisk, IsUnchanged}
-use Rattle.register_store.proofs.PickLemmas.{stopped_after}
+use Rattle.table_rows.proofs.StopLemmas.{stopped_after}
 use Rattle.register_store.proofs.walk.count_by_walk.Goals as goal
 
 pub returns-in-Err-walk-clause-stopped : goal.returns-in-Err-walk-clause-stopped

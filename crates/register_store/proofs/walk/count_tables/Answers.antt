@@ -4,8 +4,8 @@ use Rattle.sqlite.specs.State.{HasCleanDisk, IsUnchanged}
 use Rattle.sqlite.specs.Effect.{Database}
 use Rattle.sqlite.proofs.Callers.{unchanged_then}
 use Rattle.register_store.specs.Schema.{HasCommon, finding_table, filing_table, fact_table}
-use Rattle.register_store.specs.Walk.{CountsTo}
-use Rattle.register_store.proofs.PickLemmas.{stopped_after}
+use Rattle.table_rows.specs.Picking.{CountsTo}
+use Rattle.table_rows.proofs.StopLemmas.{stopped_after}
 use Rattle.register_store.proofs.WalkLemmas.{start_of}
 use Rattle.register_store.proofs.walk.count_tables.Goals as goal
 

@@ -1,8 +1,7 @@
 use Rattle.std.proofs.Common.{sym, subst, ◌∙◌, filter, IsPermutation}
 use Rattle.sqlite.specs.Held.{state}
-use Rattle.register_store.specs.Reads.{has_number}
+use Rattle.table_rows.specs.Picking.{has_number, rows_in}
 use Rattle.register_store.specs.Schema.{finding_table}
-use Rattle.register_store.specs.Walk.{rows_in}
 use Rattle.register_store.proofs.walk.has_findings.Goals as goal
 
 pub returns-in-Ok-clause-found : goal.returns-in-Ok-clause-found

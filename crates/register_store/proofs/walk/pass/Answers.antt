@@ -6,10 +6,9 @@ use Rattle.sqlite.specs.Effect.{Database}
 use Rattle.sqlite.proofs.Callers.{unchanged_then}
 use Rattle.register_store.specs.Columns.{request_in}
 use Rattle.register_store.specs.Found.{has_texts}
-use Rattle.register_store.specs.Reads.{has_number}
+use Rattle.table_rows.specs.Picking.{has_number, Picks, rows_in}
 use Rattle.register_store.specs.Schema.{HasCommon, kept_table}
-use Rattle.register_store.specs.Walk.{Picks, rows_in}
-use Rattle.register_store.proofs.PickLemmas.{stopped_after}
+use Rattle.table_rows.proofs.StopLemmas.{stopped_after}
 use Rattle.register_store.proofs.WalkLemmas.{one_row, passes_all}
 use Rattle.register_store.proofs.walk.pass.Goals as goal
 

@@ -3,11 +3,10 @@ use Rattle.sqlite.specs.Held.{state}
 use Rattle.sqlite.specs.State.{HasCleanDisk, IsUnchanged}
 use Rattle.sqlite.specs.Effect.{Database}
 use Rattle.table_rows.specs.Rows.{counted_from}
-use Rattle.register_store.specs.Reads.{has_number}
+use Rattle.table_rows.specs.Picking.{has_number, Picks}
 use Rattle.register_store.specs.Register.{fact_row}
 use Rattle.register_store.specs.Schema.{HasCommon, fact_table}
-use Rattle.register_store.specs.Walk.{Picks}
-use Rattle.register_store.proofs.PickLemmas.{stopped_after}
+use Rattle.table_rows.proofs.StopLemmas.{stopped_after}
 use Rattle.register_store.proofs.WalkLemmas.{beyond_registered}
 use Rattle.register_store.proofs.walk.pass_registered.Goals as goal
 

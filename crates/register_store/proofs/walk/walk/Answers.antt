@@ -6,7 +6,7 @@ use Rattle.sqlite.proofs.Callers.{unchanged_then}
 use Rattle.table_rows.proofs.StepLemmas.{nothing_left}
 use Rattle.register_store.specs.Schema.{HasCommon}
 use Rattle.register_store.specs.Walk.{Passes}
-use Rattle.register_store.proofs.PickLemmas.{stopped_after}
+use Rattle.table_rows.proofs.StopLemmas.{stopped_after}
 use Rattle.register_store.proofs.WalkLemmas.{walked_on, filed_on}
 use Rattle.register_store.proofs.walk.walk.Goals as goal
 
