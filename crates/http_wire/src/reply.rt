@@ -6,6 +6,9 @@ ghost use Rattle.http_wire.specs.Replies.{reply_parts};
 
 use std::alloc::{AllocError, Global};
 
+/// The room that the head of a reply gets at once: each of the intake's is shorter.
+pub(crate) const HEAD_ROOM: usize = 192;
+
 /// What the content of a reply is.
 #[derive(Clone, Copy, Debug, PartialEq, Eq)]
 pub enum Kind {
@@ -88,7 +91,7 @@ fn reply_head(alloc: Global, reply: &Reply, close: bool) -> Result<Vec<u8>, Allo
     requires { IsSome (phrase reply.now.status) }
     ensures { IfOk result (λ head. head.items ≡ render_head (reply_parts reply.now) close) }
 {
-    let mut head = Vec::new(alloc);
+    let mut head = Vec::with_capacity(alloc, HEAD_ROOM)?;
     push_status(reply.status, &mut head)?;
     push_type(reply.kind, &mut head)?;
     push_content_length(reply.content.len(), &mut head)?;
