@@ -12,9 +12,13 @@ use std::fs;
 use std::hash::{BuildHasher, RandomState};
 use std::io::{self, ErrorKind};
 
-/// How many pages of a file are kept in memory at most once they were read: 32 MiB. A register of 100,000 small reports takes
-/// 4,400 pages.
+/// How many pages of a file are kept in memory at most once they were read, while it is served: 32 MiB. A register of 100,000
+/// small reports takes 4,400 pages.
 const MOST_PAGES: u64 = 8_192;
+
+/// The same for a command that ends at once: 8 MiB. It goes through the tables in the order of their keys, and so needs most
+/// pages once.
+const MOST_PAGES_ONCE: u64 = 2_048;
 
 /// Pages that are kept beside those that a file has: a report of 1 MiB takes 256 of them, and its facts as many.
 const SPARE_PAGES: u64 = 1_024;
@@ -29,7 +33,7 @@ const LEAST_LOG: u64 = 568;
 /// How many pages of a file are kept in memory. Their room is taken at once, so that a command on a small file ends sooner with few.
 #[derive(Clone, Copy, Debug, PartialEq, Eq)]
 pub(crate) enum Cache {
-    /// As many as the file has, and some more: for a command that ends at once.
+    /// As many as the file has and some more, up to a few: for a command that ends at once.
     OfTheFile,
     /// The most: for a file that grows while it is served.
     Largest,
@@ -183,7 +187,7 @@ pub(crate) fn remove_new_log<D: Disk + Drop, P: Place<D>>(
 /// How many pages are kept of a file of so many bytes.
 fn pages(cache: Cache, len: u64) -> usize {
     let pages = match cache {
-        Cache::OfTheFile => MOST_PAGES.min(len / PAGE_LEN + SPARE_PAGES),
+        Cache::OfTheFile => MOST_PAGES_ONCE.min(len / PAGE_LEN + SPARE_PAGES),
         Cache::Largest => MOST_PAGES,
     };
     pages as usize

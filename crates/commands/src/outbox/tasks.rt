@@ -248,6 +248,22 @@ fn send_all<'a, S: Alter + Drop, O: Write>(
     if none { show_none(output) } else { Ok(()) }
 }
 
+/// Sends these entries, and shows their states.
+fn send_which<'a, S: Alter + Drop, O: Write>(
+    rt: &HostRuntime,
+    name: &'a str,
+    port: u16,
+    outbox: &mut Outbox<S>,
+    which: Which,
+    output: &mut O,
+) -> Result<(), Fault<'a>> {
+    match which {
+        Which::Next => send_next(rt, name, port, outbox, output),
+        Which::Entry(id) => send_entry(rt, name, port, outbox, id, output),
+        Which::All => send_all(rt, name, port, outbox, output),
+    }
+}
+
 fn send<'a, D: Disk + Drop, P: Place<D>, O: Write, E: Write>(
     rt: &HostRuntime,
     place: &P,
@@ -258,11 +274,7 @@ fn send<'a, D: Disk + Drop, P: Place<D>, O: Write, E: Write>(
     errors: &mut E,
 ) -> Result<(), Fault<'a>> {
     let mut outbox = open(rt, place, name)?;
-    let sent = match which {
-        Which::Next => send_next(rt, name, port, &mut outbox, output),
-        Which::Entry(id) => send_entry(rt, name, port, &mut outbox, id, output),
-        Which::All => send_all(rt, name, port, &mut outbox, output),
-    };
+    let sent = send_which(rt, name, port, &mut outbox, which, output);
     close(outbox, name, errors);
     sent
 }
@@ -334,6 +346,20 @@ fn show_each<'a, S: Alter + Drop, O: Write>(
     Ok(())
 }
 
+/// Prints such a line for the entry of this id, or for each.
+fn show_which<'a, S: Alter + Drop, O: Write>(
+    alloc: Global,
+    name: &'a str,
+    outbox: &mut Outbox<S>,
+    id: Option<u64>,
+    output: &mut O,
+) -> Result<(), Fault<'a>> {
+    match id {
+        Some(id) => show_long(alloc, name, outbox, id, output),
+        None => show_each(alloc, name, outbox, output),
+    }
+}
+
 fn show_entries<'a, D: Disk + Drop, P: Place<D>, O: Write, E: Write>(
     rt: &HostRuntime,
     place: &P,
@@ -343,10 +369,7 @@ fn show_entries<'a, D: Disk + Drop, P: Place<D>, O: Write, E: Write>(
     errors: &mut E,
 ) -> Result<(), Fault<'a>> {
     let mut outbox = open(rt, place, name)?;
-    let shown = match id {
-        Some(id) => show_long(rt.alloc(), name, &mut outbox, id, output),
-        None => show_each(rt.alloc(), name, &mut outbox, output),
-    };
+    let shown = show_which(rt.alloc(), name, &mut outbox, id, output);
     close(outbox, name, errors);
     shown
 }
