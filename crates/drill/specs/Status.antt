@@ -8,7 +8,7 @@ use Rattle.schedule.specs.declared.fault.Fault.TheVariants as world
 use Rattle.drill.specs.declared.fault.Fault.{Fault}
 use Rattle.drill.specs.declared.fault.Fault.TheVariants as drill
 
--- 2 for a line that says nothing, and 3 for want of memory
+-- 2 for a line that says nothing, and 3 where memory ran out
 abbrev pub script_status : ScriptFault → ℕ
 script_status (script.Unreadable line) = 2
 script_status script.Memory = 3

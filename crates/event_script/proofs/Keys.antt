@@ -5,7 +5,7 @@ use Rattle.key_string.specs.declared.fault.KeyFault.TheVariants.{NotString, Empt
 use Rattle.key_string.specs.Key.{IsFieldFault, key_of_field}
 use Rattle.key_string.proofs.Fields.{key_of_field-none, key_of_field-not_key}
 
--- nor does a field with a fault but want of memory
+-- nor does a field with a fault other than memory
 pub key_of_field-fault : (field : List ℕ) (fault : KeyFault) → IsFieldFault field fault → ¬ (fault ≡ Memory) → key_of_field field ≡ None
 key_of_field-fault field NotString f other = key_of_field-none field (λ text s. absurd (f text s))
 key_of_field-fault field Empty f other = key_of_field-not_key field [] f (λ key. omega (arith, key.nonempty))

@@ -77,7 +77,7 @@ view_script script = record {
   events = map view_event script.events.items;
 }
 
--- the fault tells the wrong line, or want of memory
+-- the fault tells the wrong line, or that memory ran out
 abbrev pub IsFaultOf : {A : Type 0} → Result A ℕ → ScriptFault → Type 0
 IsFaultOf said (Unreadable number) = said ≡ Err number
 IsFaultOf said Memory = ⊤

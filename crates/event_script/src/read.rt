@@ -34,7 +34,7 @@ const DEFAULT_LIMIT: u64 = 1_000_000;
 /// ```
 ///
 /// BODY and TEXT may be empty, behind their space. An error tells the first line that is none of
-/// these where it stands, or want of memory, which says nothing of the text.
+/// these where it stands, or that memory ran out, which says nothing of the text.
 pub fn read_script(alloc: Global, text: &str) -> Result<Script, ScriptFault>
     ensures read { IfOk result (λ script. script_of text.now ≡ Ok (view_script script)) }
     ensures filers { IfOk result (λ script. AreFilers (map string_bytes script.filers.items)) }

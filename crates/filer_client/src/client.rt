@@ -4,10 +4,10 @@ ghost use Rattle.std.specs.Prelude.{◌≡◌, ◌⊎◌, ◌↔◌, List, false
 ghost use Rattle.sqlite.specs.State.{HasCleanDisk, Survives};
 ghost use Rattle.sqlite.specs.Tree.{Trees};
 ghost use Rattle.filing_model.specs.Outbox.{Entry as Item, moved};
-ghost use Rattle.outbox_core.specs.Box.{shows, contents, HasEntries};
+ghost use Rattle.outbox_core.specs.OutboxParts.{shows, contents, HasEntries};
 ghost use Rattle.outbox_core.specs.Entries.{entry_at, set_state};
 ghost use Rattle.outbox_core.specs.Reading.{view_state};
-ghost use Rattle.outbox_core.specs.Rows.{Leaves};
+ghost use Rattle.outbox_core.specs.Rows.{LeavesOutbox};
 ghost use Rattle.filer_client.specs.Exchange.{Hears, moved_at, IsExchanged, WritesBefore, IsFault};
 
 use crate::fault::ExchangeFault;
@@ -53,13 +53,13 @@ pub fn hand_over<R: Source, S: Alter>(
         (entries : List Item) → HasEntries S.Store outbox.old entries → IsTrue (shows S.Store outbox.old).is_open
         → Hears (R.left reader.old) (R.left reader.new) (λ reply.
         (e : Item) × (entry_at entries id ≡ Some e)
-        × Leaves (contents outbox.old (set_state entries id (moved e.state reply))) trees)) }
+        × LeavesOutbox (contents outbox.old (set_state entries id (moved e.state reply))) trees)) }
     ensures durable { HasCleanDisk (shows S.Store outbox.new) → (entries : List Item)
         → HasEntries S.Store outbox.old entries
         → IfOk result (λ to.
         IsTrue (shows S.Store outbox.new).is_open
         × ((trees : Trees) → (shows S.Store outbox.new).may_leave trees
-        → Leaves (contents outbox.new (set_state entries id (view_state to))) trees)) }
+        → LeavesOutbox (contents outbox.new (set_state entries id (view_state to))) trees)) }
 {
     let reply = read_reply(alloc, reader)?;
     Ok(outbox.take(id, &reply)?)
@@ -104,13 +104,13 @@ pub fn exchange<R: Source, W: Sink, S: Alter>(
         (entries : List Item) → HasEntries S.Store outbox.old entries → IsTrue (shows S.Store outbox.old).is_open
         → Hears (R.left reader.old) (R.left reader.new) (λ reply.
         (e : Item) × (entry_at entries id ≡ Some e)
-        × Leaves (contents outbox.old (set_state entries id (moved e.state reply))) trees)) }
+        × LeavesOutbox (contents outbox.old (set_state entries id (moved e.state reply))) trees)) }
     ensures durable { HasCleanDisk (shows S.Store outbox.new) → (entries : List Item)
         → HasEntries S.Store outbox.old entries
         → IfOk result (λ to.
         IsTrue (shows S.Store outbox.new).is_open
         × ((trees : Trees) → (shows S.Store outbox.new).may_leave trees
-        → Leaves (contents outbox.new (set_state entries id (view_state to))) trees)) }
+        → LeavesOutbox (contents outbox.new (set_state entries id (view_state to))) trees)) }
 {
     match open_request(alloc, outbox, id)? {
         ToSend::Request(text) => {

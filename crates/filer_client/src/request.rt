@@ -4,14 +4,15 @@ ghost use Rattle.std.specs.Prelude.{◌≡◌, ◌≤◌, ◌↔◌, List, lengt
 ghost use Rattle.key_string.specs.Filer.{is_filer};
 ghost use Rattle.http_wire.specs.Posting.{IsTarget};
 ghost use Rattle.http_wire.specs.Head.{max_body_len};
-ghost use Rattle.sqlite.specs.State.{HasCleanDisk, Survives};
+ghost use Rattle.sqlite.specs.State.{HasCleanDisk};
 ghost use Rattle.sqlite.specs.Tree.{Trees};
 ghost use Rattle.filing_model.specs.Outbox.{Entry as Item, bytes_of, request_of};
-ghost use Rattle.outbox_core.specs.Box.{shows, contents, HasEntries};
+ghost use Rattle.outbox_core.specs.OutboxParts.{shows, contents, HasEntries};
 ghost use Rattle.outbox_core.specs.Entries.{entry_at};
 ghost use Rattle.outbox_core.specs.Reading.{view_entry};
-ghost use Rattle.outbox_core.specs.Rows.{Leaves};
+ghost use Rattle.outbox_core.specs.Rows.{LeavesOutbox};
 ghost use Rattle.filer_client.specs.Exchange.{request_at, IsToSend};
+ghost use Rattle.table_rows.specs.Standing.{CommitsNothing};
 
 use http_wire::append_request;
 use outbox_core::{Entry, Outbox, State, StoreFault, TakeFault};
@@ -47,12 +48,12 @@ pub fn request_bytes<S: Alter>(
     ensures stops { IsTrue outbox.new.has_failed ↔ (result ≡ Err TakeFault.Store) }
     ensures filer { outbox.new.filer ≡ outbox.old.filer }
     ensures clean { HasCleanDisk (shows S.Store outbox.new) → HasCleanDisk (shows S.Store outbox.old) }
-    ensures crash { Survives (shows S.Store outbox.old) (shows S.Store outbox.new) (λ _. ⊥) }
+    ensures crash { CommitsNothing (shows S.Store outbox.old) (shows S.Store outbox.new) }
     ensures durable { HasCleanDisk (shows S.Store outbox.new) → (entries : List Item)
         → HasEntries S.Store outbox.old entries
         → OnOk result (IsTrue (shows S.Store outbox.new).is_open
         × ((trees : Trees) → (shows S.Store outbox.new).may_leave trees
-        → Leaves (contents outbox.new entries) trees)) }
+        → LeavesOutbox (contents outbox.new entries) trees)) }
 {
     let entry = find_entry(outbox, id)?;
     request_of(alloc, outbox.filer(), &entry)
@@ -77,12 +78,12 @@ pub fn open_request<S: Alter>(
     ensures stops { IsTrue outbox.new.has_failed ↔ (result ≡ Err TakeFault.Store) }
     ensures filer { outbox.new.filer ≡ outbox.old.filer }
     ensures clean { HasCleanDisk (shows S.Store outbox.new) → HasCleanDisk (shows S.Store outbox.old) }
-    ensures crash { Survives (shows S.Store outbox.old) (shows S.Store outbox.new) (λ _. ⊥) }
+    ensures crash { CommitsNothing (shows S.Store outbox.old) (shows S.Store outbox.new) }
     ensures durable { HasCleanDisk (shows S.Store outbox.new) → (entries : List Item)
         → HasEntries S.Store outbox.old entries
         → OnOk result (IsTrue (shows S.Store outbox.new).is_open
         × ((trees : Trees) → (shows S.Store outbox.new).may_leave trees
-        → Leaves (contents outbox.new entries) trees)) }
+        → LeavesOutbox (contents outbox.new entries) trees)) }
 {
     let entry = find_entry(outbox, id)?;
     match entry.state {
@@ -106,12 +107,12 @@ fn find_entry<S: Alter>(outbox: &mut Outbox<S>, id: u64) -> Result<Entry, TakeFa
     ensures stops { IsTrue outbox.new.has_failed ↔ (result ≡ Err TakeFault.Store) }
     ensures filer { outbox.new.filer ≡ outbox.old.filer }
     ensures clean { HasCleanDisk (shows S.Store outbox.new) → HasCleanDisk (shows S.Store outbox.old) }
-    ensures crash { Survives (shows S.Store outbox.old) (shows S.Store outbox.new) (λ _. ⊥) }
+    ensures crash { CommitsNothing (shows S.Store outbox.old) (shows S.Store outbox.new) }
     ensures durable { HasCleanDisk (shows S.Store outbox.new) → (entries : List Item)
         → HasEntries S.Store outbox.old entries
         → OnOk result (IsTrue (shows S.Store outbox.new).is_open
         × ((trees : Trees) → (shows S.Store outbox.new).may_leave trees
-        → Leaves (contents outbox.new entries) trees)) }
+        → LeavesOutbox (contents outbox.new entries) trees)) }
 {
     match outbox.entry(id) {
         Ok(Some(entry)) => Ok(entry),

@@ -14,7 +14,7 @@ use Rattle.filing_model.specs.Style.{style_of}
 use Rattle.filing_model.specs.Reply.{reply_as, list_reply}
 use Rattle.filing_model.specs.declared.served.Mark.{Mark}
 use Rattle.filing_model.specs.declared.served.Mark.TheVariants.{Done, Unavailable, NotFiled}
-use Rattle.filing_model.specs.Text.{Route, Told, Listed, Filed, route, RouteFits, MarkFits, MarksFit, completed_at, reply_with, reply_on, reply_text_with, text_with, interim_of}
+use Rattle.filing_model.specs.Text.{Route, Reject, ListFilings, FileReport, route, RouteFits, MarkFits, MarksFit, completed_at, reply_with, reply_on, reply_text_with, text_with, interim_of}
 use Rattle.filing_model.proofs.Firsts.{has_key-firsts, firsts-append}
 use Rattle.filing_model.proofs.Answers.{answer-firsts, register-firsts}
 
@@ -36,9 +36,9 @@ module _ (old new : List Request) (same : firsts old ≡ firsts new) where
   register_alike = sym (register-firsts old) ∙ ap register same ∙ register-firsts new
 
   reply_on_alike : (early : List Request) (to : Route) → reply_on early old to ≡ reply_on early new to
-  reply_on_alike early (Told reply) = refl
-  reply_on_alike early (Listed filer number) = ap (λ fs. list_reply (listings filer number fs)) register_alike
-  reply_on_alike early (Filed r) = ap (reply_as (style_of early r)) (answer_alike r)
+  reply_on_alike early (Reject reply) = refl
+  reply_on_alike early (ListFilings filer number) = ap (λ fs. list_reply (listings filer number fs)) register_alike
+  reply_on_alike early (FileReport r) = ap (reply_as (style_of early r)) (answer_alike r)
 
   pub reply_alike : (early : List Request) (m : Message) → reply_with early old m ≡ reply_with early new m
   reply_alike early m = reply_on_alike early (route m)
@@ -50,18 +50,18 @@ module _ (old new : List Request) (same : firsts old ≡ firsts new) where
   reply_text_alike early (Place.Refused refusal) mark = refl
 
   route_fits_alike : (limit : ℕ) (to : Route) (mark : Mark) → RouteFits limit old to mark → RouteFits limit new to mark
-  route_fits_alike limit (Filed r) Done fit = ⊎_elim
+  route_fits_alike limit (FileReport r) Done fit = ⊎_elim
       (λ (h : has_key old r ≡ true). inl (sym (has_key_alike r) ∙ h))
       (λ (h : length (firsts old) < limit). inr (subst (λ (rs : List Request). length rs < limit) same h))
       fit
-  route_fits_alike limit (Filed r) Unavailable fit = fit
-  route_fits_alike limit (Filed r) NotFiled fit = fit
-  route_fits_alike limit (Listed filer number) Done fit = fit
-  route_fits_alike limit (Listed filer number) Unavailable fit = fit
-  route_fits_alike limit (Listed filer number) NotFiled fit = fit
-  route_fits_alike limit (Told reply) Done fit = fit
-  route_fits_alike limit (Told reply) Unavailable fit = fit
-  route_fits_alike limit (Told reply) NotFiled fit = fit
+  route_fits_alike limit (FileReport r) Unavailable fit = fit
+  route_fits_alike limit (FileReport r) NotFiled fit = fit
+  route_fits_alike limit (ListFilings filer number) Done fit = fit
+  route_fits_alike limit (ListFilings filer number) Unavailable fit = fit
+  route_fits_alike limit (ListFilings filer number) NotFiled fit = fit
+  route_fits_alike limit (Reject reply) Done fit = fit
+  route_fits_alike limit (Reject reply) Unavailable fit = fit
+  route_fits_alike limit (Reject reply) NotFiled fit = fit
 
   mark_fits_alike : (limit : ℕ) (place : Place) (mark : Mark) → MarkFits limit old place mark → MarkFits limit new place mark
   mark_fits_alike limit (Place.Read m) mark fit = route_fits_alike limit (route m) mark fit

@@ -9,11 +9,11 @@ use Rattle.http_wire.specs.Reply.{render}
 use Rattle.filing_model.specs.declared.served.Mark.{Mark}
 use Rattle.filing_model.specs.declared.served.Mark.TheVariants.{Done, Unavailable, NotFiled}
 use Rattle.filing_model.specs.Request.{Request}
-use Rattle.filing_model.specs.Text.{Route, Told, place_of_path, route_by_method, route_by_place, bare, is_head, route, reply_on, reply_with, MarkFits, RouteFits, reply_text_with}
+use Rattle.filing_model.specs.Text.{Route, Reject, place_of_path, route_by_method, route_by_place, bare, is_head, route, reply_on, reply_with, MarkFits, RouteFits, reply_text_with}
 
 -- a route that tells a status by problem details, and no content
 abbrev IsBare : Route → Type 0
-IsBare to = (status : ℕ) × (to ≡ Told (record { status = status; content = []; kind = Problem }))
+IsBare to = (status : ℕ) × (to ≡ Reject (record { status = status; content = []; kind = Problem }))
 
 module _ (m : Message) (head : m.head.method ≡ codes "HEAD") where
   by_method : (filer : List ℕ) (target : Option ℕ) → IsBare (bare true (route_by_method filer target m))
@@ -44,7 +44,7 @@ module _ (m : Message) (head : m.head.method ≡ codes "HEAD") where
         → reply_text_with early requests (Place.Read m) mark ≡ render (record { status = (reply_with early requests m).status; content = []; kind = Problem }) (closes m.head)
     reply_text-head limit mark fit = by_mark mark (subst (λ to. RouteFits limit requests to mark) route-head.1 fit)
       where
-        by_mark : (mark : Mark) → RouteFits limit requests (Told (record { status = route-head.0; content = []; kind = Problem })) mark
+        by_mark : (mark : Mark) → RouteFits limit requests (Reject (record { status = route-head.0; content = []; kind = Problem })) mark
             → reply_text_with early requests (Place.Read m) mark ≡ render (record { status = (reply_with early requests m).status; content = []; kind = Problem }) (closes m.head)
         by_mark Done fits = absurd fits
         by_mark Unavailable fits = absurd fits

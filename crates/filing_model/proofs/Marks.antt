@@ -8,7 +8,7 @@ use Rattle.filing_model.specs.Reply.{reply_of}
 use Rattle.filing_model.specs.declared.served.Style.TheVariants.{Problem}
 use Rattle.filing_model.specs.declared.served.Mark.{Mark}
 use Rattle.filing_model.specs.declared.served.Mark.TheVariants.{Done, Unavailable, NotFiled}
-use Rattle.filing_model.specs.Text.{Route, Told, Listed, Filed, route, RouteFits, MarkFits, MarksFit, requests_of_route, completed, completed_at, interim_of, reply_text_with, text_with, RepliesStand}
+use Rattle.filing_model.specs.Text.{Route, Reject, ListFilings, FileReport, route, RouteFits, MarkFits, MarksFit, requests_of_route, completed, completed_at, interim_of, reply_text_with, text_with, RepliesStand}
 use Rattle.filing_model.proofs.Lists.{append_nil, prefix_refl, prefix_after}
 use Rattle.filing_model.proofs.Firsts.{firsts_repeat, firsts_one_more}
 use Rattle.filing_model.proofs.Answers.{answer_stable, reply_as-as_repeat}
@@ -26,14 +26,14 @@ text_prefix limit early requests (place ∷ places) ending (mark ∷ marks) (suc
 -- ---- the register stays within its limit
 
 within_route : (limit : ℕ) (requests : List Request) (to : Route) (mark : Mark) → RouteFits limit requests to mark → length (firsts requests) ≤ limit → length (firsts (requests ++ requests_of_route to mark)) ≤ limit
-within_route limit requests (Filed r) Done fit h = ⊎_elim
+within_route limit requests (FileReport r) Done fit h = ⊎_elim
     (λ (k : has_key requests r ≡ true). omega (arith, ap length (firsts_repeat requests r k)))
     (λ (k : length (firsts requests) < limit). omega (arith, firsts_one_more requests r))
     fit
-within_route limit requests (Filed r) Unavailable fit h = rw append_nil h
-within_route limit requests (Filed r) NotFiled fit h = rw append_nil h
-within_route limit requests (Listed filer number) mark fit h = rw append_nil h
-within_route limit requests (Told reply) mark fit h = rw append_nil h
+within_route limit requests (FileReport r) Unavailable fit h = rw append_nil h
+within_route limit requests (FileReport r) NotFiled fit h = rw append_nil h
+within_route limit requests (ListFilings filer number) mark fit h = rw append_nil h
+within_route limit requests (Reject reply) mark fit h = rw append_nil h
 
 within_place : (limit : ℕ) (requests : List Request) (place : Place) (mark : Mark) → MarkFits limit requests place mark → length (firsts requests) ≤ limit → length (firsts (requests ++ completed_at place mark)) ≤ limit
 within_place limit requests (Place.Read m) mark fit h = within_route limit requests (route m) mark fit h

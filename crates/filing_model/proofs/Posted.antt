@@ -17,7 +17,7 @@ use Rattle.http_wire.specs.Head.{RequestParts, values_named}
 use Rattle.http_wire.specs.Posting.{IsTarget, place_of}
 use Rattle.http_wire.specs.Request.{Request as Message}
 use Rattle.http_wire.proofs.ValueLemmas.{decimal-read}
-use Rattle.filing_model.specs.Text.{Route, Filed, target_in, place_in, place_of_path, route_by_key, route_by_keys, route_by_method, route_by_place, bare, route}
+use Rattle.filing_model.specs.Text.{Route, FileReport, target_in, place_in, place_of_path, route_by_key, route_by_keys, route_by_method, route_by_place, bare, route}
 
 -- ---- the place in a path
 
@@ -86,7 +86,7 @@ pub record IsPost (head : RequestParts) (filer : List ℕ) (target : Option ℕ)
 
 module _ (m : Message) (filer : List ℕ) (target : Option ℕ) (key : List ℕ) (filer_is : is_filer filer ≡ true) (target_is : IsTarget target) (key_is : IsKey key) (post : IsPost m.head filer target key) where
   abbrev filed : Route
-  filed = Filed (record { filer = filer; key = key; target = target; body = m.body })
+  filed = FileReport (record { filer = filer; key = key; target = target; body = m.body })
 
   by_key : route_by_keys filer target (values_named (codes "idempotency-key") m.head.fields) m.body ≡ filed
   by_key =

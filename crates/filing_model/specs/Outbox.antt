@@ -24,12 +24,12 @@ abbrev pub has_word : List ℕ → List ℕ → Data → Bool
 has_word name word d = unwrap_or (option_map (λ text. bytes_eq text word) (option_and_then as_str (get name d))) false
 
 -- whether the member `status` is this word
-abbrev pub says : List ℕ → Data → Bool
-says word d = has_word (codes "status") word d
+abbrev pub has_status : List ℕ → Data → Bool
+has_status word d = has_word (codes "status") word d
 
 -- whether it is refused for this reason: problem details have it in `reason`, and earlier contents in `status`
 abbrev pub refuses : List ℕ → Data → Bool
-refuses word d = says word d || has_word (codes "reason") word d
+refuses word d = has_status word d || has_word (codes "reason") word d
 
 -- the member `number`, where it is a whole number that is not below zero
 abbrev pub number_told : Data → Option ℕ
@@ -43,7 +43,7 @@ confirmed_by (Some n) = if nat_le 1 n && nat_lt n (2 ^ 63) then Confirmed n else
 -- what the status and the JSON value of a content say of a report
 abbrev pub state_by : ℕ → Data → State
 state_by status d =
-    if (status == 201) && says (codes "registered") d then confirmed_by (number_told d)
+    if (status == 201) && has_status (codes "registered") d then confirmed_by (number_told d)
     else (if ((status == 422) || (status == 400)) && refuses (codes "refused") d then Refused
     else (if (status == 422) && refuses (codes "key-reused") d then Clashed else Open))
 

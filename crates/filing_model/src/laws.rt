@@ -97,7 +97,8 @@ pub fn serves_as_the_model_says()
         (out : List ℕ)
         → before ≡ firsts done → IsEndOf read more ended → Serves limit [] before after read marks ended out
         → (places : List Place)
-        × ServesUntil limit done (read ++ more) No places marks (Some ended) out × (after ≡ firsts (done ++ completed places marks)) }
+        × ServesUntil limit done (read ++ more) No places marks
+        (Some ended) out × (after ≡ firsts (done ++ completed places marks)) }
 {}
 
 /// So it is where serving may stop at a place. What was stopped tells no end, and the places that it

@@ -20,7 +20,7 @@ use Rattle.filing_model.specs.Answer.{Answer, answer, IsRegistered}
 use Rattle.filing_model.specs.Reply.{reply_as, reply_of, unavailable, refused_status}
 use Rattle.filing_model.specs.Outbox.{Open, Confirmed, Refused, Clashed, moved, state_told, IsSendable, bytes_of}
 use Rattle.filing_model.specs.Stopping.{Crash, No, Before, After, BeginsPlaces}
-use Rattle.filing_model.specs.Text.{Filed, RouteFits, MarksFit, completed, completed_at, requests_of_route, reply, reply_on, reply_text_with, text, text_with, interim_of, next_interim}
+use Rattle.filing_model.specs.Text.{FileReport, RouteFits, MarksFit, completed, completed_at, requests_of_route, reply, reply_on, reply_text_with, text, text_with, interim_of, next_interim}
 use Rattle.filing_model.proofs.Answers.{answer_registered, registered_grows}
 use Rattle.filing_model.proofs.Lists.{append_nil, prefix_nil, take_prefix, take_within, take_all, prefix_trans}
 use Rattle.filing_model.proofs.Finals.{answer-readable, unavailable-readable, told-exactly, answer_number}
@@ -114,7 +114,7 @@ module _ (limit : ℕ) (before : List Request) (small : length (firsts before) �
   unfolding text_with
   one_text m alone mark = ap (λ front. front ++ (reply_text_with [] before (Place.Read m) mark ++ [])) (silent_interim m alone) ∙ append_nil (reply_text_with [] before (Place.Read m) mark)
 
-  by_mark : (m : Message) → FilesAlone m r → (mark : Mark) → RouteFits limit before (Filed r) mark → IsPrefixOf part (reply_text_with [] before (Place.Read m) mark) → IsRegistered (before ++ requests_of_route (Filed r) mark) r n
+  by_mark : (m : Message) → FilesAlone m r → (mark : Mark) → RouteFits limit before (FileReport r) mark → IsPrefixOf part (reply_text_with [] before (Place.Read m) mark) → IsRegistered (before ++ requests_of_route (FileReport r) mark) r n
   by_mark m alone Done fit front = heard_answer (closes m.head) (subst (λ reply. IsPrefixOf part (render reply (closes m.head))) (reply_alone before m r alone) front)
   by_mark m alone Unavailable fit front = absurd (heard_unavailable (closes m.head) front)
   by_mark m alone NotFiled fit front = absurd fit

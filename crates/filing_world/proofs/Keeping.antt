@@ -25,7 +25,7 @@ use Rattle.filing_model.proofs.Valid.{register_valid}
 use Rattle.filing_world.specs.World.{Outbox, Sent, Output, World, Event, Put, Send, Stranger, Deliver, Hand, RestartServer, RestartOutbox, numbered, renewed, new_outbox}
 use Rattle.filing_world.specs.Step.{is_no, takes, with_entry, Puts, Sends, Delivers, Hears, heard_by, box_after, Hands, Restarts, Step, Run}
 use Rattle.filing_world.specs.Headline.{AreFilers, start, IsOutput, CompleteInTurn, HaveOwnKeys, IsOwn, Holds}
-use Rattle.filing_world.specs.Invariant.{IsSound, IsSoundBox, AllBoxes, AllOutputs, AllOwn, Keeps}
+use Rattle.filing_world.specs.Invariant.{IsSound, IsSoundOutbox, AllOutboxes, AllOutputs, AllOwn, Keeps}
 use Rattle.filing_world.proofs.Lists.{numbered_renewed, renewed_numbered, renewed_other, numbered_push, numbered_last, numbered_grows, get_push, same_element, any_at}
 use Rattle.filing_world.proofs.Hearing.{hears, hears_gives}
 use Rattle.filing_world.proofs.Stability.{answers_stand}
@@ -36,9 +36,9 @@ use Rattle.filing_world.proofs.Stability.{answers_stand}
 abbrev KeepsBox : Outbox → Outbox → Type 0
 KeepsBox old new = (number : ℕ) (entry : Entry) → numbered old.entries number ≡ Some entry → (now : Entry) × (numbered new.entries number ≡ Some now) × (request_of new.filer now ≡ request_of old.filer entry)
 
-boxes_renewed : (done : List Request) (boxes : List Outbox) (outbox : ℕ) (new : Outbox) → AllBoxes done boxes → IsSoundBox done new → AllBoxes done (renewed boxes outbox new)
+boxes_renewed : (done : List Request) (boxes : List Outbox) (outbox : ℕ) (new : Outbox) → AllOutboxes done boxes → IsSoundOutbox done new → AllOutboxes done (renewed boxes outbox new)
 boxes_renewed done boxes outbox new all sound which box here = ⊎_elim
-    (λ (e : (which ≡ outbox) × (box ≡ new)). subst (IsSoundBox done) (sym e.1) sound)
+    (λ (e : (which ≡ outbox) × (box ≡ new)). subst (IsSoundOutbox done) (sym e.1) sound)
     (λ (e : numbered boxes which ≡ Some box). all which box e)
     (numbered_renewed boxes outbox which new box here)
 
@@ -99,7 +99,7 @@ output_sent limit done sent more output out = record {
   stable = out.stable;
 }
 
-sound_done : (done more : List Request) (box : Outbox) → IsSoundBox done box → IsSoundBox (done ++ more) box
+sound_done : (done more : List Request) (box : Outbox) → IsSoundOutbox done box → IsSoundOutbox (done ++ more) box
 sound_done done more box sound = record {
   is_filer' = sound.is_filer';
   entries = λ number entry here.
@@ -126,7 +126,7 @@ turn_push limit done more before sent (output ∷ outputs) last out begins adds 
 
 -- ---- the events
 
-puts_box : (done : List Request) (box : Outbox) (entry : Entry) → IsKey entry.key → IsTarget entry.target → entry.state ≡ Open → IsSoundBox done box → IsSoundBox done (with_entry box entry) × KeepsBox box (with_entry box entry)
+puts_box : (done : List Request) (box : Outbox) (entry : Entry) → IsKey entry.key → IsTarget entry.target → entry.state ≡ Open → IsSoundOutbox done box → IsSoundOutbox done (with_entry box entry) × KeepsBox box (with_entry box entry)
 puts_box done box entry is_key is_target open' sound = ⊎_elim
     (λ (h : takes box entry ≡ true). rw h (added (leb-true _ _ (and_parts _ _ h).0) (and_parts _ _ h).1))
     (λ (h : takes box entry ≡ false). rw h (sound, λ number which here. (which, here, refl)))
@@ -162,7 +162,7 @@ puts_box done box entry is_key is_target open' sound = ⊎_elim
         (numbered_last box.entries entry other second there))
         (numbered_last box.entries entry one first here)
 
-    added : length entry.body ≤ max_body_len → not (list_any (λ e. bytes_eq e.key entry.key) box.entries) ≡ true → IsSoundBox done more × KeepsBox box more
+    added : length entry.body ≤ max_body_len → not (list_any (λ e. bytes_eq e.key entry.key) box.entries) ≡ true → IsSoundOutbox done more × KeepsBox box more
     added short none = (
       record {
         is_filer' = sound.is_filer';
@@ -178,7 +178,7 @@ puts_box done box entry is_key is_target open' sound = ⊎_elim
 pub keeps_put : (old : World) (outbox : ℕ) (entry : Entry) (new : World) → entry.state ≡ Open → Keeps old → Puts old outbox entry new → Keeps new
 keeps_put old outbox entry new open' keeps step = subst Keeps (sym step.becomes) after
   where
-    parts : IsSoundBox old.done (with_entry step.box entry) × KeepsBox step.box (with_entry step.box entry)
+    parts : IsSoundOutbox old.done (with_entry step.box entry) × KeepsBox step.box (with_entry step.box entry)
     parts = puts_box old.done step.box entry step.is_key step.is_target open' (keeps.boxes outbox step.box step.here)
 
     after : Keeps (record old { outboxes = renewed old.outboxes outbox (with_entry step.box entry) })
@@ -293,7 +293,7 @@ keeps_hand old output given crash new keeps step = subst Keeps (sym step.becomes
     box : Outbox
     box = box_after step.box step.number step.entry step.heard crash
 
-    was : IsSoundBox old.done step.box
+    was : IsSoundOutbox old.done step.box
     was = keeps.boxes step.outbox step.box step.box_here
 
     sound : IsSound old.done step.box.filer step.entry
@@ -331,7 +331,7 @@ keeps_hand old output given crash new keeps step = subst Keeps (sym step.becomes
         let b = key_at other second there in
         was.keys one other a.0 b.0 a.1 b.1 (a.2 ∙ same ∙ sym b.2)
 
-    new_box : IsSoundBox old.done box
+    new_box : IsSoundOutbox old.done box
     new_box = record {
       is_filer' = was.is_filer';
       entries = λ number which here. ⊎_elim
@@ -362,7 +362,7 @@ keeps_hand old output given crash new keeps step = subst Keeps (sym step.becomes
 pub keeps_restart : (old : World) (outbox : ℕ) (new : World) → Keeps old → Restarts old outbox new → Keeps new
 keeps_restart old outbox new keeps step = subst Keeps (sym step.becomes) after
   where
-    was : IsSoundBox old.done step.box
+    was : IsSoundOutbox old.done step.box
     was = keeps.boxes outbox step.box step.here
 
     box : Outbox
@@ -394,11 +394,11 @@ keeps_run old (event ∷ events) new keeps run = keeps_run run.0 events new (kee
 
 -- ---- at first, and what follows
 
-boxes_at_first : (filers : List (List ℕ)) → AreFilers filers → (k : ℕ) (box : Outbox) → slice_get (map new_outbox filers) k ≡ Some box → IsSoundBox [] box
+boxes_at_first : (filers : List (List ℕ)) → AreFilers filers → (k : ℕ) (box : Outbox) → slice_get (map new_outbox filers) k ≡ Some box → IsSoundOutbox [] box
 boxes_at_first [] are k box here = absurd (cc)
 boxes_at_first (filer ∷ filers) are zero box here =
     let new : new_outbox filer ≡ box = cc in
-    subst (IsSoundBox []) new (record { is_filer' = (and_parts _ _ are).0; entries = λ number entry there. absurd (none number entry there); keys = λ one other entry again here. absurd (none one entry here) })
+    subst (IsSoundOutbox []) new (record { is_filer' = (and_parts _ _ are).0; entries = λ number entry there. absurd (none number entry there); keys = λ one other entry again here. absurd (none one entry here) })
   where
     none : (number : ℕ) (entry : Entry) → numbered [] number ≡ Some entry → ⊥
     none zero entry e = cc
@@ -424,7 +424,7 @@ keeps_start filers limit are small = record {
     none : length (firsts []) ≤ limit
     none = omega (arith, firsts_none)
 
-    boxes : AllBoxes [] (map new_outbox filers)
+    boxes : AllOutboxes [] (map new_outbox filers)
     boxes zero box here = absurd (cc)
     boxes (suc k) box here = boxes_at_first filers are k box here
 

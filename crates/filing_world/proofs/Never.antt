@@ -20,7 +20,7 @@ use Rattle.filing_model.specs.Answer.{Answer, answer}
 use Rattle.filing_model.specs.Reply.{reply_as, reply_of, unavailable}
 use Rattle.filing_model.specs.Outbox.{State, bytes_of, IsSendable}
 use Rattle.filing_model.specs.Stopping.{Crash, BeginsPlaces}
-use Rattle.filing_model.specs.Text.{Filed, MarksFit, completed, requests_of_route, interim_of, reply_text_with, text, text_with}
+use Rattle.filing_model.specs.Text.{FileReport, MarksFit, completed, requests_of_route, interim_of, reply_text_with, text, text_with}
 use Rattle.filing_model.proofs.Firsts.{same_target-is}
 use Rattle.filing_model.proofs.Finals.{answer-readable, unavailable-readable}
 use Rattle.filing_model.proofs.Keeping.{register_numbered}
@@ -156,7 +156,7 @@ undecided done r close again few front =
     other_status (answer done r) (sym (ap (λ (x : ReplyParts). x.status) same))
 
 module _ (limit : ℕ) (done : List Request) (few : length (firsts done) ≤ 2 ^ 62) (r : Request) (close : Bool) where
-  by_mark : (m : Message) → FilesAlone m r → (mark : Mark) → IsPrefixOf (render unavailable close) (text done (Place.Read m ∷ []) Ending.Closed (mark ∷ [])) → requests_of_route (Filed r) mark ≡ []
+  by_mark : (m : Message) → FilesAlone m r → (mark : Mark) → IsPrefixOf (render unavailable close) (text done (Place.Read m ∷ []) Ending.Closed (mark ∷ [])) → requests_of_route (FileReport r) mark ≡ []
   unfolding text_with
   by_mark m alone Unavailable front = refl
   by_mark m alone NotFiled front = refl

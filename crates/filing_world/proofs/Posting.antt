@@ -15,11 +15,11 @@ use Rattle.filing_model.specs.Request.{Request}
 use Rattle.filing_model.specs.Outbox.{bytes_of, IsSendable}
 use Rattle.filing_model.specs.Stopping.{BeginsPlaces}
 use Rattle.filing_model.proofs.Posted.{route-post}
-use Rattle.filing_model.specs.Text.{Filed, route}
+use Rattle.filing_model.specs.Text.{FileReport, route}
 
 -- a message that files the request and asks for no interim response
 pub record FilesAlone (m : Message) (r : Request) : Type 0 where
-  pub filed : route m ≡ Filed r
+  pub filed : route m ≡ FileReport r
   pub silent : awaits m.head ≡ false
 
 -- the bytes that are sent for the request are one message, which files it and closes the connection

@@ -23,7 +23,7 @@ use Rattle.filing_model.specs.declared.served.Ended.{Ended}
 use Rattle.filing_model.specs.Request.{Request}
 use Rattle.filing_model.specs.Outbox.{State, Open, moved, Entry, IsSendable, request_of, bytes_of}
 use Rattle.filing_model.specs.Stopping.{Crash, No, Before, After, marked, BeginsPlaces, IsWhole, IsCut, ServesUntil}
-use Rattle.filing_model.specs.Text.{Route, Told, Listed, Filed, route, requests_of_route, completed, completed_at}
+use Rattle.filing_model.specs.Text.{Route, Reject, ListFilings, FileReport, route, requests_of_route, completed, completed_at}
 use Rattle.filing_model.proofs.Lists.{append_nil, take_take}
 use Rattle.filing_model.proofs.Stopping.{serves_begin}
 use Rattle.filing_world.specs.World.{World, Outbox, Output, Sent, Put, Send, Deliver, Hand, RestartOutbox, numbered, renewed}
@@ -81,11 +81,11 @@ put_adds old new outbox box key target body here short unused step = there ∙ a
 -- ---- what a delivery completes
 
 few_of_route : (to : Route) (mark : Mark) → length (requests_of_route to mark) ≤ 1
-few_of_route (Filed r) Done = omega arith
-few_of_route (Filed r) Unavailable = omega arith
-few_of_route (Filed r) NotFiled = omega arith
-few_of_route (Listed filer number) mark = omega arith
-few_of_route (Told reply) mark = omega arith
+few_of_route (FileReport r) Done = omega arith
+few_of_route (FileReport r) Unavailable = omega arith
+few_of_route (FileReport r) NotFiled = omega arith
+few_of_route (ListFilings filer number) mark = omega arith
+few_of_route (Reject reply) mark = omega arith
 
 few_at : (place : Place) (mark : Mark) → length (completed_at place mark) ≤ 1
 few_at (Place.Read m) mark = few_of_route (route m) mark
@@ -152,7 +152,7 @@ module _ (old new : World) (item given : ℕ) (crash : Crash) (from : Sent) (r :
   unfolding completed
   none_of marks = refl
 
-  one_or_none : (mark : Mark) → (requests_of_route (Filed r) mark ≡ []) ⊎ (requests_of_route (Filed r) mark ≡ r ∷ [])
+  one_or_none : (mark : Mark) → (requests_of_route (FileReport r) mark ≡ []) ⊎ (requests_of_route (FileReport r) mark ≡ r ∷ [])
   one_or_none Done = inr refl
   one_or_none Unavailable = inl refl
   one_or_none NotFiled = inl refl
@@ -161,10 +161,10 @@ module _ (old new : World) (item given : ℕ) (crash : Crash) (from : Sent) (r :
   unfolding completed
   one_of m alone [] = inl refl
   one_of m alone (mark ∷ marks) =
-      let told : requests_of_route (route m) mark ++ [] ≡ requests_of_route (Filed r) mark = append_nil _ ∙ ap (λ to. requests_of_route to mark) alone.filed in
+      let told : requests_of_route (route m) mark ++ [] ≡ requests_of_route (FileReport r) mark = append_nil _ ∙ ap (λ to. requests_of_route to mark) alone.filed in
       ⊎_elim
-      (λ (e : requests_of_route (Filed r) mark ≡ []). inl (told ∙ e))
-      (λ (e : requests_of_route (Filed r) mark ≡ r ∷ []). inr (told ∙ e))
+      (λ (e : requests_of_route (FileReport r) mark ≡ []). inl (told ∙ e))
+      (λ (e : requests_of_route (FileReport r) mark ≡ r ∷ []). inr (told ∙ e))
       (one_or_none mark)
 
   pub of_an_entry : (new.done ≡ old.done) ⊎ (new.done ≡ old.done ++ r ∷ [])

@@ -41,7 +41,7 @@ pub record IsAll (all : ℕ) (r : Request) : Type 0 where
   pub clash : length clash_bytes ≤ all
 
 -- what a world holds at last: so many completed requests, these filings, these bytes of outputs and these states of entries
-pub record Leaves (world : World) (done : ℕ) (filings : List Filing) (outputs : List (List ℕ)) (known : List (ℕ × ℕ × State)) : Type 0 where
+pub record EndsWith (world : World) (done : ℕ) (filings : List Filing) (outputs : List (List ℕ)) (known : List (ℕ × ℕ × State)) : Type 0 where
   pub count : length world.done ≡ done
   pub registered : register world.done ≡ filings
   pub written : map (λ o. o.bytes) world.outputs ≡ outputs
@@ -49,7 +49,7 @@ pub record Leaves (world : World) (done : ℕ) (filings : List Filing) (outputs 
 
 -- some run of these events leaves that
 abbrev pub MayLeave : World → List Event → ℕ → List Filing → List (List ℕ) → List (ℕ × ℕ × State) → Type 0
-MayLeave old events done filings outputs known = (new : World) × Run old events new × Leaves new done filings outputs known
+MayLeave old events done filings outputs known = (new : World) × Run old events new × EndsWith new done filings outputs known
 
 -- one outbox, with its report in it, sent once
 abbrev pub sent_once : Request → List Event → List Event

@@ -7,11 +7,11 @@ use Rattle.filing_model.specs.declared.served.Mark.{Mark}
 use Rattle.filing_model.specs.declared.served.Mark.TheVariants.{Unavailable, NotFiled}
 use Rattle.filing_model.specs.Request.{Request}
 use Rattle.filing_model.specs.Serving.{kept_by}
-use Rattle.filing_model.specs.Text.{Route, Listed, Filed, RouteFits, requests_of_route, bare}
+use Rattle.filing_model.specs.Text.{Route, ListFilings, FileReport, RouteFits, requests_of_route, bare}
 use Rattle.gateway_server.specs.declared.decide.Decided.{Decided}
 use Rattle.gateway_server.specs.declared.route.Route.TheVariants as asked
-use Rattle.gateway_server.specs.declared.route.Told.{Told}
-use Rattle.gateway_server.specs.Decided.{Decides, IsUnavailable, marked_reply, told_reply}
+use Rattle.gateway_server.specs.declared.route.Rejection.{Rejection}
+use Rattle.gateway_server.specs.Decided.{Decides, IsUnavailable, marked_reply, rejection_reply}
 use Rattle.gateway_server.specs.Route.{view_route}
 
 decides : (limit : ℕ) (early requests : List Request) (to : Route) (d : Decided) → IsUnavailable d → RouteFits limit requests to Unavailable → requests ≡ kept_by requests (requests_of_route to Unavailable) → Decides limit early requests requests to d
@@ -21,13 +21,13 @@ decides limit early requests to d is fit kept = record {
   reply = subst (λ (m : Mark). IfOk d.reply (λ r. reply_parts r ≡ marked_reply early requests to m)) (sym is.mark) is.reply;
 }
 
-pub Decides-listed_unavailable : (limit : ℕ) (early requests : List Request) (filer : List ℕ) (number : Option ℕ) (d : Decided) → IsUnavailable d → Decides limit early requests requests (Listed filer number) d
-Decides-listed_unavailable limit early requests filer number d is = decides limit early requests (Listed filer number) d is tt refl
+pub Decides-listed_unavailable : (limit : ℕ) (early requests : List Request) (filer : List ℕ) (number : Option ℕ) (d : Decided) → IsUnavailable d → Decides limit early requests requests (ListFilings filer number) d
+Decides-listed_unavailable limit early requests filer number d is = decides limit early requests (ListFilings filer number) d is tt refl
 
-pub Decides-filed_unavailable : (limit : ℕ) (early requests : List Request) (r : Request) (d : Decided) → IsUnavailable d → Decides limit early requests requests (Filed r) d
-Decides-filed_unavailable limit early requests r d is = decides limit early requests (Filed r) d is tt refl
+pub Decides-filed_unavailable : (limit : ℕ) (early requests : List Request) (r : Request) (d : Decided) → IsUnavailable d → Decides limit early requests requests (FileReport r) d
+Decides-filed_unavailable limit early requests r d is = decides limit early requests (FileReport r) d is tt refl
 
 -- an answer that depends on the message alone changes nothing
-pub Decides-told : (limit : ℕ) (early requests : List Request) (why : Told) (body : List ℕ) (is_bare : Bool) (reply : Result Reply AllocError) → IfOk reply (λ r. reply_parts r ≡ told_reply why is_bare) → Decides limit early requests requests (bare is_bare (view_route (asked.Told why) body)) (record { mark = NotFiled; reply = reply })
+pub Decides-told : (limit : ℕ) (early requests : List Request) (why : Rejection) (body : List ℕ) (is_bare : Bool) (reply : Result Reply AllocError) → IfOk reply (λ r. reply_parts r ≡ rejection_reply why is_bare) → Decides limit early requests requests (bare is_bare (view_route (asked.Reject why) body)) (record { mark = NotFiled; reply = reply })
 Decides-told limit early requests why body true reply is = record { fit = tt; kept = refl; reply = is }
 Decides-told limit early requests why body false reply is = record { fit = tt; kept = refl; reply = is }

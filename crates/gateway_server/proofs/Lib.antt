@@ -11,5 +11,5 @@ pub mod Lent
 pub mod Whole
 pub mod Ending
 pub mod Stopping
-pub mod Turns
+pub mod Transitions
 pub mod Completing

@@ -16,10 +16,10 @@ use Rattle.filing_model.specs.Answer.{Answer, Registered, Refused, KeyReused}
 use Rattle.filing_model.specs.Listing.{Listing}
 use Rattle.filing_model.specs.Reply.{reply_as, list_reply, refused_status, unavailable}
 use Rattle.filing_model.specs.Text.{fault_reply, refusal_reply}
-use Rattle.gateway_server.specs.declared.route.Told.{Told}
-use Rattle.gateway_server.specs.declared.route.Told.TheVariants.{NoPath, NoMethod, ContentCoding, KeyMissing, KeyBad}
-use Rattle.gateway_server.specs.Decided.{told_reply}
-use Rattle.gateway_server.specs.Route.{told_status}
+use Rattle.gateway_server.specs.declared.route.Rejection.{Rejection}
+use Rattle.gateway_server.specs.declared.route.Rejection.TheVariants.{NoPath, NoMethod, ContentCoding, KeyMissing, KeyBad}
+use Rattle.gateway_server.specs.Decided.{rejection_reply}
+use Rattle.gateway_server.specs.Route.{rejection_status}
 
 abbrev pub HasPhrase : ReplyParts → Type 0
 HasPhrase reply = IsSome (phrase reply.status)
@@ -42,17 +42,17 @@ pub phrase-list_reply : (ls : List Listing) → HasPhrase (list_reply ls)
 unfolding list_reply phrase
 phrase-list_reply ls = refl
 
-phrase-told_status : (why : Told) → IsSome (phrase (told_status why))
+phrase-rejection_status : (why : Rejection) → IsSome (phrase (rejection_status why))
 unfolding phrase
-phrase-told_status NoPath = refl
-phrase-told_status NoMethod = refl
-phrase-told_status ContentCoding = refl
-phrase-told_status KeyMissing = refl
-phrase-told_status KeyBad = refl
+phrase-rejection_status NoPath = refl
+phrase-rejection_status NoMethod = refl
+phrase-rejection_status ContentCoding = refl
+phrase-rejection_status KeyMissing = refl
+phrase-rejection_status KeyBad = refl
 
-pub phrase-told_reply : (why : Told) (is_bare : Bool) → HasPhrase (told_reply why is_bare)
-phrase-told_reply why true = phrase-told_status why
-phrase-told_reply why false = phrase-told_status why
+pub phrase-rejection_reply : (why : Rejection) (is_bare : Bool) → HasPhrase (rejection_reply why is_bare)
+phrase-rejection_reply why true = phrase-rejection_status why
+phrase-rejection_reply why false = phrase-rejection_status why
 
 -- a reply with these parts has a phrase
 pub phrase-parts : (E : Type 0) (r : Result Reply E) (parts : ReplyParts) → HasPhrase parts → IfOk r (λ reply. reply_parts reply ≡ parts) → IfOk r (λ reply. IsSome (phrase reply.status))

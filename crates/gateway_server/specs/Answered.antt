@@ -41,7 +41,7 @@ Marks limit early before after place old new result =
 abbrev pub WritesText : Option (List ℕ) → Option (List ℕ) → List ℕ → Result (Unit {0}) ConnFault → Type 0
 WritesText from to text result = MatchResult result (λ _. Appends from to text) (λ _. (sent : ℕ) × Appends from to (take sent text))
 
--- a reply fails by the writer, or by want of memory where the writer didn't fail: its failures before and after
+-- a reply fails by the writer, or because memory runs out where the writer didn't fail: its failures before and after
 abbrev pub IsReplyFault : ℕ → ℕ → ConnFault → Type 0
 IsReplyFault failures failures' ReadFault = ⊥
 IsReplyFault failures failures' (Write sent) = HasFailed failures failures'

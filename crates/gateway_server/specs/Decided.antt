@@ -10,12 +10,12 @@ use Rattle.filing_model.specs.Request.{Request}
 use Rattle.filing_model.specs.Serving.{kept_by}
 use Rattle.filing_model.specs.Text.{Route, RouteFits, reply_on, requests_of_route}
 use Rattle.gateway_server.specs.declared.decide.Decided.{Decided}
-use Rattle.gateway_server.specs.declared.route.Told.{Told as Why}
-use Rattle.gateway_server.specs.Route.{told_status, told_word}
+use Rattle.gateway_server.specs.declared.route.Rejection.{Rejection as Why}
+use Rattle.gateway_server.specs.Route.{rejection_status, rejection_word}
 
 -- the reply that depends on the message alone
-abbrev pub told_reply : Why → Bool → ReplyParts
-told_reply why is_bare = if is_bare then record { status = told_status why; content = []; kind = Problem } else word_reply (told_status why) (told_word why)
+abbrev pub rejection_reply : Why → Bool → ReplyParts
+rejection_reply why is_bare = if is_bare then record { status = rejection_status why; content = []; kind = Problem } else word_reply (rejection_status why) (rejection_word why)
 
 -- the reply to what was asked for and marked so
 abbrev pub marked_reply : List Request → List Request → Route → Mark → ReplyParts

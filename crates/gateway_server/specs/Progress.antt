@@ -98,7 +98,7 @@ IsEndedByReply failures failures' (Fault fault) = IsReplyFault failures failures
 abbrev pub ReadsSome : Option (List ℕ) → Option (List ℕ) → Inbox → Inbox → Type 0
 ReadsSome left left' old new = (bytes : List ℕ) × Consumes left left' bytes × (reads new ≤ reads old + length bytes)
 
--- which fault ended it: the limit, where all reads were made that may give bytes, and one more was wanted; and want of memory only
+-- which fault ended it: the limit, where all reads were made that may give bytes, and one more was wanted; and memory only
 -- where fewer were made, or no end of a block is waited for
 abbrev pub TellsLimit : Inbox → Ended → Type 0
 TellsLimit inbox Closed = Unit {0}

@@ -10,8 +10,8 @@ use Rattle.http_wire.specs.Posting.{IsTarget}
 use Rattle.filing_model.specs.Reply.{word_reply}
 use Rattle.filing_model.specs.Text.{Route}
 use Rattle.filing_model.specs.Views.{the_request}
-use Rattle.gateway_server.specs.declared.route.Told.{Told as Why}
-use Rattle.gateway_server.specs.declared.route.Told.TheVariants.{NoPath, NoMethod, ContentCoding, KeyMissing, KeyBad}
+use Rattle.gateway_server.specs.declared.route.Rejection.{Rejection as Why}
+use Rattle.gateway_server.specs.declared.route.Rejection.TheVariants.{NoPath, NoMethod, ContentCoding, KeyMissing, KeyBad}
 use Rattle.gateway_server.specs.declared.route.Route.{Route as Asked}
 use Rattle.gateway_server.specs.declared.route.Route.TheVariants as asked
 use Rattle.gateway_server.specs.declared.route.NoKey.{NoKey}
@@ -20,31 +20,31 @@ use Rattle.gateway_server.specs.declared.route.NoKey.TheVariants.{Missing, Bad, 
 abbrev pub view_message : Lent → Message
 view_message m = record { head = m.head; body = m.body.now }
 
-abbrev pub told_status : Why → ℕ
-told_status NoPath = 404
-told_status NoMethod = 405
-told_status ContentCoding = 415
-told_status KeyMissing = 400
-told_status KeyBad = 400
+abbrev pub rejection_status : Why → ℕ
+rejection_status NoPath = 404
+rejection_status NoMethod = 405
+rejection_status ContentCoding = 415
+rejection_status KeyMissing = 400
+rejection_status KeyBad = 400
 
-abbrev pub told_word : Why → List ℕ
-told_word NoPath = codes "no-path"
-told_word NoMethod = codes "no-method"
-told_word ContentCoding = codes "content-coding"
-told_word KeyMissing = codes "key-missing"
-told_word KeyBad = codes "key-bad"
+abbrev pub rejection_word : Why → List ℕ
+rejection_word NoPath = codes "no-path"
+rejection_word NoMethod = codes "no-method"
+rejection_word ContentCoding = codes "content-coding"
+rejection_word KeyMissing = codes "key-missing"
+rejection_word KeyBad = codes "key-bad"
 
 -- what a message with this body asks for
 abbrev pub view_route : Asked → List ℕ → Route
-view_route (asked.Told why) body = Route.Told (word_reply (told_status why) (told_word why))
-view_route (asked.Listed filer number) body = Route.Listed filer.now number
-view_route (asked.Filed filer target key) body = Route.Filed (the_request filer.now key target body)
+view_route (asked.Reject why) body = Route.Reject (word_reply (rejection_status why) (rejection_word why))
+view_route (asked.ListFilings filer number) body = Route.ListFilings filer.now number
+view_route (asked.FileReport filer target key) body = Route.FileReport (the_request filer.now key target body)
 
 -- the code is a filer's, and the number one that a filing may have
 abbrev pub HasFiler : Asked → Type 0
-HasFiler (asked.Told why) = Unit {0}
-HasFiler (asked.Listed filer number) = Unit {0}
-HasFiler (asked.Filed filer target key) = (is_filer filer.now ≡ true) × IsTarget target
+HasFiler (asked.Reject why) = Unit {0}
+HasFiler (asked.ListFilings filer number) = Unit {0}
+HasFiler (asked.FileReport filer target key) = (is_filer filer.now ≡ true) × IsTarget target
 
 abbrev pub key_field : List ℕ
 key_field = codes "idempotency-key"
@@ -53,7 +53,7 @@ key_field = codes "idempotency-key"
 abbrev pub IsKeyOf : List (List ℕ) → List ℕ → Type 0
 IsKeyOf values key = (value : List ℕ) × (values ≡ value ∷ []) × (key_of_field value ≡ Some key)
 
--- there is no value; there are several, or the one spells no key; want of memory says nothing of them
+-- there is no value; there are several, or the one spells no key; where memory runs out nothing is said of them
 abbrev pub NoKeyOf : List (List ℕ) → NoKey → Type 0
 NoKeyOf values Missing = values ≡ []
 NoKeyOf values Bad =

@@ -7,7 +7,7 @@ ghost use Rattle.http_wire.specs.Replies.{reply_parts};
 ghost use Rattle.http_wire.specs.Reply.{render};
 ghost use Rattle.filing_model.specs.Request.{Request};
 ghost use Rattle.filing_model.specs.Text.{route, bare, is_head, refusal_reply, fault_reply};
-ghost use Rattle.intake_core.specs.Held.{limit_of, IsClean, Turns};
+ghost use Rattle.intake_core.specs.Held.{limit_of, IsClean, IsTransition};
 ghost use Rattle.gateway_server.specs.Decided.{IsPhrased};
 ghost use Rattle.gateway_server.specs.Answered.{IsDecided, Marks, WritesText, IsReplyFault};
 ghost use Rattle.gateway_server.specs.Route.{view_message, view_route, HasFiler};
@@ -28,7 +28,7 @@ pub(crate) fn mark<S: Alter>(
     marks: &mut Vec<Mark>,
 ) -> Result<Decided, AllocError>
     requires { length message.now.body.now ≤ max_body_len }
-    ensures marked { Turns S.Store intake.old intake.new (λ early before after.
+    ensures marked { IsTransition S.Store intake.old intake.new (λ early before after.
         Marks (limit_of intake.old) early before after (ReadPlace (view_message message.now)) marks.old.items
         marks.new.items result) }
     ensures phrase { IfOk result IsPhrased }
@@ -55,7 +55,7 @@ fn mark_route<S: Alter>(
     requires filer { HasFiler asked }
     requires asked { route (view_message message.now) ≡ bare (is_head (view_message message.now))
         (view_route asked message.now.body.now) }
-    ensures marked { Turns S.Store intake.old intake.new (λ early before after.
+    ensures marked { IsTransition S.Store intake.old intake.new (λ early before after.
         IsDecided (limit_of intake.old) early before after (ReadPlace (view_message message.now)) marks.old.items
         marks.new.items result) }
     ensures phrase { IsPhrased result }

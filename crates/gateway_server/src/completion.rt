@@ -1,6 +1,6 @@
 //! The requests that a connection completed, read again from its bytes.
 
-ghost use Rattle.std.specs.Prelude.{◌≡◌, ◌≤◌, ◌++◌, ℕ, List, length, drop, None, IfOk, IfSome, OnOk, MatchOption, MatchBool};
+ghost use Rattle.std.specs.Prelude.{◌≡◌, ◌≤◌, ◌++◌, ℕ, List, length, drop, None, IfOk, IfSome, OnOk};
 ghost use Rattle.http_wire.specs.Message.{Place, Ending, Read, BeginsRequest};
 ghost use Rattle.http_wire.specs.Request.{Request as Spelled};
 ghost use Rattle.filing_model.specs.Stopping.{BeginsPlaces};
@@ -88,7 +88,7 @@ fn push_filed(alloc: Global, message: &Message, list: &mut Vec<Completed>) -> Re
 {
     let asked = route_of(alloc, message)?;
     list.reserve(1)?;
-    if let Route::Filed(filer, target, key) = asked {
+    if let Route::FileReport(filer, target, key) = asked {
         let mut body = Vec::new(alloc);
         body.extend_from_slice(message.body)?;
         list.push_reserved(Completed {

@@ -5,15 +5,15 @@ ghost use Rattle.key_string.specs.Filer.{is_filer};
 ghost use Rattle.http_wire.specs.Head.{max_body_len};
 ghost use Rattle.http_wire.specs.Posting.{IsTarget};
 ghost use Rattle.http_wire.specs.Replies.{reply_parts};
-ghost use Rattle.filing_model.specs.Text.{Listed as AsksList, Filed as AsksFiling, bare};
+ghost use Rattle.filing_model.specs.Text.{ListFilings as AsksList, FileReport as AsksFiling, bare};
 ghost use Rattle.filing_model.specs.Listing.{listings};
 ghost use Rattle.filing_model.specs.Register.{Filing};
 ghost use Rattle.filing_model.specs.Views.{the_request, view_row};
 ghost use Rattle.gateway_server.specs.Route.{view_route, HasFiler};
-ghost use Rattle.intake_core.specs.Held.{limit_of, IsClean, Turns};
-ghost use Rattle.gateway_server.specs.Decided.{told_reply, Decides, IsUnavailable, IsPhrased};
+ghost use Rattle.intake_core.specs.Held.{limit_of, IsClean, IsTransition};
+ghost use Rattle.gateway_server.specs.Decided.{rejection_reply, Decides, IsUnavailable, IsPhrased};
 
-use crate::route::{Route, Told};
+use crate::route::{Rejection, Route};
 use filing_model::{FilingRow, Mark};
 use http_wire::{Kind, Reply};
 use intake_core::{Intake, list_reply, reply_of, word_reply};
@@ -38,24 +38,24 @@ pub(crate) fn decide<S: Alter>(
 ) -> Decided
     requires filer { HasFiler route }
     requires body { length body.now ≤ max_body_len }
-    ensures decided { Turns S.Store intake.old intake.new (λ early before after.
+    ensures decided { IsTransition S.Store intake.old intake.new (λ early before after.
         Decides (limit_of intake.old) early before after (bare is_bare (view_route route.entry body.now)) result) }
     ensures phrase { IsPhrased result }
     ensures clean { IsClean S.Store intake.new → IsClean S.Store intake.old }
     ensures limit { limit_of intake.new ≡ limit_of intake.old }
 {
     match route {
-        Route::Told(why) => Decided {
+        Route::Reject(why) => Decided {
             mark: Mark::NotFiled,
-            reply: told_reply(alloc, why, is_bare),
+            reply: rejection_reply(alloc, why, is_bare),
         },
-        Route::Listed(filer, number) => list(alloc, intake, filer, number),
-        Route::Filed(filer, target, key) => file(alloc, intake, filer, target, &key, body),
+        Route::ListFilings(filer, number) => list(alloc, intake, filer, number),
+        Route::FileReport(filer, target, key) => file(alloc, intake, filer, target, &key, body),
     }
 }
 
-fn told_reply(alloc: Global, why: Told, is_bare: bool) -> Result<Reply, AllocError>
-    ensures { IfOk result (λ r. reply_parts r ≡ told_reply why is_bare) }
+fn rejection_reply(alloc: Global, why: Rejection, is_bare: bool) -> Result<Reply, AllocError>
+    ensures { IfOk result (λ r. reply_parts r ≡ rejection_reply why is_bare) }
 {
     if is_bare {
         Ok(Reply {
@@ -87,7 +87,7 @@ fn list<S: Alter>(
     filer: &str,
     number: Option<u64>,
 ) -> Decided
-    ensures decided { Turns S.Store intake.old intake.new (λ early before after.
+    ensures decided { IsTransition S.Store intake.old intake.new (λ early before after.
         Decides (limit_of intake.old) early before after (AsksList filer.now number) result) }
     ensures phrase { IsPhrased result }
     ensures clean { IsClean S.Store intake.new → IsClean S.Store intake.old }
@@ -116,7 +116,7 @@ fn file<S: Alter>(
     requires filer { is_filer filer.now ≡ true }
     requires target { IsTarget target }
     requires body { length body.now ≤ max_body_len }
-    ensures decided { Turns S.Store intake.old intake.new (λ early before after.
+    ensures decided { IsTransition S.Store intake.old intake.new (λ early before after.
         Decides (limit_of intake.old) early before after
         (AsksFiling (the_request filer.now key.now target body.now)) result) }
     ensures phrase { IsPhrased result }

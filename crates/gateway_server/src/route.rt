@@ -1,12 +1,11 @@
 //! What a message asks for, before any register is looked at.
 
-ghost use Rattle.std.specs.Prelude.{◌≡◌, ◌∷◌, [], true, option_map, IfOk, MatchResult};
+ghost use Rattle.std.specs.Prelude.{◌≡◌, ◌∷◌, [], true, IfOk, MatchResult};
 ghost use Rattle.key_string.specs.Filer.{is_filer};
 ghost use Rattle.http_wire.specs.Head.{values_named};
 ghost use Rattle.http_wire.specs.Posting.{IsTarget};
-ghost use Rattle.filing_model.specs.Text.{route, route_by_place, route_by_method, is_head, bare};
-ghost use Rattle.filing_model.specs.Views.{the_request};
-ghost use Rattle.gateway_server.specs.Route.{told_status, told_word, view_route, view_message, HasFiler, key_field, IsKeyOf, NoKeyOf, no_key};
+ghost use Rattle.filing_model.specs.Text.{route, route_by_method, is_head, bare};
+ghost use Rattle.gateway_server.specs.Route.{rejection_status, rejection_word, view_route, view_message, HasFiler, key_field, IsKeyOf, NoKeyOf, no_key};
 
 use crate::path::{FilingsPath, read_path};
 use http_wire::{Head, Message, has_content_coding};
@@ -15,7 +14,7 @@ use std::alloc::{AllocError, Global};
 
 /// Why a message is answered without the register.
 #[derive(Clone, Copy, Debug, PartialEq, Eq)]
-pub(crate) enum Told {
+pub(crate) enum Rejection {
     NoPath,
     NoMethod,
     ContentCoding,
@@ -23,27 +22,27 @@ pub(crate) enum Told {
     KeyBad,
 }
 
-impl Told {
+impl Rejection {
     pub(crate) fn status(self) -> u16
-        ensures { result ≡ told_status self }
+        ensures { result ≡ rejection_status self }
     {
         match self {
-            Told::NoPath => 404,
-            Told::NoMethod => 405,
-            Told::ContentCoding => 415,
-            Told::KeyMissing | Told::KeyBad => 400,
+            Rejection::NoPath => 404,
+            Rejection::NoMethod => 405,
+            Rejection::ContentCoding => 415,
+            Rejection::KeyMissing | Rejection::KeyBad => 400,
         }
     }
 
     pub(crate) fn word(self) -> &'static str
-        ensures { result.now ≡ told_word self }
+        ensures { result.now ≡ rejection_word self }
     {
         match self {
-            Told::NoPath => "no-path",
-            Told::NoMethod => "no-method",
-            Told::ContentCoding => "content-coding",
-            Told::KeyMissing => "key-missing",
-            Told::KeyBad => "key-bad",
+            Rejection::NoPath => "no-path",
+            Rejection::NoMethod => "no-method",
+            Rejection::ContentCoding => "content-coding",
+            Rejection::KeyMissing => "key-missing",
+            Rejection::KeyBad => "key-bad",
         }
     }
 }
@@ -52,11 +51,11 @@ impl Told {
 #[derive(Drop)]
 pub(crate) enum Route<'a> {
     /// An answer that depends on the message alone.
-    Told(Told),
+    Reject(Rejection),
     /// The list of this filer's filings, or the one of this number alone.
-    Listed(&'a str, Option<u64>),
+    ListFilings(&'a str, Option<u64>),
     /// That its body be filed under this filer and key, to replace the filing of this number, if there is one.
-    Filed(&'a str, Option<u64>, KeyText),
+    FileReport(&'a str, Option<u64>, KeyText),
 }
 
 /// Why a message has no usable key.
@@ -88,7 +87,7 @@ pub(crate) fn route_of<'a>(alloc: Global, message: &Message<'a>) -> Result<Route
 {
     match read_path(message.head.path()) {
         Some(named) => route_by_method(alloc, message, named),
-        None => Ok(Route::Told(Told::NoPath)),
+        None => Ok(Route::Reject(Rejection::NoPath)),
     }
 }
 
@@ -115,18 +114,18 @@ fn route_by_method<'a>(
     let is_post = message.head.method() == b"POST".as_slice();
     let is_get = message.head.method() == b"GET".as_slice();
     if !is_post && !is_get {
-        return Ok(Route::Told(Told::NoMethod));
+        return Ok(Route::Reject(Rejection::NoMethod));
     }
     if has_content_coding(&message.head) {
-        return Ok(Route::Told(Told::ContentCoding));
+        return Ok(Route::Reject(Rejection::ContentCoding));
     }
     if is_get {
-        return Ok(Route::Listed(named.filer, named.number));
+        return Ok(Route::ListFilings(named.filer, named.number));
     }
     match only_key(alloc, &message.head) {
-        Ok(key) => Ok(Route::Filed(named.filer, named.number, key)),
-        Err(NoKey::Missing) => Ok(Route::Told(Told::KeyMissing)),
-        Err(NoKey::Bad) => Ok(Route::Told(Told::KeyBad)),
+        Ok(key) => Ok(Route::FileReport(named.filer, named.number, key)),
+        Err(NoKey::Missing) => Ok(Route::Reject(Rejection::KeyMissing)),
+        Err(NoKey::Bad) => Ok(Route::Reject(Rejection::KeyBad)),
         Err(NoKey::Memory) => Err(AllocError),
     }
 }

@@ -7,7 +7,7 @@ ghost use Rattle.http_wire.specs.Reply.{render};
 ghost use Rattle.http_wire.specs.declared.inbox.Inbox.{Inbox};
 ghost use Rattle.filing_model.specs.Request.{Request};
 ghost use Rattle.filing_model.specs.Stopping.{ComeBefore};
-ghost use Rattle.intake_core.specs.Held.{limit_of, IsClean, Turns};
+ghost use Rattle.intake_core.specs.Held.{limit_of, IsClean, IsTransition};
 ghost use Rattle.gateway_server.specs.Decided.{IsPhrased};
 ghost use Rattle.gateway_server.specs.Progress.{GoesOn, HasMessage, HasRefusal, ServesConnection, IsEndedBy, IsLimited, ReadsSome, TellsLimit};
 ghost use Rattle.gateway_server.specs.Stopping.{view_stop, ServesConnectionUntil, IsCountUntil, IsEndedOrStoppedBy, Continues, StopsOrEnds, IsCountAt, IsTurnBy, IsTurnByReply, TellsTurn, Replies, IsStoppedAfter};
@@ -56,7 +56,7 @@ pub fn serve<R: Source, W: Sink, S: Alter>(
     writer: &mut W,
     intake: &mut Intake<S>,
 ) -> Served
-    ensures serves { Turns S.Store intake.old intake.new (λ early before after.
+    ensures serves { IsTransition S.Store intake.old intake.new (λ early before after.
         ServesConnection (limit_of intake.old) early before after (R.left reader.old) (R.left reader.new)
         (W.written writer.old) (W.written writer.new) result.marks.items result.ended) }
     ensures clean { IsClean S.Store intake.new → IsClean S.Store intake.old }
@@ -83,7 +83,7 @@ pub fn serve_until<R: Source, W: Sink, S: Alter>(
     intake: &mut Intake<S>,
     stop: Stop,
 ) -> Partly
-    ensures serves { Turns S.Store intake.old intake.new (λ early before after.
+    ensures serves { IsTransition S.Store intake.old intake.new (λ early before after.
         ServesConnectionUntil (limit_of intake.old) early before after (R.left reader.old) (R.left reader.new)
         (W.written writer.old) (W.written writer.new) (view_stop stop) result.marks.items result.ended) }
     ensures clean { IsClean S.Store intake.new → IsClean S.Store intake.old }
@@ -119,7 +119,7 @@ fn serve_places<R: Source, W: Sink, S: Alter>(
 ) -> Option<Ended>
     requires over { is_over inbox.old ≡ false }
     requires count { ComeBefore (view_stop stop) (vec_len marks.old) }
-    ensures serves { Turns S.Store intake.old intake.new (λ early now after.
+    ensures serves { IsTransition S.Store intake.old intake.new (λ early now after.
         (before : List Request) (left written : Option (List ℕ))
         → GoesOn (limit_of intake.old) early before now left (R.left reader.old) written (W.written writer.old)
         inbox.old marks.old.items
@@ -154,7 +154,7 @@ fn serve_place<R: Source, W: Sink, S: Alter>(
 ) -> Turn
     requires over { is_over inbox.old ≡ false }
     requires count { ComeBefore (view_stop stop) (vec_len marks.old) }
-    ensures serves { Turns S.Store intake.old intake.new (λ early now after.
+    ensures serves { IsTransition S.Store intake.old intake.new (λ early now after.
         (before : List Request) (left written : Option (List ℕ))
         → GoesOn (limit_of intake.old) early before now left (R.left reader.old) written (W.written writer.old)
         inbox.old marks.old.items
@@ -189,7 +189,7 @@ fn serve_message<W: Sink, S: Alter>(
 ) -> Turn
     requires lends { LendsFirst inbox.now }
     requires count { ComeBefore (view_stop stop) (vec_len marks.old) }
-    ensures serves { Turns S.Store intake.old intake.new (λ early now after.
+    ensures serves { IsTransition S.Store intake.old intake.new (λ early now after.
         (before : List Request) (left left' written : Option (List ℕ))
         → HasMessage (limit_of intake.old) early before now left left' written (W.written writer.old) inbox.now
         marks.old.items

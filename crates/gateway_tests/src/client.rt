@@ -294,7 +294,7 @@ fn a_request_names_what_it_replaces(rt: HostRuntime) -> Result<(), Fail> {
     path_has_the_number::<MemStore>(&rt, rt.alloc())
 }
 
-/// Whether the fault is want of memory, of the call or of the bytes that it writes to.
+/// Whether the fault is that memory ran out, of the call or of the bytes that it writes to.
 fn wants_memory(fault: ExchangeFault) -> bool {
     matches!(
         fault,
@@ -348,7 +348,7 @@ fn is_confirmed<S: Fresh>(rt: &impl Abort, alloc: Global) -> Result<(), Fail> {
     Ok(())
 }
 
-/// Each call is made again that was refused for want of memory. Run it with each allocation refused too, one in a run.
+/// Each call is made again that was refused because memory ran out. Run it with each allocation refused too, one in a run.
 #[test]
 fn refused_memory_changes_nothing(rt: HostRuntime) -> Result<(), Fail> {
     is_confirmed::<MemStore>(&rt, rt.alloc())

@@ -3,7 +3,7 @@ pub mod BlockLemmas
 pub mod BufferLemmas
 pub mod DeviceLemmas
 pub mod DigitLemmas
-pub mod FoundLemmas
+pub mod NextPlaceLemmas
 pub mod HeadLemmas
 pub mod InboxLemmas
 pub mod LineLemmas

@@ -7,7 +7,7 @@ pub mod Device
 pub mod Devices
 pub mod FieldsNamed
 pub mod Fill
-pub mod Found
+pub mod NextPlace
 pub mod Head
 pub mod Inbox
 pub mod Lists

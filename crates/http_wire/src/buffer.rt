@@ -104,7 +104,7 @@ impl Buffer {
         }
     }
 
-    /// Makes the room so long at least.
+    /// Makes the room at least this long.
     fn make_room(&mut self, len: usize) -> Result<(), AllocError>
         ensures bytes { buffered self.new ≡ buffered self.old }
         ensures start { self.new.start ≡ self.old.start }

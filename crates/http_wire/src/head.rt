@@ -22,8 +22,8 @@ pub(crate) const MAX_FIELDS: usize = 64;
 /// The most bytes of a request's body. An own rule.
 pub const MAX_BODY_LEN: usize = 1_048_576;
 
-/// Why a block is no head of a request that is read on: the first that holds, in this order, but
-/// that want of memory may come before.
+/// Why the head of a request is refused: the first fault that holds, in this order; memory may run
+/// out before it is found.
 #[derive(Clone, Copy, Debug, PartialEq, Eq, Error)]
 pub enum HeadFault {
     /// The block isn't a head, or its target isn't one (RFC 9112, sections 3 and 5).
@@ -166,7 +166,7 @@ pub fn read_head(alloc: Global, bytes: &[u8]) -> Result<Head<'_>, HeadFault>
     }
 }
 
-/// Where the parts of the head are that a block is, and what they say of the rest of the message.
+/// Parses a block as a head: where its parts are, and what they say of the rest of the message.
 #[tactic(auto, using(crate::proofs::HeadLemmas::head_fault_of_framing))]
 pub(crate) fn read_parts(alloc: Global, block: &[u8]) -> Result<(HeadSpans, Framing), HeadFault>
     ensures at { IfOk result (λ r. IsHeadAt block.now r.0 r.1) }
@@ -178,7 +178,7 @@ pub(crate) fn read_parts(alloc: Global, block: &[u8]) -> Result<(HeadSpans, Fram
     Ok((spans, framing))
 }
 
-/// Where the parts of the head are that the block is.
+/// Parses a block as a head: where its parts are.
 fn parse_head(alloc: Global, block: &[u8]) -> Result<HeadSpans, HeadFault>
     ensures ok { IfOk result (λ spans. IsHeadWithin block.now spans × ReadsHead block.now (parts_at block.now spans)) }
     ensures fault { IfErr result (IsParseFault block.now) }

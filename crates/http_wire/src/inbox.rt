@@ -7,7 +7,7 @@ ghost use Rattle.http_wire.specs.Received.{held_bytes};
 
 use crate::device::{Sink, Source};
 use crate::head::Head;
-use crate::place::{Found, Parsed, find_place};
+use crate::place::{NextPlace, Parsed, find_place};
 use crate::received::Received;
 use crate::refusal::{ConnFault, Next};
 use std::alloc::{AllocError, Global};
@@ -94,15 +94,15 @@ impl Inbox {
             return Ok(Next::End);
         }
         match find_place(&mut self.received, reader, writer) {
-            Ok(Found::Request(parsed)) => {
+            Ok(NextPlace::Request(parsed)) => {
                 self.lent = Some(parsed);
                 Ok(Next::Message)
             }
-            Ok(Found::Refused(refusal)) => {
+            Ok(NextPlace::Refused(refusal)) => {
                 self.phase = Phase::Closed;
                 Ok(Next::Refuse(refusal))
             }
-            Ok(Found::Rest) => {
+            Ok(NextPlace::Rest) => {
                 self.phase = Phase::Closed;
                 Ok(Next::End)
             }

@@ -1,10 +1,10 @@
 //! What stands first in the bytes of a connection: a request, a refusal, or a rest (RFC 9112, section
 //! 2), and the interim response between a head and its body (RFC 9110, section 10.1.1).
-ghost use Rattle.std.specs.Prelude.{◌≡◌, ◌<◌, ◌≤◌, length, Err, IfOk, IfErr, OnOk, slice_range};
+ghost use Rattle.std.specs.Prelude.{◌≡◌, ◌<◌, Err, IfOk, IfErr, OnOk, slice_range};
 ghost use Rattle.std.specs.Io.KnownBytes.{Appends};
 ghost use Rattle.http_wire.specs.Block.{IsBlockEnd, skipped_len};
 ghost use Rattle.http_wire.specs.Calls.{HoldsPlace, interim_if, IsFault, WritesUpTo};
-ghost use Rattle.http_wire.specs.Found.{IsHeadOf, IsFound, WritesFor, framing_awaits, IsSendFault};
+ghost use Rattle.http_wire.specs.NextPlace.{IsHeadOf, IsNextPlace, WritesFor, framing_awaits, IsSendFault};
 ghost use Rattle.http_wire.specs.Head.{IsHeadFault};
 ghost use Rattle.http_wire.specs.Received.{held_bytes, read_count, max_reads, Receives, ReceivesNothing};
 
@@ -31,7 +31,7 @@ pub(crate) struct Parsed {
 
 /// What stands first in the bytes that are held.
 #[derive(Clone, Copy)]
-pub(crate) enum Found {
+pub(crate) enum NextPlace {
     Request(Parsed),
     Refused(Refusal),
     /// Less than a whole request, at the end of the input.
@@ -44,11 +44,11 @@ pub(crate) fn find_place<R: Source, W: Sink>(
     received: &mut Received,
     reader: &mut R,
     writer: &mut W,
-) -> Result<Found, ConnFault>
+) -> Result<NextPlace, ConnFault>
     ensures reads { Receives (R.left reader.old) (R.left reader.new) received.old received.new }
     ensures lazy { HoldsPlace (held_bytes received.old)
         → ReceivesNothing reader.old reader.new received.old received.new }
-    ensures found { IfOk result (IsFound (R.left reader.new) (held_bytes received.new)) }
+    ensures found { IfOk result (IsNextPlace (R.left reader.new) (held_bytes received.new)) }
     ensures interim { IfOk result (WritesFor (W.written writer.old) (W.written writer.new) (held_bytes received.new)) }
     ensures part { IfErr result (WritesUpTo (W.written writer.old) (W.written writer.new) (held_bytes received.new)) }
     ensures fine { OnOk result ((R.read_failures reader.new ≡ R.read_failures reader.old)
@@ -59,13 +59,13 @@ pub(crate) fn find_place<R: Source, W: Sink>(
 {
     let end = match received.read_block(reader)? {
         Block::End(end) => end,
-        Block::TooLong => return Ok(Found::Refused(Refusal::HeadTooLarge)),
-        Block::More => return Ok(Found::Rest),
+        Block::TooLong => return Ok(NextPlace::Refused(Refusal::HeadTooLarge)),
+        Block::More => return Ok(NextPlace::Rest),
     };
     match parse_at(received.alloc(), received.bytes(), end) {
         Ok(parsed) => read_request(received, reader, writer, parsed),
         Err(HeadFault::Memory) => Err(ConnFault::Memory),
-        Err(fault) => Ok(Found::Refused(Refusal::Head(fault))),
+        Err(fault) => Ok(NextPlace::Refused(Refusal::Head(fault))),
     }
 }
 
@@ -91,12 +91,12 @@ fn read_request<R: Source, W: Sink>(
     reader: &mut R,
     writer: &mut W,
     parsed: Parsed,
-) -> Result<Found, ConnFault>
+) -> Result<NextPlace, ConnFault>
     requires { IsHeadOf (held_bytes received.old) parsed }
     ensures reads { Receives (R.left reader.old) (R.left reader.new) received.old received.new }
     ensures lazy { HoldsPlace (held_bytes received.old)
         → ReceivesNothing reader.old reader.new received.old received.new }
-    ensures found { IfOk result (IsFound (R.left reader.new) (held_bytes received.new)) }
+    ensures found { IfOk result (IsNextPlace (R.left reader.new) (held_bytes received.new)) }
     ensures interim { IfOk result (WritesFor (W.written writer.old) (W.written writer.new) (held_bytes received.new)) }
     ensures part { IfErr result (WritesUpTo (W.written writer.old) (W.written writer.new) (held_bytes received.new)) }
     ensures fine { OnOk result ((R.read_failures reader.new ≡ R.read_failures reader.old)
@@ -108,9 +108,9 @@ fn read_request<R: Source, W: Sink>(
 {
     send_interim(writer, parsed.framing)?;
     if received.read_up_to(reader, parsed.end + parsed.framing.body_len)? {
-        Ok(Found::Request(parsed))
+        Ok(NextPlace::Request(parsed))
     } else {
-        Ok(Found::Rest)
+        Ok(NextPlace::Rest)
     }
 }
 

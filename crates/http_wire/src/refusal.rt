@@ -12,7 +12,7 @@ use thiserror::Error;
 pub enum Refusal {
     /// The block has more than 16,384 bytes.
     HeadTooLarge,
-    /// The block is no head of a request that is read on.
+    /// The head of the request is refused.
     Head(HeadFault),
 }
 

@@ -17,7 +17,7 @@ use Rattle.register_store.specs.Store.{HasRequests}
 use Rattle.intake_core.specs.declared.cache.Cache.{Cache}
 use Rattle.intake_core.specs.declared.intake.Intake.{Intake}
 use Rattle.intake_core.specs.Cache.{IsKeptIn, RemembersIfAny, Remembers}
-use Rattle.intake_core.specs.Held.{Holds, early_of, early_in}
+use Rattle.intake_core.specs.Held.{HoldsRequests, early_of, early_in}
 use Rattle.intake_core.proofs.CacheLemmas.{IsKeptIn-more}
 
 -- a new cache remembers nothing
@@ -64,7 +64,7 @@ style_of-new n requests r new = rw (has_key-take n requests r new) refl
 
 module _ {S : Type 0} {g : Ghosts S} (requests : List Request) (r : Request) where
   -- what was kept early stays so after a request
-  pub early_in-after : (old new : Intake S) → early_of new ≡ early_of old → Holds g old requests → early_in new (firsts (requests ++ r ∷ [])) ≡ early_in old requests
+  pub early_in-after : (old new : Intake S) → early_of new ≡ early_of old → HoldsRequests g old requests → early_in new (firsts (requests ++ r ∷ [])) ≡ early_in old requests
   early_in-after old new same h = ap (λ n. take n (firsts (requests ++ r ∷ []))) same ∙ by_key (cases_Bool (has_key requests r))
     where
       by_key : (has_key requests r ≡ true) ⊎ (has_key requests r ≡ false) → take (early_of old) (firsts (requests ++ r ∷ [])) ≡ early_in old requests
@@ -72,8 +72,8 @@ module _ {S : Type 0} {g : Ghosts S} (requests : List Request) (r : Request) whe
       by_key (inr fresh) = ap (take (early_of old)) (firsts-more requests r h.firsts' fresh) ∙ take-append-le (early_of old) requests (r ∷ []) h.rows.within
 
   -- after a new request
-  pub Holds-more : (old new : Intake S) → has_key requests r ≡ false → Holds g old requests → new.cache ≡ old.cache → early_of new ≡ early_of old → HasRequests g new.store (requests ++ r ∷ []) → Holds g new (requests ++ r ∷ [])
-  Holds-more old new fresh h same early rows = record {
+  pub HoldsRequests-more : (old new : Intake S) → has_key requests r ≡ false → HoldsRequests g old requests → new.cache ≡ old.cache → early_of new ≡ early_of old → HasRequests g new.store (requests ++ r ∷ []) → HoldsRequests g new (requests ++ r ∷ [])
+  HoldsRequests-more old new fresh h same early rows = record {
     firsts' = firsts-more requests r h.firsts' fresh;
     rows = rows;
     known = subst (λ es. RemembersIfAny es (requests ++ r ∷ []) new.cache) (sym (ap (λ n. take n (requests ++ r ∷ [])) early ∙ take-append-le (early_of old) requests (r ∷ []) h.rows.within))
@@ -81,16 +81,16 @@ module _ {S : Type 0} {g : Ghosts S} (requests : List Request) (r : Request) whe
   }
 
   -- after a repeat
-  pub Holds-repeat : (new : Intake S) → has_key requests r ≡ true → Holds g new requests → Holds g new (firsts (requests ++ r ∷ []))
-  Holds-repeat new known h = subst (Holds g new) (sym (firsts_repeat requests r known ∙ h.firsts')) h
+  pub HoldsRequests-repeat : (new : Intake S) → has_key requests r ≡ true → HoldsRequests g new requests → HoldsRequests g new (firsts (requests ++ r ∷ []))
+  HoldsRequests-repeat new known h = subst (HoldsRequests g new) (sym (firsts_repeat requests r known ∙ h.firsts')) h
 
   -- of a new one it is the same
-  pub Holds-new : (new : Intake S) → firsts requests ≡ requests → has_key requests r ≡ false → Holds g new (requests ++ r ∷ []) → Holds g new (firsts (requests ++ r ∷ []))
-  Holds-new new are fresh h = subst (Holds g new) (sym (firsts-more requests r are fresh)) h
+  pub HoldsRequests-new : (new : Intake S) → firsts requests ≡ requests → has_key requests r ≡ false → HoldsRequests g new (requests ++ r ∷ []) → HoldsRequests g new (firsts (requests ++ r ∷ []))
+  HoldsRequests-new new are fresh h = subst (HoldsRequests g new) (sym (firsts-more requests r are fresh)) h
 
 -- the register was asked, and nothing else has changed
-pub Holds-asked : {S : Type 0} {g : Ghosts S} (requests : List Request) (old new : Intake S) → Holds g old requests → new.cache ≡ old.cache → early_of new ≡ early_of old → HasRequests g new.store requests → Holds g new requests
-Holds-asked requests old new h same early rows = record {
+pub HoldsRequests-asked : {S : Type 0} {g : Ghosts S} (requests : List Request) (old new : Intake S) → HoldsRequests g old requests → new.cache ≡ old.cache → early_of new ≡ early_of old → HasRequests g new.store requests → HoldsRequests g new requests
+HoldsRequests-asked requests old new h same early rows = record {
   firsts' = h.firsts';
   rows = rows;
   known = subst (λ n. RemembersIfAny (take n requests) requests new.cache) (sym early) (subst (RemembersIfAny (early_in old requests) requests) (sym same) h.known);

@@ -33,7 +33,7 @@ abbrev pub early_in : {S : Type 0} → Intake S → List Request → List Reques
 early_in i requests = take i.store.early requests
 
 -- Its register has these requests, each the first of its filer and key, and what it remembers is known of them.
-pub record Holds {S : Type 0} (g : Ghosts S) (intake : Intake S) (requests : List Request) : Type 0 where
+pub record HoldsRequests {S : Type 0} (g : Ghosts S) (intake : Intake S) (requests : List Request) : Type 0 where
   pub firsts' : firsts requests ≡ requests
   pub rows : HasRequests g intake.store requests
   pub known : RemembersIfAny (take intake.store.early requests) requests intake.cache
@@ -44,6 +44,6 @@ IsClean g intake = HasCleanDisk (shows g intake)
 
 -- Whatever requests it held, where the disk is clean at the end it holds such as this says. The early ones, of which this is told
 -- first, are those of before.
-abbrev pub Turns : {S : Type 0} → Ghosts S → Intake S → Intake S → (List Request → List Request → List Request → Type 0) → Type 0
-Turns g old new Into =
-    IsClean g new → (before : List Request) → Holds g old before → (after : List Request) × Holds g new after × (early_in new after ≡ early_in old before) × Into (early_in old before) before after
+abbrev pub IsTransition : {S : Type 0} → Ghosts S → Intake S → Intake S → (List Request → List Request → List Request → Type 0) → Type 0
+IsTransition g old new Into =
+    IsClean g new → (before : List Request) → HoldsRequests g old before → (after : List Request) × HoldsRequests g new after × (early_in new after ≡ early_in old before) × Into (early_in old before) before after

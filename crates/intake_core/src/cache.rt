@@ -1,4 +1,4 @@
-//! A cache of answers: what the tables would answer, for the requests of late.
+//! A cache of answers: what the tables would answer, for the requests that came last.
 
 ghost use Rattle.std.specs.Prelude.{◌≡◌, ℕ, true, List, IfOk, IfSome};
 ghost use Rattle.filing_model.specs.declared.served.Style.{Style};
@@ -61,7 +61,7 @@ impl Remembered {
     }
 }
 
-/// The answers of late, 64 at most. A request that is not used for longest goes first.
+/// The last answers, 64 at most. A request that is not used for longest goes first.
 #[derive(Drop)]
 pub(crate) struct Cache {
     answers: LruCache<String, Remembered>,

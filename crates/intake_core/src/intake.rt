@@ -1,6 +1,6 @@
 //! The intake: its register, and the answer to the next request.
 
-ghost use Rattle.std.specs.Prelude.{◌≡◌, ◌<◌, ◌≤◌, ◌^◌, ◌+◌, ◌++◌, ◌∷◌, ◌↔◌, ◌⊎◌, [], ℕ, List, length, map, true, false, Err, None, Some, IsTrue, IfOk, IfErr, IfSome, OnOk, OnErr, ◌≢◌};
+ghost use Rattle.std.specs.Prelude.{◌≡◌, ◌<◌, ◌≤◌, ◌^◌, ◌+◌, ◌++◌, ◌∷◌, ◌↔◌, ◌⊎◌, [], ℕ, List, length, map, true, false, Err, None, Some, IsTrue, IfOk, IfSome, OnOk, OnErr, ◌≢◌};
 ghost use Rattle.key_string.specs.Filer.{is_filer};
 ghost use Rattle.http_wire.specs.Head.{max_body_len};
 ghost use Rattle.http_wire.specs.Posting.{IsTarget};
@@ -13,9 +13,9 @@ ghost use Rattle.filing_model.specs.Views.{view_answer, view_row, the_request};
 ghost use Rattle.sqlite.specs.Tree.{Trees};
 ghost use Rattle.sqlite.specs.State.{Survives};
 ghost use Rattle.register_store.specs.Outcomes.{view_outcome, kept_as};
-ghost use Rattle.register_store.specs.Store.{HasRequests, Leaves};
-ghost use Rattle.register_store.specs.Store as register_store;
+ghost use Rattle.register_store.specs.Store.{HasRequests, LeavesRegister};
 ghost use Rattle.intake_core.specs.declared.intake.Unavailable.TheVariants.{Down, Full, Memory, Store as StoreFailed};
+ghost use Rattle.table_rows.specs.Standing.{CommitsNothing};
 
 use crate::cache::{Cache, answer_by};
 use filing_model::{Answer, FilingRow, Style};
@@ -32,7 +32,7 @@ pub enum Unavailable {
     /// The database failed earlier, and is to be opened again.
     #[error("the database failed earlier")]
     Down,
-    /// So many filers' keys are kept, which is the limit or more, and this one is not among them.
+    /// The register holds `kept` keys, which is the limit or more, and this one is not among them.
     #[error("{kept} keys are kept, and no more may be")]
     Full { kept: u64 },
     /// No memory was left.
@@ -94,7 +94,7 @@ impl<S: Alter + Drop> Drop for Intake<S> {
 
 impl<S: Alter> Intake<S> {
     ghost use Rattle.intake_core.specs.Answered.{IsAnswerTo};
-    ghost use Rattle.intake_core.specs.Held.{store_of, shows, limit_of, early_of, early_in, has_stopped, Holds, IsClean};
+    ghost use Rattle.intake_core.specs.Held.{store_of, shows, limit_of, early_of, early_in, has_stopped, HoldsRequests, IsClean};
 
     /// An intake over this register, which keeps at most `limit` keys.
     pub fn new(alloc: Global, store: Store<S>, limit: u64) -> Intake<S>
@@ -102,7 +102,7 @@ impl<S: Alter> Intake<S> {
         ensures limit { limit_of result ≡ limit }
         ensures store { store_of result ≡ store }
         ensures holds { (requests : List Request) → firsts requests ≡ requests → HasRequests S.Store store requests
-            → Holds S.Store result requests }
+            → HoldsRequests S.Store result requests }
         ensures up { has_stopped result ≡ false }
     {
         Intake {
@@ -151,37 +151,39 @@ impl<S: Alter> Intake<S> {
         requires filer { is_filer filer.now ≡ true }
         requires target { IsTarget target }
         requires body { length body.now ≤ max_body_len }
-        ensures answer { IsClean S.Store self.new → (requests : List Request) → Holds S.Store self.old requests
+        ensures answer { IsClean S.Store self.new → (requests : List Request) → HoldsRequests S.Store self.old requests
             → IfOk result (λ a.
             IsAnswerTo (early_in self.old requests) requests (the_request filer.now key.now target body.now) a
-            × Holds S.Store self.new (firsts (requests ++ the_request filer.now key.now target body.now ∷ []))) }
+            × HoldsRequests S.Store self.new
+            (firsts (requests ++ the_request filer.now key.now target body.now ∷ []))) }
 
         // Nothing changes where there is no answer, and the limit and the early requests never do.
-        ensures err { IsClean S.Store self.new → (requests : List Request) → Holds S.Store self.old requests
-            → OnErr result (Holds S.Store self.new requests) }
+        ensures err { IsClean S.Store self.new → (requests : List Request) → HoldsRequests S.Store self.old requests
+            → OnErr result (HoldsRequests S.Store self.new requests) }
         ensures clean { IsClean S.Store self.new → IsClean S.Store self.old }
         ensures limit { limit_of self.new ≡ limit_of self.old }
         ensures early { early_of self.new ≡ early_of self.old }
 
         // Full comes for a new key alone, and always where the limit is reached.
-        ensures full { IsClean S.Store self.new → (requests : List Request) → Holds S.Store self.old requests → (k : ℕ)
-            → result ≡ Err (Full k)
+        ensures full { IsClean S.Store self.new → (requests : List Request) → HoldsRequests S.Store self.old requests
+            → (k : ℕ) → result ≡ Err (Full k)
             → (has_key requests (the_request filer.now key.now target body.now) ≡ false) × (limit_of self.old ≤ k)
             × (k ≡ length requests) }
-        ensures room { IsClean S.Store self.new → (requests : List Request) → Holds S.Store self.old requests
+        ensures room { IsClean S.Store self.new → (requests : List Request) → HoldsRequests S.Store self.old requests
             → OnOk result (has_key requests (the_request filer.now key.now target body.now) ≡ false
             → length requests < limit_of self.old) }
 
         // A crash leaves what one before the call could leave, or the requests with this one, and after an answer these alone.
         ensures crash { Survives (shows S.Store self.old) (shows S.Store self.new) (λ trees.
-            (requests : List Request) → Holds S.Store self.old requests → IsTrue (shows S.Store self.old).is_open
-            → Leaves (early_of self.old) (firsts (requests ++ the_request filer.now key.now target body.now ∷ []))
-            trees) }
-        ensures durable { IsClean S.Store self.new → (requests : List Request) → Holds S.Store self.old requests
+            (requests : List Request) → HoldsRequests S.Store self.old requests
+            → IsTrue (shows S.Store self.old).is_open
+            → LeavesRegister (early_of self.old)
+            (firsts (requests ++ the_request filer.now key.now target body.now ∷ [])) trees) }
+        ensures durable { IsClean S.Store self.new → (requests : List Request) → HoldsRequests S.Store self.old requests
             → IsTrue (shows S.Store self.old).is_open
             → OnOk result (IsTrue (shows S.Store self.new).is_open
             × ((trees : Trees) → (shows S.Store self.new).may_leave trees
-            → Leaves (early_of self.old)
+            → LeavesRegister (early_of self.old)
             (firsts (requests ++ the_request filer.now key.now target body.now ∷ [])) trees)) }
 
         // After a refusal of the database there is no other answer than that.
@@ -202,26 +204,26 @@ impl<S: Alter> Intake<S> {
 }
 
 impl<S: Alter> Intake<S> {
-    ghost use Rattle.intake_core.specs.Held.{shows, limit_of, early_of, has_stopped, Holds, IsClean};
+    ghost use Rattle.intake_core.specs.Held.{shows, limit_of, early_of, has_stopped, HoldsRequests, IsClean};
 
     /// The filings of a filer, ascending by number. Full never comes here.
     pub fn list(&mut self, filer: &str) -> Result<Vec<FilingRow>, Unavailable>
-        ensures rows { IsClean S.Store self.new → (requests : List Request) → Holds S.Store self.old requests
+        ensures rows { IsClean S.Store self.new → (requests : List Request) → HoldsRequests S.Store self.old requests
             → IfOk result (λ rows. map view_row rows.items ≡ listings filer.now None (register requests)) }
 
         // What is held stays, whatever the answer is.
-        ensures kept { IsClean S.Store self.new → (requests : List Request) → Holds S.Store self.old requests
-            → Holds S.Store self.new requests }
+        ensures kept { IsClean S.Store self.new → (requests : List Request) → HoldsRequests S.Store self.old requests
+            → HoldsRequests S.Store self.new requests }
         ensures clean { IsClean S.Store self.new → IsClean S.Store self.old }
         ensures limit { limit_of self.new ≡ limit_of self.old }
         ensures early { early_of self.new ≡ early_of self.old }
 
         // A crash leaves what it could leave before.
-        ensures crash { Survives (shows S.Store self.old) (shows S.Store self.new) (λ _. ⊥) }
-        ensures durable { IsClean S.Store self.new → (requests : List Request) → Holds S.Store self.old requests
+        ensures crash { CommitsNothing (shows S.Store self.old) (shows S.Store self.new) }
+        ensures durable { IsClean S.Store self.new → (requests : List Request) → HoldsRequests S.Store self.old requests
             → OnOk result (IsTrue (shows S.Store self.new).is_open
             × ((trees : Trees) → (shows S.Store self.new).may_leave trees
-            → Leaves (early_of self.old) requests trees)) }
+            → LeavesRegister (early_of self.old) requests trees)) }
 
         // After a refusal of the database there is no other answer than that.
         ensures down { has_stopped self.old ≡ true → (result ≡ Err Down) × (self.new ≡ self.old) }
@@ -239,22 +241,22 @@ impl<S: Alter> Intake<S> {
 
     /// The registered requests under their numbers, ascending. Full never comes here.
     pub fn register(&mut self) -> Result<Vec<Registered>, Unavailable>
-        ensures rows { IsClean S.Store self.new → (requests : List Request) → Holds S.Store self.old requests
+        ensures rows { IsClean S.Store self.new → (requests : List Request) → HoldsRequests S.Store self.old requests
             → IfOk result (λ rows. rows.items ≡ register requests) }
 
         // What is held stays, whatever the answer is.
-        ensures kept { IsClean S.Store self.new → (requests : List Request) → Holds S.Store self.old requests
-            → Holds S.Store self.new requests }
+        ensures kept { IsClean S.Store self.new → (requests : List Request) → HoldsRequests S.Store self.old requests
+            → HoldsRequests S.Store self.new requests }
         ensures clean { IsClean S.Store self.new → IsClean S.Store self.old }
         ensures limit { limit_of self.new ≡ limit_of self.old }
         ensures early { early_of self.new ≡ early_of self.old }
 
         // A crash leaves what it could leave before.
-        ensures crash { Survives (shows S.Store self.old) (shows S.Store self.new) (λ _. ⊥) }
-        ensures durable { IsClean S.Store self.new → (requests : List Request) → Holds S.Store self.old requests
+        ensures crash { CommitsNothing (shows S.Store self.old) (shows S.Store self.new) }
+        ensures durable { IsClean S.Store self.new → (requests : List Request) → HoldsRequests S.Store self.old requests
             → OnOk result (IsTrue (shows S.Store self.new).is_open
             × ((trees : Trees) → (shows S.Store self.new).may_leave trees
-            → Leaves (early_of self.old) requests trees)) }
+            → LeavesRegister (early_of self.old) requests trees)) }
 
         // After a refusal of the database there is no other answer than that.
         ensures down { has_stopped self.old ≡ true → (result ≡ Err Down) × (self.new ≡ self.old) }
@@ -274,7 +276,7 @@ impl<S: Alter> Intake<S> {
 impl<S: Alter> Intake<S> {
     ghost use Rattle.intake_core.specs.Answered.{IsAnswerTo};
     ghost use Rattle.intake_core.specs.Cache.{IsKeptIn};
-    ghost use Rattle.intake_core.specs.Held.{store_of, shows, limit_of, early_of, early_in, has_stopped, Holds, IsClean};
+    ghost use Rattle.intake_core.specs.Held.{store_of, shows, limit_of, early_of, early_in, has_stopped, HoldsRequests, IsClean};
 
     /// The answer to a request that the cache remembers. The cache is made here, where there is memory for it.
     fn recall(
@@ -284,11 +286,12 @@ impl<S: Alter> Intake<S> {
         key: &KeyText,
         body: &[u8],
     ) -> Option<Answer>
-        ensures answer { (requests : List Request) → Holds S.Store self.old requests
+        ensures answer { (requests : List Request) → HoldsRequests S.Store self.old requests
             → IfSome result (λ a.
             IsAnswerTo (early_in self.old requests) requests (the_request filer.now key.now target body.now) a
             × (has_key requests (the_request filer.now key.now target body.now) ≡ true)) }
-        ensures same { (requests : List Request) → Holds S.Store self.old requests → Holds S.Store self.new requests }
+        ensures same { (requests : List Request) → HoldsRequests S.Store self.old requests
+            → HoldsRequests S.Store self.new requests }
         ensures rest { (store_of self.new ≡ store_of self.old) × (limit_of self.new ≡ limit_of self.old)
             × (has_stopped self.new ≡ has_stopped self.old) }
     {
@@ -311,13 +314,13 @@ impl<S: Alter> Intake<S> {
         outcome: &Outcome,
         style: Style,
     )
-        ensures same { (requests : List Request) → Holds S.Store self.old requests
+        ensures same { (requests : List Request) → HoldsRequests S.Store self.old requests
             → IsKeptIn requests (record {
               request = the_request filer.now key.now target body.now;
               outcome = view_outcome outcome.now;
             })
             → style ≡ style_of (early_in self.old requests) (the_request filer.now key.now target body.now)
-            → Holds S.Store self.new requests }
+            → HoldsRequests S.Store self.new requests }
         ensures rest { (store_of self.new ≡ store_of self.old) × (limit_of self.new ≡ limit_of self.old)
             × (has_stopped self.new ≡ has_stopped self.old) }
     {
@@ -337,28 +340,30 @@ impl<S: Alter> Intake<S> {
         requires filer { is_filer filer.now ≡ true }
         requires target { IsTarget target }
         requires body { length body.now ≤ max_body_len }
-        ensures answer { IsClean S.Store self.new → (requests : List Request) → Holds S.Store self.old requests
+        ensures answer { IsClean S.Store self.new → (requests : List Request) → HoldsRequests S.Store self.old requests
             → IfOk result (λ a.
             IsAnswerTo (early_in self.old requests) requests (the_request filer.now key.now target body.now) a
-            × Holds S.Store self.new (firsts (requests ++ the_request filer.now key.now target body.now ∷ []))) }
-        ensures err { IsClean S.Store self.new → (requests : List Request) → Holds S.Store self.old requests
-            → OnErr result (Holds S.Store self.new requests) }
+            × HoldsRequests S.Store self.new
+            (firsts (requests ++ the_request filer.now key.now target body.now ∷ []))) }
+        ensures err { IsClean S.Store self.new → (requests : List Request) → HoldsRequests S.Store self.old requests
+            → OnErr result (HoldsRequests S.Store self.new requests) }
         ensures clean { IsClean S.Store self.new → IsClean S.Store self.old }
         ensures limit { (limit_of self.new ≡ limit_of self.old) × (has_stopped self.new ≡ has_stopped self.old) }
         ensures early { early_of self.new ≡ early_of self.old }
-        ensures full { IsClean S.Store self.new → (requests : List Request) → Holds S.Store self.old requests → (k : ℕ)
-            → result ≡ Err (Full k)
+        ensures full { IsClean S.Store self.new → (requests : List Request) → HoldsRequests S.Store self.old requests
+            → (k : ℕ) → result ≡ Err (Full k)
             → (has_key requests (the_request filer.now key.now target body.now) ≡ false) × (limit_of self.old ≤ k)
             × (k ≡ length requests) }
-        ensures room { IsClean S.Store self.new → (requests : List Request) → Holds S.Store self.old requests
+        ensures room { IsClean S.Store self.new → (requests : List Request) → HoldsRequests S.Store self.old requests
             → OnOk result (has_key requests (the_request filer.now key.now target body.now) ≡ false
             → length requests < limit_of self.old) }
         ensures running { result ≢ Err Down }
         ensures crash { Survives (shows S.Store self.old) (shows S.Store self.new) (λ trees.
-            (requests : List Request) → Holds S.Store self.old requests → IsTrue (shows S.Store self.old).is_open
-            → Leaves (early_of self.old) (firsts (requests ++ the_request filer.now key.now target body.now ∷ []))
-            trees) }
-        ensures open { IsClean S.Store self.new → (requests : List Request) → Holds S.Store self.old requests
+            (requests : List Request) → HoldsRequests S.Store self.old requests
+            → IsTrue (shows S.Store self.old).is_open
+            → LeavesRegister (early_of self.old)
+            (firsts (requests ++ the_request filer.now key.now target body.now ∷ [])) trees) }
+        ensures open { IsClean S.Store self.new → (requests : List Request) → HoldsRequests S.Store self.old requests
             → OnOk result (IsTrue (shows S.Store self.new).is_open) }
     {
         match self.store.find(filer, key)? {
@@ -379,10 +384,10 @@ impl<S: Alter> Intake<S> {
         ensures answer { (view_answer result ≡ answer_from (Some (kept_as filer.now key.now row))
             (the_request filer.now key.now target body.now) true)
             × HasStyle row.style result }
-        ensures same { (requests : List Request) → Holds S.Store self.old requests
+        ensures same { (requests : List Request) → HoldsRequests S.Store self.old requests
             → IsKeptIn requests (kept_as filer.now key.now row)
             → row.style ≡ style_of (early_in self.old requests) (the_request filer.now key.now target body.now)
-            → Holds S.Store self.new requests }
+            → HoldsRequests S.Store self.new requests }
         ensures rest { (store_of self.new ≡ store_of self.old) × (limit_of self.new ≡ limit_of self.old)
             × (has_stopped self.new ≡ has_stopped self.old) }
     {
@@ -396,17 +401,17 @@ impl<S: Alter> Intake<S> {
 
     /// Whether a request that is to replace this filing of the filer may do so; one without a target may.
     fn is_free(&mut self, filer: &str, target: Option<u64>) -> Result<bool, Unavailable>
-        ensures answer { IsClean S.Store self.new → (requests : List Request) → Holds S.Store self.old requests
+        ensures answer { IsClean S.Store self.new → (requests : List Request) → HoldsRequests S.Store self.old requests
             → IfOk result (λ free. free ≡ is_free (register requests) filer.now target) }
-        ensures same { IsClean S.Store self.new → (requests : List Request) → Holds S.Store self.old requests
-            → Holds S.Store self.new requests }
+        ensures same { IsClean S.Store self.new → (requests : List Request) → HoldsRequests S.Store self.old requests
+            → HoldsRequests S.Store self.new requests }
         ensures clean { IsClean S.Store self.new → IsClean S.Store self.old }
         ensures limit { (limit_of self.new ≡ limit_of self.old) × (has_stopped self.new ≡ has_stopped self.old) }
         ensures early { early_of self.new ≡ early_of self.old }
         ensures count { (store_of self.new).kept ≡ (store_of self.old).kept }
         ensures running { (result ≢ Err Down) × ((k : ℕ) → result ≢ Err (Full k)) }
-        ensures crash { Survives (shows S.Store self.old) (shows S.Store self.new) (λ _. ⊥) }
-        ensures open { IsClean S.Store self.new → (requests : List Request) → Holds S.Store self.old requests
+        ensures crash { CommitsNothing (shows S.Store self.old) (shows S.Store self.new) }
+        ensures open { IsClean S.Store self.new → (requests : List Request) → HoldsRequests S.Store self.old requests
             → IsTrue (shows S.Store self.old).is_open → OnOk result (IsTrue (shows S.Store self.new).is_open) }
     {
         match target {
@@ -428,24 +433,26 @@ impl<S: Alter> Intake<S> {
         requires target { IsTarget target }
         requires body { length body.now ≤ max_body_len }
         requires room { (store_of self.old).kept < 2 ^ 62 }
-        ensures answer { IsClean S.Store self.new → (requests : List Request) → Holds S.Store self.old requests
+        ensures answer { IsClean S.Store self.new → (requests : List Request) → HoldsRequests S.Store self.old requests
             → has_key requests (the_request filer.now key.now target body.now) ≡ false
             → free ≡ is_free (register requests) filer.now target
             → IfOk result (λ a.
             IsAnswerTo (early_in self.old requests) requests (the_request filer.now key.now target body.now) a
-            × Holds S.Store self.new (requests ++ the_request filer.now key.now target body.now ∷ [])) }
-        ensures err { IsClean S.Store self.new → (requests : List Request) → Holds S.Store self.old requests
-            → OnErr result (Holds S.Store self.new requests) }
+            × HoldsRequests S.Store self.new (requests ++ the_request filer.now key.now target body.now ∷ [])) }
+        ensures err { IsClean S.Store self.new → (requests : List Request) → HoldsRequests S.Store self.old requests
+            → OnErr result (HoldsRequests S.Store self.new requests) }
         ensures clean { IsClean S.Store self.new → IsClean S.Store self.old }
         ensures limit { (limit_of self.new ≡ limit_of self.old) × (has_stopped self.new ≡ has_stopped self.old) }
         ensures early { early_of self.new ≡ early_of self.old }
         ensures running { (result ≢ Err Down) × ((k : ℕ) → result ≢ Err (Full k)) }
         ensures crash { Survives (shows S.Store self.old) (shows S.Store self.new) (λ trees.
-            (requests : List Request) → Holds S.Store self.old requests → IsTrue (shows S.Store self.old).is_open
+            (requests : List Request) → HoldsRequests S.Store self.old requests
+            → IsTrue (shows S.Store self.old).is_open
             → has_key requests (the_request filer.now key.now target body.now) ≡ false
             → free ≡ is_free (register requests) filer.now target
-            → Leaves (early_of self.old) (requests ++ the_request filer.now key.now target body.now ∷ []) trees) }
-        ensures open { IsClean S.Store self.new → (requests : List Request) → Holds S.Store self.old requests
+            → LeavesRegister (early_of self.old) (requests ++ the_request filer.now key.now target body.now ∷ [])
+            trees) }
+        ensures open { IsClean S.Store self.new → (requests : List Request) → HoldsRequests S.Store self.old requests
             → has_key requests (the_request filer.now key.now target body.now) ≡ false
             → free ≡ is_free (register requests) filer.now target
             → OnOk result (IsTrue (shows S.Store self.new).is_open) }
@@ -473,26 +480,28 @@ impl<S: Alter> Intake<S> {
         requires filer { is_filer filer.now ≡ true }
         requires target { IsTarget target }
         requires body { length body.now ≤ max_body_len }
-        ensures answer { IsClean S.Store self.new → (requests : List Request) → Holds S.Store self.old requests
+        ensures answer { IsClean S.Store self.new → (requests : List Request) → HoldsRequests S.Store self.old requests
             → has_key requests (the_request filer.now key.now target body.now) ≡ false
             → IfOk result (λ a.
             IsAnswerTo (early_in self.old requests) requests (the_request filer.now key.now target body.now) a
-            × Holds S.Store self.new (requests ++ the_request filer.now key.now target body.now ∷ [])) }
-        ensures err { IsClean S.Store self.new → (requests : List Request) → Holds S.Store self.old requests
-            → OnErr result (Holds S.Store self.new requests) }
+            × HoldsRequests S.Store self.new (requests ++ the_request filer.now key.now target body.now ∷ [])) }
+        ensures err { IsClean S.Store self.new → (requests : List Request) → HoldsRequests S.Store self.old requests
+            → OnErr result (HoldsRequests S.Store self.new requests) }
         ensures clean { IsClean S.Store self.new → IsClean S.Store self.old }
         ensures limit { (limit_of self.new ≡ limit_of self.old) × (has_stopped self.new ≡ has_stopped self.old) }
         ensures early { early_of self.new ≡ early_of self.old }
-        ensures full { (requests : List Request) → Holds S.Store self.old requests → (k : ℕ) → result ≡ Err (Full k)
-            → (limit_of self.old ≤ k) × (k ≡ length requests) }
-        ensures room { (requests : List Request) → Holds S.Store self.old requests
+        ensures full { (requests : List Request) → HoldsRequests S.Store self.old requests → (k : ℕ)
+            → result ≡ Err (Full k) → (limit_of self.old ≤ k) × (k ≡ length requests) }
+        ensures room { (requests : List Request) → HoldsRequests S.Store self.old requests
             → OnOk result (length requests < limit_of self.old) }
         ensures running { result ≢ Err Down }
         ensures crash { Survives (shows S.Store self.old) (shows S.Store self.new) (λ trees.
-            (requests : List Request) → Holds S.Store self.old requests → IsTrue (shows S.Store self.old).is_open
+            (requests : List Request) → HoldsRequests S.Store self.old requests
+            → IsTrue (shows S.Store self.old).is_open
             → has_key requests (the_request filer.now key.now target body.now) ≡ false
-            → Leaves (early_of self.old) (requests ++ the_request filer.now key.now target body.now ∷ []) trees) }
-        ensures open { IsClean S.Store self.new → (requests : List Request) → Holds S.Store self.old requests
+            → LeavesRegister (early_of self.old) (requests ++ the_request filer.now key.now target body.now ∷ [])
+            trees) }
+        ensures open { IsClean S.Store self.new → (requests : List Request) → HoldsRequests S.Store self.old requests
             → has_key requests (the_request filer.now key.now target body.now) ≡ false
             → OnOk result (IsTrue (shows S.Store self.new).is_open) }
     {

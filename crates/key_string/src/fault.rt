@@ -12,7 +12,7 @@ pub enum KeyFault {
     /// The value is not one String of RFC 8941, section 3.3.3, and nothing else.
     #[error("the value is not a quoted string")]
     NotString,
-    /// There is no character.
+    /// The text is empty.
     #[error("the key is empty")]
     Empty,
     /// There are more than 1,024 characters.

@@ -27,8 +27,8 @@ impl Model for KeyText {
 }
 
 impl KeyText {
-    /// The key with this text. The first fault that holds is told, in the order Empty, TooLong,
-    /// NotPrintable; Memory comes for the text of a key alone, and NotString never.
+    /// The key with this text. The first fault that holds is answered, in the order `Empty`, `TooLong`,
+    /// `NotPrintable`; `Memory` only where the text is a key, and `NotString` never.
     pub fn new(alloc: Global, text: &str) -> Result<KeyText, KeyFault>
         ensures ok { IfOk result (λ key. IsKey key × (key ≡ text.now)) }
         ensures fault { IfErr result (IsTextFault text.now) }
@@ -63,8 +63,8 @@ impl KeyText {
 }
 
 /// The key that a field's value spells (RFC 8941, section 3.3.3). The value is a String and nothing
-/// else: no spaces around it, and no parameters (own rule). Memory comes for the spelling of a key
-/// alone.
+/// else: no spaces around it, and no parameters (own rule). `Memory` is answered only where the value
+/// spells a key.
 pub fn read_key(alloc: Global, field: &[u8]) -> Result<KeyText, KeyFault>
     ensures ok { IfOk result (λ key. IsKey key × SpellsKey field.now key) }
     ensures fault { IfErr result (IsFieldFault field.now) }

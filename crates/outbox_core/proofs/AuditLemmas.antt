@@ -21,7 +21,7 @@ use Rattle.key_string.proofs.Fields.{is_key-IsKey}
 use Rattle.http_wire.specs.Head.{max_body_len}
 use Rattle.http_wire.specs.Posting.{IsTarget}
 use Rattle.filing_model.specs.Outbox.{Entry, State, Open, Confirmed, Refused, Clashed}
-use Rattle.table_rows.specs.Rows.{shown, Holds}
+use Rattle.table_rows.specs.Rows.{shown, TableHas}
 use Rattle.outbox_core.specs.Schema.{meta_table, entry_table, target_table}
 use Rattle.outbox_core.specs.Entries.{FitsNumber, numbered_from}
 use Rattle.outbox_core.specs.Rows.{code_of, number_of, form_row, entry_row, entry_rows, target_row, target_rows_from, target_rows}
@@ -104,7 +104,7 @@ state-of code number h = go (is_int 1 code) refl h
 -- ---- rows as a table's columns show them
 
 -- what every shown row is, the rows are
-formed : (table : Table) (P : Row → Type 0) → ((r : Row) → P (shown table r)) → (db : Database) (rows : List Row) → Holds db table rows → AllByRecursion P rows
+formed : (table : Table) (P : Row → Type 0) → ((r : Row) → P (shown table r)) → (db : Database) (rows : List Row) → TableHas db table rows → AllByRecursion P rows
 formed table P each db rows held =
     recursion_from_All P rows (All-permutation P _ rows (IsPermutation-sym rows _ held) (All-from_recursion P _ (all-map P (shown table) each (db.trees table.tree))))
 
@@ -226,15 +226,15 @@ id-to count (Text t) h = never (sym h)
 id-to count (Blob b) h = never (sym h)
 
 -- where no row is damaged, the rows are those of entries and of their targets
-pub entries_found : (db : Database) (targets rows : List Row) → Holds db entry_table rows → AllByRecursion IsPair targets → damaged_row targets rows ≡ None
-    → (es : List Entry) × Holds db entry_table (entry_rows es) × IsPermutation (target_rows es) targets × AllByRecursion IsKept es × (length rows ≡ length es)
+pub entries_found : (db : Database) (targets rows : List Row) → TableHas db entry_table rows → AllByRecursion IsPair targets → damaged_row targets rows ≡ None
+    → (es : List Entry) × TableHas db entry_table (entry_rows es) × IsPermutation (target_rows es) targets × AllByRecursion IsKept es × (length rows ≡ length es)
 entries_found db targets rows held pairs none =
     let sound = or_none (is_left_over (length rows) targets) (first_damaged targets 1 rows) none in
     let within = all_weaker _ (IsWithin 1 (length rows)) (λ r h. id-to (length rows) (column r 0) h) targets (none_from_any (λ (r : Row). not (is_id_to (length rows) (column r 0))) targets sound.1) in
     let all = gathered targets 1 rows targets (formed entry_table HasFive (λ r. refl) db rows held) pairs within (λ k low. refl) sound.0 in
-    (all.0, subst (Holds db entry_table) all.1 held, all.2, all.3, all.4)
+    (all.0, subst (TableHas db entry_table) all.1 held, all.2, all.3, all.4)
 
-pub targets_paired : (db : Database) (targets : List Row) → Holds db target_table targets → AllByRecursion IsPair targets
+pub targets_paired : (db : Database) (targets : List Row) → TableHas db target_table targets → AllByRecursion IsPair targets
 targets_paired db targets held = formed target_table IsPair (λ r. refl) db targets held
 
 -- ---- the filer
@@ -273,12 +273,12 @@ one_row form row filer whole h = go (is_int 1 (column row 0) && (is_outbox (colu
     go false is h = absurd cc
 
 -- where a filer is found, the row is that of its outbox
-pub filer_found : (db : Database) (form : ℕ) (rows : List Row) (filer : List ℕ) → Holds db meta_table rows → filer_in form rows ≡ Some filer → Holds db meta_table (form_row form filer ∷ []) × (is_filer filer ≡ true)
+pub filer_found : (db : Database) (form : ℕ) (rows : List Row) (filer : List ℕ) → TableHas db meta_table rows → filer_in form rows ≡ Some filer → TableHas db meta_table (form_row form filer ∷ []) × (is_filer filer ≡ true)
 filer_found db form [] filer held h = absurd cc
 filer_found db form (row ∷ []) filer held h =
     let whole = formed meta_table HasFour (λ r. refl) db (row ∷ []) held in
     let one = one_row form row filer whole.0 h in
-    (subst (λ r. Holds db meta_table (r ∷ [])) one.0 held, one.1)
+    (subst (λ r. TableHas db meta_table (r ∷ [])) one.0 held, one.1)
 filer_found db form (row ∷ other ∷ rows) filer held h = absurd cc
 
 -- and so it is a filer's code, whatever the table is

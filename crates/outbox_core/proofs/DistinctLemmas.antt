@@ -21,7 +21,7 @@ use Rattle.sqlite_sql.specs.declared.ops.CompareOp.TheVariants.{Eq, Ne}
 use Rattle.sqlite_typed.proofs.TestLemmas.{at_ints, at_texts}
 use Rattle.filing_model.specs.Outbox.{Entry}
 use Rattle.table_rows.specs.Tables.{schema_with}
-use Rattle.table_rows.specs.Rows.{shown, Holds}
+use Rattle.table_rows.specs.Rows.{shown, TableHas}
 use Rattle.outbox_core.specs.Schema.{HasCommon, common_tables, entry_table}
 use Rattle.outbox_core.specs.Entries.{AreDistinct, numbered_from}
 use Rattle.outbox_core.specs.Rows.{entry_row, entry_rows}
@@ -64,11 +64,11 @@ module _ (db : Database) (sound : IsDatabase db) (d : HasCommon db.schema) where
       let none : list_any (λ other. clash (shown entry_table row) (shown entry_table other)) (db.trees 1) ≡ false = negated _ one in
       none_from_any (λ other. clash (shown entry_table row) (shown entry_table other)) (db.trees 1) none) (db.trees 1) unique.1.0
 
-  permuted : (P : Row → Type 0) (xs ys : List Row) → AllByRecursion P (map (shown entry_table) xs) → Holds db entry_table ys → xs ≡ db.trees 1 → AllByRecursion P ys
+  permuted : (P : Row → Type 0) (xs ys : List Row) → AllByRecursion P (map (shown entry_table) xs) → TableHas db entry_table ys → xs ≡ db.trees 1 → AllByRecursion P ys
   permuted P xs ys all held same =
       recursion_from_All P ys (All-permutation P _ ys (IsPermutation-sym ys _ held) (All-from_recursion P _ (subst (λ l. AllByRecursion P (map (shown entry_table) l)) same all)))
 
-  held_apart : (rows : List Row) → Holds db entry_table rows → AllByRecursion (λ r. AllByRecursion (Apart r) rows) rows
+  held_apart : (rows : List Row) → TableHas db entry_table rows → AllByRecursion (λ r. AllByRecursion (Apart r) rows) rows
   held_apart rows held =
       permuted (λ r. AllByRecursion (Apart r) rows) (db.trees 1) rows
       (all_map (λ r. AllByRecursion (Apart r) rows) (shown entry_table) (db.trees 1)
@@ -102,5 +102,5 @@ distinct_from n [] all = tt
 distinct_from n (e ∷ es) all =
     (later e n (suc n) es (omega arith) all.0.1, distinct_from (suc n) es (all_weaker _ _ (λ r each. each.1) (map entry_row (numbered_from (suc n) es)) all.1))
 
-pub distinct_held : (db : Database) (es : List Entry) → IsDatabase db → HasCommon db.schema → Holds db entry_table (entry_rows es) → AreDistinct es
+pub distinct_held : (db : Database) (es : List Entry) → IsDatabase db → HasCommon db.schema → TableHas db entry_table (entry_rows es) → AreDistinct es
 distinct_held db es sound d held = distinct_from 1 es (held_apart db sound d (entry_rows es) held)

@@ -9,13 +9,13 @@ use Rattle.sqlite.specs.Held.{Held}
 use Rattle.filing_model.specs.Outbox.{Entry}
 use Rattle.table_rows.specs.Files.{AreUsable}
 use Rattle.table_rows.proofs.FileLemmas.{finds, leaves}
-use Rattle.outbox_core.specs.Box.{Box, contents, HasEntries}
+use Rattle.outbox_core.specs.OutboxParts.{OutboxParts, contents, HasEntries}
 use Rattle.outbox_core.specs.Entries.{Contents}
 use Rattle.outbox_core.specs.Rows.{IsOutboxOf}
 use Rattle.outbox_core.specs.Files.{HoldOutbox}
 
 module _ {D : Type 0} {g : Ghosts D} where
-  pub closed_outbox : (box : Box (FileStore D g)) (entries : List Entry) (files : Files D) → HasEntries over_files box entries → IsCopied box.conn files → AreUsable g files → HoldOutbox g files (contents box entries)
+  pub closed_outbox : (box : OutboxParts (FileStore D g)) (entries : List Entry) (files : Files D) → HasEntries over_files box entries → IsCopied box.conn files → AreUsable g files → HoldOutbox g files (contents box entries)
   closed_outbox box entries files has copied usable =
       let is = has.stands.now copied.was_open in
       record { db = (file_state box.conn).now; outbox = is; held = leaves box.conn files copied (file_state box.conn).now is.sound (has.stands.committed copied.was_open); usable = usable }

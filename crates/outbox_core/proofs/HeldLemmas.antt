@@ -13,7 +13,7 @@ use Rattle.sqlite.proofs.Callers.{reads_as}
 use Rattle.sqlite_sql.specs.Query.{IsSureAnswer}
 use Rattle.sqlite_value.specs.declared.keys.Key.{Key}
 use Rattle.sqlite_keyed.proofs.ListLemmas.{filter_all, all_of, map_same, map-map}
-use Rattle.table_rows.specs.Rows.{shown, Holds}
+use Rattle.table_rows.specs.Rows.{shown, TableHas}
 use Rattle.table_rows.proofs.SelectLemmas.{one_table, selects, leaves}
 use Rattle.outbox_core.specs.Schema.{IsDeclared, HasCommon, meta_table, entry_table, target_table}
 use Rattle.outbox_core.specs.Audit.{meta_text, targets_text, entries_text}
@@ -31,13 +31,13 @@ whole table tree columns order show trees rows shows same answer =
     IsPermutation-sym _ _ (subst (λ l. IsPermutation l rows) (ap (map (λ w. (show w).1)) every ∙ told) some)
 
 module _ (old new : State) (d : HasCommon old.now.schema) (rows : List Row) where
-  pub meta_held : Shown meta_text [] old new rows → Holds old.now meta_table rows × IsUnchanged old new
+  pub meta_held : Shown meta_text [] old new rows → TableHas old.now meta_table rows × IsUnchanged old new
   meta_held h =
       let it = meta_asks old.now.schema d in
       let answer = (reads_as meta_text [] old new old.now.schema refl _ it.is it.plain it.listing rows h).answer in
       (whole meta_table 0 meta_terms [] (λ w. ([], column w 0 ∷ column w 1 ∷ column w 2 ∷ column w 3 ∷ [])) old.now.trees rows (λ r. refl) (λ r. refl) answer, leaves meta_text [] old new rows it.plain h)
 
-  pub entries_held : Shown entries_text [] old new rows → Holds old.now entry_table rows × IsUnchanged old new
+  pub entries_held : Shown entries_text [] old new rows → TableHas old.now entry_table rows × IsUnchanged old new
   entries_held h =
       let it = entries_asks old.now.schema d in
       let answer = (reads_as entries_text [] old new old.now.schema refl _ it.is it.plain it.listing rows h).answer in (
@@ -46,7 +46,7 @@ module _ (old new : State) (d : HasCommon old.now.schema) (rows : List Row) wher
       )
 
 module _ (old new : State) (d : IsDeclared old.now.schema) (rows : List Row) where
-  pub targets_held : Shown targets_text [] old new rows → Holds old.now target_table rows × IsUnchanged old new
+  pub targets_held : Shown targets_text [] old new rows → TableHas old.now target_table rows × IsUnchanged old new
   targets_held h =
       let it = targets_asks old.now.schema d in
       let answer = (reads_as targets_text [] old new old.now.schema refl _ it.is it.plain it.listing rows h).answer in

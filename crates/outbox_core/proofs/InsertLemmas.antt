@@ -7,13 +7,13 @@ use Rattle.sqlite.specs.Effect.{Database}
 use Rattle.sqlite.specs.State.{State, ExecutesInside}
 use Rattle.filing_model.specs.Outbox.{Entry}
 use Rattle.table_rows.specs.Tables.{schema_with}
-use Rattle.table_rows.specs.Rows.{Holds, Gains}
-use Rattle.table_rows.specs.Standing.{Stands}
+use Rattle.table_rows.specs.Rows.{TableHas, Gains}
+use Rattle.table_rows.specs.Standing.{HasCommitted}
 use Rattle.table_rows.proofs.InsertLemmas.{inserts}
 use Rattle.table_rows.proofs.GainLemmas.{cast_int, cast_null, inside, gained, holds_more, same_rows}
 use Rattle.outbox_core.specs.Schema.{outbox_tables, meta_table, entry_table, target_table, IsDeclared}
 use Rattle.outbox_core.specs.Entries.{Contents, IsOutbox, numbered, opened, with_entry}
-use Rattle.outbox_core.specs.Rows.{HasRows, IsOutboxOf, Leaves, entry_row, entry_rows, target_row, target_rows, meta_row}
+use Rattle.outbox_core.specs.Rows.{HasRows, IsOutboxOf, LeavesOutbox, entry_row, entry_rows, target_row, target_rows, meta_row}
 use Rattle.outbox_core.specs.Changes.{GainsRows, AddsRows, AddsInside, Adds, AddsTo, AddsNothing}
 use Rattle.outbox_core.proofs.Texts.{insert_text, insert_terms, does_insert, plain_insert, insert_target_text, does_insert_target, plain_insert_target}
 use Rattle.outbox_core.proofs.EntryLemmas.{numbered_push}
@@ -45,7 +45,7 @@ entries_push es e = sym (ap (map entry_row) (numbered_push 1 es e) ∙ map_push 
     map_push (x ∷ xs) = ap (λ l. entry_row x ∷ l) (map_push xs)
 
 abbrev pub HasBoth : Database → List ℕ → List Row → List Row → Type 0
-HasBoth db filer es ts = IsDeclared db.schema × Holds db meta_table (meta_row filer ∷ []) × Holds db entry_table es × Holds db target_table ts
+HasBoth db filer es ts = IsDeclared db.schema × TableHas db meta_table (meta_row filer ∷ []) × TableHas db entry_table es × TableHas db target_table ts
 
 module _ (old new : Database) (filer : List ℕ) (es ts rows : List Row) (has : HasBoth old filer es ts) where
   entry_grows : Gains outbox_tables entry_table rows old new → HasBoth new filer (es ++ rows) ts
@@ -73,8 +73,8 @@ more_rows : (it : Contents) (e : Entry) (db : Database) → HasBoth db it.filer 
 more_rows it e db has = record {
   declared = has.0;
   meta_is = has.1;
-  entries_are = subst (Holds db entry_table) (entries_push it.entries e) has.2;
-  targets_are = subst (Holds db target_table) (sym (targets_push 1 it.entries e)) has.3;
+  entries_are = subst (TableHas db entry_table) (entries_push it.entries e) has.2;
+  targets_are = subst (TableHas db target_table) (sym (targets_push 1 it.entries e)) has.3;
 }
 
 module _ (id : ℕ) (key body : List ℕ) where
@@ -117,15 +117,15 @@ module _ (it : Contents) (e : Entry) (fits : IsOutbox (with_entry it e)) where
   more : (old new : Database) → IsOutboxOf it old → AddsRows (1 + length it.entries) e old new → IsOutboxOf (with_entry it e) new
   more old new was adds = record { sound = adds.sound was.rows.declared was.sound; rows = adds.rows it refl was.rows; list = fits }
 
-  pub added_stands : (old new : State) → Stands (IsOutboxOf it) old → new.in_transaction ≡ false → Adds (1 + length it.entries) e old new → Stands (IsOutboxOf (with_entry it e)) new × IsTrue new.is_open
+  pub added_stands : (old new : State) → HasCommitted (IsOutboxOf it) old → new.in_transaction ≡ false → Adds (1 + length it.entries) e old new → HasCommitted (IsOutboxOf (with_entry it e)) new × IsTrue new.is_open
   added_stands old new was autocommit adds =
       (record { autocommit = autocommit; now = λ _. more old.now new.now (was.now adds.was_open) adds.adds; committed = λ _. adds.committed }, adds.is_open)
 
-  pub added_leaves : (old : State) (trees : Trees) → Stands (IsOutboxOf it) old → IsTrue old.is_open → AddsTo (1 + length it.entries) e old.now trees → Leaves (with_entry it e) trees
+  pub added_leaves : (old : State) (trees : Trees) → HasCommitted (IsOutboxOf it) old → IsTrue old.is_open → AddsTo (1 + length it.entries) e old.now trees → LeavesOutbox (with_entry it e) trees
   added_leaves old trees was alive left = record { db = left.db; is = left.is; outbox = more old.now left.db (was.now alive) left.adds }
 
 -- where nothing is written it stands
-pub still_stands : (it : Contents) (old new : State) → Stands (IsOutboxOf it) old → new.in_transaction ≡ false → AddsNothing old new → Stands (IsOutboxOf it) new
+pub still_stands : (it : Contents) (old new : State) → HasCommitted (IsOutboxOf it) old → new.in_transaction ≡ false → AddsNothing old new → HasCommitted (IsOutboxOf it) new
 still_stands it old new was autocommit none = record {
   autocommit = autocommit;
   now = λ alive. let before = none.was_open alive in subst (IsOutboxOf it) (sym (none.now alive ∙ was.committed before)) (was.now before);

@@ -70,7 +70,7 @@ not_below n = grind (arith, nat_tests)
 none_fails : {X : Type 0} (p : X → Bool) (xs : List X) → list_all p xs ≡ true → position (λ x. not (p x)) xs ≡ None
 none_fails p xs all = rw (all_long p xs all, not_below (length xs)) refl
 
--- a key is refused for want of memory alone
+-- a key is refused where memory runs out, and for nothing else
 pub only_memory : (text : List ℕ) (fault : KeyFault) → IsKey text → IsTextFault text fault → fault ≡ Memory
 only_memory text NotString key why = absurd why
 only_memory text Empty key why = absurd (let none : length text ≡ 0 = ap length why in omega (arith, key.nonempty))

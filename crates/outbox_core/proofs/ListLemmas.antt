@@ -12,9 +12,9 @@ use Rattle.http_wire.specs.Posting.{IsTarget}
 use Rattle.filing_model.specs.Outbox.{Entry, State, IsSendable, request_of}
 use Rattle.filing_model.proofs.Keeping.{all_push}
 use Rattle.outbox_core.specs.Entries.{Contents, contents_of, IsOutbox, AreDistinct, FitsNumber, numbered, has_text, opened, with_entry, with_state}
-use Rattle.table_rows.specs.Standing.{Stands}
+use Rattle.table_rows.specs.Standing.{HasCommitted}
 use Rattle.table_rows.proofs.StandLemmas.{lasting}
-use Rattle.outbox_core.specs.Rows.{IsOutboxOf, Leaves}
+use Rattle.outbox_core.specs.Rows.{IsOutboxOf, LeavesOutbox}
 use Rattle.outbox_core.proofs.EntryLemmas.{all_set, set_all, distinct_push, distinct_set, unused}
 
 -- an entry more, under a key that was not used
@@ -46,5 +46,5 @@ kept_list filer es is kept distinct = record {
 }
 
 -- a crash of an open store leaves what it shows
-pub leaves_last : (s : Shown) (it : Contents) → Stands (IsOutboxOf it) s → IsTrue s.is_open → (trees : Trees) → trees ≡ s.committed.trees → Leaves it trees
+pub leaves_last : (s : Shown) (it : Contents) → HasCommitted (IsOutboxOf it) s → IsTrue s.is_open → (trees : Trees) → trees ≡ s.committed.trees → LeavesOutbox it trees
 leaves_last s it h alive trees last = record { db = s.now; is = lasting (IsOutboxOf it) s h alive trees last; outbox = h.now alive }

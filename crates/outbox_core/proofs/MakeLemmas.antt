@@ -31,7 +31,7 @@ use Rattle.table_rows.proofs.InsertLemmas.{inserts}
 use Rattle.outbox_core.specs.Schema.{outbox_tables, meta_table, entry_table, target_table, IsDeclared}
 use Rattle.outbox_core.specs.Entries.{IsOutbox, empty}
 use Rattle.outbox_core.specs.Making.{create_meta, create_entry, create_target, insert_meta, RunsAll, AreMade}
-use Rattle.outbox_core.specs.Rows.{HasRows, IsOutboxOf, Leaves, meta_row}
+use Rattle.outbox_core.specs.Rows.{HasRows, IsOutboxOf, LeavesOutbox, meta_row}
 
 abbrev first_schema : Schema
 first_schema = created no_schema meta_table
@@ -100,7 +100,7 @@ module _ {S : Type 0} (g : Ghosts S) (filer : List ℕ) (old : Held S) (is : is_
       let all = makes_all (state g (record old { in_transaction = true })) (state g ran.first) (state g ran.second) (state g ran.third) (state g new) ran.counts filer ran.meta ran.entry ran.target ran.row none in
       record { sound = all.1; rows = all.0; list = no_entries filer is }
 
-  pub made_leaves : (trees : Trees) → AreMade g filer old trees → (state g old).now.schema ≡ no_schema → Leaves (empty filer) trees
+  pub made_leaves : (trees : Trees) → AreMade g filer old trees → (state g old).now.schema ≡ no_schema → LeavesOutbox (empty filer) trees
   made_leaves trees made none = record { db = (state g made.0).now; is = made.2; outbox = all_made made.0 made.1 none }
 
 -- ---- where they are not made, nothing is committed

@@ -29,7 +29,7 @@ use Rattle.sqlite_value.proofs.OrderLemmas.{value_cmp-Int}
 use Rattle.sqlite_keyed.proofs.ListLemmas.{filter-map, IsPermutation-filter}
 use Rattle.sqlite_tied.specs.Compute.{everything}
 use Rattle.sqlite_typed.proofs.TestLemmas.{at_ints, last_term}
-use Rattle.table_rows.specs.Rows.{shown, Holds, KeepsOthers}
+use Rattle.table_rows.specs.Rows.{shown, TableHas, KeepsOthers}
 use Rattle.table_rows.proofs.CreateLemmas.{IsCreation}
 use Rattle.table_rows.proofs.GainLemmas.{cast_int, cast_null}
 use Rattle.table_rows.proofs.PartLemmas.{went, same_value}
@@ -130,10 +130,10 @@ module _ (filer : List ℕ) (trees : Trees) (held : IsPermutation (form_row 1 fi
 pub record IsRaised (filer : List ℕ) (old new : Database) : Type 0 where
   pub schema_is : new.schema ≡ outbox_schema
   pub sound : IsDatabase new
-  pub meta_is : Holds new meta_table (meta_row filer ∷ [])
+  pub meta_is : TableHas new meta_table (meta_row filer ∷ [])
   pub others : KeepsOthers outbox_tables meta_table old new
 
-pub raises : (filer : List ℕ) (old new : State) (count : ℕ) → old.now.schema ≡ outbox_schema → Holds old.now meta_table (form_row 1 filer ∷ []) → Executes raise_form [] old new (Ok count) → IsRaised filer old.now new.now
+pub raises : (filer : List ℕ) (old new : State) (count : ℕ) → old.now.schema ≡ outbox_schema → TableHas old.now meta_table (form_row 1 filer ∷ []) → Executes raise_form [] old new (Ok count) → IsRaised filer old.now new.now
 raises filer old new count has held h =
     let w = runs_as raise_form [] old new outbox_schema has raise_command raise_is raise_plain count h in
     let u = updated outbox_schema 0 meta_table refl (refl, (refl, (refl, tt))) raise_query [] old (statement_of raise_form (understood outbox_schema raise_form)) w.tally new.now has w.changed 1 (became filer) (one_row filer old.now.trees held) in

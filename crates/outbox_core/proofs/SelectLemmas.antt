@@ -31,7 +31,7 @@ use Rattle.sqlite_typed.specs.Tests.{bytes_cmp}
 use Rattle.sqlite_typed.proofs.TestLemmas.{at_ints, at_texts, last_term, last_key, same_bytes, bytes_eq_refl}
 use Rattle.filing_model.specs.Outbox.{Entry, Open, Confirmed, Refused, Clashed}
 use Rattle.table_rows.specs.Rows.{shown, row_or_none}
-use Rattle.table_rows.specs.Standing.{Stands}
+use Rattle.table_rows.specs.Standing.{HasCommitted}
 use Rattle.table_rows.proofs.SelectLemmas.{one_table, selects_in_order}
 use Rattle.table_rows.proofs.QueryLemmas.{Asks, first_told, first_same, first_stands, shown_stands, failed_stands}
 use Rattle.outbox_core.specs.Schema.{entry_table, IsDeclared}
@@ -123,7 +123,7 @@ entries_selected es trees rows held answer =
 
 -- ---- the first of them
 
-module _ (sql : List ℕ) (test columns : List Term) (asks : (schema : Schema) → IsDeclared schema → Asks schema sql (sorted test columns)) (params : Row) (old new : State) (it : Contents) (was : Stands (IsOutboxOf it) old) where
+module _ (sql : List ℕ) (test columns : List Term) (asks : (schema : Schema) → IsDeclared schema → Asks schema sql (sorted test columns)) (params : Row) (old new : State) (it : Contents) (was : HasCommitted (IsOutboxOf it) old) where
   asked : (db : Database) → IsOutboxOf it db → Asks db.schema sql (sorted test columns)
   asked db o = asks db.schema o.rows.declared
 
@@ -140,15 +140,15 @@ module _ (sql : List ℕ) (test columns : List Term) (asks : (schema : Schema) �
   pub row_open : (r : Result (Option Row) Error) → QueriesRow sql params old new (row_or_none r) → OnOk r (IsTrue new.is_open)
   row_open r h = IfOk-weaker r _ _ (λ row same. same.0.is_open) (first_same (IsOutboxOf it) sql (sorted test columns) asked params old new was r h)
 
-  pub row_stands : (r : Result (Option Row) Error) → QueriesRow sql params old new (row_or_none r) → Stands (IsOutboxOf it) new
+  pub row_stands : (r : Result (Option Row) Error) → QueriesRow sql params old new (row_or_none r) → HasCommitted (IsOutboxOf it) new
   row_stands r h = first_stands (IsOutboxOf it) sql (sorted test columns) asked params old new was r h
 
 -- ---- all of them
 
-module _ (sql : List ℕ) (q : Query) (asks : (schema : Schema) → IsDeclared schema → Asks schema sql q) (params : Row) (old new : State) (it : Contents) (was : Stands (IsOutboxOf it) old) where
+module _ (sql : List ℕ) (q : Query) (asks : (schema : Schema) → IsDeclared schema → Asks schema sql q) (params : Row) (old new : State) (it : Contents) (was : HasCommitted (IsOutboxOf it) old) where
   asked_all : (db : Database) → IsOutboxOf it db → Asks db.schema sql q
   asked_all db o = asks db.schema o.rows.declared
 
-  pub all_stand : {X : Type 0} (rows_of : X → List Row) (r : Result X Error) → IfOk r (λ x. Shown sql params old new (rows_of x)) → IfErr r (FailsToQuery sql params old new) → Stands (IsOutboxOf it) new
+  pub all_stand : {X : Type 0} (rows_of : X → List Row) (r : Result X Error) → IfOk r (λ x. Shown sql params old new (rows_of x)) → IfErr r (FailsToQuery sql params old new) → HasCommitted (IsOutboxOf it) new
   all_stand rows_of (Ok x) shown failed = shown_stands (IsOutboxOf it) sql q asked_all params old new was (rows_of x) shown
   all_stand rows_of (Err e) shown failed = failed_stands (IsOutboxOf it) sql q asked_all params old new was e failed

@@ -24,7 +24,7 @@ use Rattle.outbox_core.specs.declared.fault.OutboxFault.TheVariants as fault
 use Rattle.outbox_core.specs.Faults.{meta_fault_by, entry_fault_by}
 use Rattle.table_rows.proofs.FailLemmas.{failure_cause}
 use Rattle.outbox_core.specs.Schema.{HasCommon, IsDeclared, meta_table, entry_table}
-use Rattle.table_rows.specs.Rows.{Holds}
+use Rattle.table_rows.specs.Rows.{TableHas}
 use Rattle.outbox_core.specs.Entries.{Contents, IsOutbox, FitsNumber, numbered_from, target_at}
 use Rattle.outbox_core.specs.Rows.{code_of, number_of, form_row, entry_row, entry_rows, target_row, target_rows_from, target_rows}
 use Rattle.outbox_core.specs.Audit.{meta_text, targets_text, entries_text, is_int, is_state, filer_in, is_entry, is_target, with_id, is_id_to, is_left_over, first_damaged, damaged_row, IsKept}
@@ -116,12 +116,12 @@ filer_told form filer is = rw (same_id form, is) refl
 -- ---- the database of an outbox, in any form
 
 module _ (old new : State) (c : HasCommon old.now.schema) where
-  pub filer_is : (form : ℕ) (filer : List ℕ) → Holds old.now meta_table (form_row form filer ∷ []) → is_filer filer ≡ true → (rows : List Row) → Shown meta_text [] old new rows → filer_in form rows ≡ Some filer
+  pub filer_is : (form : ℕ) (filer : List ℕ) → TableHas old.now meta_table (form_row form filer ∷ []) → is_filer filer ≡ true → (rows : List Row) → Shown meta_text [] old new rows → filer_in form rows ≡ Some filer
   filer_is form filer held is rows h =
       let found = (meta_held old new c rows h).0 in
       ap (filer_in form) (one_permutation (form_row form filer) rows (IsPermutation-trans _ _ _ held (IsPermutation-sym rows _ found))) ∙ filer_told form filer is
 
-  pub no_damage : (es : List Entry) (targets rows : List Row) → Holds old.now entry_table (entry_rows es) → AllByRecursion IsKept es → IsPermutation (target_rows es) targets → Shown entries_text [] old new rows
+  pub no_damage : (es : List Entry) (targets rows : List Row) → TableHas old.now entry_table (entry_rows es) → AllByRecursion IsKept es → IsPermutation (target_rows es) targets → Shown entries_text [] old new rows
       → damaged_row targets rows ≡ None
   no_damage es targets rows held kept same h =
       let asks = entries_asks old.now.schema c in
@@ -138,7 +138,7 @@ module _ (old new : State) (c : HasCommon old.now.schema) where
 pub targets_readable : (old new : State) → IsDeclared old.now.schema → old.step_limit ≡ None → (e : Error) → FailsToQuery targets_text [] old new e → cause_of e ≢ Other
 targets_readable old new d unlimited e h = failure_cause targets_text 3 [] target_terms [] old new (targets_asks old.now.schema d) (targets_whole old.now.schema d) unlimited e h
 
--- ---- so a failure to read them is told as want of memory or as one of the disk
+-- ---- so a failure to read them is told as one of memory or of the disk
 
 pub unread : (cause : Cause) → cause ≢ Other → (meta_fault_by cause ≡ fault.Memory) ⊎ (meta_fault_by cause ≡ fault.Disk)
 unread Cause.Memory told = inl refl

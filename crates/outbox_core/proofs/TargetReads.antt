@@ -13,7 +13,7 @@ use Rattle.sqlite_sql.specs.declared.ops.CompareOp.TheVariants.{Eq}
 use Rattle.sqlite_typed.proofs.TestLemmas.{at_ints, last_term}
 use Rattle.filing_model.specs.Outbox.{Entry}
 use Rattle.table_rows.specs.Rows.{shown, row_or_none}
-use Rattle.table_rows.specs.Standing.{Stands}
+use Rattle.table_rows.specs.Standing.{HasCommitted}
 use Rattle.table_rows.proofs.SelectLemmas.{selects}
 use Rattle.table_rows.proofs.QueryLemmas.{Asks, first_told, first_same, first_stands}
 use Rattle.outbox_core.specs.Schema.{target_table}
@@ -42,7 +42,7 @@ told_number id None [] same = refl
 told_number id None (r ∷ rows) same = absurd (omega (arith, length_permutation _ _ same))
 told_number id (Some n) rows same = ap (λ (l : List Row). slice_get l 0) (one_permutation _ rows same)
 
-module _ (id : ℕ) (old new : State) (it : Contents) (was : Stands (IsOutboxOf it) old) where
+module _ (id : ℕ) (old new : State) (it : Contents) (was : HasCommitted (IsOutboxOf it) old) where
   asked : (db : Database) → IsOutboxOf it db → Asks db.schema target_text target_query
   asked db o = target_asks db.schema o.rows.declared
 
@@ -58,7 +58,7 @@ module _ (id : ℕ) (old new : State) (it : Contents) (was : Stands (IsOutboxOf 
   pub target_open : (r : Result (Option Row) Error) → QueriesRow target_text (Int (pos id) ∷ []) old new (row_or_none r) → OnOk r (IsTrue new.is_open)
   target_open r h = IfOk-weaker r _ _ (λ row same. same.0.is_open) (first_same (IsOutboxOf it) target_text target_query asked (Int (pos id) ∷ []) old new was r h)
 
-  pub target_stands : (r : Result (Option Row) Error) → QueriesRow target_text (Int (pos id) ∷ []) old new (row_or_none r) → Stands (IsOutboxOf it) new
+  pub target_stands : (r : Result (Option Row) Error) → QueriesRow target_text (Int (pos id) ∷ []) old new (row_or_none r) → HasCommitted (IsOutboxOf it) new
   target_stands r h = first_stands (IsOutboxOf it) target_text target_query asked (Int (pos id) ∷ []) old new was r h
 
 -- the number in the row that was read

@@ -11,12 +11,12 @@ use Rattle.filing_model.specs.Outbox.{Entry}
 use Rattle.outbox_core.specs.Entries.{Contents, numbered_from}
 use Rattle.outbox_core.specs.Rows.{IsOutboxOf, form_row, entry_row, entry_rows, target_row, target_rows, target_rows_from, code_of, number_of}
 use Rattle.outbox_core.specs.Audit.{is_int}
-use Rattle.outbox_core.specs.Box.{Box, contents, HasEntries}
+use Rattle.outbox_core.specs.OutboxParts.{OutboxParts, contents, HasEntries}
 use Rattle.sqlite.specs.Store.{Ghosts}
 use Rattle.outbox_core.specs.Earlier.{IsEarlierOf}
 use Rattle.outbox_core.specs.Schema.{meta_table, entry_table, target_table}
 use Rattle.sqlite.specs.Table.{Table}
-use Rattle.table_rows.specs.Rows.{Holds}
+use Rattle.table_rows.specs.Rows.{TableHas}
 use Rattle.outbox_core.proofs.EarlierLemmas.{no_targets}
 use Rattle.outbox_core.proofs.SelectLemmas.{same_ids}
 use Rattle.outbox_core.proofs.ReadLemmas.{one_state}
@@ -82,7 +82,7 @@ same_contents form a b meta entries targets =
     let same = same_entries 1 a.entries b.entries entries targets in
     λ i. record { filer = filer i; entries = same i }
 
-both_hold : (db : Database) (table : Table) (xs ys : List Row) → Holds db table xs → Holds db table ys → IsPermutation xs ys
+both_hold : (db : Database) (table : Table) (xs ys : List Row) → TableHas db table xs → TableHas db table ys → IsPermutation xs ys
 both_hold db table xs ys p q = IsPermutation-trans _ _ _ p (IsPermutation-sym _ _ q)
 
 pub one_outbox : (a b : Contents) (db : Database) → IsOutboxOf a db → IsOutboxOf b db → a ≡ b
@@ -97,7 +97,7 @@ one_earlier a b db p q =
     (rw (no_targets a.entries p.untargeted, no_targets b.entries q.untargeted) (IsPermutation-refl []))
 
 -- an outbox that holds these entries holds what it is known to hold
-pub holds_same : {S : Type 0} (g : Ghosts S) (box : Box S) (entries : List Entry) (it : Contents) → contents box entries ≡ it → HasEntries g box entries → (box.filer ≡ it.filer) × HasEntries g box it.entries
+pub holds_same : {S : Type 0} (g : Ghosts S) (box : OutboxParts S) (entries : List Entry) (it : Contents) → contents box entries ≡ it → HasEntries g box entries → (box.filer ≡ it.filer) × HasEntries g box it.entries
 holds_same g box entries it one had = (
   ap (λ (i : Contents). i.filer) one,
   subst (λ es. HasEntries g box es) (ap (λ (i : Contents). i.entries) one) had,

@@ -25,8 +25,8 @@ use Rattle.sqlite_rules.specs.Edit.{is_taken}
 use Rattle.sqlite_keyed.proofs.ListLemmas.{filter-map, IsPermutation-filter}
 use Rattle.filing_model.specs.Outbox.{Entry, State as Place, Open, Confirmed, Refused, Clashed}
 use Rattle.table_rows.specs.Tables.{schema_with}
-use Rattle.table_rows.specs.Rows.{shown, Holds}
-use Rattle.table_rows.specs.Standing.{Stands}
+use Rattle.table_rows.specs.Rows.{shown, TableHas}
+use Rattle.table_rows.specs.Standing.{HasCommitted}
 use Rattle.table_rows.proofs.InsertLemmas.{put_fresh}
 use Rattle.table_rows.proofs.GainLemmas.{cast_int, cast_null, same_rows}
 use Rattle.table_rows.proofs.SelectLemmas.{selects}
@@ -35,7 +35,7 @@ use Rattle.table_rows.proofs.UpdateLemmas.{other_rows, updated}
 use Rattle.filing_model.specs.Numbered.{changed_at}
 use Rattle.outbox_core.specs.Schema.{outbox_tables, meta_table, entry_table, target_table, IsDeclared}
 use Rattle.outbox_core.specs.Entries.{Contents, IsOutbox, numbered, numbered_from, has_id, entry_at, with_state, in_state}
-use Rattle.outbox_core.specs.Rows.{IsOutboxOf, Leaves, code_of, number_of, entry_row, entry_rows, target_rows, meta_row}
+use Rattle.outbox_core.specs.Rows.{IsOutboxOf, LeavesOutbox, code_of, number_of, entry_row, entry_rows, target_rows, meta_row}
 use Rattle.outbox_core.proofs.Texts.{equals, changed_columns, update_text, update_command, update_query, update_is, update_plain}
 use Rattle.outbox_core.proofs.SelectLemmas.{matches, id_matches, same_ids, passing}
 use Rattle.outbox_core.proofs.TargetLemmas.{targets_put}
@@ -166,7 +166,7 @@ module _ (s : State) (it : Contents) (was : IsOutboxOf it s.now) (k : ℕ) (e : 
           declared = subst IsDeclared (sym (u.schema_is ∙ sym d.begins.is)) d;
           meta_is = same_rows meta_table (meta_row it.filer ∷ []) s.now after (u.others.0 (λ same. omega (arith, same))) was.rows.meta_is;
           entries_are = subst (λ l. IsPermutation (entry_rows (changed_at (in_state state) it.entries k)) (map (shown entry_table) l)) (sym rows) (rows_changed it.entries db was.rows.entries_are k e found state fresh);
-          targets_are = subst (Holds after target_table) (sym (targets_put 1 k it.entries state)) (same_rows target_table (target_rows it.entries) s.now after (u.others.1.1.0 (λ same. omega (arith, same))) was.rows.targets_are);
+          targets_are = subst (TableHas after target_table) (sym (targets_put 1 k it.entries state)) (same_rows target_table (target_rows it.entries) s.now after (u.others.1.1.0 (λ same. omega (arith, same))) was.rows.targets_are);
         };
         list = fits;
       }
@@ -174,28 +174,28 @@ module _ (s : State) (it : Contents) (was : IsOutboxOf it s.now) (k : ℕ) (e : 
 update_only : EndsNone update_command
 update_only k e = (λ h. let both = sym e ∙ h in cc, λ name h. let both = sym e ∙ h in cc)
 
-module _ (old new : State) (it : Contents) (was : Stands (IsOutboxOf it) old) (alive : IsTrue old.is_open) (state : Place) where
+module _ (old new : State) (it : Contents) (was : HasCommitted (IsOutboxOf it) old) (alive : IsTrue old.is_open) (state : Place) where
   abbrev declared : IsDeclared old.now.schema
   declared = (was.now alive).rows.declared
 
   pub update_stands : (id : ℕ) → IsSome (entry_at it.entries id) → IsOutbox (with_state it id state) → (r : Result ℕ Error) → Executes update_text (update_params id state) old new r
-      → OnOk r (Stands (IsOutboxOf (with_state it id state)) new × IsTrue new.is_open)
+      → OnOk r (HasCommitted (IsOutboxOf (with_state it id state)) new × IsTrue new.is_open)
   update_stands zero some fits r h = absurd cc
   update_stands (suc k) some fits (Err error) h = tt
   update_stands (suc k) some fits (Ok count) h = go (slice_get it.entries k) refl some
     where
-      go : (o : Option Entry) → slice_get it.entries k ≡ o → IsSome o → Stands (IsOutboxOf (with_state it (suc k) state)) new × IsTrue new.is_open
+      go : (o : Option Entry) → slice_get it.entries k ≡ o → IsSome o → HasCommitted (IsOutboxOf (with_state it (suc k) state)) new × IsTrue new.is_open
       go None at some = absurd cc
       go (Some e) at some =
           let next : suc k ≡ 1 + k = omega arith in
           written_stands (IsOutboxOf it) _ update_text (update_params (1 + k) state) update_command old new was (update_is old.now.schema declared) (update_plain old.now.schema declared) (put old it (was.now alive) k e at state fits) count (λ text w. w)
           (subst (λ n. Executes update_text (update_params n state) old new (Ok count)) next h)
 
-  pub update_leaves : (id : ℕ) → IsSome (entry_at it.entries id) → IsOutbox (with_state it id state) → (trees : Trees) → CommitsBy update_text (update_params id state) old trees → Leaves (with_state it id state) trees
+  pub update_leaves : (id : ℕ) → IsSome (entry_at it.entries id) → IsOutbox (with_state it id state) → (trees : Trees) → CommitsBy update_text (update_params id state) old trees → LeavesOutbox (with_state it id state) trees
   update_leaves zero some fits trees h = absurd cc
   update_leaves (suc k) some fits trees h = go (slice_get it.entries k) refl some
     where
-      go : (o : Option Entry) → slice_get it.entries k ≡ o → IsSome o → Leaves (with_state it (suc k) state) trees
+      go : (o : Option Entry) → slice_get it.entries k ≡ o → IsSome o → LeavesOutbox (with_state it (suc k) state) trees
       go None at some = absurd cc
       go (Some e) at some =
           let next : suc k ≡ 1 + k = omega arith in

@@ -9,7 +9,7 @@ use Rattle.sqlite.specs.Store.{Ghosts}
 use Rattle.sqlite.specs.Held.{Held, state}
 use Rattle.sqlite.specs.State.{Shown, ExecutesInside}
 use Rattle.sqlite_catalog.specs.Change.{is_used}
-use Rattle.table_rows.specs.Rows.{Holds}
+use Rattle.table_rows.specs.Rows.{TableHas}
 use Rattle.table_rows.specs.Tables.{no_schema}
 use Rattle.table_rows.specs.declared.cause.Cause.TheVariants as cause
 use Rattle.outbox_core.specs.declared.fault.OutboxFault.{OutboxFault}
@@ -28,8 +28,8 @@ IsAlone schema = schema ≡ created (created no_schema meta_table) (record entry
 pub record IsEarlierOf (it : Contents) (db : Database) : Type 0 where
   pub sound : IsDatabase db
   pub declared : HasCommon db.schema
-  pub meta_is : Holds db meta_table (form_row 1 it.filer ∷ [])
-  pub entries_are : Holds db entry_table (entry_rows it.entries)
+  pub meta_is : TableHas db meta_table (form_row 1 it.filer ∷ [])
+  pub entries_are : TableHas db entry_table (entry_rows it.entries)
   pub untargeted : AllByRecursion (λ e. e.target ≡ None) it.entries
   pub list : IsOutbox it
 

@@ -39,7 +39,7 @@ entry_fault_by cause.Other = outbox.Damaged 0
 abbrev pub entry_fault : Error → OutboxFault
 entry_fault error = entry_fault_by (cause_of error)
 
--- want of memory is told as that alone
+-- that memory ran out is told as that alone
 abbrev pub store_fault_by : Cause → StoreFault
 store_fault_by cause.Memory = store.Memory
 store_fault_by cause.Disk = store.Store

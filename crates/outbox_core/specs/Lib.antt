@@ -3,7 +3,7 @@ pub mod Entries
 pub mod Rows
 pub mod Reading
 pub mod Faults
-pub mod Box
+pub mod OutboxParts
 pub mod Audit
 pub mod Making
 pub mod Changes

@@ -6,7 +6,7 @@ use Rattle.sqlite.specs.Order.{Row}
 use Rattle.sqlite.specs.Tree.{Trees}
 use Rattle.sqlite.specs.Effect.{Database, IsDatabase}
 use Rattle.filing_model.specs.Outbox.{Entry, State, Open, Confirmed, Refused, Clashed}
-use Rattle.table_rows.specs.Rows.{Holds}
+use Rattle.table_rows.specs.Rows.{TableHas}
 use Rattle.outbox_core.specs.Schema.{IsDeclared, meta_table, entry_table, target_table}
 use Rattle.outbox_core.specs.Entries.{Contents, IsOutbox, numbered}
 
@@ -65,9 +65,9 @@ target_rows = target_rows_from 1
 -- the three tables have these rows, each once and in any order, and no others
 pub record HasRows (it : Contents) (db : Database) : Type 0 where
   pub declared : IsDeclared db.schema
-  pub meta_is : Holds db meta_table (meta_row it.filer ∷ [])
-  pub entries_are : Holds db entry_table (entry_rows it.entries)
-  pub targets_are : Holds db target_table (target_rows it.entries)
+  pub meta_is : TableHas db meta_table (meta_row it.filer ∷ [])
+  pub entries_are : TableHas db entry_table (entry_rows it.entries)
+  pub targets_are : TableHas db target_table (target_rows it.entries)
 
 -- a database, as SQLite's files have one, that holds the outbox of these contents
 pub record IsOutboxOf (it : Contents) (db : Database) : Type 0 where
@@ -76,7 +76,7 @@ pub record IsOutboxOf (it : Contents) (db : Database) : Type 0 where
   pub list : IsOutbox it
 
 -- an open after a crash that left these trees finds these contents
-pub record Leaves (it : Contents) (trees : Trees) : Type 0 where
+pub record LeavesOutbox (it : Contents) (trees : Trees) : Type 0 where
   pub db : Database
   pub is : trees ≡ db.trees
   pub outbox : IsOutboxOf it db

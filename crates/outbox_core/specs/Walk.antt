@@ -3,7 +3,7 @@ use Rattle.std.specs.Prelude.{◌≡◌, ◌+◌, ℕ, List, ◌++◌, length, I
 use Rattle.sqlite.specs.Order.{Row}
 use Rattle.sqlite.specs.Effect.{Database}
 use Rattle.table_rows.specs.Picking.{rows_in}
-use Rattle.table_rows.specs.Rows.{Holds}
+use Rattle.table_rows.specs.Rows.{TableHas}
 use Rattle.outbox_core.specs.Schema.{entry_table}
 use Rattle.outbox_core.specs.Audit.{first_damaged, damaged_row}
 
@@ -18,6 +18,6 @@ pub record Walked (targets : List Row) (total count : ℕ) (db : Database) (rows
 -- so many entries are all that the table has, and none is damaged
 pub record AreCounted (targets : List Row) (count : ℕ) (db : Database) : Type 0 where
   pub rows : List Row
-  pub held : Holds db entry_table rows
+  pub held : TableHas db entry_table rows
   pub sound : damaged_row targets rows ≡ None
   pub many : count ≡ length rows

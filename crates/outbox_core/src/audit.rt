@@ -151,8 +151,8 @@ fn first_damaged(rows: &[Row], said: &[Said]) -> Option<u64>
     None
 }
 
-/// The row of the first entry that is not sound; or 0, where each is and a row of `target` is that of no entry. The error is
-/// want of memory.
+/// The row of the first entry that is not sound; or 0, where each is and a row of `target` is that of no entry. It fails where
+/// memory runs out.
 pub(crate) fn damaged_row(
     alloc: Global,
     targets: &[Row],

@@ -1,6 +1,6 @@
 //! Making the tables of an outbox.
 
-ghost use Rattle.std.specs.Prelude.{◌≡◌, ◌≢◌, ◌||◌, ◌⊎◌, ◌↔◌, ℕ, true, false, [], Ok, Err, codes, IsTrue, IfOk, IfErr, OnOk, OnErr, string_bytes};
+ghost use Rattle.std.specs.Prelude.{◌≡◌, ◌≢◌, ◌||◌, ◌⊎◌, ◌↔◌, ℕ, true, false, [], Ok, Err, IsTrue, IfOk, IfErr, OnOk, OnErr, string_bytes};
 ghost use Rattle.key_string.specs.Filer.{is_filer};
 ghost use Rattle.sqlite.specs.Held.{state};
 ghost use Rattle.sqlite.specs.Values.{bound};
@@ -9,8 +9,9 @@ ghost use Rattle.sqlite.specs.State.{HasCleanDisk, KeepsCommit, Survives, Execut
 ghost use Rattle.table_rows.specs.Tables.{no_schema};
 ghost use Rattle.outbox_core.specs.Schema.{is_taken};
 ghost use Rattle.outbox_core.specs.Entries.{empty};
-ghost use Rattle.outbox_core.specs.Rows.{IsOutboxOf, Leaves};
+ghost use Rattle.outbox_core.specs.Rows.{IsOutboxOf, LeavesOutbox};
 ghost use Rattle.outbox_core.specs.Making.{RunsAll, AreMade};
+ghost use Rattle.table_rows.specs.Standing.{CommitsNothing};
 
 use crate::fault::OutboxFault;
 use key_string::is_filer;
@@ -40,7 +41,7 @@ pub(crate) fn run<S: Alter>(
         (state S.Store tx.new.conn.now) (Ok count)) }
     ensures keeps { HasCleanDisk (state S.Store tx.new.conn.now)
         → KeepsCommit (state S.Store tx.old.conn.now) (state S.Store tx.new.conn.now) }
-    ensures survives { Survives (state S.Store tx.old.conn.now) (state S.Store tx.new.conn.now) (λ _. ⊥) }
+    ensures survives { CommitsNothing (state S.Store tx.old.conn.now) (state S.Store tx.new.conn.now) }
 {
     tx.execute(sql, params)?;
     Ok(())
@@ -52,7 +53,7 @@ fn make_tables<S: Alter>(tx: &mut Transaction<'_, S>, filer: &str) -> Result<(),
         → OnOk result (RunsAll S.Store filer.now tx.old.conn.now tx.new.conn.now) }
     ensures keeps { HasCleanDisk (state S.Store tx.new.conn.now)
         → KeepsCommit (state S.Store tx.old.conn.now) (state S.Store tx.new.conn.now) }
-    ensures survives { Survives (state S.Store tx.old.conn.now) (state S.Store tx.new.conn.now) (λ _. ⊥) }
+    ensures survives { CommitsNothing (state S.Store tx.old.conn.now) (state S.Store tx.new.conn.now) }
 {
     run(
         tx,
@@ -119,8 +120,8 @@ pub fn make_outbox<S: Alter>(
     // BadFiler comes where the text is no filer code, and always there; Taken where it is one and one of the names is in
     // use, and always there. Neither touches the connection.
     ensures bad_filer { (result ≡ Err OutboxFault.BadFiler) ↔ (is_filer filer.now ≡ false) }
-    ensures taken { (result ≡ Err OutboxFault.Taken)
-        ↔ ((is_filer filer.now ≡ true) × IsTrue (is_taken (state S.Store conn.old).now.schema)) }
+    ensures taken { (result ≡ Err OutboxFault.Taken) ↔ ((is_filer filer.now ≡ true)
+        × IsTrue (is_taken (state S.Store conn.old).now.schema)) }
     ensures untouched { (result ≡ Err OutboxFault.BadFiler) ⊎ (result ≡ Err OutboxFault.Taken) → conn.new ≡ conn.old }
     ensures no_other { IfErr result (λ fault.
         (fault ≢ OutboxFault.NotOurs) × ((row : _) → fault ≢ OutboxFault.Damaged row)) }
@@ -133,7 +134,7 @@ pub fn make_outbox<S: Alter>(
         → OnErr result (KeepsCommit (state S.Store conn.old) (state S.Store conn.new)) }
     ensures crash { Survives (state S.Store conn.old) (state S.Store conn.new) (λ trees.
         AreMade S.Store filer.now conn.old trees
-        × ((state S.Store conn.old).now.schema ≡ no_schema → Leaves (empty filer.now) trees)) }
+        × ((state S.Store conn.old).now.schema ≡ no_schema → LeavesOutbox (empty filer.now) trees)) }
     ensures durable { HasCleanDisk (state S.Store conn.new)
         → OnOk result ((trees : Trees) → (state S.Store conn.new).may_leave trees
         → trees ≡ (state S.Store conn.new).now.trees) }

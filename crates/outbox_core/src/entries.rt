@@ -8,10 +8,11 @@ ghost use Rattle.http_wire.specs.Head.{max_body_len};
 ghost use Rattle.http_wire.specs.Posting.{IsTarget};
 ghost use Rattle.http_wire.specs.Replies.{reply_parts};
 ghost use Rattle.filing_model.specs.Outbox.{Entry as Item, moved};
-ghost use Rattle.table_rows.specs.Standing.{Stands, Commits};
+ghost use Rattle.table_rows.specs.Standing.{HasCommitted, Commits, CommitsNothing};
 ghost use Rattle.outbox_core.specs.Entries.{Contents, IsOutbox, opened, numbered, has_text, is_open, entry_at, with_entry, with_state};
-ghost use Rattle.outbox_core.specs.Rows.{IsOutboxOf, Leaves, entry_row};
+ghost use Rattle.outbox_core.specs.Rows.{IsOutboxOf, LeavesOutbox, entry_row};
 ghost use Rattle.outbox_core.specs.Reading.{view_entry, view_state, view_pair, id_and_state};
+ghost use Rattle.outbox_core.specs.OutboxParts.{AnswersOpen, KeepsOutbox};
 
 use crate::entry::{Entry, read_states, state_in};
 use crate::fault::{PutFault, StoreFault, TakeFault};
@@ -38,21 +39,21 @@ fn insert_next<S: Alter>(
 ) -> Result<u64, PutFault>
     requires { IsTarget target }
     ensures added { HasCleanDisk (state S.Store conn.new) → (it : Contents)
-        → Stands (IsOutboxOf it) (state S.Store conn.old) → IsTrue (state S.Store conn.old).is_open
+        → HasCommitted (IsOutboxOf it) (state S.Store conn.old) → IsTrue (state S.Store conn.old).is_open
         → count ≡ length it.entries → IsOutbox (with_entry it (opened key.now target body.now))
         → IfOk result (λ id.
         (id ≡ 1 + length it.entries)
-        × Stands (IsOutboxOf (with_entry it (opened key.now target body.now))) (state S.Store conn.new)
+        × HasCommitted (IsOutboxOf (with_entry it (opened key.now target body.now))) (state S.Store conn.new)
         × IsTrue (state S.Store conn.new).is_open) }
     ensures kept { HasCleanDisk (state S.Store conn.new) → (it : Contents)
-        → Stands (IsOutboxOf it) (state S.Store conn.old)
-        → OnErr result (Stands (IsOutboxOf it) (state S.Store conn.new)) }
+        → HasCommitted (IsOutboxOf it) (state S.Store conn.old)
+        → OnErr result (HasCommitted (IsOutboxOf it) (state S.Store conn.new)) }
     ensures causes { IfErr result (λ fault. (fault ≡ PutFault.Memory) ⊎ (fault ≡ PutFault.Store)) }
     ensures few { IfOk result (λ id. id ≤ 2 ^ 62) }
     ensures crash { Survives (state S.Store conn.old) (state S.Store conn.new)
         (Commits IsOutboxOf (state S.Store conn.old) (λ it trees.
         count ≡ length it.entries → IsOutbox (with_entry it (opened key.now target body.now))
-        → Leaves (with_entry it (opened key.now target body.now)) trees)) }
+        → LeavesOutbox (with_entry it (opened key.now target body.now)) trees)) }
 {
     if count >= MAX_ENTRIES || !conn.is_autocommit() {
         return Err(PutFault::Store);
@@ -75,25 +76,25 @@ pub(crate) fn add_entry<S: Alter>(
     requires target { IsTarget target }
     requires body { length body.now ≤ max_body_len }
     ensures added { HasCleanDisk (state S.Store conn.new) → (it : Contents)
-        → Stands (IsOutboxOf it) (state S.Store conn.old) → count ≡ length it.entries
+        → HasCommitted (IsOutboxOf it) (state S.Store conn.old) → count ≡ length it.entries
         → IfOk result (λ id.
         (id ≡ 1 + length it.entries)
-        × Stands (IsOutboxOf (with_entry it (opened key.now target body.now))) (state S.Store conn.new)
+        × HasCommitted (IsOutboxOf (with_entry it (opened key.now target body.now))) (state S.Store conn.new)
         × IsTrue (state S.Store conn.new).is_open) }
     ensures unused { HasCleanDisk (state S.Store conn.new) → (it : Contents)
-        → Stands (IsOutboxOf it) (state S.Store conn.old)
+        → HasCommitted (IsOutboxOf it) (state S.Store conn.old)
         → OnOk result (find (has_text key.now) (numbered it.entries) ≡ None) }
     ensures used { HasCleanDisk (state S.Store conn.new) → (it : Contents)
-        → Stands (IsOutboxOf it) (state S.Store conn.old) → (id : _) → result ≡ Err (PutFault.KeyUsed id)
+        → HasCommitted (IsOutboxOf it) (state S.Store conn.old) → (id : _) → result ≡ Err (PutFault.KeyUsed id)
         → option_map (λ x. x.0) (find (has_text key.now) (numbered it.entries)) ≡ Some id }
     ensures kept { HasCleanDisk (state S.Store conn.new) → (it : Contents)
-        → Stands (IsOutboxOf it) (state S.Store conn.old)
-        → OnErr result (Stands (IsOutboxOf it) (state S.Store conn.new)) }
+        → HasCommitted (IsOutboxOf it) (state S.Store conn.old)
+        → OnErr result (HasCommitted (IsOutboxOf it) (state S.Store conn.new)) }
     ensures few { IfOk result (λ id. id ≤ 2 ^ 62) }
     ensures any_size { result ≢ Err PutFault.TooLarge }
     ensures crash { Survives (state S.Store conn.old) (state S.Store conn.new)
         (Commits IsOutboxOf (state S.Store conn.old) (λ it trees.
-        count ≡ length it.entries → Leaves (with_entry it (opened key.now target body.now)) trees)) }
+        count ≡ length it.entries → LeavesOutbox (with_entry it (opened key.now target body.now)) trees)) }
 {
     match tables::id_of_key(conn, key) {
         Ok(None) => insert_next(conn, count, key, target, body),
@@ -109,15 +110,13 @@ fn read_entry<S: Alter>(
     row: &Row,
 ) -> Result<Entry, StoreFault>
     ensures read { HasCleanDisk (state S.Store conn.new) → (it : Contents)
-        → Stands (IsOutboxOf it) (state S.Store conn.old) → (x : ℕ × Item) → row.now ≡ entry_row x
+        → HasCommitted (IsOutboxOf it) (state S.Store conn.old) → (x : ℕ × Item) → row.now ≡ entry_row x
         → entry_at it.entries x.0 ≡ Some x.1 → IfOk result (λ entry. view_entry entry ≡ x) }
     ensures short { IfOk result (λ entry. length entry.body.items ≤ max_body_len) }
     ensures within { IfOk result (λ entry. IsTarget entry.target) }
-    ensures kept { HasCleanDisk (state S.Store conn.new) → (it : Contents)
-        → Stands (IsOutboxOf it) (state S.Store conn.old) → Stands (IsOutboxOf it) (state S.Store conn.new) }
-    ensures open { HasCleanDisk (state S.Store conn.new) → (it : Contents)
-        → Stands (IsOutboxOf it) (state S.Store conn.old) → OnOk result (IsTrue (state S.Store conn.new).is_open) }
-    ensures crash { Survives (state S.Store conn.old) (state S.Store conn.new) (λ _. ⊥) }
+    ensures kept { KeepsOutbox (state S.Store conn.old) (state S.Store conn.new) }
+    ensures open { AnswersOpen (state S.Store conn.old) (state S.Store conn.new) result }
+    ensures crash { CommitsNothing (state S.Store conn.old) (state S.Store conn.new) }
 {
     let id = row.get(0)?;
     if id >= ID_LIMIT {
@@ -134,16 +133,16 @@ fn read_found<S: Alter>(
     found: Option<Row>,
 ) -> Result<Option<Entry>, StoreFault>
     ensures read { HasCleanDisk (state S.Store conn.new) → (it : Contents)
-        → Stands (IsOutboxOf it) (state S.Store conn.old) → (o : Option (ℕ × Item)) → found ≡ option_map entry_row o
-        → IfSome o (λ x. entry_at it.entries x.0 ≡ Some x.1) → IfOk result (λ entry. option_map view_entry entry ≡ o) }
+        → HasCommitted (IsOutboxOf it) (state S.Store conn.old) → (o : Option (ℕ × Item))
+        → found ≡ option_map entry_row o → IfSome o (λ x. entry_at it.entries x.0 ≡ Some x.1)
+        → IfOk result (λ entry. option_map view_entry entry ≡ o) }
     ensures short { IfOk result (λ entry. IfSome entry (λ e. length e.body.items ≤ max_body_len)) }
     ensures within { IfOk result (λ entry. IfSome entry (λ e. IsTarget e.target)) }
-    ensures kept { HasCleanDisk (state S.Store conn.new) → (it : Contents)
-        → Stands (IsOutboxOf it) (state S.Store conn.old) → Stands (IsOutboxOf it) (state S.Store conn.new) }
+    ensures kept { KeepsOutbox (state S.Store conn.old) (state S.Store conn.new) }
     ensures open { HasCleanDisk (state S.Store conn.new) → (it : Contents)
-        → Stands (IsOutboxOf it) (state S.Store conn.old) → IsTrue (state S.Store conn.old).is_open
+        → HasCommitted (IsOutboxOf it) (state S.Store conn.old) → IsTrue (state S.Store conn.old).is_open
         → OnOk result (IsTrue (state S.Store conn.new).is_open) }
-    ensures crash { Survives (state S.Store conn.old) (state S.Store conn.new) (λ _. ⊥) }
+    ensures crash { CommitsNothing (state S.Store conn.old) (state S.Store conn.new) }
 {
     match found {
         Some(row) => match read_entry(conn, alloc, &row) {
@@ -161,15 +160,13 @@ pub(crate) fn entry_of<S: Alter>(
 ) -> Result<Option<Entry>, StoreFault>
     requires { id < 2 ^ 63 }
     ensures found { HasCleanDisk (state S.Store conn.new) → (it : Contents)
-        → Stands (IsOutboxOf it) (state S.Store conn.old)
+        → HasCommitted (IsOutboxOf it) (state S.Store conn.old)
         → IfOk result (λ entry. option_map view_entry entry ≡ option_map (λ e. (id, e)) (entry_at it.entries id)) }
     ensures short { IfOk result (λ entry. IfSome entry (λ e. length e.body.items ≤ max_body_len)) }
     ensures within { IfOk result (λ entry. IfSome entry (λ e. IsTarget e.target)) }
-    ensures kept { HasCleanDisk (state S.Store conn.new) → (it : Contents)
-        → Stands (IsOutboxOf it) (state S.Store conn.old) → Stands (IsOutboxOf it) (state S.Store conn.new) }
-    ensures open { HasCleanDisk (state S.Store conn.new) → (it : Contents)
-        → Stands (IsOutboxOf it) (state S.Store conn.old) → OnOk result (IsTrue (state S.Store conn.new).is_open) }
-    ensures crash { Survives (state S.Store conn.old) (state S.Store conn.new) (λ _. ⊥) }
+    ensures kept { KeepsOutbox (state S.Store conn.old) (state S.Store conn.new) }
+    ensures open { AnswersOpen (state S.Store conn.old) (state S.Store conn.new) result }
+    ensures crash { CommitsNothing (state S.Store conn.old) (state S.Store conn.new) }
 {
     match tables::entry_with_id(conn, id) {
         Ok(row) => read_found(conn, alloc, row),
@@ -182,13 +179,12 @@ pub(crate) fn open_entry<S: Alter>(
     alloc: Global,
 ) -> Result<Option<Entry>, StoreFault>
     ensures found { HasCleanDisk (state S.Store conn.new) → (it : Contents)
-        → Stands (IsOutboxOf it) (state S.Store conn.old)
+        → HasCommitted (IsOutboxOf it) (state S.Store conn.old)
         → IfOk result (λ entry. option_map view_entry entry ≡ find is_open (numbered it.entries)) }
     ensures short { IfOk result (λ entry. IfSome entry (λ e. length e.body.items ≤ max_body_len)) }
     ensures within { IfOk result (λ entry. IfSome entry (λ e. IsTarget e.target)) }
-    ensures kept { HasCleanDisk (state S.Store conn.new) → (it : Contents)
-        → Stands (IsOutboxOf it) (state S.Store conn.old) → Stands (IsOutboxOf it) (state S.Store conn.new) }
-    ensures crash { Survives (state S.Store conn.old) (state S.Store conn.new) (λ _. ⊥) }
+    ensures kept { KeepsOutbox (state S.Store conn.old) (state S.Store conn.new) }
+    ensures crash { CommitsNothing (state S.Store conn.old) (state S.Store conn.new) }
 {
     match tables::first_open_entry(conn) {
         Ok(row) => read_found(conn, alloc, row),
@@ -200,13 +196,11 @@ pub(crate) fn open_entry<S: Alter>(
 fn state_of_entry<S: Alter>(conn: &mut Connection<S>, id: u64) -> Result<Option<State>, StoreFault>
     requires { id < 2 ^ 63 }
     ensures found { HasCleanDisk (state S.Store conn.new) → (it : Contents)
-        → Stands (IsOutboxOf it) (state S.Store conn.old)
+        → HasCommitted (IsOutboxOf it) (state S.Store conn.old)
         → IfOk result (λ state. option_map view_state state ≡ option_map (λ e. e.state) (entry_at it.entries id)) }
-    ensures kept { HasCleanDisk (state S.Store conn.new) → (it : Contents)
-        → Stands (IsOutboxOf it) (state S.Store conn.old) → Stands (IsOutboxOf it) (state S.Store conn.new) }
-    ensures open { HasCleanDisk (state S.Store conn.new) → (it : Contents)
-        → Stands (IsOutboxOf it) (state S.Store conn.old) → OnOk result (IsTrue (state S.Store conn.new).is_open) }
-    ensures crash { Survives (state S.Store conn.old) (state S.Store conn.new) (λ _. ⊥) }
+    ensures kept { KeepsOutbox (state S.Store conn.old) (state S.Store conn.new) }
+    ensures open { AnswersOpen (state S.Store conn.old) (state S.Store conn.new) result }
+    ensures crash { CommitsNothing (state S.Store conn.old) (state S.Store conn.new) }
 {
     let row = tables::state_with_id(conn, id)?;
     match row {
@@ -221,11 +215,10 @@ pub(crate) fn states_of<S: Alter>(
     alloc: Global,
 ) -> Result<Vec<(u64, State)>, StoreFault>
     ensures found { HasCleanDisk (state S.Store conn.new) → (it : Contents)
-        → Stands (IsOutboxOf it) (state S.Store conn.old)
+        → HasCommitted (IsOutboxOf it) (state S.Store conn.old)
         → IfOk result (λ states. map view_pair states.items ≡ map id_and_state (numbered it.entries)) }
-    ensures kept { HasCleanDisk (state S.Store conn.new) → (it : Contents)
-        → Stands (IsOutboxOf it) (state S.Store conn.old) → Stands (IsOutboxOf it) (state S.Store conn.new) }
-    ensures crash { Survives (state S.Store conn.old) (state S.Store conn.new) (λ _. ⊥) }
+    ensures kept { KeepsOutbox (state S.Store conn.old) (state S.Store conn.new) }
+    ensures crash { CommitsNothing (state S.Store conn.old) (state S.Store conn.new) }
 {
     match tables::state_rows(conn) {
         Ok(rows) => read_states(alloc, rows.as_slice()),
@@ -243,20 +236,20 @@ fn move_entry<S: Alter>(
 ) -> Result<State, TakeFault>
     requires { id < 2 ^ 63 }
     ensures moved { HasCleanDisk (state S.Store conn.new) → (it : Contents)
-        → Stands (IsOutboxOf it) (state S.Store conn.old) → IsTrue (state S.Store conn.old).is_open
+        → HasCommitted (IsOutboxOf it) (state S.Store conn.old) → IsTrue (state S.Store conn.old).is_open
         → option_map (λ e. e.state) (entry_at it.entries id) ≡ Some (view_state from)
         → IfOk result (λ to.
         (view_state to ≡ moved (view_state from) (reply_parts reply.now))
-        × Stands (IsOutboxOf (with_state it id (view_state to))) (state S.Store conn.new)
+        × HasCommitted (IsOutboxOf (with_state it id (view_state to))) (state S.Store conn.new)
         × IsTrue (state S.Store conn.new).is_open) }
     ensures kept { HasCleanDisk (state S.Store conn.new) → (it : Contents)
-        → Stands (IsOutboxOf it) (state S.Store conn.old)
-        → OnErr result (Stands (IsOutboxOf it) (state S.Store conn.new)) }
+        → HasCommitted (IsOutboxOf it) (state S.Store conn.old)
+        → OnErr result (HasCommitted (IsOutboxOf it) (state S.Store conn.new)) }
     ensures causes { IfErr result (λ fault. (fault ≡ TakeFault.Memory) ⊎ (fault ≡ TakeFault.Store)) }
     ensures crash { Survives (state S.Store conn.old) (state S.Store conn.new)
         (Commits IsOutboxOf (state S.Store conn.old) (λ it trees.
         option_map (λ e. e.state) (entry_at it.entries id) ≡ Some (view_state from)
-        → Leaves (with_state it id (moved (view_state from) (reply_parts reply.now))) trees)) }
+        → LeavesOutbox (with_state it id (moved (view_state from) (reply_parts reply.now))) trees)) }
 {
     let Ok(to) = from.moved(alloc, reply) else {
         return Err(TakeFault::Memory);
@@ -278,21 +271,21 @@ pub(crate) fn take_entry<S: Alter>(
 ) -> Result<State, TakeFault>
     requires { id < 2 ^ 63 }
     ensures moved { HasCleanDisk (state S.Store conn.new) → (it : Contents)
-        → Stands (IsOutboxOf it) (state S.Store conn.old)
+        → HasCommitted (IsOutboxOf it) (state S.Store conn.old)
         → IfOk result (λ to.
         (Some (view_state to) ≡ option_map (λ e. moved e.state (reply_parts reply.now)) (entry_at it.entries id))
-        × Stands (IsOutboxOf (with_state it id (view_state to))) (state S.Store conn.new)
+        × HasCommitted (IsOutboxOf (with_state it id (view_state to))) (state S.Store conn.new)
         × IsTrue (state S.Store conn.new).is_open) }
     ensures no_entry { HasCleanDisk (state S.Store conn.new) → (it : Contents)
-        → Stands (IsOutboxOf it) (state S.Store conn.old) → result ≡ Err TakeFault.NoEntry
+        → HasCommitted (IsOutboxOf it) (state S.Store conn.old) → result ≡ Err TakeFault.NoEntry
         → entry_at it.entries id ≡ None }
     ensures kept { HasCleanDisk (state S.Store conn.new) → (it : Contents)
-        → Stands (IsOutboxOf it) (state S.Store conn.old)
-        → OnErr result (Stands (IsOutboxOf it) (state S.Store conn.new)) }
+        → HasCommitted (IsOutboxOf it) (state S.Store conn.old)
+        → OnErr result (HasCommitted (IsOutboxOf it) (state S.Store conn.new)) }
     ensures crash { Survives (state S.Store conn.old) (state S.Store conn.new)
         (Commits IsOutboxOf (state S.Store conn.old) (λ it trees.
         (e : Item) × (entry_at it.entries id ≡ Some e)
-        × Leaves (with_state it id (moved e.state (reply_parts reply.now))) trees)) }
+        × LeavesOutbox (with_state it id (moved e.state (reply_parts reply.now))) trees)) }
 {
     match state_of_entry(conn, id) {
         Ok(Some(from)) => move_entry(conn, alloc, id, from, reply),

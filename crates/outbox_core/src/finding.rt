@@ -6,9 +6,9 @@ ghost use Rattle.key_string.specs.Filer.{is_filer};
 ghost use Rattle.filing_model.specs.Outbox.{Entry as Item};
 ghost use Rattle.sqlite.specs.Held.{state};
 ghost use Rattle.sqlite.specs.Order.{Row as Stored};
-ghost use Rattle.sqlite.specs.State.{HasCleanDisk, IsLive, IsUnchanged, KeepsCommit, Shown, Survives};
-ghost use Rattle.table_rows.specs.Rows.{Holds};
-ghost use Rattle.table_rows.specs.Standing.{Stands};
+ghost use Rattle.sqlite.specs.State.{HasCleanDisk, IsLive, IsUnchanged, KeepsCommit, Shown};
+ghost use Rattle.table_rows.specs.Rows.{TableHas};
+ghost use Rattle.table_rows.specs.Standing.{HasCommitted, CommitsNothing, StaysAutocommit};
 ghost use Rattle.outbox_core.specs.Schema.{IsDeclared, HasCommon, meta_table, entry_table, target_table};
 ghost use Rattle.outbox_core.specs.Entries.{Contents, contents_of};
 ghost use Rattle.outbox_core.specs.Rows.{IsOutboxOf, form_row, entry_rows, target_rows};
@@ -54,7 +54,7 @@ pub(crate) fn filer_of<S: Alter>(
     requires { form < 2 ^ 63 }
     ensures found { HasCleanDisk (state S.Store conn.new) → HasCommon (state S.Store conn.old).now.schema
         → IfOk result (λ filer.
-        Holds (state S.Store conn.old).now meta_table (form_row form (string_bytes filer) ∷ [])
+        TableHas (state S.Store conn.old).now meta_table (form_row form (string_bytes filer) ∷ [])
         × (is_filer (string_bytes filer) ≡ true) × IsUnchanged (state S.Store conn.old) (state S.Store conn.new)) }
     ensures code { IfOk result (λ filer. is_filer (string_bytes filer) ≡ true) }
     ensures read { HasCleanDisk (state S.Store conn.new)
@@ -67,14 +67,14 @@ pub(crate) fn filer_of<S: Alter>(
         (fault ≡ OutboxFault.NotOurs) ⊎ ((fault ≡ OutboxFault.Memory) ⊎ (fault ≡ OutboxFault.Disk))) }
     ensures ours { HasCleanDisk (state S.Store conn.new) → (filer : List ℕ)
         → HasCommon (state S.Store conn.old).now.schema
-        → Holds (state S.Store conn.old).now meta_table (form_row form filer ∷ []) → is_filer filer ≡ true
+        → TableHas (state S.Store conn.old).now meta_table (form_row form filer ∷ []) → is_filer filer ≡ true
         → (state S.Store conn.old).step_limit ≡ None
         → IfErr result (λ fault. (fault ≡ OutboxFault.Memory) ⊎ (fault ≡ OutboxFault.Disk)) }
     ensures kept { HasCleanDisk (state S.Store conn.new)
         → KeepsCommit (state S.Store conn.old) (state S.Store conn.new) }
     ensures limit { conn.new.step_limit ≡ conn.old.step_limit }
-    ensures crash { Survives (state S.Store conn.old) (state S.Store conn.new) (λ _. ⊥) }
-    ensures mode { conn.old.in_transaction ≡ false → conn.new.in_transaction ≡ false }
+    ensures crash { CommitsNothing (state S.Store conn.old) (state S.Store conn.new) }
+    ensures mode { StaysAutocommit conn.old conn.new }
     ensures clean { HasCleanDisk (state S.Store conn.new) → HasCleanDisk (state S.Store conn.old) }
 {
     match tables::meta_rows(conn) {
@@ -90,7 +90,7 @@ pub(crate) fn filer_of<S: Alter>(
 fn read_targets<S: Alter>(conn: &mut Connection<S>) -> Result<Vec<Row>, OutboxFault>
     ensures held { HasCleanDisk (state S.Store conn.new) → IsDeclared (state S.Store conn.old).now.schema
         → IfOk result (λ targets.
-        Holds (state S.Store conn.old).now target_table targets.items
+        TableHas (state S.Store conn.old).now target_table targets.items
         × IsUnchanged (state S.Store conn.old) (state S.Store conn.new)) }
     ensures shown { HasCleanDisk (state S.Store conn.new)
         → IfOk result (λ targets.
@@ -108,8 +108,8 @@ fn read_targets<S: Alter>(conn: &mut Connection<S>) -> Result<Vec<Row>, OutboxFa
     ensures kept { HasCleanDisk (state S.Store conn.new)
         → KeepsCommit (state S.Store conn.old) (state S.Store conn.new) }
     ensures limit { conn.new.step_limit ≡ conn.old.step_limit }
-    ensures crash { Survives (state S.Store conn.old) (state S.Store conn.new) (λ _. ⊥) }
-    ensures mode { conn.old.in_transaction ≡ false → conn.new.in_transaction ≡ false }
+    ensures crash { CommitsNothing (state S.Store conn.old) (state S.Store conn.new) }
+    ensures mode { StaysAutocommit conn.old conn.new }
     ensures clean { HasCleanDisk (state S.Store conn.new) → HasCleanDisk (state S.Store conn.old) }
 {
     match tables::target_rows(conn) {
@@ -127,7 +127,7 @@ pub(crate) fn count_whole<S: Alter>(
     ensures counted { HasCleanDisk (state S.Store conn.new) → HasCommon (state S.Store conn.old).now.schema
         → AllByRecursion IsPair targets.now
         → IfOk result (λ count.
-        (entries : List Item) × Holds (state S.Store conn.old).now entry_table (entry_rows entries)
+        (entries : List Item) × TableHas (state S.Store conn.old).now entry_table (entry_rows entries)
         × IsPermutation (target_rows entries) targets.now × AllByRecursion IsKept entries × (count ≡ length entries)
         × IsUnchanged (state S.Store conn.old) (state S.Store conn.new)) }
     ensures damaged { HasCleanDisk (state S.Store conn.new) → (row : _) → result ≡ Err (OutboxFault.Damaged row)
@@ -144,14 +144,14 @@ pub(crate) fn count_whole<S: Alter>(
     ensures few { IfOk result (λ count. count ≤ 2 ^ 62) }
     ensures whole { HasCleanDisk (state S.Store conn.new) → (entries : List Item)
         → HasCommon (state S.Store conn.old).now.schema
-        → Holds (state S.Store conn.old).now entry_table (entry_rows entries) → AllByRecursion IsKept entries
+        → TableHas (state S.Store conn.old).now entry_table (entry_rows entries) → AllByRecursion IsKept entries
         → IsPermutation (target_rows entries) targets.now → (state S.Store conn.old).step_limit ≡ None
         → IfErr result (λ fault. (fault ≡ OutboxFault.Memory) ⊎ (fault ≡ OutboxFault.Disk)) }
     ensures kept { HasCleanDisk (state S.Store conn.new)
         → KeepsCommit (state S.Store conn.old) (state S.Store conn.new) }
     ensures limit { conn.new.step_limit ≡ conn.old.step_limit }
-    ensures crash { Survives (state S.Store conn.old) (state S.Store conn.new) (λ _. ⊥) }
-    ensures mode { conn.old.in_transaction ≡ false → conn.new.in_transaction ≡ false }
+    ensures crash { CommitsNothing (state S.Store conn.old) (state S.Store conn.new) }
+    ensures mode { StaysAutocommit conn.old conn.new }
     ensures clean { HasCleanDisk (state S.Store conn.new) → HasCleanDisk (state S.Store conn.old) }
 {
     match tables::all_rows(conn) {
@@ -180,8 +180,8 @@ fn count_one_by_one<S: Alter>(
         → OnOk result (IsUnchanged (state S.Store conn.old) (state S.Store conn.new)) }
     ensures kept { HasCleanDisk (state S.Store conn.new)
         → OnErr result (KeepsCommit (state S.Store conn.old) (state S.Store conn.new)) }
-    ensures mode { conn.old.in_transaction ≡ false → conn.new.in_transaction ≡ false }
-    ensures survives { Survives (state S.Store conn.old) (state S.Store conn.new) (λ _. ⊥) }
+    ensures mode { StaysAutocommit conn.old conn.new }
+    ensures survives { CommitsNothing (state S.Store conn.old) (state S.Store conn.new) }
 {
     match count_by_walk(alloc, conn, targets) {
         Ok(found) => Ok(found),
@@ -203,7 +203,7 @@ fn count_entries<S: Alter>(
     ensures counted { HasCleanDisk (state S.Store conn.new) → HasCommon (state S.Store conn.old).now.schema
         → AllByRecursion IsPair targets.now
         → IfOk result (λ count.
-        (entries : List Item) × Holds (state S.Store conn.old).now entry_table (entry_rows entries)
+        (entries : List Item) × TableHas (state S.Store conn.old).now entry_table (entry_rows entries)
         × IsPermutation (target_rows entries) targets.now × AllByRecursion IsKept entries × (count ≡ length entries)
         × IsUnchanged (state S.Store conn.old) (state S.Store conn.new)) }
     ensures damaged { HasCleanDisk (state S.Store conn.new) → (row : _) → result ≡ Err (OutboxFault.Damaged row)
@@ -216,14 +216,14 @@ fn count_entries<S: Alter>(
     ensures few { IfOk result (λ count. count ≤ 2 ^ 62) }
     ensures whole { HasCleanDisk (state S.Store conn.new) → (entries : List Item)
         → HasCommon (state S.Store conn.old).now.schema
-        → Holds (state S.Store conn.old).now entry_table (entry_rows entries) → AllByRecursion IsKept entries
+        → TableHas (state S.Store conn.old).now entry_table (entry_rows entries) → AllByRecursion IsKept entries
         → IsPermutation (target_rows entries) targets.now → (state S.Store conn.old).step_limit ≡ None
         → IfErr result (λ fault. (fault ≡ OutboxFault.Memory) ⊎ (fault ≡ OutboxFault.Disk)) }
     ensures kept { HasCleanDisk (state S.Store conn.new)
         → KeepsCommit (state S.Store conn.old) (state S.Store conn.new) }
     ensures limit { conn.new.step_limit ≡ conn.old.step_limit }
-    ensures crash { Survives (state S.Store conn.old) (state S.Store conn.new) (λ _. ⊥) }
-    ensures mode { conn.old.in_transaction ≡ false → conn.new.in_transaction ≡ false }
+    ensures crash { CommitsNothing (state S.Store conn.old) (state S.Store conn.new) }
+    ensures mode { StaysAutocommit conn.old conn.new }
     ensures clean { HasCleanDisk (state S.Store conn.new) → HasCleanDisk (state S.Store conn.old) }
 {
     match count_one_by_one(alloc, conn, targets) {
@@ -237,8 +237,8 @@ fn count_entries<S: Alter>(
 fn count_all<S: Alter>(alloc: Global, conn: &mut Connection<S>) -> Result<u64, OutboxFault>
     ensures counted { HasCleanDisk (state S.Store conn.new) → IsDeclared (state S.Store conn.old).now.schema
         → IfOk result (λ count.
-        (entries : List Item) × Holds (state S.Store conn.old).now entry_table (entry_rows entries)
-        × Holds (state S.Store conn.old).now target_table (target_rows entries) × AllByRecursion IsKept entries
+        (entries : List Item) × TableHas (state S.Store conn.old).now entry_table (entry_rows entries)
+        × TableHas (state S.Store conn.old).now target_table (target_rows entries) × AllByRecursion IsKept entries
         × (count ≡ length entries) × IsUnchanged (state S.Store conn.old) (state S.Store conn.new)) }
     ensures damaged { HasCleanDisk (state S.Store conn.new) → (row : _) → result ≡ Err (OutboxFault.Damaged row)
         → AreDamaged S.Store row conn.old conn.new }
@@ -253,8 +253,8 @@ fn count_all<S: Alter>(alloc: Global, conn: &mut Connection<S>) -> Result<u64, O
         → IfErr result (λ fault. (fault ≡ OutboxFault.Memory) ⊎ (fault ≡ OutboxFault.Disk)) }
     ensures kept { HasCleanDisk (state S.Store conn.new)
         → KeepsCommit (state S.Store conn.old) (state S.Store conn.new) }
-    ensures crash { Survives (state S.Store conn.old) (state S.Store conn.new) (λ _. ⊥) }
-    ensures mode { conn.old.in_transaction ≡ false → conn.new.in_transaction ≡ false }
+    ensures crash { CommitsNothing (state S.Store conn.old) (state S.Store conn.new) }
+    ensures mode { StaysAutocommit conn.old conn.new }
     ensures clean { HasCleanDisk (state S.Store conn.new) → HasCleanDisk (state S.Store conn.old) }
 {
     match read_targets(conn) {
@@ -274,23 +274,26 @@ pub(crate) fn is_settled<S: Alter>(conn: &Connection<S>) -> bool
     conn.is_autocommit()
 }
 
-/// The outbox that a database is: the code of its filer, and how many entries it has.
+/// The outbox of a database: the code of its filer, and how many entries it has.
 #[derive(Drop)]
-pub struct Found {
+pub struct FoundOutbox {
     pub filer: String,
     pub count: u64,
 }
 
-/// Finds the outbox that the database is. Whatever the answer is, nothing is written. How the tables are declared is not
+/// Reads the outbox of a database. Nothing is written, whatever the answer is. How the tables are declared is not
 /// tested.
-pub fn read_outbox<S: Alter>(alloc: Global, conn: &mut Connection<S>) -> Result<Found, OutboxFault>
+pub fn read_outbox<S: Alter>(
+    alloc: Global,
+    conn: &mut Connection<S>,
+) -> Result<FoundOutbox, OutboxFault>
     requires autocommit { conn.old.in_transaction ≡ false }
     requires unlimited { conn.old.step_limit ≡ None }
     ensures found { HasCleanDisk (state S.Store conn.new) → IsDeclared (state S.Store conn.old).now.schema
         → IfOk result (λ found.
         (entries : List Item)
         × IsOutboxOf (contents_of (string_bytes found.filer) entries) (state S.Store conn.old).now
-        × Stands (IsOutboxOf (contents_of (string_bytes found.filer) entries)) (state S.Store conn.new)
+        × HasCommitted (IsOutboxOf (contents_of (string_bytes found.filer) entries)) (state S.Store conn.new)
         × (found.count ≡ length entries)) }
     ensures open { HasCleanDisk (state S.Store conn.new) → IsDeclared (state S.Store conn.old).now.schema
         → OnOk result (IsTrue (state S.Store conn.new).is_open) }
@@ -307,13 +310,13 @@ pub fn read_outbox<S: Alter>(alloc: Global, conn: &mut Connection<S>) -> Result<
     // Whatever database it is, what is committed is what was committed, and a crash leaves what it could leave before.
     ensures kept { HasCleanDisk (state S.Store conn.new)
         → KeepsCommit (state S.Store conn.old) (state S.Store conn.new) }
-    ensures crash { Survives (state S.Store conn.old) (state S.Store conn.new) (λ _. ⊥) }
+    ensures crash { CommitsNothing (state S.Store conn.old) (state S.Store conn.new) }
     ensures autocommit { conn.new.in_transaction ≡ false }
 {
     prove!(is_settled(conn));
     match filer_of(conn, alloc, 2) {
         Ok(filer) => match count_all(alloc, conn) {
-            Ok(count) => Ok(Found { filer, count }),
+            Ok(count) => Ok(FoundOutbox { filer, count }),
             Err(fault) => Err(fault),
         },
         Err(fault) => Err(fault),

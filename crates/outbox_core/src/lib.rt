@@ -23,7 +23,7 @@ mod write;
 pub use create::make_outbox;
 pub use entry::Entry;
 pub use fault::{OutboxFault, PutFault, StoreFault, TakeFault};
-pub use finding::{Found, read_outbox};
+pub use finding::{FoundOutbox, read_outbox};
 pub use key::key_of;
 pub use migrate::migrate_outbox;
 pub use outbox::Outbox;

@@ -7,21 +7,24 @@ ghost use Rattle.sqlite.specs.Effect.{IsDatabase};
 ghost use Rattle.sqlite.specs.Held.{state};
 ghost use Rattle.sqlite.specs.Tree.{Trees};
 ghost use Rattle.sqlite.specs.State.{HasCleanDisk, IsUnchanged, KeepsCommit, Survives};
-ghost use Rattle.table_rows.specs.Standing.{Stands};
+ghost use Rattle.table_rows.specs.Standing.{HasCommitted, CommitsNothing, StaysAutocommit};
 ghost use Rattle.outbox_core.specs.Schema.{HasCommon};
 ghost use Rattle.outbox_core.specs.Entries.{Contents, contents_of};
-ghost use Rattle.outbox_core.specs.Rows.{IsOutboxOf, Leaves};
+ghost use Rattle.outbox_core.specs.Rows.{IsOutboxOf, LeavesOutbox};
 ghost use Rattle.outbox_core.specs.Earlier.{IsAlone, IsEarlierOf, IsFound, IsNotFound, Raises, IsNotMigrated, is_blocked};
 
 use crate::create::run;
 use crate::fault::OutboxFault;
-use crate::finding::{Found, count_whole, filer_of, is_settled};
+use crate::finding::{FoundOutbox, count_whole, filer_of, is_settled};
 use sqlite::{Alter, Connection, Error, Transaction};
 use sqlite_catalog::layout::is_used;
 use std::alloc::Global;
 
-/// Finds the outbox in the form before this one that the database is. Nothing is written.
-fn read_earlier<S: Alter>(alloc: Global, conn: &mut Connection<S>) -> Result<Found, OutboxFault>
+/// Reads the outbox of a database in the form before this one. Nothing is written.
+fn read_earlier<S: Alter>(
+    alloc: Global,
+    conn: &mut Connection<S>,
+) -> Result<FoundOutbox, OutboxFault>
     ensures found { HasCleanDisk (state S.Store conn.new) → HasCommon (state S.Store conn.old).now.schema
         → (IsTrue (state S.Store conn.old).is_open → IsDatabase (state S.Store conn.old).now)
         → IfOk result (λ found.
@@ -38,12 +41,12 @@ fn read_earlier<S: Alter>(alloc: Global, conn: &mut Connection<S>) -> Result<Fou
         → IfErr result (λ fault. (fault ≡ OutboxFault.Memory) ⊎ (fault ≡ OutboxFault.Disk)) }
     ensures kept { HasCleanDisk (state S.Store conn.new)
         → KeepsCommit (state S.Store conn.old) (state S.Store conn.new) }
-    ensures crash { Survives (state S.Store conn.old) (state S.Store conn.new) (λ _. ⊥) }
-    ensures mode { conn.old.in_transaction ≡ false → conn.new.in_transaction ≡ false }
+    ensures crash { CommitsNothing (state S.Store conn.old) (state S.Store conn.new) }
+    ensures mode { StaysAutocommit conn.old conn.new }
 {
     match filer_of(conn, alloc, 1) {
         Ok(filer) => match count_whole(alloc, conn, &[]) {
-            Ok(count) => Ok(Found { filer, count }),
+            Ok(count) => Ok(FoundOutbox { filer, count }),
             Err(fault) => Err(fault),
         },
         Err(fault) => Err(fault),
@@ -57,7 +60,7 @@ fn raise<S: Alter>(tx: &mut Transaction<'_, S>) -> Result<(), Error>
         → OnOk result (Raises S.Store tx.old.conn.now tx.new.conn.now) }
     ensures keeps { HasCleanDisk (state S.Store tx.new.conn.now)
         → KeepsCommit (state S.Store tx.old.conn.now) (state S.Store tx.new.conn.now) }
-    ensures survives { Survives (state S.Store tx.old.conn.now) (state S.Store tx.new.conn.now) (λ _. ⊥) }
+    ensures survives { CommitsNothing (state S.Store tx.old.conn.now) (state S.Store tx.new.conn.now) }
 {
     run(
         tx,
@@ -84,7 +87,7 @@ fn write<S: Alter>(conn: &mut Connection<S>) -> Result<(), Error>
         → OnErr result (KeepsCommit (state S.Store conn.old) (state S.Store conn.new)) }
     ensures crash { Survives (state S.Store conn.old) (state S.Store conn.new) (λ trees.
         (it : Contents) → IsAlone (state S.Store conn.old).now.schema → IsEarlierOf it (state S.Store conn.old).now
-        → Leaves it trees) }
+        → LeavesOutbox it trees) }
 {
     let mut tx = conn.transaction();
     raise(&mut tx)?;
@@ -96,7 +99,7 @@ fn write<S: Alter>(conn: &mut Connection<S>) -> Result<(), Error>
 pub fn migrate_outbox<S: Alter>(
     alloc: Global,
     conn: &mut Connection<S>,
-) -> Result<Found, OutboxFault>
+) -> Result<FoundOutbox, OutboxFault>
     requires autocommit { conn.old.in_transaction ≡ false }
     requires unlimited { conn.old.step_limit ≡ None }
     ensures autocommit { conn.new.in_transaction ≡ false }
@@ -106,7 +109,7 @@ pub fn migrate_outbox<S: Alter>(
         → IfOk result (λ found.
         (entries : List Item)
         × IsEarlierOf (contents_of (string_bytes found.filer) entries) (state S.Store conn.old).now
-        × Stands (IsOutboxOf (contents_of (string_bytes found.filer) entries)) (state S.Store conn.new)
+        × HasCommitted (IsOutboxOf (contents_of (string_bytes found.filer) entries)) (state S.Store conn.new)
         × (found.count ≡ length entries)) }
     ensures open { HasCleanDisk (state S.Store conn.new) → OnOk result (IsTrue (state S.Store conn.new).is_open) }
     ensures code { IfOk result (λ found. is_filer (string_bytes found.filer) ≡ true) }
@@ -127,7 +130,7 @@ pub fn migrate_outbox<S: Alter>(
     // A crash leaves what it could leave before, or the migrated rows, and after the call these alone.
     ensures crash { Survives (state S.Store conn.old) (state S.Store conn.new) (λ trees.
         (it : Contents) → IsAlone (state S.Store conn.old).now.schema → IsEarlierOf it (state S.Store conn.old).now
-        → Leaves it trees) }
+        → LeavesOutbox it trees) }
     ensures durable { HasCleanDisk (state S.Store conn.new)
         → OnOk result ((trees : Trees) → (state S.Store conn.new).may_leave trees
         → trees ≡ (state S.Store conn.new).now.trees) }

@@ -12,15 +12,16 @@ ghost use Rattle.filing_model.specs.Outbox.{Entry as Item, moved};
 ghost use Rattle.table_rows.specs.Tables.{no_schema};
 ghost use Rattle.outbox_core.specs.Schema.{is_taken};
 ghost use Rattle.outbox_core.specs.Entries.{empty, opened, numbered, has_text, is_open, entry_at, set_state};
-ghost use Rattle.outbox_core.specs.Rows.{Leaves};
+ghost use Rattle.outbox_core.specs.Rows.{LeavesOutbox};
 ghost use Rattle.outbox_core.specs.Making.{AreMade};
 ghost use Rattle.outbox_core.specs.Reading.{view_entry, view_state, view_pair, id_and_state};
+ghost use Rattle.table_rows.specs.Standing.{CommitsNothing};
 
 use crate::create::make_outbox;
 use crate::entries::{add_entry, entry_of, open_entry, states_of, take_entry};
 use crate::entry::Entry;
 use crate::fault::{OutboxFault, PutFault, StoreFault, TakeFault};
-use crate::finding::{Found, read_outbox};
+use crate::finding::{FoundOutbox, read_outbox};
 use crate::migrate::migrate_outbox;
 use crate::state::State;
 use http_wire::{MAX_BODY_LEN, Reply};
@@ -42,13 +43,13 @@ pub struct Outbox<S: Alter> {
 }
 
 impl<S: Alter> Model for Outbox<S> {
-    ghost use Rattle.outbox_core.specs.Box.{Box, box_code};
+    ghost use Rattle.outbox_core.specs.OutboxParts.{OutboxParts, parts_code};
     ghost use Rattle.std.specs.Prelude.{◌≡◌, ◌≤◌, ◌^◌, true, string_bytes};
     ghost use Rattle.key_string.specs.Filer.{is_filer};
 
-    ghost Value = { Box S };
+    ghost Value = { OutboxParts S };
 
-    ghost coded = { box_code S.code };
+    ghost coded = { parts_code S.code };
 
     ghost view = { λ o. record { conn = o.conn; filer = string_bytes o.filer; count = o.count; has_failed = o.has_failed } };
 
@@ -69,7 +70,7 @@ impl<S: Alter + Drop> Drop for Outbox<S> {
 
 impl<S: Alter + Drop> Outbox<S> {
     ghost use Rattle.sqlite.specs.Held.{Held};
-    ghost use Rattle.outbox_core.specs.Box.{shows, HasEntries};
+    ghost use Rattle.outbox_core.specs.OutboxParts.{shows, HasEntries};
 
     /// Makes the tables of an outbox of this filer that has no entry, in one transaction. A refusal gives the connection
     /// up, and leaves the database as it was, as `make_outbox` says of one that is kept. The tables are those of an outbox
@@ -85,8 +86,8 @@ impl<S: Alter + Drop> Outbox<S> {
         // BadFiler comes where the text is no filer code, and always there; Taken where it is one and one of the names is
         // in use, and always there.
         ensures bad_filer { (result ≡ Err OutboxFault.BadFiler) ↔ (is_filer filer.now ≡ false) }
-        ensures taken { (result ≡ Err OutboxFault.Taken)
-            ↔ ((is_filer filer.now ≡ true) × IsTrue (is_taken (state S.Store conn).now.schema)) }
+        ensures taken { (result ≡ Err OutboxFault.Taken) ↔ ((is_filer filer.now ≡ true)
+            × IsTrue (is_taken (state S.Store conn).now.schema)) }
         ensures no_other { IfErr result (λ fault.
             (fault ≢ OutboxFault.NotOurs) × ((row : _) → fault ≢ OutboxFault.Damaged row)) }
 
@@ -94,18 +95,18 @@ impl<S: Alter + Drop> Outbox<S> {
         ensures refused { OnErr result ((last : Held S)
             × Survives (state S.Store conn) (state S.Store last) (λ trees.
             AreMade S.Store filer.now conn trees
-            × ((state S.Store conn).now.schema ≡ no_schema → Leaves (empty filer.now) trees))
+            × ((state S.Store conn).now.schema ≡ no_schema → LeavesOutbox (empty filer.now) trees))
             × (HasCleanDisk (state S.Store last) → KeepsCommit (state S.Store conn) (state S.Store last))) }
 
         // A crash leaves what one before the call could leave, or the outbox with no entry, and after the call that alone.
         ensures crash { IfOk result (λ outbox.
             Survives (state S.Store conn) (shows S.Store outbox) (λ trees.
             AreMade S.Store filer.now conn trees
-            × ((state S.Store conn).now.schema ≡ no_schema → Leaves (empty filer.now) trees))) }
+            × ((state S.Store conn).now.schema ≡ no_schema → LeavesOutbox (empty filer.now) trees))) }
         ensures durable { IfOk result (λ outbox.
             HasCleanDisk (shows S.Store outbox) → (state S.Store conn).now.schema ≡ no_schema
             → IsTrue (shows S.Store outbox).is_open
-            × ((trees : Trees) → (shows S.Store outbox).may_leave trees → Leaves (empty filer.now) trees)) }
+            × ((trees : Trees) → (shows S.Store outbox).may_leave trees → LeavesOutbox (empty filer.now) trees)) }
     {
         let mut conn = conn;
         match make_outbox(alloc, &mut conn, filer) {
@@ -128,7 +129,7 @@ impl<S: Alter + Drop> Outbox<S> {
     ghost use Rattle.outbox_core.specs.Entries.{Contents};
     ghost use Rattle.outbox_core.specs.Rows.{IsOutboxOf};
     ghost use Rattle.outbox_core.specs.Audit.{IsRefused};
-    ghost use Rattle.outbox_core.specs.Box.{shows, contents, HasEntries};
+    ghost use Rattle.outbox_core.specs.OutboxParts.{shows, contents, HasEntries};
 
     /// Opens the outbox that the database holds. A refusal gives the connection up, and leaves the database as it was. How
     /// the tables are declared is not tested.
@@ -148,13 +149,13 @@ impl<S: Alter + Drop> Outbox<S> {
         ensures durable { IfOk result (λ outbox.
             HasCleanDisk (shows S.Store outbox) → (it : Contents) → IsOutboxOf it (state S.Store conn).now
             → IsTrue (shows S.Store outbox).is_open
-            × ((trees : Trees) → (shows S.Store outbox).may_leave trees → Leaves it trees)) }
-        ensures crash { IfOk result (λ outbox. Survives (state S.Store conn) (shows S.Store outbox) (λ _. ⊥)) }
+            × ((trees : Trees) → (shows S.Store outbox).may_leave trees → LeavesOutbox it trees)) }
+        ensures crash { IfOk result (λ outbox. CommitsNothing (state S.Store conn) (shows S.Store outbox)) }
 
         // A refusal writes nothing and says why, of the connection as it was given up, as `read_outbox` says of one that is
         // kept; an outbox is refused by memory or disk.
         ensures refused { IfErr result (λ fault.
-            (last : Held S) × Survives (state S.Store conn) (state S.Store last) (λ _. ⊥)
+            (last : Held S) × CommitsNothing (state S.Store conn) (state S.Store last)
             × (HasCleanDisk (state S.Store last) → KeepsCommit (state S.Store conn) (state S.Store last))
             × (HasCleanDisk (state S.Store last) → IsRefused S.Store fault conn last)
             × (HasCleanDisk (state S.Store last) → (it : Contents) → IsOutboxOf it (state S.Store conn).now
@@ -163,7 +164,7 @@ impl<S: Alter + Drop> Outbox<S> {
     {
         let mut conn = conn;
         match read_outbox(alloc, &mut conn) {
-            Ok(Found { filer, count }) => Ok(Outbox {
+            Ok(FoundOutbox { filer, count }) => Ok(Outbox {
                 alloc,
                 conn,
                 filer,
@@ -180,7 +181,7 @@ impl<S: Alter + Drop> Outbox<S> {
     ghost use Rattle.std.specs.Prelude.{◌⊎◌};
     ghost use Rattle.outbox_core.specs.Entries.{Contents};
     ghost use Rattle.outbox_core.specs.Earlier.{IsAlone, IsEarlierOf, IsNotMigrated, is_blocked};
-    ghost use Rattle.outbox_core.specs.Box.{shows, contents, HasEntries};
+    ghost use Rattle.outbox_core.specs.OutboxParts.{shows, contents, HasEntries};
 
     /// Brings the outbox that the database holds from the form before this one into this one, in one transaction, and opens
     /// it: no entry has a target. A refusal gives the connection up, and leaves the rows as they were. What is said of the new
@@ -204,7 +205,7 @@ impl<S: Alter + Drop> Outbox<S> {
             (last : Held S)
             × Survives (state S.Store conn) (state S.Store last) (λ trees.
             (it : Contents) → IsAlone (state S.Store conn).now.schema → IsEarlierOf it (state S.Store conn).now
-            → Leaves it trees)
+            → LeavesOutbox it trees)
             × (HasCleanDisk (state S.Store last) → KeepsCommit (state S.Store conn) (state S.Store last))
             × (HasCleanDisk (state S.Store last) → IsNotMigrated S.Store fault conn last)
             × (HasCleanDisk (state S.Store last) → (it : Contents) → IsEarlierOf it (state S.Store conn).now
@@ -215,15 +216,16 @@ impl<S: Alter + Drop> Outbox<S> {
         ensures crash { IfOk result (λ outbox.
             Survives (state S.Store conn) (shows S.Store outbox) (λ trees.
             (it : Contents) → IsAlone (state S.Store conn).now.schema → IsEarlierOf it (state S.Store conn).now
-            → Leaves it trees)) }
+            → LeavesOutbox it trees)) }
         ensures durable { IfOk result (λ outbox.
             HasCleanDisk (shows S.Store outbox) → (entries : List Item) → HasEntries S.Store outbox entries
             → IsTrue (shows S.Store outbox).is_open
-            × ((trees : Trees) → (shows S.Store outbox).may_leave trees → Leaves (contents outbox entries) trees)) }
+            × ((trees : Trees) → (shows S.Store outbox).may_leave trees
+            → LeavesOutbox (contents outbox entries) trees)) }
     {
         let mut conn = conn;
         match migrate_outbox(alloc, &mut conn) {
-            Ok(Found { filer, count }) => Ok(Outbox {
+            Ok(FoundOutbox { filer, count }) => Ok(Outbox {
                 alloc,
                 conn,
                 filer,
@@ -236,7 +238,7 @@ impl<S: Alter + Drop> Outbox<S> {
 }
 
 impl<S: Alter> Outbox<S> {
-    ghost use Rattle.outbox_core.specs.Box.{shows, contents, HasEntries};
+    ghost use Rattle.outbox_core.specs.OutboxParts.{shows, contents, HasEntries};
 
     /// The code of the filer.
     pub fn filer(&self) -> &str
@@ -274,8 +276,8 @@ impl<S: Alter> Outbox<S> {
         ensures used { HasCleanDisk (shows S.Store self.new) → (entries : List Item)
             → HasEntries S.Store self.old entries → (id : _) → result ≡ Err (PutFault.KeyUsed id)
             → option_map (λ x. x.0) (find (has_text key) (numbered entries)) ≡ Some id }
-        ensures too_large { (result ≡ Err PutFault.TooLarge)
-            ↔ ((self.old.has_failed ≡ false) × (max_body_len < length body.items)) }
+        ensures too_large { (result ≡ Err PutFault.TooLarge) ↔ ((self.old.has_failed ≡ false)
+            × (max_body_len < length body.items)) }
 
         // A refusal changes no entry.
         ensures kept { HasCleanDisk (shows S.Store self.new) → (entries : List Item)
@@ -287,12 +289,12 @@ impl<S: Alter> Outbox<S> {
         // A crash leaves what one before the call could leave, or the entries with this one, and after Ok these alone.
         ensures crash { Survives (shows S.Store self.old) (shows S.Store self.new) (λ trees.
             (entries : List Item) → HasEntries S.Store self.old entries → IsTrue (shows S.Store self.old).is_open
-            → Leaves (contents self.old (entries ++ opened key target body.items ∷ [])) trees) }
+            → LeavesOutbox (contents self.old (entries ++ opened key target body.items ∷ [])) trees) }
         ensures durable { HasCleanDisk (shows S.Store self.new) → (entries : List Item)
             → HasEntries S.Store self.old entries
             → OnOk result (IsTrue (shows S.Store self.new).is_open
             × ((trees : Trees) → (shows S.Store self.new).may_leave trees
-            → Leaves (contents self.new (entries ++ opened key target body.items ∷ [])) trees)) }
+            → LeavesOutbox (contents self.new (entries ++ opened key target body.items ∷ [])) trees)) }
     {
         if self.has_failed {
             return Err(PutFault::Store);
@@ -332,7 +334,7 @@ impl<S: Alter> Outbox<S> {
         ensures stopped { IsTrue self.old.has_failed → (result ≡ Err StoreFault.Store) × (self.new ≡ self.old) }
         ensures stops { IsTrue self.new.has_failed ↔ (result ≡ Err StoreFault.Store) }
         ensures filer { self.new.filer ≡ self.old.filer }
-        ensures crash { Survives (shows S.Store self.old) (shows S.Store self.new) (λ _. ⊥) }
+        ensures crash { CommitsNothing (shows S.Store self.old) (shows S.Store self.new) }
 
         // Where an entry is answered, a crash leaves these entries alone.
         ensures durable { HasCleanDisk (shows S.Store self.new) → (entries : List Item)
@@ -341,7 +343,7 @@ impl<S: Alter> Outbox<S> {
             IsSome entry
             → IsTrue (shows S.Store self.new).is_open
             × ((trees : Trees) → (shows S.Store self.new).may_leave trees
-            → Leaves (contents self.new entries) trees)) }
+            → LeavesOutbox (contents self.new entries) trees)) }
     {
         if self.has_failed {
             return Err(StoreFault::Store);
@@ -372,7 +374,7 @@ impl<S: Alter> Outbox<S> {
         ensures stopped { IsTrue self.old.has_failed → (result ≡ Err StoreFault.Store) × (self.new ≡ self.old) }
         ensures stops { IsTrue self.new.has_failed ↔ (result ≡ Err StoreFault.Store) }
         ensures filer { self.new.filer ≡ self.old.filer }
-        ensures crash { Survives (shows S.Store self.old) (shows S.Store self.new) (λ _. ⊥) }
+        ensures crash { CommitsNothing (shows S.Store self.old) (shows S.Store self.new) }
     {
         if self.has_failed {
             return Err(StoreFault::Store);
@@ -398,7 +400,7 @@ impl<S: Alter> Outbox<S> {
         ensures stopped { IsTrue self.old.has_failed → (result ≡ Err StoreFault.Store) × (self.new ≡ self.old) }
         ensures stops { IsTrue self.new.has_failed ↔ (result ≡ Err StoreFault.Store) }
         ensures filer { self.new.filer ≡ self.old.filer }
-        ensures crash { Survives (shows S.Store self.old) (shows S.Store self.new) (λ _. ⊥) }
+        ensures crash { CommitsNothing (shows S.Store self.old) (shows S.Store self.new) }
     {
         if self.has_failed {
             return Err(StoreFault::Store);
@@ -435,13 +437,14 @@ impl<S: Alter> Outbox<S> {
         ensures crash { Survives (shows S.Store self.old) (shows S.Store self.new) (λ trees.
             (entries : List Item) → HasEntries S.Store self.old entries → IsTrue (shows S.Store self.old).is_open
             → (e : Item) × (entry_at entries id ≡ Some e)
-            × Leaves (contents self.old (set_state entries id (moved e.state (reply_parts reply.now)))) trees) }
+            × LeavesOutbox (contents self.old (set_state entries id (moved e.state (reply_parts reply.now))))
+            trees) }
         ensures durable { HasCleanDisk (shows S.Store self.new) → (entries : List Item)
             → HasEntries S.Store self.old entries
             → IfOk result (λ to.
             IsTrue (shows S.Store self.new).is_open
             × ((trees : Trees) → (shows S.Store self.new).may_leave trees
-            → Leaves (contents self.new (set_state entries id (view_state to))) trees)) }
+            → LeavesOutbox (contents self.new (set_state entries id (view_state to))) trees)) }
     {
         if self.has_failed {
             return Err(TakeFault::Store);

@@ -1,10 +1,11 @@
 //! The SELECTs of a walk over the entries: those with an id, or how many there are.
 
-ghost use Rattle.std.specs.Prelude.{◌≡◌, ◌<◌, ◌^◌, false, IfOk, IfErr, IfSome, OnOk};
+ghost use Rattle.std.specs.Prelude.{◌<◌, ◌^◌, IfOk, IfErr, IfSome, OnOk};
 ghost use Rattle.sqlite.specs.Held.{state};
-ghost use Rattle.sqlite.specs.State.{HasCleanDisk, IsUnchanged, Survives};
+ghost use Rattle.sqlite.specs.State.{HasCleanDisk, IsUnchanged};
 ghost use Rattle.table_rows.specs.Picking.{CountsTo, IsStopped, Picks, has_number};
 ghost use Rattle.outbox_core.specs.Schema.{HasCommon, entry_table};
+ghost use Rattle.table_rows.specs.Standing.{CommitsNothing, StaysAutocommit};
 
 use sqlite::{Alter, Connection, Error, Row, params};
 use table_rows::count_in;
@@ -18,8 +19,8 @@ pub(crate) fn rows_at<S: Alter>(conn: &mut Connection<S>, id: u64) -> Result<Vec
         → OnOk result (IsUnchanged (state S.Store conn.old) (state S.Store conn.new)) }
     ensures stopped { HasCleanDisk (state S.Store conn.new)
         → IfErr result (IsStopped (state S.Store conn.old) (state S.Store conn.new)) }
-    ensures mode { conn.old.in_transaction ≡ false → conn.new.in_transaction ≡ false }
-    ensures survives { Survives (state S.Store conn.old) (state S.Store conn.new) (λ _. ⊥) }
+    ensures mode { StaysAutocommit conn.old conn.new }
+    ensures survives { CommitsNothing (state S.Store conn.old) (state S.Store conn.new) }
 {
     conn.query_all(
         "SELECT id, idem, body, state, number FROM entry WHERE id = ?1 ORDER BY id",
@@ -35,8 +36,8 @@ pub(crate) fn count_rows<S: Alter>(conn: &mut Connection<S>) -> Result<Option<u6
         → OnOk result (IsUnchanged (state S.Store conn.old) (state S.Store conn.new)) }
     ensures stopped { HasCleanDisk (state S.Store conn.new)
         → IfErr result (IsStopped (state S.Store conn.old) (state S.Store conn.new)) }
-    ensures mode { conn.old.in_transaction ≡ false → conn.new.in_transaction ≡ false }
-    ensures survives { Survives (state S.Store conn.old) (state S.Store conn.new) (λ _. ⊥) }
+    ensures mode { StaysAutocommit conn.old conn.new }
+    ensures survives { CommitsNothing (state S.Store conn.old) (state S.Store conn.new) }
 {
     match conn.query_all("SELECT count(*) FROM entry", &[]) {
         Ok(rows) => Ok(count_in(&rows)),

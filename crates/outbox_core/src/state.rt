@@ -4,7 +4,7 @@ ghost use Rattle.std.specs.Prelude.{◌≡◌, ◌≢◌, ◌<◌, ◌^◌, Opti
 ghost use Rattle.serde_json.specs.View.{view};
 ghost use Rattle.xbrl_report.specs.Findings.{tree};
 ghost use Rattle.http_wire.specs.Replies.{reply_parts};
-ghost use Rattle.filing_model.specs.Outbox.{has_word, says, refuses, confirmed_by, state_by, state_told, moved};
+ghost use Rattle.filing_model.specs.Outbox.{has_word, has_status, refuses, confirmed_by, state_by, state_told, moved};
 ghost use Rattle.outbox_core.specs.Entries.{FitsNumber};
 ghost use Rattle.outbox_core.specs.Reading.{view_state};
 
@@ -36,8 +36,8 @@ fn has_word(tree: &Value, name: &str, word: &str) -> bool
 }
 
 /// Whether the member `status` is this word.
-fn says(tree: &Value, word: &str) -> bool
-    ensures { result ≡ says word.now (view tree.now) }
+fn has_status(tree: &Value, word: &str) -> bool
+    ensures { result ≡ has_status word.now (view tree.now) }
 {
     has_word(tree, "status", word)
 }
@@ -47,7 +47,7 @@ fn says(tree: &Value, word: &str) -> bool
 fn refuses(tree: &Value, word: &str) -> bool
     ensures { result ≡ refuses word.now (view tree.now) }
 {
-    says(tree, word) || has_word(tree, "reason", word)
+    has_status(tree, word) || has_word(tree, "reason", word)
 }
 
 fn confirmed_by(number: Option<u64>) -> State
@@ -65,7 +65,7 @@ fn state_by(status: u16, tree: &Value) -> State
     ensures value { view_state result ≡ state_by status (view tree.now) }
     ensures fits { FitsNumber (view_state result) }
 {
-    if status == 201 && says(tree, "registered") {
+    if status == 201 && has_status(tree, "registered") {
         confirmed_by(tree.get("number").and_then(Value::as_u64))
     } else if (status == 422 || status == 400) && refuses(tree, "refused") {
         State::Refused

@@ -7,7 +7,7 @@ ghost use Rattle.sqlite.specs.WalReads.{AreClean};
 ghost use Rattle.sqlite.specs.Closing.{IsCopied};
 ghost use Rattle.sqlite.specs.Files.{over_files, IsClosed, FailsToClose};
 ghost use Rattle.filing_model.specs.Outbox.{Entry as Item};
-ghost use Rattle.outbox_core.specs.Box.{contents, HasEntries};
+ghost use Rattle.outbox_core.specs.OutboxParts.{contents, HasEntries};
 ghost use Rattle.outbox_core.specs.Faults.{store_fault};
 ghost use Rattle.outbox_core.specs.Files.{HoldOutbox};
 

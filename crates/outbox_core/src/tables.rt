@@ -1,18 +1,19 @@
 //! The statements on the rows of the three tables.
 
-ghost use Rattle.std.specs.Prelude.{◌≡◌, ◌^◌, ◌<◌, pos, OnErr, find, map, option_map, IsTrue, IfOk, IfErr, OnOk, IsSome, false, [], ◌∷◌};
+ghost use Rattle.std.specs.Prelude.{◌≡◌, ◌^◌, ◌<◌, pos, OnErr, find, map, option_map, IsTrue, IfOk, IfErr, OnOk, IsSome, [], ◌∷◌};
 ghost use Rattle.sqlite.specs.Values.{or_null};
 ghost use Rattle.sqlite.specs.declared.types.Value.TheVariants.{Null, Int, Text, Blob};
 ghost use Rattle.sqlite.specs.State.{HasCleanDisk, Survives, Shown, FailsToQuery, IsUnchanged, KeepsCommit};
 ghost use Rattle.sqlite.specs.Held as held;
-ghost use Rattle.table_rows.specs.Rows.{Holds};
-ghost use Rattle.table_rows.specs.Standing.{Stands, Commits};
+ghost use Rattle.table_rows.specs.Rows.{TableHas};
+ghost use Rattle.table_rows.specs.Standing.{HasCommitted, Commits, CommitsNothing, StaysAutocommit};
 ghost use Rattle.outbox_core.specs.Schema.{IsDeclared, HasCommon, meta_table, entry_table, target_table};
 ghost use Rattle.outbox_core.specs.Audit.{meta_text, targets_text, entries_text};
 ghost use Rattle.outbox_core.specs.Entries.{Contents, numbered, has_id, has_text, is_open, entry_at, target_at, with_state, FitsNumber};
 ghost use Rattle.outbox_core.specs.Changes.{GainsRows};
-ghost use Rattle.outbox_core.specs.Rows.{IsOutboxOf, Leaves, code_of, number_of, entry_row, id_row, state_row, bare_state_row};
+ghost use Rattle.outbox_core.specs.Rows.{IsOutboxOf, LeavesOutbox, code_of, number_of, entry_row, id_row, state_row, bare_state_row};
 ghost use Rattle.outbox_core.specs.Reading.{view_state};
+ghost use Rattle.outbox_core.specs.OutboxParts.{AnswersOpen, KeepsOutbox};
 
 use crate::state::State;
 use sqlite::{Alter, Connection, Error, Row, Transaction, params};
@@ -21,14 +22,11 @@ use table_rows::first_row;
 /// The row of the id of the entry that has the key.
 fn id_row_of_key<S: Alter>(conn: &mut Connection<S>, key: &str) -> Result<Option<Row>, Error>
     ensures found { HasCleanDisk (held.state S.Store conn.new) → (it : Contents)
-        → Stands (IsOutboxOf it) (held.state S.Store conn.old)
+        → HasCommitted (IsOutboxOf it) (held.state S.Store conn.old)
         → IfOk result (λ row. row ≡ option_map id_row (find (has_text key.now) (numbered it.entries))) }
-    ensures kept { HasCleanDisk (held.state S.Store conn.new) → (it : Contents)
-        → Stands (IsOutboxOf it) (held.state S.Store conn.old) → Stands (IsOutboxOf it) (held.state S.Store conn.new) }
-    ensures open { HasCleanDisk (held.state S.Store conn.new) → (it : Contents)
-        → Stands (IsOutboxOf it) (held.state S.Store conn.old)
-        → OnOk result (IsTrue (held.state S.Store conn.new).is_open) }
-    ensures crash { Survives (held.state S.Store conn.old) (held.state S.Store conn.new) (λ _. ⊥) }
+    ensures kept { KeepsOutbox (held.state S.Store conn.old) (held.state S.Store conn.new) }
+    ensures open { AnswersOpen (held.state S.Store conn.old) (held.state S.Store conn.new) result }
+    ensures crash { CommitsNothing (held.state S.Store conn.old) (held.state S.Store conn.new) }
 {
     first_row(
         conn,
@@ -40,14 +38,11 @@ fn id_row_of_key<S: Alter>(conn: &mut Connection<S>, key: &str) -> Result<Option
 /// The id of the entry that has the key.
 pub(crate) fn id_of_key<S: Alter>(conn: &mut Connection<S>, key: &str) -> Result<Option<u64>, Error>
     ensures found { HasCleanDisk (held.state S.Store conn.new) → (it : Contents)
-        → Stands (IsOutboxOf it) (held.state S.Store conn.old)
+        → HasCommitted (IsOutboxOf it) (held.state S.Store conn.old)
         → IfOk result (λ id. id ≡ option_map (λ x. x.0) (find (has_text key.now) (numbered it.entries))) }
-    ensures kept { HasCleanDisk (held.state S.Store conn.new) → (it : Contents)
-        → Stands (IsOutboxOf it) (held.state S.Store conn.old) → Stands (IsOutboxOf it) (held.state S.Store conn.new) }
-    ensures open { HasCleanDisk (held.state S.Store conn.new) → (it : Contents)
-        → Stands (IsOutboxOf it) (held.state S.Store conn.old)
-        → OnOk result (IsTrue (held.state S.Store conn.new).is_open) }
-    ensures crash { Survives (held.state S.Store conn.old) (held.state S.Store conn.new) (λ _. ⊥) }
+    ensures kept { KeepsOutbox (held.state S.Store conn.old) (held.state S.Store conn.new) }
+    ensures open { AnswersOpen (held.state S.Store conn.old) (held.state S.Store conn.new) result }
+    ensures crash { CommitsNothing (held.state S.Store conn.old) (held.state S.Store conn.new) }
 {
     let row = id_row_of_key(conn, key)?;
     match row {
@@ -63,14 +58,11 @@ pub(crate) fn entry_with_id<S: Alter>(
 ) -> Result<Option<Row>, Error>
     requires { id < 2 ^ 63 }
     ensures found { HasCleanDisk (held.state S.Store conn.new) → (it : Contents)
-        → Stands (IsOutboxOf it) (held.state S.Store conn.old)
+        → HasCommitted (IsOutboxOf it) (held.state S.Store conn.old)
         → IfOk result (λ row. row ≡ option_map entry_row (find (has_id id) (numbered it.entries))) }
-    ensures kept { HasCleanDisk (held.state S.Store conn.new) → (it : Contents)
-        → Stands (IsOutboxOf it) (held.state S.Store conn.old) → Stands (IsOutboxOf it) (held.state S.Store conn.new) }
-    ensures open { HasCleanDisk (held.state S.Store conn.new) → (it : Contents)
-        → Stands (IsOutboxOf it) (held.state S.Store conn.old)
-        → OnOk result (IsTrue (held.state S.Store conn.new).is_open) }
-    ensures crash { Survives (held.state S.Store conn.old) (held.state S.Store conn.new) (λ _. ⊥) }
+    ensures kept { KeepsOutbox (held.state S.Store conn.old) (held.state S.Store conn.new) }
+    ensures open { AnswersOpen (held.state S.Store conn.old) (held.state S.Store conn.new) result }
+    ensures crash { CommitsNothing (held.state S.Store conn.old) (held.state S.Store conn.new) }
 {
     first_row(
         conn,
@@ -86,14 +78,11 @@ pub(crate) fn state_with_id<S: Alter>(
 ) -> Result<Option<Row>, Error>
     requires { id < 2 ^ 63 }
     ensures found { HasCleanDisk (held.state S.Store conn.new) → (it : Contents)
-        → Stands (IsOutboxOf it) (held.state S.Store conn.old)
+        → HasCommitted (IsOutboxOf it) (held.state S.Store conn.old)
         → IfOk result (λ row. row ≡ option_map bare_state_row (find (has_id id) (numbered it.entries))) }
-    ensures kept { HasCleanDisk (held.state S.Store conn.new) → (it : Contents)
-        → Stands (IsOutboxOf it) (held.state S.Store conn.old) → Stands (IsOutboxOf it) (held.state S.Store conn.new) }
-    ensures open { HasCleanDisk (held.state S.Store conn.new) → (it : Contents)
-        → Stands (IsOutboxOf it) (held.state S.Store conn.old)
-        → OnOk result (IsTrue (held.state S.Store conn.new).is_open) }
-    ensures crash { Survives (held.state S.Store conn.old) (held.state S.Store conn.new) (λ _. ⊥) }
+    ensures kept { KeepsOutbox (held.state S.Store conn.old) (held.state S.Store conn.new) }
+    ensures open { AnswersOpen (held.state S.Store conn.old) (held.state S.Store conn.new) result }
+    ensures crash { CommitsNothing (held.state S.Store conn.old) (held.state S.Store conn.new) }
 {
     first_row(
         conn,
@@ -105,14 +94,11 @@ pub(crate) fn state_with_id<S: Alter>(
 /// The row of the open entry with the least id.
 pub(crate) fn first_open_entry<S: Alter>(conn: &mut Connection<S>) -> Result<Option<Row>, Error>
     ensures found { HasCleanDisk (held.state S.Store conn.new) → (it : Contents)
-        → Stands (IsOutboxOf it) (held.state S.Store conn.old)
+        → HasCommitted (IsOutboxOf it) (held.state S.Store conn.old)
         → IfOk result (λ row. row ≡ option_map entry_row (find is_open (numbered it.entries))) }
-    ensures kept { HasCleanDisk (held.state S.Store conn.new) → (it : Contents)
-        → Stands (IsOutboxOf it) (held.state S.Store conn.old) → Stands (IsOutboxOf it) (held.state S.Store conn.new) }
-    ensures open { HasCleanDisk (held.state S.Store conn.new) → (it : Contents)
-        → Stands (IsOutboxOf it) (held.state S.Store conn.old)
-        → OnOk result (IsTrue (held.state S.Store conn.new).is_open) }
-    ensures crash { Survives (held.state S.Store conn.old) (held.state S.Store conn.new) (λ _. ⊥) }
+    ensures kept { KeepsOutbox (held.state S.Store conn.old) (held.state S.Store conn.new) }
+    ensures open { AnswersOpen (held.state S.Store conn.old) (held.state S.Store conn.new) result }
+    ensures crash { CommitsNothing (held.state S.Store conn.old) (held.state S.Store conn.new) }
 {
     first_row(
         conn,
@@ -124,11 +110,10 @@ pub(crate) fn first_open_entry<S: Alter>(conn: &mut Connection<S>) -> Result<Opt
 /// The id, the state and the number of each entry, in the order of the ids.
 pub(crate) fn state_rows<S: Alter>(conn: &mut Connection<S>) -> Result<Vec<Row>, Error>
     ensures found { HasCleanDisk (held.state S.Store conn.new) → (it : Contents)
-        → Stands (IsOutboxOf it) (held.state S.Store conn.old)
+        → HasCommitted (IsOutboxOf it) (held.state S.Store conn.old)
         → IfOk result (λ rows. rows.items ≡ map state_row (numbered it.entries)) }
-    ensures kept { HasCleanDisk (held.state S.Store conn.new) → (it : Contents)
-        → Stands (IsOutboxOf it) (held.state S.Store conn.old) → Stands (IsOutboxOf it) (held.state S.Store conn.new) }
-    ensures crash { Survives (held.state S.Store conn.old) (held.state S.Store conn.new) (λ _. ⊥) }
+    ensures kept { KeepsOutbox (held.state S.Store conn.old) (held.state S.Store conn.new) }
+    ensures crash { CommitsNothing (held.state S.Store conn.old) (held.state S.Store conn.new) }
 {
     conn.query_all("SELECT id, state, number FROM entry ORDER BY id", &[])
 }
@@ -140,16 +125,16 @@ pub(crate) fn meta_rows<S: Alter>(conn: &mut Connection<S>) -> Result<Vec<Row>, 
         Shown meta_text [] (held.state S.Store conn.old) (held.state S.Store conn.new) rows.items) }
     ensures held { HasCleanDisk (held.state S.Store conn.new) → HasCommon (held.state S.Store conn.old).now.schema
         → IfOk result (λ rows.
-        Holds (held.state S.Store conn.old).now meta_table rows.items
+        TableHas (held.state S.Store conn.old).now meta_table rows.items
         × IsUnchanged (held.state S.Store conn.old) (held.state S.Store conn.new)) }
     ensures failed { HasCleanDisk (held.state S.Store conn.new)
         → IfErr result (FailsToQuery meta_text [] (held.state S.Store conn.old) (held.state S.Store conn.new)) }
-    ensures mode { conn.old.in_transaction ≡ false → conn.new.in_transaction ≡ false }
+    ensures mode { StaysAutocommit conn.old conn.new }
     ensures kept { HasCleanDisk (held.state S.Store conn.new)
         → KeepsCommit (held.state S.Store conn.old) (held.state S.Store conn.new) }
     ensures clean { HasCleanDisk (held.state S.Store conn.new) → HasCleanDisk (held.state S.Store conn.old) }
     ensures limit { conn.new.step_limit ≡ conn.old.step_limit }
-    ensures crash { Survives (held.state S.Store conn.old) (held.state S.Store conn.new) (λ _. ⊥) }
+    ensures crash { CommitsNothing (held.state S.Store conn.old) (held.state S.Store conn.new) }
 {
     conn.query_all("SELECT id, kind, form, filer FROM outbox_meta", &[])
 }
@@ -161,15 +146,15 @@ pub(crate) fn all_rows<S: Alter>(conn: &mut Connection<S>) -> Result<Vec<Row>, E
         Shown entries_text [] (held.state S.Store conn.old) (held.state S.Store conn.new) rows.items) }
     ensures held { HasCleanDisk (held.state S.Store conn.new) → HasCommon (held.state S.Store conn.old).now.schema
         → IfOk result (λ rows.
-        Holds (held.state S.Store conn.old).now entry_table rows.items
+        TableHas (held.state S.Store conn.old).now entry_table rows.items
         × IsUnchanged (held.state S.Store conn.old) (held.state S.Store conn.new)) }
     ensures failed { HasCleanDisk (held.state S.Store conn.new)
         → IfErr result (FailsToQuery entries_text [] (held.state S.Store conn.old) (held.state S.Store conn.new)) }
-    ensures mode { conn.old.in_transaction ≡ false → conn.new.in_transaction ≡ false }
+    ensures mode { StaysAutocommit conn.old conn.new }
     ensures kept { HasCleanDisk (held.state S.Store conn.new)
         → KeepsCommit (held.state S.Store conn.old) (held.state S.Store conn.new) }
     ensures clean { HasCleanDisk (held.state S.Store conn.new) → HasCleanDisk (held.state S.Store conn.old) }
-    ensures crash { Survives (held.state S.Store conn.old) (held.state S.Store conn.new) (λ _. ⊥) }
+    ensures crash { CommitsNothing (held.state S.Store conn.old) (held.state S.Store conn.new) }
 {
     conn.query_all(
         "SELECT id, idem, body, state, number FROM entry ORDER BY id",
@@ -184,16 +169,16 @@ pub(crate) fn target_rows<S: Alter>(conn: &mut Connection<S>) -> Result<Vec<Row>
         Shown targets_text [] (held.state S.Store conn.old) (held.state S.Store conn.new) rows.items) }
     ensures held { HasCleanDisk (held.state S.Store conn.new) → IsDeclared (held.state S.Store conn.old).now.schema
         → IfOk result (λ rows.
-        Holds (held.state S.Store conn.old).now target_table rows.items
+        TableHas (held.state S.Store conn.old).now target_table rows.items
         × IsUnchanged (held.state S.Store conn.old) (held.state S.Store conn.new)) }
     ensures failed { HasCleanDisk (held.state S.Store conn.new)
         → IfErr result (FailsToQuery targets_text [] (held.state S.Store conn.old) (held.state S.Store conn.new)) }
-    ensures mode { conn.old.in_transaction ≡ false → conn.new.in_transaction ≡ false }
+    ensures mode { StaysAutocommit conn.old conn.new }
     ensures kept { HasCleanDisk (held.state S.Store conn.new)
         → KeepsCommit (held.state S.Store conn.old) (held.state S.Store conn.new) }
     ensures clean { HasCleanDisk (held.state S.Store conn.new) → HasCleanDisk (held.state S.Store conn.old) }
     ensures limit { conn.new.step_limit ≡ conn.old.step_limit }
-    ensures crash { Survives (held.state S.Store conn.old) (held.state S.Store conn.new) (λ _. ⊥) }
+    ensures crash { CommitsNothing (held.state S.Store conn.old) (held.state S.Store conn.new) }
 {
     conn.query_all("SELECT id, number FROM target", &[])
 }
@@ -202,14 +187,11 @@ pub(crate) fn target_rows<S: Alter>(conn: &mut Connection<S>) -> Result<Vec<Row>
 fn target_with_id<S: Alter>(conn: &mut Connection<S>, id: u64) -> Result<Option<Row>, Error>
     requires { id < 2 ^ 63 }
     ensures found { HasCleanDisk (held.state S.Store conn.new) → (it : Contents)
-        → Stands (IsOutboxOf it) (held.state S.Store conn.old)
+        → HasCommitted (IsOutboxOf it) (held.state S.Store conn.old)
         → IfOk result (λ row. row ≡ option_map (λ number. Int (pos number) ∷ []) (target_at it.entries id)) }
-    ensures kept { HasCleanDisk (held.state S.Store conn.new) → (it : Contents)
-        → Stands (IsOutboxOf it) (held.state S.Store conn.old) → Stands (IsOutboxOf it) (held.state S.Store conn.new) }
-    ensures open { HasCleanDisk (held.state S.Store conn.new) → (it : Contents)
-        → Stands (IsOutboxOf it) (held.state S.Store conn.old)
-        → OnOk result (IsTrue (held.state S.Store conn.new).is_open) }
-    ensures crash { Survives (held.state S.Store conn.old) (held.state S.Store conn.new) (λ _. ⊥) }
+    ensures kept { KeepsOutbox (held.state S.Store conn.old) (held.state S.Store conn.new) }
+    ensures open { AnswersOpen (held.state S.Store conn.old) (held.state S.Store conn.new) result }
+    ensures crash { CommitsNothing (held.state S.Store conn.old) (held.state S.Store conn.new) }
 {
     first_row(
         conn,
@@ -222,14 +204,11 @@ fn target_with_id<S: Alter>(conn: &mut Connection<S>, id: u64) -> Result<Option<
 pub(crate) fn target_of<S: Alter>(conn: &mut Connection<S>, id: u64) -> Result<Option<u64>, Error>
     requires { id < 2 ^ 63 }
     ensures found { HasCleanDisk (held.state S.Store conn.new) → (it : Contents)
-        → Stands (IsOutboxOf it) (held.state S.Store conn.old)
+        → HasCommitted (IsOutboxOf it) (held.state S.Store conn.old)
         → IfOk result (λ target. target ≡ target_at it.entries id) }
-    ensures kept { HasCleanDisk (held.state S.Store conn.new) → (it : Contents)
-        → Stands (IsOutboxOf it) (held.state S.Store conn.old) → Stands (IsOutboxOf it) (held.state S.Store conn.new) }
-    ensures open { HasCleanDisk (held.state S.Store conn.new) → (it : Contents)
-        → Stands (IsOutboxOf it) (held.state S.Store conn.old)
-        → OnOk result (IsTrue (held.state S.Store conn.new).is_open) }
-    ensures crash { Survives (held.state S.Store conn.old) (held.state S.Store conn.new) (λ _. ⊥) }
+    ensures kept { KeepsOutbox (held.state S.Store conn.old) (held.state S.Store conn.new) }
+    ensures open { AnswersOpen (held.state S.Store conn.old) (held.state S.Store conn.new) result }
+    ensures crash { CommitsNothing (held.state S.Store conn.old) (held.state S.Store conn.new) }
 {
     let row = target_with_id(conn, id)?;
     match row {
@@ -254,7 +233,7 @@ pub(crate) fn insert_entry<S: Alter>(
         (held.state S.Store tx.old.conn.now) (held.state S.Store tx.new.conn.now)) }
     ensures keeps { HasCleanDisk (held.state S.Store tx.new.conn.now)
         → KeepsCommit (held.state S.Store tx.old.conn.now) (held.state S.Store tx.new.conn.now) }
-    ensures survives { Survives (held.state S.Store tx.old.conn.now) (held.state S.Store tx.new.conn.now) (λ _. ⊥) }
+    ensures survives { CommitsNothing (held.state S.Store tx.old.conn.now) (held.state S.Store tx.new.conn.now) }
 {
     tx.execute(
         "INSERT INTO entry (id, idem, body, state) VALUES (?1, ?2, ?3, 0)",
@@ -279,7 +258,7 @@ pub(crate) fn insert_target<S: Alter>(
         (held.state S.Store tx.new.conn.now)) }
     ensures keeps { HasCleanDisk (held.state S.Store tx.new.conn.now)
         → KeepsCommit (held.state S.Store tx.old.conn.now) (held.state S.Store tx.new.conn.now) }
-    ensures survives { Survives (held.state S.Store tx.old.conn.now) (held.state S.Store tx.new.conn.now) (λ _. ⊥) }
+    ensures survives { CommitsNothing (held.state S.Store tx.old.conn.now) (held.state S.Store tx.new.conn.now) }
 {
     tx.execute(
         "INSERT INTO target VALUES (?1, ?2)",
@@ -318,16 +297,16 @@ pub(crate) fn set_state<S: Alter>(
     requires id { id < 2 ^ 63 }
     requires number { FitsNumber (view_state state) }
     ensures moved { HasCleanDisk (held.state S.Store conn.new) → (it : Contents)
-        → Stands (IsOutboxOf it) (held.state S.Store conn.old) → IsTrue (held.state S.Store conn.old).is_open
+        → HasCommitted (IsOutboxOf it) (held.state S.Store conn.old) → IsTrue (held.state S.Store conn.old).is_open
         → IsSome (entry_at it.entries id)
-        → OnOk result (Stands (IsOutboxOf (with_state it id (view_state state))) (held.state S.Store conn.new)
+        → OnOk result (HasCommitted (IsOutboxOf (with_state it id (view_state state))) (held.state S.Store conn.new)
         × IsTrue (held.state S.Store conn.new).is_open) }
     ensures kept { HasCleanDisk (held.state S.Store conn.new) → (it : Contents)
-        → Stands (IsOutboxOf it) (held.state S.Store conn.old)
-        → OnErr result (Stands (IsOutboxOf it) (held.state S.Store conn.new)) }
+        → HasCommitted (IsOutboxOf it) (held.state S.Store conn.old)
+        → OnErr result (HasCommitted (IsOutboxOf it) (held.state S.Store conn.new)) }
     ensures crash { Survives (held.state S.Store conn.old) (held.state S.Store conn.new)
         (Commits IsOutboxOf (held.state S.Store conn.old) (λ it trees.
-        IsSome (entry_at it.entries id) → Leaves (with_state it id (view_state state)) trees)) }
+        IsSome (entry_at it.entries id) → LeavesOutbox (with_state it id (view_state state)) trees)) }
 {
     conn.execute(
         "UPDATE entry SET state = ?2, number = ?3 WHERE id = ?1",

@@ -52,7 +52,7 @@ fn place_of(row: &Row, count: usize) -> Option<usize>
     }
 }
 
-/// What the rows say of each of so many entries. The error is want of memory.
+/// What the rows say of each of so many entries. It fails where memory runs out.
 pub(crate) fn said_of(alloc: Global, targets: &[Row], count: usize) -> Result<Vec<Said>, AllocError>
     requires { count < 2 ^ 63 }
     ensures long { IfOk result (λ said. vec_len said ≡ count) }

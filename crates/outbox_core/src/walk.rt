@@ -3,12 +3,13 @@
 ghost use Rattle.std.specs.Prelude.{◌≡◌, ◌<◌, ◌≤◌, ◌^◌, ℕ, suc, false, true, List, [], ◌∷◌, length, get_or, IsTrue, IfOk, IfErr, IfSome, OnOk};
 ghost use Rattle.sqlite.specs.Held.{state};
 ghost use Rattle.sqlite.specs.Order.{Row as Stored};
-ghost use Rattle.sqlite.specs.State.{HasCleanDisk, IsUnchanged, Survives};
+ghost use Rattle.sqlite.specs.State.{HasCleanDisk, IsUnchanged};
 ghost use Rattle.table_rows.specs.Picking.{CountsTo, IsStopped, Picks, has_number};
 ghost use Rattle.outbox_core.specs.Audit.{is_sound, with_id};
 ghost use Rattle.outbox_core.specs.Schema.{HasCommon, entry_table};
 ghost use Rattle.outbox_core.specs.Targets.{said_by};
 ghost use Rattle.outbox_core.specs.Walk.{AreCounted, Walked};
+ghost use Rattle.table_rows.specs.Standing.{CommitsNothing, StaysAutocommit};
 
 use crate::audit::is_sound;
 use crate::entries::MAX_ENTRIES;
@@ -42,8 +43,8 @@ fn has_sound<S: Alter>(conn: &mut Connection<S>, id: u64, said: Said) -> Result<
         → OnOk result (IsUnchanged (state S.Store conn.old) (state S.Store conn.new)) }
     ensures stopped { HasCleanDisk (state S.Store conn.new)
         → IfErr result (IsStopped (state S.Store conn.old) (state S.Store conn.new)) }
-    ensures mode { conn.old.in_transaction ≡ false → conn.new.in_transaction ≡ false }
-    ensures survives { Survives (state S.Store conn.old) (state S.Store conn.new) (λ _. ⊥) }
+    ensures mode { StaysAutocommit conn.old conn.new }
+    ensures survives { CommitsNothing (state S.Store conn.old) (state S.Store conn.new) }
 {
     match picks::rows_at(conn, id) {
         Ok(rows) => Ok(is_sound_one(&rows, id, said)),
@@ -67,8 +68,8 @@ fn walk<S: Alter>(conn: &mut Connection<S>, said: &[Said]) -> Result<bool, Error
         → OnOk result (IsUnchanged (state S.Store conn.old) (state S.Store conn.new)) }
     ensures stopped { HasCleanDisk (state S.Store conn.new) → IsTrue (state S.Store conn.old).is_open
         → IfErr result (IsStopped (state S.Store conn.old) (state S.Store conn.new)) }
-    ensures mode { conn.old.in_transaction ≡ false → conn.new.in_transaction ≡ false }
-    ensures survives { Survives (state S.Store conn.old) (state S.Store conn.new) (λ _. ⊥) }
+    ensures mode { StaysAutocommit conn.old conn.new }
+    ensures survives { CommitsNothing (state S.Store conn.old) (state S.Store conn.new) }
 {
     for at in 0..said.len() {
         match has_sound(conn, at as u64 + 1, said[at]) {
@@ -96,8 +97,8 @@ fn are_sound<S: Alter>(
         → OnOk result (IsUnchanged (state S.Store conn.old) (state S.Store conn.new)) }
     ensures stopped { HasCleanDisk (state S.Store conn.new) → IsTrue (state S.Store conn.old).is_open
         → IfErr result (IsStopped (state S.Store conn.old) (state S.Store conn.new)) }
-    ensures mode { conn.old.in_transaction ≡ false → conn.new.in_transaction ≡ false }
-    ensures survives { Survives (state S.Store conn.old) (state S.Store conn.new) (λ _. ⊥) }
+    ensures mode { StaysAutocommit conn.old conn.new }
+    ensures survives { CommitsNothing (state S.Store conn.old) (state S.Store conn.new) }
 {
     let Ok(said) = said_of(alloc, targets, count as usize) else {
         return Ok(false);
@@ -121,8 +122,8 @@ pub(crate) fn count_by_walk<S: Alter>(
         → OnOk result (IsUnchanged (state S.Store conn.old) (state S.Store conn.new)) }
     ensures stopped { HasCleanDisk (state S.Store conn.new)
         → IfErr result (IsStopped (state S.Store conn.old) (state S.Store conn.new)) }
-    ensures mode { conn.old.in_transaction ≡ false → conn.new.in_transaction ≡ false }
-    ensures survives { Survives (state S.Store conn.old) (state S.Store conn.new) (λ _. ⊥) }
+    ensures mode { StaysAutocommit conn.old conn.new }
+    ensures survives { CommitsNothing (state S.Store conn.old) (state S.Store conn.new) }
 {
     match picks::count_rows(conn) {
         Ok(Some(count)) if count <= MAX_ENTRIES => match are_sound(alloc, conn, targets, count) {

@@ -6,6 +6,7 @@ ghost use Rattle.sqlite.specs.State.{HasCleanDisk, KeepsCommit, Survives};
 ghost use Rattle.http_wire.specs.Posting.{IsTarget};
 ghost use Rattle.outbox_core.specs.Entries.{opened};
 ghost use Rattle.outbox_core.specs.Changes.{Adds, AddsInside, AddsTo, AddsNothing};
+ghost use Rattle.table_rows.specs.Standing.{CommitsNothing};
 
 use crate::tables::{insert_entry, insert_target};
 use sqlite::{Alter, Connection, Error, Transaction};
@@ -27,7 +28,7 @@ fn write_entry<S: Alter>(
         (state S.Store tx.new.conn.now)) }
     ensures keeps { HasCleanDisk (state S.Store tx.new.conn.now)
         → KeepsCommit (state S.Store tx.old.conn.now) (state S.Store tx.new.conn.now) }
-    ensures survives { Survives (state S.Store tx.old.conn.now) (state S.Store tx.new.conn.now) (λ _. ⊥) }
+    ensures survives { CommitsNothing (state S.Store tx.old.conn.now) (state S.Store tx.new.conn.now) }
 {
     insert_entry(tx, id, key, body)?;
     match target {

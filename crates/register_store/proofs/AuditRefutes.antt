@@ -8,12 +8,12 @@ use Rattle.filing_model.specs.Request.{Request, firsts, has_key}
 use Rattle.filing_model.specs.Register.{Kept, filings, kept_after, judged, kept, register}
 use Rattle.filing_model.proofs.Keeping.{kept_new, kept_grows}
 use Rattle.table_rows.specs.Rows.{counted_from}
-use Rattle.register_store.specs.declared.filed.Filed.{Filed}
-use Rattle.register_store.specs.Audit.{has_more, Others, IsNext, AreRowsOf, IsVerdict, StandForNone}
+use Rattle.register_store.specs.declared.opening.filed.Filed.{Filed}
+use Rattle.register_store.specs.Audit.{has_more, OtherRows, IsNext, AreRowsOf, IsVerdict, StandForNone}
 use Rattle.register_store.specs.Columns.{request_in}
 use Rattle.register_store.specs.Filed.{AreFiled}
-use Rattle.register_store.specs.declared.audit.Verdict.{Verdict}
-use Rattle.register_store.specs.declared.audit.Verdict.TheVariants.{Sound, Damaged}
+use Rattle.register_store.specs.declared.opening.audit.Verdict.{Verdict}
+use Rattle.register_store.specs.declared.opening.audit.Verdict.TheVariants.{Sound, Damaged}
 use Rattle.register_store.specs.Register.{IsCompleted, kept_row, finding_rows, filing_rows, fact_rows, amends_rows, joined_from}
 use Rattle.register_store.proofs.AuditSteps.{AreFirst, first_more, register_more, joined_append, counted_append, all_at, apart_from, one_filing}
 use Rattle.register_store.proofs.MoreRequests.{kept_length}
@@ -28,7 +28,7 @@ row_at (x ∷ front) row back zero d at = absurd (omega arith)
 row_at (x ∷ front) row back (suc i) d at = row_at front row back i d (omega arith)
 
 -- rows say one target alone of a request that comes next
-pub one_target : (F : List Request) (seq : ℕ) (row : Row) (s t : Option ℕ) (all left tail : Others) → IsNext F seq row s all left → IsNext F seq row t all tail
+pub one_target : (F : List Request) (seq : ℕ) (row : Row) (s t : Option ℕ) (all left tail : OtherRows) → IsNext F seq row s all left → IsNext F seq row t all tail
     → s ≡ t
 one_target F seq row s t all left tail one two =
     (only_target seq s t left.amends tail.amends
@@ -41,13 +41,13 @@ abbrev pub IsFront : List Request → List Request → Type 0
 IsFront F G = (later : List Request) × (G ≡ F ++ later)
 
 -- where rows stand for requests, the row behind the first ones comes next, and its request is theirs
-pub record GoesOn (F G : List Request) (seq : ℕ) (row : Row) (rest : Others) : Type 0 where
+pub record GoesOn (F G : List Request) (seq : ℕ) (row : Row) (rest : OtherRows) : Type 0 where
   pub target : Option ℕ
-  pub tail : Others
+  pub tail : OtherRows
   pub next : IsNext F seq row target rest tail
   pub front : IsFront (F ++ request_in target row ∷ []) G
 
-module _ (rows : List Row) (all rest : Others) (F G : List Request) (i : ℕ) (below : i < length rows) (many : length F ≡ i)
+module _ (rows : List Row) (all rest : OtherRows) (F G : List Request) (i : ℕ) (below : i < length rows) (many : length F ≡ i)
     (first : AreFirst (take i rows) all rest F) (whole : AreRowsOf rows all G) where
   as_many : length rows ≡ length G
   as_many = ap length whole.kept_is ∙ length_counted kept_row 1 (kept G) ∙ kept_length G whole.distinct
@@ -87,7 +87,7 @@ module _ (rows : List Row) (all rest : Others) (F G : List Request) (i : ℕ) (b
     asked : r ≡ request_in r.target (get_or rows i [])
     asked = ap (request_in r.target) (sym row_is)
 
-    tail : Others
+    tail : OtherRows
     tail = record {
       finding = joined_from finding_rows (suc (length F) + 1) more;
       filing = joined_from filing_rows (suc (length F) + 1) more;
@@ -130,7 +130,7 @@ module _ (rows : List Row) (all rest : Others) (F G : List Request) (i : ℕ) (b
       go (r ∷ later) is = goes_on_so r later is
 
 -- the first rows are those of some requests, so many of which are registered, and rows that stand for requests stand for these and more
-pub record Stood (rows : List Row) (all rest : Others) (i number : ℕ) (filed : Filed) : Type 0 where
+pub record Stood (rows : List Row) (all rest : OtherRows) (i number : ℕ) (filed : Filed) : Type 0 where
   pub requests : List Request
   pub many : length requests ≡ i
   pub number_is : number ≡ suc (length (register requests))
@@ -139,7 +139,7 @@ pub record Stood (rows : List Row) (all rest : Others) (i number : ℕ) (filed :
   pub front : (G : List Request) → AreRowsOf rows all G → IsFront requests G
   pub filed_are : AreFiled (register requests) filed
 
-pub none_yet : (rows : List Row) (all : Others) (filed : Filed) → AreFiled [] filed → Stood rows all all 0 1 filed
+pub none_yet : (rows : List Row) (all : OtherRows) (filed : Filed) → AreFiled [] filed → Stood rows all all 0 1 filed
 unfolding firsts kept_after filings
 none_yet rows all filed are = record {
   requests = [];
@@ -151,7 +151,7 @@ none_yet rows all filed are = record {
   filed_are = are;
 }
 
-module _ (rows : List Row) (all rest : Others) (i number : ℕ) (filed : Filed) (row : Row) (below : i < length rows) (at : row ≡ get_or rows i row)
+module _ (rows : List Row) (all rest : OtherRows) (i number : ℕ) (filed : Filed) (row : Row) (below : i < length rows) (at : row ≡ get_or rows i row)
     (stood : Stood rows all rest i number filed) where
   abbrev F : List Request
   F = stood.requests
@@ -162,7 +162,7 @@ module _ (rows : List Row) (all rest : Others) (i number : ℕ) (filed : Filed) 
       let place : get_or rows i [] ≡ row = get_at rows i [] row below ∙ sym at in
       subst₂ (λ s r. GoesOn F G s r rest) seq place (goes_on_there rows all rest F G i below stood.many stood.first whole (stood.front G whole))
 
-  pub one_more : (target : Option ℕ) (tail : Others) (next : ℕ) (new : Filed) → IsNext F (i + 1) row target rest tail
+  pub one_more : (target : Option ℕ) (tail : OtherRows) (next : ℕ) (new : Filed) → IsNext F (i + 1) row target rest tail
       → AreFiled (register (F ++ request_in target row ∷ [])) new
       → next ≡ suc (length (register (F ++ request_in target row ∷ []))) → Stood rows all tail (i + 1) next new
   one_more target tail next new sound are told =
@@ -187,10 +187,10 @@ module _ (rows : List Row) (all rest : Others) (i number : ℕ) (filed : Filed) 
       }
 
   -- rows of which one cannot come next
-  pub refuted_at : ((target : Option ℕ) (tail : Others) → IsNext F (i + 1) row target rest tail → ⊥) → StandForNone rows all
+  pub refuted_at : ((target : Option ℕ) (tail : OtherRows) → IsNext F (i + 1) row target rest tail → ⊥) → StandForNone rows all
   refuted_at none G whole = let there = goes_on_at G whole in none there.target there.tail there.next
 
-module _ (rows : List Row) (all rest : Others) (i number : ℕ) (filed : Filed) (end : i ≡ length rows) (stood : Stood rows all rest i number filed) where
+module _ (rows : List Row) (all rest : OtherRows) (i number : ℕ) (filed : Filed) (end : i ≡ length rows) (stood : Stood rows all rest i number filed) where
   first_are : AreFirst rows all rest stood.requests
   first_are = subst (λ l. AreFirst l all rest stood.requests) (ap (λ n. take n rows) end ∙ take-length rows) stood.first
 
@@ -214,7 +214,7 @@ module _ (rows : List Row) (all rest : Others) (i number : ℕ) (filed : Filed) 
       all_of (r ∷ later) is many = let long = ap length is ∙ length-append stood.requests (r ∷ later) in absurd (omega (arith, long, many, end, stood.many))
 
 -- rows that stand for requests are found to do so
-pub complete : (rows : List Row) (all : Others) (verdict : Verdict) → IsVerdict rows all verdict → (G : List Request) → AreRowsOf rows all G → verdict ≡ Sound (length (register G))
+pub complete : (rows : List Row) (all : OtherRows) (verdict : Verdict) → IsVerdict rows all verdict → (G : List Request) → AreRowsOf rows all G → verdict ≡ Sound (length (register G))
 complete rows all (Sound count) is G whole =
     let same = same_requests is.0 G is.1.distinct whole.distinct (sym is.1.kept_is ∙ whole.kept_is) (sym is.1.amends_is ∙ whole.amends_is) in
     ap Sound (is.2 ∙ ap (λ H. length (register H)) same)

@@ -11,7 +11,7 @@ use Rattle.filing_model.specs.Register.Outcome.{Registered, Refused}
 use Rattle.filing_model.proofs.Firsts.{firsts_new, firsts-append, firsts_short}
 use Rattle.filing_model.proofs.Keeping.{kept_new, requests_of_kept, all_push}
 use Rattle.table_rows.specs.Rows.{counted_from}
-use Rattle.register_store.specs.Audit.{Others, IsNext}
+use Rattle.register_store.specs.Audit.{OtherRows, IsNext}
 use Rattle.register_store.specs.Columns.{request_in}
 use Rattle.register_store.specs.Outcomes.{filings_by}
 use Rattle.register_store.specs.Register.{IsCompleted, kept_row, finding_rows, filing_rows, fact_rows, amends_rows, joined_from}
@@ -20,7 +20,7 @@ use Rattle.register_store.proofs.MoreRequests.{kept_length, registered_more}
 use Rattle.register_store.proofs.SeenLemmas.{untargeted}
 
 -- the first rows are those of these requests, and the rest follows
-pub record AreFirst (kept_are : List Row) (all rest : Others) (F : List Request) : Type 0 where
+pub record AreFirst (kept_are : List Row) (all rest : OtherRows) (F : List Request) : Type 0 where
   pub distinct : firsts F ≡ F
   pub completed : AllByRecursion IsCompleted F
   pub kept_is : kept_are ≡ counted_from kept_row 1 (kept F)
@@ -53,7 +53,7 @@ pub requests_first : (rows : List Row) (F : List Request) → firsts F ≡ F →
 requests_first rows F once is =
     ap (map (request_in None)) is ∙ requests_said 1 (kept F) ∙ untargeted_asked (kept F) ∙ ap (map untargeted) (requests_of_kept F ∙ once)
 
-module _ (all rest tail : Others) (F : List Request) (front : List Row) (row : Row) (target : Option ℕ) (first : AreFirst front all rest F)
+module _ (all rest tail : OtherRows) (F : List Request) (front : List Row) (row : Row) (target : Option ℕ) (first : AreFirst front all rest F)
     (sound : IsNext F (suc (length F)) row target rest tail) where
   abbrev r : Request
   r = request_in target row

@@ -12,8 +12,8 @@ use Rattle.filing_model.specs.Register.{filings, kept_after, judged, kept, regis
 use Rattle.filing_model.proofs.Keeping.{kept_new}
 use Rattle.table_rows.specs.Rows.{counted_from}
 use Rattle.table_rows.proofs.StepLemmas.{counted_more}
-use Rattle.register_store.specs.declared.filed.Filed.{Filed}
-use Rattle.register_store.specs.Audit.{Others, IsKeptAs, IsSound, AreSound, IsFirstUnsound, begins_with, is_number, is_repeated_at, with_number}
+use Rattle.register_store.specs.declared.opening.filed.Filed.{Filed}
+use Rattle.register_store.specs.Audit.{OtherRows, IsKeptAs, IsSound, AreSound, IsFirstUnsound, begins_with, is_number, is_repeated_at, with_number}
 use Rattle.register_store.specs.Columns.{request_in}
 use Rattle.register_store.specs.Filed.{AreFiled}
 use Rattle.register_store.specs.Outcomes.{filings_by}
@@ -136,7 +136,7 @@ same_target n s t is = (only_target n s t [] [] refl refl (append-nil _ ∙ is �
 -- ---- one kept row after another
 
 -- the rows up to this place are sound as those of these requests
-pub record Held (rows : List Row) (others : Others) (at number : ℕ) (filed : Filed) : Type 0 where
+pub record Held (rows : List Row) (others : OtherRows) (at number : ℕ) (filed : Filed) : Type 0 where
   pub requests : List Request
   pub many : length requests ≡ at
   pub number_is : number ≡ suc (length (register requests))
@@ -145,17 +145,17 @@ pub record Held (rows : List Row) (others : Others) (at number : ℕ) (filed : F
   pub sound : AreSound rows others [] requests
   pub filed_are : AreFiled (register requests) filed
 
-pub none_held : (rows : List Row) (others : Others) (filed : Filed) → AreFiled [] filed → Held rows others 0 1 filed
+pub none_held : (rows : List Row) (others : OtherRows) (filed : Filed) → AreFiled [] filed → Held rows others 0 1 filed
 unfolding firsts kept_after filings
 none_held rows others filed are = record { requests = []; many = refl; number_is = refl; fewer = omega arith; said = refl; sound = tt; filed_are = are }
 
-sound_more : (rows : List Row) (others : Others) (before F : List Request) (r : Request) → AreSound rows others before F → IsSound rows others (before ++ F) r
+sound_more : (rows : List Row) (others : OtherRows) (before F : List Request) (r : Request) → AreSound rows others before F → IsSound rows others (before ++ F) r
     → AreSound rows others before (F ++ r ∷ [])
 sound_more rows others before [] r all one = (subst (λ l. IsSound rows others l r) (append-nil before) one, tt)
 sound_more rows others before (q ∷ F) r all one =
     (all.0, sound_more rows others (before ++ q ∷ []) F r all.1 (subst (λ l. IsSound rows others l r) (sym (append_assoc before (q ∷ []) F)) one))
 
-module _ (rows : List Row) (others : Others) (at number : ℕ) (filed : Filed) (row : Row) (low : at < length rows) (is : row ≡ get_or rows at row)
+module _ (rows : List Row) (others : OtherRows) (at number : ℕ) (filed : Filed) (row : Row) (low : at < length rows) (is : row ≡ get_or rows at row)
     (held : Held rows others at number filed) where
   abbrev F : List Request
   F = held.requests

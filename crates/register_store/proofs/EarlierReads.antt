@@ -11,13 +11,13 @@ use Rattle.table_rows.specs.Causes.{cause_of}
 use Rattle.table_rows.specs.declared.cause.Cause.{Cause}
 use Rattle.table_rows.specs.declared.cause.Cause.TheVariants as cause
 use Rattle.table_rows.proofs.TextLemmas.{query_same}
-use Rattle.register_store.specs.declared.audit.Verdict.TheVariants.{Sound, Damaged}
-use Rattle.register_store.specs.declared.earlier.Earlier.TheVariants.{Third}
+use Rattle.register_store.specs.declared.opening.audit.Verdict.TheVariants.{Sound, Damaged}
+use Rattle.register_store.specs.declared.migrate.earlier.Earlier.TheVariants.{Third}
 use Rattle.register_store.specs.declared.fault.OpenFault.{OpenFault}
 use Rattle.register_store.specs.declared.fault.OpenFault.TheVariants as fault
 use Rattle.register_store.specs.declared.opening.Counts.{Counts}
-use Rattle.register_store.specs.declared.walk.Totals.{Totals}
-use Rattle.register_store.specs.Audit.{Others, IsVerdict}
+use Rattle.register_store.specs.declared.opening.walk.Totals.{Totals}
+use Rattle.register_store.specs.Audit.{OtherRows, IsVerdict}
 use Rattle.register_store.specs.Faults.{table_fault, table_fault_by}
 use Rattle.register_store.specs.Migrating.{AreTotals, HasNoTotals, HasNoCounts, IsCounted, SaysNone}
 use Rattle.register_store.specs.Opening.{all_kept, all_findings, all_filings, all_facts, all_migrated, row_texts, IsRead, AreRead, StopsFor}
@@ -37,7 +37,7 @@ totals_then totals a b e same t = record {
 module _ {S : Type 0} (g : Ghosts S) where
   -- ---- the four tables, read whole
 
-  pub whole_totals : (a e : Held S) (kept_are : List Row) (others : Others) (totals : Totals) → AreRead g row_texts a e (kept_are ∷ others.finding ∷ others.filing ∷ others.fact ∷ [])
+  pub whole_totals : (a e : Held S) (kept_are : List Row) (others : OtherRows) (totals : Totals) → AreRead g row_texts a e (kept_are ∷ others.finding ∷ others.filing ∷ others.fact ∷ [])
       → others.amends ≡ [] → totals.kept ≡ length kept_are → IsVerdict kept_are others (Sound totals.filings) → AreTotals totals (state g a) (state g e)
   whole_totals a e kept_are others totals h none many is = record {
     same = reads_on g (all_findings ∷ all_filings ∷ all_facts ∷ []) (query_findings, (query_filings, (query_facts, tt))) a h.0 e (query_same all_kept query_kept [] (state g a) (state g h.0) kept_are h.1.shown)
@@ -50,7 +50,7 @@ module _ {S : Type 0} (g : Ghosts S) where
     };
   }
 
-  pub whole_refused : (a e : Held S) (kept_are : List Row) (others : Others) (why : OpenFault) → AreRead g row_texts a e (kept_are ∷ others.finding ∷ others.filing ∷ others.fact ∷ [])
+  pub whole_refused : (a e : Held S) (kept_are : List Row) (others : OtherRows) (why : OpenFault) → AreRead g row_texts a e (kept_are ∷ others.finding ∷ others.filing ∷ others.fact ∷ [])
       → others.amends ≡ [] → (why ≡ fault.Memory) ⊎ ((row : ℕ) × (why ≡ fault.Damaged row) × IsVerdict kept_are others (Damaged row)) → HasNoTotals g why a e
   whole_refused a e kept_are others why h none (inl short) = subst (λ w. HasNoTotals g w a e) (sym short) (inr (kept_are ∷ others.finding ∷ others.filing ∷ others.fact ∷ [], h))
   whole_refused a e kept_are others why h none (inr found) = subst (λ w. HasNoTotals g w a e) (sym found.1) (inr (kept_are, others, h, none, found.2))

@@ -18,7 +18,7 @@ use Rattle.filing_model.proofs.Lists.{length-map}
 use Rattle.filing_model.proofs.Keeping.{register_numbered}
 use Rattle.table_rows.specs.Rows.{counted_from}
 use Rattle.table_rows.specs.Reading.{RisesBy, ReadsRows}
-use Rattle.table_rows.specs.Standing.{Stands}
+use Rattle.table_rows.specs.Standing.{HasCommitted}
 use Rattle.table_rows.proofs.OrderLemmas.{counted_rise, same_number, and_true}
 use Rattle.register_store.specs.Columns.{maybe_bytes_in, integer_in, fact_in}
 use Rattle.register_store.specs.Numbered.{filing_numbered, facts_numbered}
@@ -121,7 +121,7 @@ said_back n at (x ∷ xs) = ap₂ (λ y ys. y ∷ ys) (same x.value x.decimals) 
         → fact_in (said (fact_row n at (record { id = x.id; concept = x.concept; dimensions = x.dimensions; value = value; decimals = decimals }))) ≡ record { id = x.id; concept = x.concept; dimensions = x.dimensions; value = value; decimals = decimals }
     same value decimals = ap₂ (λ v d. record { id = x.id; concept = x.concept; dimensions = x.dimensions; value = v; decimals = d }) (back value decimals) (again decimals)
 
-module _ {early : ℕ} (F : List Request) (old new : State) (rows : List Row) (was : Stands (IsRegisterOf early F) old) (n : ℕ) where
+module _ {early : ℕ} (F : List Request) (old new : State) (rows : List Row) (was : HasCommitted (IsRegisterOf early F) old) (n : ℕ) where
   its_table : filter (has_number n) (joined_from fact_rows 1 (kept F)) ≡ counted_from (fact_row n) 1 (unwrap_or (facts_numbered n (register F)) [])
   its_table = ap (filter (has_number n)) (table_is 1 (kept F)) ∙ its_rows n 1 (register F) (register_numbered F)
 

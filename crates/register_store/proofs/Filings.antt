@@ -15,15 +15,15 @@ use Rattle.filing_model.specs.Request.{Request, same_target}
 use Rattle.filing_model.specs.Register.{Filing, is_amendment_of, is_filing_of, is_replaceable, is_free}
 use Rattle.filing_model.proofs.Lists.{find_none}
 use Rattle.register_store.specs.Columns.{request_in}
-use Rattle.register_store.specs.declared.filed.Entry.{Entry}
-use Rattle.register_store.specs.declared.filed.Filed.{Filed}
+use Rattle.register_store.specs.declared.opening.filed.Entry.{Entry}
+use Rattle.register_store.specs.declared.opening.filed.Filed.{Filed}
 use Rattle.register_store.specs.Filed.{AreFiled, Line, Reaches, line_of, next_filing, view_entry}
 
 -- these filings count on from this number
 abbrev pub CountFrom : ℕ → List Filing → Type 0
 CountFrom start fs = map (λ f. f.number) fs ≡ range_with_len start (length fs)
 
--- the number is none of theirs
+-- the number is not that of any of them
 abbrev pub IsOutside : ℕ → ℕ → ℕ → Type 0
 IsOutside n start many = (n < start) ⊎ (start + many ≤ n)
 

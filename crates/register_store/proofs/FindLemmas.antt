@@ -25,14 +25,14 @@ use Rattle.filing_model.proofs.Keeping.{requests_of_kept}
 use Rattle.filing_model.proofs.Lists.{filter-map, length-map}
 use Rattle.table_rows.specs.Rows.{counted_from}
 use Rattle.table_rows.specs.Reading.{RisesBy, ReadsRows}
-use Rattle.table_rows.specs.Standing.{Stands}
+use Rattle.table_rows.specs.Standing.{HasCommitted}
 use Rattle.table_rows.proofs.OrderLemmas.{counted_rise, same_text, same_number, and_true}
 use Rattle.register_store.specs.Schema.{kept_table, finding_table, amends_table}
 use Rattle.register_store.specs.Register.{kept_row, finding_row, finding_rows, findings_of, amends_rows, amends_rows_by, joined_from}
 use Rattle.register_store.specs.Reads.{by_second}
 use Rattle.register_store.specs.Found.{has_texts, has_seq, unsorted, found_in, pair_in, found_row, finding_in, target_alone, code_in, IsPlaced, IsReading, IsLookUp}
 use Rattle.register_store.specs.Outcomes.{style_at}
-use Rattle.register_store.specs.declared.found.Found.{Found}
+use Rattle.register_store.specs.declared.select.found.FoundRow.{FoundRow}
 use Rattle.register_store.specs.Store.{IsRegisterOf}
 
 -- ---- the row of a filer and key
@@ -112,7 +112,7 @@ pub record IsThere (filer key : List ℕ) (F : List Request) (rows : List Row) :
 abbrev pub IsRead : List ℕ → List ℕ → List Request → List Row → Type 0
 IsRead filer key F rows = (((target : Option ℕ) (body : List ℕ) → kept_for (kept F) (the_request filer key target body) ≡ None) × (rows ≡ [])) ⊎ IsThere filer key F rows
 
-module _ {early : ℕ} (filer key : List ℕ) (F : List Request) (old new : State) (rows : List Row) (was : Stands (IsRegisterOf early F) old) where
+module _ {early : ℕ} (filer key : List ℕ) (F : List Request) (old new : State) (rows : List Row) (was : HasCommitted (IsRegisterOf early F) old) where
   its_row : IsNone filer key None [] (kept F) (filter (has_texts filer key) (counted_from kept_row 1 (kept F))) ⊎ IsOnly filer key None [] 1 (kept F) (filter (has_texts filer key) (counted_from kept_row 1 (kept F)))
       → IsPermutation (map found_in (filter (has_texts filer key) (counted_from kept_row 1 (kept F)))) rows → IsRead filer key F rows
   its_row (inl none) same = inl ((λ target body. none.is), nothing rows (rw none.rows_are at same))
@@ -131,7 +131,7 @@ module _ {early : ℕ} (filer key : List ℕ) (F : List Request) (old new : Stat
   pub key_read : ReadsRows kept_table (has_texts filer key) unsorted found_in rows old new → IsRead filer key F rows
   key_read h = its_row (only filer key None [] 1 (kept F) (few_kept F (the_request filer key None []))) (h.any (counted_from kept_row 1 (kept F)) (was.now h.same.0.was_open).rows.rows.kept_is)
 
-looked_up : (filer key : List ℕ) (F : List Request) (rows : List Row) → IsRead filer key F rows → (found : Option Found) → IsReading rows found → IsLookUp filer key F found
+looked_up : (filer key : List ℕ) (F : List Request) (rows : List Row) → IsRead filer key F rows → (found : Option FoundRow) → IsReading rows found → IsLookUp filer key F found
 looked_up filer key F rows (inl none) None h = none.0
 looked_up filer key F rows (inl none) (Some found) h = absurd (h.0 none.1)
 looked_up filer key F rows (inr one) None h = absurd (let rows_are = one.rows_are in cc)
@@ -148,8 +148,8 @@ looked_up filer key F rows (inr one) (Some found) h =
     }
 
 -- the answer of a look-up
-pub key_found : {early : ℕ} (filer key : List ℕ) (F : List Request) (old new : State) (rows : List Row) → Stands (IsRegisterOf early F) old → ReadsRows kept_table (has_texts filer key) unsorted found_in rows old new
-    → (found : Option Found) → IsReading rows found → IsLookUp filer key F found
+pub key_found : {early : ℕ} (filer key : List ℕ) (F : List Request) (old new : State) (rows : List Row) → HasCommitted (IsRegisterOf early F) old → ReadsRows kept_table (has_texts filer key) unsorted found_in rows old new
+    → (found : Option FoundRow) → IsReading rows found → IsLookUp filer key F found
 key_found filer key F old new rows was h found reading = looked_up filer key F rows (key_read filer key F old new rows was h) found reading
 
 -- ---- the findings at a place
@@ -264,7 +264,7 @@ pairs_back : (seq at : ℕ) (fs : List Pair) → map finding_in (map pair_in (co
 pairs_back seq at [] = refl
 pairs_back seq at (f ∷ fs) = ap₂ (λ c l. record { place = f.place; code = c } ∷ l) (code_back f.code) (pairs_back seq (at + 1) fs)
 
-module _ {early : ℕ} (F : List Request) (old new : State) (rows : List Row) (was : Stands (IsRegisterOf early F) old) (seq : ℕ) (k : Kept) (placed : IsPlaced 1 seq (kept F) k) where
+module _ {early : ℕ} (F : List Request) (old new : State) (rows : List Row) (was : HasCommitted (IsRegisterOf early F) old) (seq : ℕ) (k : Kept) (placed : IsPlaced 1 seq (kept F) k) where
   its_table : filter (has_seq (pos seq)) (joined_from finding_rows 1 (kept F)) ≡ finding_rows seq k
   its_table = its_rows seq 1 (kept F) k placed
 
@@ -311,7 +311,7 @@ few_targets seq None rows same = nothing rows same
 few_targets seq (Some n) rows same = one_permutation (Int (pos n) ∷ []) rows same
 
 -- the rows say the target
-pub target_read : {early : ℕ} (F : List Request) (old new : State) (rows : List Row) → Stands (IsRegisterOf early F) old → (seq : ℕ) (k : Kept) → IsPlaced 1 seq (kept F) k
+pub target_read : {early : ℕ} (F : List Request) (old new : State) (rows : List Row) → HasCommitted (IsRegisterOf early F) old → (seq : ℕ) (k : Kept) → IsPlaced 1 seq (kept F) k
     → ReadsRows amends_table (has_seq (pos seq)) unsorted target_alone rows old new → rows ≡ map target_alone (amends_rows_by seq k.request.target)
 target_read F old new rows was seq k placed h =
     let all = h.any (joined_from amends_rows 1 (kept F)) (was.now h.same.0.was_open).rows.rows.amends_is in

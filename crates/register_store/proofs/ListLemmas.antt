@@ -9,7 +9,7 @@ use Rattle.filing_model.specs.Request.{Request}
 use Rattle.filing_model.specs.Register.{Kept, kept}
 use Rattle.table_rows.specs.Rows.{counted_from}
 use Rattle.table_rows.specs.Reading.{ascending, RisesBy, ReadsRows}
-use Rattle.table_rows.specs.Standing.{Stands, Keeps}
+use Rattle.table_rows.specs.Standing.{HasCommitted, Keeps}
 use Rattle.table_rows.proofs.StandLemmas.{stands_on}
 use Rattle.table_rows.proofs.OrderLemmas.{counted_rise, int_less}
 use Rattle.register_store.specs.Columns.{request_in}
@@ -19,11 +19,11 @@ use Rattle.register_store.specs.Schema.{kept_table, amends_table}
 use Rattle.register_store.proofs.CommonLemmas.{has_common}
 use Rattle.register_store.specs.Store.{IsRegisterOf}
 
-pub knows : {early : ℕ} (F : List Request) (s : State) → Stands (IsRegisterOf early F) s → Knows s
+pub knows : {early : ℕ} (F : List Request) (s : State) → HasCommitted (IsRegisterOf early F) s → Knows s
 knows F s was alive = has_common s.now.schema (was.now alive).rows.rows.declared
 
 -- a call that wrote nothing
-pub stays : {early : ℕ} (F : List Request) (old new : State) → Stands (IsRegisterOf early F) old → Keeps old new → Stands (IsRegisterOf early F) new
+pub stays : {early : ℕ} (F : List Request) (old new : State) → HasCommitted (IsRegisterOf early F) old → Keeps old new → HasCommitted (IsRegisterOf early F) new
 stays {early} F old new was keeps = stands_on (IsRegisterOf early F) old new keeps was
 
 pub filter_every : (rows : List Row) → filter every rows ≡ rows
@@ -35,14 +35,14 @@ map_whole [] = refl
 map_whole (r ∷ rows) = ap (λ l. r ∷ l) (map_whole rows)
 
 -- all kept rows, in order
-pub kept_read : {early : ℕ} (F : List Request) (old new : State) (rows : List Row) → Stands (IsRegisterOf early F) old → ReadsRows kept_table every by_first whole rows old new → rows ≡ counted_from kept_row 1 (kept F)
+pub kept_read : {early : ℕ} (F : List Request) (old new : State) (rows : List Row) → HasCommitted (IsRegisterOf early F) old → ReadsRows kept_table every by_first whole rows old new → rows ≡ counted_from kept_row 1 (kept F)
 kept_read F old new rows was r =
     let wanted = counted_from kept_row 1 (kept F) in
     let has = (was.now r.same.0.was_open).rows.rows.kept_is in
     let same = filter_every wanted in
     r.ordered wanted has (subst (RisesBy by_first) (sym same) (counted_rise kept_row by_first (λ _ _. refl) 1 (kept F))) ∙ ap (map whole) same ∙ map_whole wanted
 
-pub knows_all : {early : ℕ} (F : List Request) (s : State) → Stands (IsRegisterOf early F) s → KnowsAll s
+pub knows_all : {early : ℕ} (F : List Request) (s : State) → HasCommitted (IsRegisterOf early F) s → KnowsAll s
 knows_all F s was alive = (was.now alive).rows.rows.declared
 
 -- the kept rows say the requests, but not what they are to replace
@@ -72,7 +72,7 @@ amends_rise at (k ∷ ks) = go k.request.target (amends_rise (at + 1) ks)
     go (Some n) h = (amends_after at (at + 1) ks (omega arith), h)
 
 -- all rows of `amends`, in order
-pub amends_read : {early : ℕ} (F : List Request) (old new : State) (rows : List Row) → Stands (IsRegisterOf early F) old → ReadsRows amends_table every by_first whole rows old new → rows ≡ joined_from amends_rows 1 (kept F)
+pub amends_read : {early : ℕ} (F : List Request) (old new : State) (rows : List Row) → HasCommitted (IsRegisterOf early F) old → ReadsRows amends_table every by_first whole rows old new → rows ≡ joined_from amends_rows 1 (kept F)
 amends_read F old new rows was r =
     let wanted = joined_from amends_rows 1 (kept F) in
     let has = (was.now r.same.0.was_open).rows.rows.amends_is in

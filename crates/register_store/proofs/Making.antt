@@ -15,7 +15,7 @@ use Rattle.table_rows.proofs.GainLemmas.{same_rows, still_declared}
 use Rattle.register_store.specs.Schema.{register_tables, IsDeclared, meta_table, kept_table, finding_table, filing_table, fact_table, migrated_table, amends_table}
 use Rattle.register_store.specs.Register.{HasRows, StandsFor, meta_row, migrated_row}
 use Rattle.register_store.specs.Making.{create_meta, create_kept, create_finding, create_filing, create_fact, create_migrated, create_amends, making_texts, AreRun, StopsWith, begun, Makes}
-use Rattle.register_store.specs.Store.{IsRegisterOf, Leaves}
+use Rattle.register_store.specs.Store.{IsRegisterOf, LeavesRegister}
 use Rattle.register_store.proofs.CreateTexts.{creates_meta, creates_kept, creates_finding, creates_filing, creates_fact, creates_migrated, creates_amends, first_schema, second_schema, third_schema, fourth_schema, fifth_schema, sixth_schema, own_indexes}
 use Rattle.register_store.proofs.OurGains.{meta_gains, none_early_gains}
 
@@ -100,5 +100,5 @@ stands_for_none db has = record { distinct = refl; completed = tt; within = omeg
 pub makes_empty : {S : Type 0} (g : Ghosts S) (a z : Held S) → AreRun g making_texts (begun a) z → (state g a).now.schema ≡ no_schema → IsRegisterOf 0 [] (state g z).now
 makes_empty g a z ran none = let made = makes_all g (begun a) z ran none in record { sound = made.sound; rows = stands_for_none _ made.rows }
 
-pub leaves_empty : {S : Type 0} (g : Ghosts S) (a : Held S) (trees : Trees) → Makes g a trees → (state g a).now.schema ≡ no_schema → Leaves 0 [] trees
+pub leaves_empty : {S : Type 0} (g : Ghosts S) (a : Held S) (trees : Trees) → Makes g a trees → (state g a).now.schema ≡ no_schema → LeavesRegister 0 [] trees
 leaves_empty g a trees m none = record { db = (state g m.last).now; is = m.is; register = makes_empty g a m.last m.ran none }

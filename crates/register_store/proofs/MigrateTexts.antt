@@ -35,7 +35,7 @@ use Rattle.sqlite_keyed.proofs.ListLemmas.{filter-map, IsPermutation-filter}
 use Rattle.sqlite_tied.specs.Compute.{everything}
 use Rattle.sqlite_typed.proofs.TestLemmas.{at_ints, last_term}
 use Rattle.table_rows.specs.Tables.{schema_with}
-use Rattle.table_rows.specs.Rows.{shown, Holds, KeepsOthers}
+use Rattle.table_rows.specs.Rows.{shown, TableHas, KeepsOthers}
 use Rattle.table_rows.proofs.CreateLemmas.{IsCreation}
 use Rattle.table_rows.proofs.GainLemmas.{inside, gained, cast_int, cast_null}
 use Rattle.table_rows.proofs.InsertLemmas.{inserts}
@@ -160,10 +160,10 @@ module _ (form : ℕ) (trees : Trees) (held : IsPermutation (form_row form ∷ [
 pub record IsRaised (old new : Database) : Type 0 where
   pub schema_is : new.schema ≡ whole_schema
   pub sound : IsDatabase new
-  pub meta_is : Holds new meta_table (meta_row ∷ [])
+  pub meta_is : TableHas new meta_table (meta_row ∷ [])
   pub others : KeepsOthers register_tables meta_table old new
 
-pub raises : (form : ℕ) (old new : State) (count : ℕ) → old.now.schema ≡ whole_schema → Holds old.now meta_table (form_row form ∷ []) → Executes raise_form [] old new (Ok count) → IsRaised old.now new.now
+pub raises : (form : ℕ) (old new : State) (count : ℕ) → old.now.schema ≡ whole_schema → TableHas old.now meta_table (form_row form ∷ []) → Executes raise_form [] old new (Ok count) → IsRaised old.now new.now
 raises form old new count has held h =
     let w = runs_as raise_form [] old new whole_schema has raise_command raise_is raise_plain count h in
     let u = updated whole_schema 0 meta_table refl (refl, (refl, (refl, (refl, (refl, (refl, (refl, tt))))))) raise_query [] old (statement_of raise_form (understood whole_schema raise_form)) w.tally new.now has w.changed 1 became (one_row form old.now.trees held) in

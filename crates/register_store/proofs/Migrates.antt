@@ -4,11 +4,11 @@ use Rattle.sqlite.specs.Effect.{Database}
 use Rattle.sqlite.specs.Store.{Ghosts}
 use Rattle.sqlite.specs.Held.{Held, state}
 use Rattle.filing_model.specs.Request.{Request}
-use Rattle.table_rows.specs.Rows.{Holds, Gains}
+use Rattle.table_rows.specs.Rows.{TableHas, Gains}
 use Rattle.table_rows.proofs.CreateLemmas.{none_held}
 use Rattle.table_rows.proofs.GainLemmas.{same_rows}
-use Rattle.register_store.specs.declared.earlier.Earlier.{Earlier}
-use Rattle.register_store.specs.declared.earlier.Earlier.TheVariants.{Second, Third}
+use Rattle.register_store.specs.declared.migrate.earlier.Earlier.{Earlier}
+use Rattle.register_store.specs.declared.migrate.earlier.Earlier.TheVariants.{Second, Third}
 use Rattle.register_store.specs.Earlier.{IsAlone, IsEarlierOf}
 use Rattle.register_store.specs.Making.{create_migrated, create_amends}
 use Rattle.register_store.specs.Migrating.{migrating, AreDone}
@@ -22,10 +22,10 @@ use Rattle.register_store.proofs.MigrateTexts.{IsBeside, IsRaised, creates_besid
 -- all tables are there, with the rows of these requests, but `intake_meta` still tells the form of before
 pub record HasAll (form early : ℕ) (F : List Request) (db : Database) : Type 0 where
   pub schema_is : db.schema ≡ whole_schema
-  pub meta_is : Holds db meta_table (form_row form ∷ [])
+  pub meta_is : TableHas db meta_table (form_row form ∷ [])
   pub are : AreAllOf F [] db
-  pub migrated_is : Holds db migrated_table (migrated_row early ∷ [])
-  pub amends_is : Holds db amends_table []
+  pub migrated_is : TableHas db migrated_table (migrated_row early ∷ [])
+  pub amends_is : TableHas db amends_table []
   pub within : early ≤ length F
 
 same_four : (F : List Request) (old new : Database) → new.trees 1 ≡ old.trees 1 → new.trees 3 ≡ old.trees 3 → new.trees 5 ≡ old.trees 5 → new.trees 7 ≡ old.trees 7 → AreAllOf F [] old → AreAllOf F [] new
@@ -57,7 +57,7 @@ module _ (early : ℕ) (F : List Request) where
             filing_is = same_rows filing_table _ old new (o.1.1.1.0 (λ e. absurd (omega (arith, e)))) has.are.filing_is;
             fact_is = same_rows fact_table _ old new (o.1.1.1.1.0 (λ e. absurd (omega (arith, e)))) has.are.fact_is;
             migrated_is = same_rows migrated_table _ old new (o.1.1.1.1.1.0 (λ e. absurd (omega (arith, e)))) has.migrated_is;
-            amends_is = subst (Holds new amends_table) has.are.amends_is (same_rows amends_table _ old new (o.1.1.1.1.1.1.0 (λ e. absurd (omega (arith, e)))) has.amends_is);
+            amends_is = subst (TableHas new amends_table) has.are.amends_is (same_rows amends_table _ old new (o.1.1.1.1.1.1.0 (λ e. absurd (omega (arith, e)))) has.amends_is);
           };
         };
       }

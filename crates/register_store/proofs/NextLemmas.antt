@@ -10,7 +10,7 @@ use Rattle.filing_model.specs.Register.{Outcome, Kept, Filing, filings, kept, re
 use Rattle.filing_model.specs.Register.Outcome.{Registered, Refused}
 use Rattle.filing_model.proofs.Keeping.{register_numbered, filings-append}
 use Rattle.table_rows.specs.Rows.{counted_from}
-use Rattle.register_store.specs.Audit.{Others, begins_with, has_more, has_more_facts}
+use Rattle.register_store.specs.Audit.{OtherRows, begins_with, has_more, has_more_facts}
 use Rattle.register_store.specs.Register.{fact_row, finding_row, finding_rows, findings_of, filing_rows, fact_rows, amends_rows, joined_from}
 use Rattle.register_store.proofs.FactLemmas.{rows_of, table_is}
 use Rattle.register_store.proofs.StepsOfTargets.{other, no_amends}
@@ -65,7 +65,7 @@ module _ (F G : List Request) (k : Kept) (more : List Kept) (kept_are : kept G �
       ap (begins_with 0 number) (table_is (suc (length F) + 1) more) ∙ no_fact number (1 + length (register F) + 1) (filings more) (omega (arith, here)) rest
 
   -- what is left begins with the rows of a later request
-  pub goes_on : (tail : Others) → tail.finding ≡ joined_from finding_rows (suc (length F) + 1) more → tail.filing ≡ joined_from filing_rows (suc (length F) + 1) more → tail.fact ≡ joined_from fact_rows (suc (length F) + 1) more
+  pub goes_on : (tail : OtherRows) → tail.finding ≡ joined_from finding_rows (suc (length F) + 1) more → tail.filing ≡ joined_from filing_rows (suc (length F) + 1) more → tail.fact ≡ joined_from fact_rows (suc (length F) + 1) more
       → tail.amends ≡ joined_from amends_rows (suc (length F) + 1) more → has_more (suc (length F)) k.outcome tail ≡ false
   goes_on tail one two three four =
       let p : begins_with 0 (suc (length F)) tail.finding ≡ false = ap (begins_with 0 (suc (length F))) one ∙ no_finding (suc (length F)) (suc (length F) + 1) more (omega arith) in

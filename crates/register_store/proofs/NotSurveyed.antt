@@ -14,14 +14,14 @@ use Rattle.table_rows.specs.declared.cause.Cause.{Cause}
 use Rattle.table_rows.specs.declared.cause.Cause.TheVariants as cause
 use Rattle.table_rows.proofs.OrderLemmas.{counted_rise}
 use Rattle.table_rows.proofs.TextLemmas.{query_same, keeps_on}
-use Rattle.register_store.specs.declared.earlier.Earlier.{Earlier}
-use Rattle.register_store.specs.declared.earlier.Earlier.TheVariants.{Second, Third}
+use Rattle.register_store.specs.declared.migrate.earlier.Earlier.{Earlier}
+use Rattle.register_store.specs.declared.migrate.earlier.Earlier.TheVariants.{Second, Third}
 use Rattle.register_store.specs.declared.fault.OpenFault.{OpenFault}
 use Rattle.register_store.specs.declared.fault.OpenFault.TheVariants as fault
-use Rattle.register_store.specs.Audit.{Others, AreRowsOf}
+use Rattle.register_store.specs.Audit.{OtherRows, AreRowsOf}
 use Rattle.register_store.specs.Earlier.{form_number, tables_of, HasEarly, IsEarlierOf}
 use Rattle.register_store.specs.Faults.{table_fault_by}
-use Rattle.register_store.specs.declared.walk.Totals.{Totals}
+use Rattle.register_store.specs.declared.opening.walk.Totals.{Totals}
 use Rattle.register_store.specs.Migrating.{AreTotals, SaysNone, HasNoForm, HasNoTotals, HasNoCounts, IsNotSurveyed}
 use Rattle.register_store.specs.Opening.{all_meta, all_kept, all_findings, all_filings, all_facts, all_migrated, row_texts}
 use Rattle.register_store.specs.Reads.{by_first}
@@ -75,7 +75,7 @@ module _ {S : Type 0} (g : Ghosts S) where
 
 -- ---- where the rows stand for requests, it is by memory or disk
 
-rows_of : (F : List Request) (db : Database) (kept_are : List Row) (others : Others) → AreAllOf F [] db → Four kept_are others db → others.amends ≡ [] → AreRowsOf kept_are others F
+rows_of : (F : List Request) (db : Database) (kept_are : List Row) (others : OtherRows) → AreAllOf F [] db → Four kept_are others db → others.amends ≡ [] → AreRowsOf kept_are others F
 rows_of F db kept_are others are r none = record {
   distinct = are.distinct;
   completed = are.completed;

@@ -12,7 +12,7 @@ use Rattle.sqlite.specs.State.{State, Shown, IsUnchanged}
 use Rattle.sqlite.proofs.Callers.{unchanged_then}
 use Rattle.filing_model.specs.Request.{Request, firsts}
 use Rattle.filing_model.specs.Register.{kept}
-use Rattle.table_rows.specs.Rows.{Holds, shown, counted_from}
+use Rattle.table_rows.specs.Rows.{TableHas, shown, counted_from}
 use Rattle.table_rows.specs.Reading.{RisesBy, ReadsRows}
 use Rattle.table_rows.specs.Standing.{Keeps}
 use Rattle.table_rows.specs.declared.cause.Cause.{Cause}
@@ -20,7 +20,7 @@ use Rattle.table_rows.specs.declared.cause.Cause.TheVariants as cause
 use Rattle.table_rows.proofs.TextLemmas.{IsQueryText, query_same, query_failed, keeps_on}
 use Rattle.table_rows.proofs.OrderLemmas.{counted_rise}
 use Rattle.table_rows.proofs.ReadingLemmas.{reads_rows}
-use Rattle.register_store.specs.Audit.{Others, AreRowsOf}
+use Rattle.register_store.specs.Audit.{OtherRows, AreRowsOf}
 use Rattle.register_store.specs.declared.fault.OpenFault.{OpenFault}
 use Rattle.register_store.specs.declared.fault.OpenFault.TheVariants as fault
 use Rattle.register_store.specs.Opening.{all_meta, all_kept, all_findings, all_filings, all_facts, all_migrated, all_amends, row_texts, new_texts, table_texts, Later, SaysEarly, IsRead, AreRead, StopsFor, IsRefused}
@@ -54,8 +54,8 @@ module _ (old new : State) (knows : Knows old) (rows : List Row) where
 
 -- the table has these rows, and where it has rows that rise by its key, it has them in this order
 pub record Gets (table : Table) (sort : Row → Row) (rows : List Row) (db : Database) : Type 0 where
-  pub held : Holds db table rows
-  pub ordered : (wanted : List Row) → Holds db table wanted → RisesBy sort wanted → rows ≡ wanted
+  pub held : TableHas db table rows
+  pub ordered : (wanted : List Row) → TableHas db table wanted → RisesBy sort wanted → rows ≡ wanted
 
 pub gets : (table : Table) (sort : Row → Row) (rows : List Row) (old new : State) → ReadsRows table every sort whole rows old new → Gets table sort rows old.now
 gets table sort rows old new r = record {
@@ -152,14 +152,14 @@ module _ {S : Type 0} (g : Ghosts S) where
 
 -- ---- the four tables
 
-pub record Four (kept_are : List Row) (others : Others) (db : Database) : Type 0 where
+pub record Four (kept_are : List Row) (others : OtherRows) (db : Database) : Type 0 where
   pub kept_is : Gets kept_table by_first kept_are db
   pub finding_is : Gets finding_table by_both others.finding db
   pub filing_is : Gets filing_table by_first others.filing db
   pub fact_is : Gets fact_table by_both others.fact db
 
 module _ {S : Type 0} (g : Ghosts S) where
-  pub got_four : (a e : Held S) (kept_are : List Row) (others : Others) → HasCommon (state g a).now.schema → AreRead g row_texts a e (kept_are ∷ others.finding ∷ others.filing ∷ others.fact ∷ [])
+  pub got_four : (a e : Held S) (kept_are : List Row) (others : OtherRows) → HasCommon (state g a).now.schema → AreRead g row_texts a e (kept_are ∷ others.finding ∷ others.filing ∷ others.fact ∷ [])
       → IsUnchanged (state g a) (state g e) × Four kept_are others (state g a).now
   got_four a e kept_are others d h =
       let b = h.0 in
@@ -217,7 +217,7 @@ module _ (early : ℕ) (F : List Request) (db : Database) (is : IsRegisterOf ear
   pub are_amends : (later : Later) → Two later db → later.amends ≡ joined_from amends_rows 1 (kept F)
   are_amends later r = r.amends_is.ordered _ is.rows.rows.amends_is (amends_rise 1 (kept F))
 
-  pub are_rows : (kept_are : List Row) (others : Others) → Four kept_are others db → others.amends ≡ joined_from amends_rows 1 (kept F) → AreRowsOf kept_are others F
+  pub are_rows : (kept_are : List Row) (others : OtherRows) → Four kept_are others db → others.amends ≡ joined_from amends_rows 1 (kept F) → AreRowsOf kept_are others F
   are_rows kept_are others r amends = record {
     distinct = is.rows.distinct;
     completed = is.rows.completed;

@@ -9,13 +9,13 @@ use Rattle.sqlite.proofs.Callers.{unchanged_then}
 use Rattle.sqlite.specs.declared.error.Error.{Error}
 use Rattle.filing_model.specs.Request.{Request}
 use Rattle.filing_model.specs.Register.{register}
-use Rattle.table_rows.specs.Standing.{Stands}
+use Rattle.table_rows.specs.Standing.{HasCommitted}
 use Rattle.table_rows.specs.Causes.{cause_of}
 use Rattle.table_rows.specs.declared.cause.Cause.{Cause}
 use Rattle.table_rows.specs.declared.cause.Cause.TheVariants as cause
 use Rattle.table_rows.proofs.StandLemmas.{stands_on}
 use Rattle.table_rows.proofs.TextLemmas.{query_same}
-use Rattle.register_store.specs.Audit.{Others}
+use Rattle.register_store.specs.Audit.{OtherRows}
 use Rattle.register_store.specs.declared.fault.OpenFault.{OpenFault}
 use Rattle.register_store.specs.declared.fault.OpenFault.TheVariants as fault
 use Rattle.register_store.specs.declared.opening.Counts.{Counts}
@@ -113,7 +113,7 @@ module _ {S : Type 0} (g : Ghosts S) where
             four_stop c last (has_common (state g c).now.schema d_c) (q.2.limit ∙ limit_b) q.3)
       ]
 
-  not_damaged : (early : ℕ) (F : List Request) (db : Database) → IsRegisterOf early F db → (later : Later) (kept_are : List Row) (others : Others) → others.amends ≡ later.amends → Two later db → Four kept_are others db
+  not_damaged : (early : ℕ) (F : List Request) (db : Database) → IsRegisterOf early F db → (later : Later) (kept_are : List Row) (others : OtherRows) → others.amends ≡ later.amends → Two later db → Four kept_are others db
       → (row : ℕ) → AreDamaged kept_are others later row → ⊥
   not_damaged early F db is later kept_are others same two four row (inl unsound) = unsound.0 F (are_rows early F db is kept_are others four (same ∙ are_amends early F db is later two))
   not_damaged early F db is later kept_are others same two four row (inr h) =
@@ -141,7 +141,7 @@ module _ {S : Type 0} (g : Ghosts S) where
       here : IsRegisterOf early F (state g mid).now
       here = subst (IsRegisterOf early F) (sym same.0.now_is) is
 
-      whole : (later : Later) (kept_are : List Row) (others : Others) → AreRead g table_texts mid last (later.migrated ∷ later.amends ∷ kept_are ∷ others.finding ∷ others.filing ∷ others.fact ∷ []) → others.amends ≡ later.amends → AreDamaged kept_are others later row → ⊥
+      whole : (later : Later) (kept_are : List Row) (others : OtherRows) → AreRead g table_texts mid last (later.migrated ∷ later.amends ∷ kept_are ∷ others.finding ∷ others.filing ∷ others.fact ∷ []) → others.amends ≡ later.amends → AreDamaged kept_are others later row → ⊥
       whole later kept_are others read agree damaged =
           let c = read.2.0 in
           let two = got_two g mid c later d (read.0, read.1, (c, read.2.1, refl)) in
@@ -176,16 +176,16 @@ module _ {S : Type 0} (g : Ghosts S) (a b c e : Held S) (later : Later) (one : I
     it : AreCounted counts later (state g a).now
     it = subst (AreCounted counts later) to_c.0.now_is (counted (has_common (state g c).now.schema (still_ours (state g a) (state g c) to_c d)))
 
-    stood : (early : ℕ) (F : List Request) → IsRegisterOf early F (state g a).now → Stands (IsRegisterOf early F) (state g e)
+    stood : (early : ℕ) (F : List Request) → IsRegisterOf early F (state g a).now → HasCommitted (IsRegisterOf early F) (state g e)
     stood early F here = stands_on (IsRegisterOf early F) (state g a) (state g e) (inl same_all) (record { autocommit = idle; now = λ _. here; committed = λ alive. sym (settled alive) })
 
-    pub finds : (F : List Request) × IsRegisterOf counts.early F (state g a).now × Stands (IsRegisterOf counts.early F) (state g e) × (counts.kept ≡ length F) × (counts.filings ≡ length (register F))
+    pub finds : (F : List Request) × IsRegisterOf counts.early F (state g a).now × HasCommitted (IsRegisterOf counts.early F) (state g e) × (counts.kept ≡ length F) × (counts.filings ≡ length (register F))
     finds =
         let here = counted_register (state g a).now counts later it (live got_one.0.0.was_open).0 d got_one.1 both in
         (it.requests, here, stood counts.early it.requests here, it.kept_is, it.filings_is)
 
     -- it stands for no others
-    pub counts_them : (early : ℕ) (F : List Request) → IsRegisterOf early F (state g a).now → (counts.early ≡ early) × Stands (IsRegisterOf early F) (state g e) × (counts.kept ≡ length F) × (counts.filings ≡ length (register F))
+    pub counts_them : (early : ℕ) (F : List Request) → IsRegisterOf early F (state g a).now → (counts.early ≡ early) × HasCommitted (IsRegisterOf early F) (state g e) × (counts.kept ≡ length F) × (counts.filings ≡ length (register F))
     counts_them early F here =
         let same = counted_only (state g a).now counts later it both early F here in
         (same.0, stood early F here, it.kept_is ∙ ap length same.1, it.filings_is ∙ ap (λ H. length (register H)) same.1)

@@ -15,9 +15,9 @@ use Rattle.filing_model.specs.Register.{Outcome, Kept, Filing, filing_of, filing
 use Rattle.filing_model.specs.Register.Outcome.{Registered, Refused}
 use Rattle.table_rows.specs.Rows.{counted_from}
 use Rattle.table_rows.specs.Reading.{ReadsRows}
-use Rattle.table_rows.specs.Standing.{Stands}
+use Rattle.table_rows.specs.Standing.{HasCommitted}
 use Rattle.table_rows.proofs.OrderLemmas.{counted_rise, same_number, same_text, and_true}
-use Rattle.register_store.specs.declared.counts.Own.{Own}
+use Rattle.register_store.specs.declared.select.counts.Own.{Own}
 use Rattle.register_store.specs.Found.{IsPlaced}
 use Rattle.register_store.specs.Own.{is_filers, own_of}
 use Rattle.register_store.specs.Reads.{by_first, has_filer, has_place}
@@ -44,7 +44,7 @@ module _ (filer : List ℕ) where
       (λ (f : is_filers filer x ≡ false). rw (its_filer at x ∙ f, f) (behind at x ks (filter (is_filers filer) ks) (places_from (at + 1) ks) (are_own (at + 1) ks)))
       (cases_Bool (is_filers filer x))
 
-  pub places_shown : {early : ℕ} (F : List Request) (old new : State) (rows : List Row) → Stands (IsRegisterOf early F) old → ReadsRows kept_table (has_filer filer) by_first by_first rows old new → rows ≡ places_from 1 (kept F)
+  pub places_shown : {early : ℕ} (F : List Request) (old new : State) (rows : List Row) → HasCommitted (IsRegisterOf early F) old → ReadsRows kept_table (has_filer filer) by_first by_first rows old new → rows ≡ places_from 1 (kept F)
   places_shown F old new rows was r =
       let wanted = counted_from kept_row 1 (kept F) in
       r.ordered wanted (was.now r.same.0.was_open).rows.rows.kept_is (ascending-filter _ (has_filer filer) wanted (counted_rise kept_row by_first (λ _ _. refl) 1 (kept F)))
@@ -83,7 +83,7 @@ module _ (seq : ℕ) where
   few_rows (Registered n) rows same = one_permutation (Int (pos n) ∷ []) rows same
   few_rows (Refused found) rows same = nothing rows same
 
-  pub number_shown : {early : ℕ} (F : List Request) (old new : State) (rows : List Row) → Stands (IsRegisterOf early F) old → (k : Kept) → IsPlaced 1 seq (kept F) k
+  pub number_shown : {early : ℕ} (F : List Request) (old new : State) (rows : List Row) → HasCommitted (IsRegisterOf early F) old → (k : Kept) → IsPlaced 1 seq (kept F) k
       → ReadsRows filing_table (has_place (pos seq)) by_first by_first rows old new → rows ≡ map by_first (filing_rows_by seq k.outcome)
   number_shown F old new rows was k placed h =
       let any = h.any (joined_from filing_rows 1 (kept F)) (was.now h.same.0.was_open).rows.rows.filing_is in

@@ -15,7 +15,7 @@ use Rattle.filing_model.specs.Register.Outcome.{Registered, Refused}
 use Rattle.filing_model.proofs.Keeping.{register_numbered}
 use Rattle.table_rows.specs.Rows.{counted_from}
 use Rattle.table_rows.specs.Reading.{RisesBy, ReadsRows}
-use Rattle.table_rows.specs.Standing.{Stands}
+use Rattle.table_rows.specs.Standing.{HasCommitted}
 use Rattle.table_rows.proofs.OrderLemmas.{counted_rise, same_number, and_true}
 use Rattle.register_store.specs.Columns.{request_in}
 use Rattle.register_store.specs.Found.{IsPlaced, IsPlaceOf, has_seq}
@@ -44,7 +44,7 @@ module _ (seq : ℕ) where
       rw (and_true _ ∙ same_number at seq ∙ other_number at seq (λ e. omega (arith, above, e))) (its_kept (at + 1) ks k later)
 
 -- what a statement shows of the kept row at a place
-pub kept_shown : {early : ℕ} (F : List Request) (old new : State) (rows : List Row) (show : Row → Row) → Stands (IsRegisterOf early F) old → (place : ℤ) (seq : ℕ) (k : Kept) → place ≡ pos seq → IsPlaced 1 seq (kept F) k
+pub kept_shown : {early : ℕ} (F : List Request) (old new : State) (rows : List Row) (show : Row → Row) → HasCommitted (IsRegisterOf early F) old → (place : ℤ) (seq : ℕ) (k : Kept) → place ≡ pos seq → IsPlaced 1 seq (kept F) k
     → ReadsRows kept_table (has_seq place) by_first show rows old new → rows ≡ show (kept_row seq k) ∷ []
 kept_shown F old new rows show was place seq k is placed h =
     let r = subst (λ (at : ℤ). ReadsRows kept_table (has_seq at) by_first show rows old new) is h in
@@ -133,7 +133,7 @@ module _ (n : ℕ) where
   single_rises ks rows (inr one) = rw one.4 (tt, tt)
 
   -- what a statement shows of the filing of this number
-  pub filing_shown : {early : ℕ} (F : List Request) (old new : State) (rows : List Row) → Stands (IsRegisterOf early F) old → ReadsRows filing_table (has_number n) by_first second_alone rows old new
+  pub filing_shown : {early : ℕ} (F : List Request) (old new : State) (rows : List Row) → HasCommitted (IsRegisterOf early F) old → ReadsRows filing_table (has_number n) by_first second_alone rows old new
       → (those : List Row) × IsRowOf n 1 (kept F) those × (rows ≡ map second_alone those)
   filing_shown F old new rows was r =
       let wanted = joined_from filing_rows 1 (kept F) in
@@ -244,7 +244,7 @@ module _ (n : ℕ) where
       others (Refused findings) f rest = rest
 
   -- what a statement shows of them
-  pub targets_shown : {early : ℕ} (F : List Request) (old new : State) (rows : List Row) → Stands (IsRegisterOf early F) old → ReadsRows amends_table (has_second n) by_first by_first rows old new
+  pub targets_shown : {early : ℕ} (F : List Request) (old new : State) (rows : List Row) → HasCommitted (IsRegisterOf early F) old → ReadsRows amends_table (has_second n) by_first by_first rows old new
       → rows ≡ map by_first (filter (has_second n) (joined_from amends_rows 1 (kept F)))
   targets_shown F old new rows was r =
       let wanted = joined_from amends_rows 1 (kept F) in

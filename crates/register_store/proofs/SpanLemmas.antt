@@ -8,8 +8,8 @@ use Rattle.sqlite.specs.Order.{Row, column}
 use Rattle.xbrl_report.specs.Pair.{Pair}
 use Rattle.filing_model.specs.Request.{Request}
 use Rattle.filing_model.specs.Register.{Kept, outcome_by, verdict, judged, kept, register}
-use Rattle.register_store.specs.declared.spans.Span.{Span}
-use Rattle.register_store.specs.Audit.{Others, IsKeptAs, facts_under, is_number, with_number}
+use Rattle.register_store.specs.declared.opening.spans.Span.{Span}
+use Rattle.register_store.specs.Audit.{OtherRows, IsKeptAs, facts_under, is_number, with_number}
 use Rattle.register_store.specs.Spans.{Covers, AreSpans, AgreeAt}
 
 -- ---- rows of which those that pass a test lie in one part
@@ -56,7 +56,7 @@ same_facts : (found : List Pair) (number : ℕ) (part whole : List Row) → with
 same_facts [] number part whole same = same
 same_facts (f ∷ found) number part whole same = refl
 
-module _ (seq number : ℕ) (row : Row) (part whole : Others) (same : AgreeAt seq number part whole) (F : List Request)
+module _ (seq number : ℕ) (row : Row) (part whole : OtherRows) (same : AgreeAt seq number part whole) (F : List Request)
     (number_is : number ≡ suc (length (register F))) (r : Request) where
   abbrev k : Kept
   k = judged (kept F) r

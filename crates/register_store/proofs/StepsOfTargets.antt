@@ -9,7 +9,7 @@ use Rattle.filing_model.specs.Request.{Request, firsts}
 use Rattle.filing_model.specs.Register.{Outcome, Kept, kept}
 use Rattle.filing_model.proofs.Keeping.{requests_of_kept}
 use Rattle.table_rows.specs.Rows.{counted_from}
-use Rattle.register_store.specs.Audit.{Others, begins_with, has_more, has_more_facts}
+use Rattle.register_store.specs.Audit.{OtherRows, begins_with, has_more, has_more_facts}
 use Rattle.register_store.specs.Columns.{request_in}
 use Rattle.register_store.specs.Register.{kept_row, amends_rows, amends_rows_by, joined_from}
 
@@ -47,7 +47,7 @@ last_false false true c d h = absurd cc
 last_false true b c d h = absurd cc
 
 -- what is left behind a request says nothing more of what it is to replace
-pub no_more_targets : (seq : ℕ) (o : Outcome) (tail : Others) → has_more seq o tail ≡ false → begins_with 0 seq tail.amends ≡ false
+pub no_more_targets : (seq : ℕ) (o : Outcome) (tail : OtherRows) → has_more seq o tail ≡ false → begins_with 0 seq tail.amends ≡ false
 no_more_targets seq o tail ends =
     last_false (begins_with 0 seq tail.finding) (begins_with 1 seq tail.filing) (has_more_facts o tail.fact) (begins_with 0 seq tail.amends) ends
 

@@ -9,15 +9,15 @@ use Rattle.xbrl_report.specs.Judgement.{IsAmendmentJudgement}
 use Rattle.xbrl_report.specs.declared.judging.Judged.{Judged}
 use Rattle.filing_model.specs.Request.{Request, has_key}
 use Rattle.filing_model.specs.Register.{Outcome, Kept, is_free, judged, kept, register}
-use Rattle.table_rows.specs.Standing.{Stands}
+use Rattle.table_rows.specs.Standing.{HasCommitted}
 use Rattle.register_store.specs.Outcomes.{outcome_of, filings_by}
 use Rattle.register_store.specs.Register.{IsCompleted}
 use Rattle.register_store.specs.Changes.{AddsRows, Adds, AddsTo}
-use Rattle.register_store.specs.Store.{StoreParts, shows, HasRequests, IsRegisterOf, Leaves}
+use Rattle.register_store.specs.Store.{StoreParts, shows, HasRequests, IsRegisterOf, LeavesRegister}
 use Rattle.register_store.proofs.MoreRequests.{judged_as, registered_more, register_of_more}
 
 -- while the store is open, a crash leaves the requests that stand
-pub leaves : (early : ℕ) (F : List Request) (s : State) → Stands (IsRegisterOf early F) s → IsTrue s.is_open → (trees : Trees) → trees ≡ s.committed.trees → Leaves early F trees
+pub leaves : (early : ℕ) (F : List Request) (s : State) → HasCommitted (IsRegisterOf early F) s → IsTrue s.is_open → (trees : Trees) → trees ≡ s.committed.trees → LeavesRegister early F trees
 leaves early F s h alive trees last = record { db = s.now; is = last ∙ ap (λ (d : Database). d.trees) (h.committed alive); register = h.now alive }
 
 -- a request that is kept as it was judged, after those that the store has
@@ -42,7 +42,7 @@ module _ {S : Type 0} (g : Ghosts S) (store : StoreParts S) (r : Request) (j : J
         let here = subst (λ n. AddsRows n it (shows g store).now after) place adds in
         register_of_more store.early F r new_key completed (shows g store).now after (was.stands.now alive) (subst (λ o. AddsRows (suc (length F)) (record { request = r; outcome = o }) (shows g store).now after) outcome_is here)
 
-    pub stands_more : (new : State) → new.in_transaction ≡ false → Adds (store.kept + 1) it (shows g store) new → Stands (IsRegisterOf store.early (F ++ r ∷ [])) new
+    pub stands_more : (new : State) → new.in_transaction ≡ false → Adds (store.kept + 1) it (shows g store) new → HasCommitted (IsRegisterOf store.early (F ++ r ∷ [])) new
     stands_more new idle a = record { autocommit = idle; now = λ _. register_more new.now a.was_open a.adds; committed = λ _. a.committed }
 
     pub kept_more : store.kept + 1 ≡ length (F ++ r ∷ [])
@@ -56,5 +56,5 @@ module _ {S : Type 0} (g : Ghosts S) (store : StoreParts S) (r : Request) (j : J
 
   -- what a crash may leave of the call
   pub crash_more : (new : State) → Survives (shows g store) new (AddsTo (store.kept + 1) it (shows g store).now)
-      → Survives (shows g store) new (λ trees. (F : List Request) → HasRequests g store F → IsTrue (shows g store).is_open → has_key F r ≡ false → IsJudged F → Leaves store.early (F ++ r ∷ []) trees)
+      → Survives (shows g store) new (λ trees. (F : List Request) → HasRequests g store F → IsTrue (shows g store).is_open → has_key F r ≡ false → IsJudged F → LeavesRegister store.early (F ++ r ∷ []) trees)
   crash_more new = survives_weaker (shows g store) new _ _ (λ _ trees a F was alive new_key is. record { db = a.db; is = a.is; register = register_more F was new_key is a.db alive a.adds })

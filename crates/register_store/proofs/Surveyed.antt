@@ -22,15 +22,15 @@ use Rattle.filing_model.specs.Request.{Request}
 use Rattle.filing_model.specs.Register.{register}
 use Rattle.table_rows.specs.Causes.{cause_of}
 use Rattle.table_rows.specs.declared.cause.Cause.TheVariants.{Other}
-use Rattle.table_rows.specs.Standing.{Stands, Keeps}
+use Rattle.table_rows.specs.Standing.{HasCommitted, Keeps}
 use Rattle.table_rows.specs.Tables.{BeginsWith, schema_with}
 use Rattle.table_rows.proofs.FailLemmas.{IsWhole, failure_cause}
 use Rattle.table_rows.proofs.QueryLemmas.{Asks}
 use Rattle.table_rows.proofs.ReadingLemmas.{by_each, reads_rows}
 use Rattle.table_rows.proofs.SelectLemmas.{one_table}
 use Rattle.table_rows.proofs.TextLemmas.{query_same}
-use Rattle.register_store.specs.declared.earlier.Earlier.{Earlier}
-use Rattle.register_store.specs.declared.earlier.Earlier.TheVariants.{Second, Third}
+use Rattle.register_store.specs.declared.migrate.earlier.Earlier.{Earlier}
+use Rattle.register_store.specs.declared.migrate.earlier.Earlier.TheVariants.{Second, Third}
 use Rattle.register_store.specs.declared.opening.Counts.{Counts}
 use Rattle.register_store.specs.Changes.{AddsNothing}
 use Rattle.register_store.specs.Earlier.{form_number, tables_of, is_blocked, IsAlone, HasEarly, IsEarlierOf}
@@ -40,7 +40,7 @@ use Rattle.register_store.specs.Opening.{all_meta, all_migrated, IsRead}
 use Rattle.register_store.specs.Reads.{every, whole, by_first}
 use Rattle.register_store.specs.Register.{form_row, migrated_row}
 use Rattle.register_store.specs.Schema.{HasCommon, meta_table, migrated_table}
-use Rattle.register_store.specs.Store.{IsRegisterOf, Leaves}
+use Rattle.register_store.specs.Store.{IsRegisterOf, LeavesRegister}
 use Rattle.register_store.specs.Walk.{Amounts}
 use Rattle.sqlite.specs.Tree.{Trees}
 use Rattle.register_store.proofs.CreateTexts.{fifth_schema, sixth_schema, own_indexes}
@@ -209,7 +209,7 @@ module _ {S : Type 0} (g : Ghosts S) (a : Held S) where
       (subst (λ (db : Database). IsAlone form db.schema) (sym there.0.now_is) alone) (subst (IsEarlierOf form early F) (sym there.0.now_is) is)
 
   pub stands_current : (z : Held S) (form : Earlier) (counts : Counts) (m : IsMigrated g form counts a z) → z.in_transaction ≡ false → (early : ℕ) (F : List Request)
-      → IsAlone form (state g a).now.schema → IsEarlierOf form early F (state g a).now → counts.early ≡ early → Stands (IsRegisterOf early F) (state g z)
+      → IsAlone form (state g a).now.schema → IsEarlierOf form early F (state g a).now → counts.early ≡ early → HasCommitted (IsRegisterOf early F) (state g z)
   stands_current z form counts m idle early F alone is same =
       let w = m.written in
       let made = trees_current m.mid form counts m.surveyed early F w.last w.done alone is same in
@@ -226,19 +226,19 @@ module _ {S : Type 0} (g : Ghosts S) (a : Held S) where
           record { requests = found.0; were = found.1; are = stands_current z f counts n idle counts.early found.0 alone found.1 refl; kept_is = found.2; filings_is = found.3 }
 
   pub migrates_only : (z : Held S) (form f : Earlier) (counts : Counts) → IsMigrated g form counts a z → z.in_transaction ≡ false → (early : ℕ) (F : List Request) → IsAlone f (state g a).now.schema
-      → IsEarlierOf f early F (state g a).now → (counts.early ≡ early) × Stands (IsRegisterOf early F) (state g z) × (counts.kept ≡ length F) × (counts.filings ≡ length (register F))
+      → IsEarlierOf f early F (state g a).now → (counts.early ≡ early) × HasCommitted (IsRegisterOf early F) (state g z) × (counts.kept ≡ length F) × (counts.filings ≡ length (register F))
   migrates_only z form f counts m idle early F alone is = go (subst (λ k. IsMigrated g k counts a z) (form_only m.mid form counts m.surveyed f early F is) m)
     where
-      go : IsMigrated g f counts a z → (counts.early ≡ early) × Stands (IsRegisterOf early F) (state g z) × (counts.kept ≡ length F) × (counts.filings ≡ length (register F))
+      go : IsMigrated g f counts a z → (counts.early ≡ early) × HasCommitted (IsRegisterOf early F) (state g z) × (counts.kept ≡ length F) × (counts.filings ≡ length (register F))
       go n =
           let only = survey_only n.mid f counts n.surveyed early F is in
           (only.0, stands_current z f counts n idle early F alone is only.0, only.1, only.2)
 
   -- what a crash leaves of them
-  pub leaves_migrated : (trees : Trees) → MigratesTo g a trees → (f : Earlier) (early : ℕ) (F : List Request) → IsAlone f (state g a).now.schema → IsEarlierOf f early F (state g a).now → Leaves early F trees
+  pub leaves_migrated : (trees : Trees) → MigratesTo g a trees → (f : Earlier) (early : ℕ) (F : List Request) → IsAlone f (state g a).now.schema → IsEarlierOf f early F (state g a).now → LeavesRegister early F trees
   leaves_migrated trees m f early F alone is = go m.form m.surveyed m.written (form_only m.mid m.form m.counts m.surveyed f early F is)
     where
-      go : (form : Earlier) → IsSurveyed g form m.counts a m.mid → AreTreesOf g (migrating form m.counts.early) m.mid trees → form ≡ f → Leaves early F trees
+      go : (form : Earlier) → IsSurveyed g form m.counts a m.mid → AreTreesOf g (migrating form m.counts.early) m.mid trees → form ≡ f → LeavesRegister early F trees
       go form s w same =
           let t = subst (λ k. IsSurveyed g k m.counts a m.mid) same s in
           let v = subst (λ k. AreTreesOf g (migrating k m.counts.early) m.mid trees) same w in

@@ -23,9 +23,9 @@ use Rattle.table_rows.specs.Rows.{counted_from}
 use Rattle.table_rows.proofs.OrderLemmas.{same_number, and_true}
 use Rattle.table_rows.proofs.TakeLemmas.{take_out, left_after, none_taken}
 use Rattle.xbrl_report.specs.declared.judging.Judged.{Judged}
-use Rattle.register_store.specs.declared.filed.Filed.{Filed}
-use Rattle.register_store.specs.declared.walk.Left.{Left}
-use Rattle.register_store.specs.declared.walk.Sizes.{Sizes}
+use Rattle.register_store.specs.declared.opening.filed.Filed.{Filed}
+use Rattle.register_store.specs.declared.opening.walk.Left.{Left}
+use Rattle.register_store.specs.declared.opening.walk.Sizes.{Sizes}
 use Rattle.sqlite.specs.declared.error.Error.{Error}
 use Rattle.register_store.specs.Audit.{request_outcome}
 use Rattle.register_store.specs.Columns.{request_in}

@@ -14,14 +14,14 @@ use Rattle.sqlite_keyed.proofs.ListLemmas.{all_weaker, filter_all, filter_none, 
 use Rattle.filing_model.specs.Request.{Request, firsts}
 use Rattle.filing_model.specs.Register.{Kept, kept}
 use Rattle.table_rows.specs.Causes.{cause_of}
-use Rattle.table_rows.specs.Rows.{Holds, counted_from}
+use Rattle.table_rows.specs.Rows.{TableHas, counted_from}
 use Rattle.table_rows.specs.declared.cause.Cause.{Cause}
 use Rattle.table_rows.specs.declared.cause.Cause.TheVariants as cause
 use Rattle.table_rows.proofs.OrderLemmas.{same_number, and_true}
 use Rattle.table_rows.proofs.BeforeLemmas.{failed_by, shown_before, fails_before}
 use Rattle.register_store.specs.declared.opening.Counts.{Counts}
-use Rattle.register_store.specs.declared.audit.Verdict.TheVariants.{Sound}
-use Rattle.register_store.specs.Audit.{Others, AreRowsOf, IsVerdict}
+use Rattle.register_store.specs.declared.opening.audit.Verdict.TheVariants.{Sound}
+use Rattle.register_store.specs.Audit.{OtherRows, AreRowsOf, IsVerdict}
 use Rattle.register_store.specs.Opening.{all_kept, row_texts, Later, SaysEarly, IsRead, AreRead, StopsFor}
 use Rattle.register_store.specs.Reads.{by_first}
 use Rattle.table_rows.specs.Picking.{has_number, IsStopped}
@@ -99,18 +99,18 @@ one_order at (k ∷ ks) (j ∷ js) same =
 -- ---- a database that was counted
 
 -- rows that were read whole
-pub all_of : (F : List Request) (db : Database) (kept_are : List Row) (others : Others) → Four kept_are others db → AreRowsOf kept_are others F → AreAllOf F others.amends db
+pub all_of : (F : List Request) (db : Database) (kept_are : List Row) (others : OtherRows) → Four kept_are others db → AreRowsOf kept_are others F → AreAllOf F others.amends db
 all_of F db kept_are others four are = record {
   distinct = are.distinct;
   completed = are.completed;
-  kept_is = subst (Holds db kept_table) are.kept_is four.kept_is.held;
-  finding_is = subst (Holds db finding_table) are.finding_is four.finding_is.held;
-  filing_is = subst (Holds db filing_table) are.filing_is four.filing_is.held;
-  fact_is = subst (Holds db fact_table) are.fact_is four.fact_is.held;
+  kept_is = subst (TableHas db kept_table) are.kept_is four.kept_is.held;
+  finding_is = subst (TableHas db finding_table) are.finding_is four.finding_is.held;
+  filing_is = subst (TableHas db filing_table) are.filing_is four.filing_is.held;
+  fact_is = subst (TableHas db fact_table) are.fact_is four.fact_is.held;
   amends_is = are.amends_is;
 }
 
-pub counted_whole : (counts : Counts) (later : Later) (db : Database) (kept_are : List Row) (others : Others) → others.amends ≡ later.amends → Four kept_are others db → counts.kept ≡ length kept_are
+pub counted_whole : (counts : Counts) (later : Later) (db : Database) (kept_are : List Row) (others : OtherRows) → others.amends ≡ later.amends → Four kept_are others db → counts.kept ≡ length kept_are
     → SaysEarly counts.kept counts.early later → IsVerdict kept_are others (Sound counts.filings) → AreCounted counts later db
 counted_whole counts later db kept_are others same four many says is = record {
   requests = is.0;
@@ -121,7 +121,7 @@ counted_whole counts later db kept_are others same four many says is = record {
 }
 
 -- it stands for no others
-pub only_these : (F : List Request) (amends : List Row) (db : Database) → AreAllOf F amends db → (G : List Request) → firsts G ≡ G → Holds db kept_table (counted_from kept_row 1 (kept G))
+pub only_these : (F : List Request) (amends : List Row) (db : Database) → AreAllOf F amends db → (G : List Request) → firsts G ≡ G → TableHas db kept_table (counted_from kept_row 1 (kept G))
     → amends ≡ joined_from amends_rows 1 (kept G) → F ≡ G
 only_these F amends db are G distinct held targets =
     let same = one_order 1 (kept G) (kept F) (IsPermutation-trans _ _ _ held (IsPermutation-sym _ _ are.kept_is)) in
@@ -142,8 +142,8 @@ module _ (db : Database) (counts : Counts) (later : Later) (counted : AreCounted
         finding_is = counted.are.finding_is;
         filing_is = counted.are.filing_is;
         fact_is = counted.are.fact_is;
-        migrated_is = subst (Holds db migrated_table) counted.early_is.migrated_is two.migrated_is.held;
-        amends_is = subst (Holds db amends_table) counted.are.amends_is two.amends_is.held;
+        migrated_is = subst (TableHas db migrated_table) counted.early_is.migrated_is two.migrated_is.held;
+        amends_is = subst (TableHas db amends_table) counted.are.amends_is two.amends_is.held;
       };
     };
   }

@@ -8,38 +8,38 @@ use Rattle.sqlite.specs.Order.{Row, column}
 use Rattle.filing_model.specs.Request.{Request, firsts, has_key}
 use Rattle.filing_model.specs.Register.{Outcome, Kept, judged, kept, register}
 use Rattle.table_rows.specs.Rows.{counted_from}
-use Rattle.register_store.specs.declared.audit.Rest.{Rest}
-use Rattle.register_store.specs.declared.audit.Verdict.{Verdict}
-use Rattle.register_store.specs.declared.damage.Beside.{Beside}
-use Rattle.register_store.specs.declared.audit.Verdict.TheVariants.{Sound, Damaged}
+use Rattle.register_store.specs.declared.opening.audit.RowsLeft.{RowsLeft}
+use Rattle.register_store.specs.declared.opening.audit.Verdict.{Verdict}
+use Rattle.register_store.specs.declared.opening.damage.OtherTables.{OtherTables}
+use Rattle.register_store.specs.declared.opening.audit.Verdict.TheVariants.{Sound, Damaged}
 use Rattle.register_store.specs.Columns.{request_in}
 use Rattle.register_store.specs.Outcomes.{filings_by}
 use Rattle.register_store.specs.Register.{IsCompleted, kept_row, finding_rows, filing_rows, fact_rows, amends_rows, amends_rows_by, joined_from}
 
 -- the rows of the tables beside `kept`
-pub record Others : Type 0 where
+pub record OtherRows : Type 0 where
   pub finding : List Row
   pub filing : List Row
   pub fact : List Row
   pub amends : List Row
 
 -- these begin with the rows of the kept request, and the rest follows
-pub record Begins (seq : ℕ) (k : Kept) (all rest : Others) : Type 0 where
+pub record Begins (seq : ℕ) (k : Kept) (all rest : OtherRows) : Type 0 where
   pub finding : all.finding ≡ finding_rows seq k ++ rest.finding
   pub filing : all.filing ≡ filing_rows seq k ++ rest.filing
   pub fact : all.fact ≡ fact_rows seq k ++ rest.fact
   pub amends : all.amends ≡ amends_rows seq k ++ rest.amends
 
 -- as code holds them
-abbrev pub view_beside : Beside → Others
-view_beside b = record { finding = b.findings.now; filing = b.filings.now; fact = b.facts.now; amends = b.amends.now }
+abbrev pub view_other_tables : OtherTables → OtherRows
+view_other_tables b = record { finding = b.findings.now; filing = b.filings.now; fact = b.facts.now; amends = b.amends.now }
 
 -- what is left of them, as code holds it
-abbrev pub view_rest : Rest → Others
-view_rest r = record { finding = r.findings.now; filing = r.filings.now; fact = r.facts.now; amends = r.amends.now }
+abbrev pub view_rows_left : RowsLeft → OtherRows
+view_rows_left r = record { finding = r.findings.now; filing = r.filings.now; fact = r.facts.now; amends = r.amends.now }
 
 -- with a row of `amends` before them where the request at this place is to replace a filing
-abbrev pub with_target : ℕ → Option ℕ → Others → Others
+abbrev pub with_target : ℕ → Option ℕ → OtherRows → OtherRows
 with_target seq target rest = record { finding = rest.finding; filing = rest.filing; fact = rest.fact; amends = amends_rows_by seq target ++ rest.amends }
 
 -- the request with this outcome
@@ -65,19 +65,19 @@ has_more_facts (Outcome.Registered number) rows = begins_with 0 number rows
 has_more_facts (Outcome.Refused findings) rows = false
 
 -- what is left, of rows in the order of the keys, begins with another row of the request at this place with this outcome
-abbrev pub has_more : ℕ → Outcome → Others → Bool
+abbrev pub has_more : ℕ → Outcome → OtherRows → Bool
 has_more seq outcome rest = begins_with 0 seq rest.finding || (begins_with 1 seq rest.filing || (has_more_facts outcome rest.fact || begins_with 0 seq rest.amends))
 
 -- what is left behind the rows of a request with this outcome that is to replace this filing, if any, where its row of `amends` was read
-abbrev pub IsAfter : ℕ → Row → Option ℕ → Outcome → Rest → Option Rest → Type 0
+abbrev pub IsAfter : ℕ → Row → Option ℕ → Outcome → RowsLeft → Option RowsLeft → Type 0
 IsAfter seq row target o rest next = MatchOption next
-    ((tail : Others) → row ≡ kept_row seq (request_outcome (request_in target row) o) → Begins seq (request_outcome (request_in target row) o) (with_target seq target (view_rest rest)) tail → ⊥)
-    (λ tail. (row ≡ kept_row seq (request_outcome (request_in target row) o)) × Begins seq (request_outcome (request_in target row) o) (with_target seq target (view_rest rest)) (view_rest tail)
+    ((tail : OtherRows) → row ≡ kept_row seq (request_outcome (request_in target row) o) → Begins seq (request_outcome (request_in target row) o) (with_target seq target (view_rows_left rest)) tail → ⊥)
+    (λ tail. (row ≡ kept_row seq (request_outcome (request_in target row) o)) × Begins seq (request_outcome (request_in target row) o) (with_target seq target (view_rows_left rest)) (view_rows_left tail)
     × (tail.number ≡ rest.number + filings_by o))
 
 -- the row is the next after those of these requests, of rows in the order of the keys: its request is one that may be completed, its filer
 -- and key are new, and its place, its outcome and its rows in the other tables are what judging it gives, and no others
-pub record IsNext (before : List Request) (seq : ℕ) (row : Row) (target : Option ℕ) (all rest : Others) : Type 0 where
+pub record IsNext (before : List Request) (seq : ℕ) (row : Row) (target : Option ℕ) (all rest : OtherRows) : Type 0 where
   pub completed : IsCompleted (request_in target row)
   pub fresh : has_key before (request_in target row) ≡ false
   pub row_is : row ≡ kept_row seq (judged (kept before) (request_in target row))
@@ -85,7 +85,7 @@ pub record IsNext (before : List Request) (seq : ℕ) (row : Row) (target : Opti
   pub ends : has_more seq (judged (kept before) (request_in target row)).outcome rest ≡ false
 
 -- the rows of the five tables are those of these requests
-pub record AreRowsOf (kept_are : List Row) (others : Others) (F : List Request) : Type 0 where
+pub record AreRowsOf (kept_are : List Row) (others : OtherRows) (F : List Request) : Type 0 where
   pub distinct : firsts F ≡ F
   pub completed : AllByRecursion IsCompleted F
   pub kept_is : kept_are ≡ counted_from kept_row 1 (kept F)
@@ -106,7 +106,7 @@ facts_under (Outcome.Registered number) rows = with_number 0 number rows
 facts_under (Outcome.Refused findings) rows = []
 
 -- the row is that of the kept request at this place, and of the other tables so are those with its place or number
-pub record IsKeptAs (seq : ℕ) (k : Kept) (row : Row) (others : Others) : Type 0 where
+pub record IsKeptAs (seq : ℕ) (k : Kept) (row : Row) (others : OtherRows) : Type 0 where
   pub row_is : row ≡ kept_row seq k
   pub finding_is : with_number 0 seq others.finding ≡ finding_rows seq k
   pub filing_is : with_number 1 seq others.filing ≡ filing_rows seq k
@@ -115,18 +115,18 @@ pub record IsKeptAs (seq : ℕ) (k : Kept) (row : Row) (others : Others) : Type 
 
 -- the kept row behind those of these requests is sound as this one's: it may be completed, no earlier one has its filer and key, and its
 -- place, its outcome and its rows in the other tables are what judging it after them gives
-pub record IsSound (kept_are : List Row) (others : Others) (before : List Request) (r : Request) : Type 0 where
+pub record IsSound (kept_are : List Row) (others : OtherRows) (before : List Request) (r : Request) : Type 0 where
   pub completed : IsCompleted r
   pub fresh : has_key before r ≡ false
   pub kept_as : IsKeptAs (suc (length before)) (judged (kept before) r) (get_or kept_are (length before) []) others
 
 -- so is each of the rows of these, behind those before them
-abbrev pub AreSound : List Row → Others → List Request → List Request → Type 0
+abbrev pub AreSound : List Row → OtherRows → List Request → List Request → Type 0
 AreSound kept_are others before [] = Unit {0}
 AreSound kept_are others before (r ∷ requests) = IsSound kept_are others before r × AreSound kept_are others (before ++ r ∷ []) requests
 
 -- the kept row at this place, counted from 1, is the first that is not sound
-pub record IsFirstUnsound (kept_are : List Row) (others : Others) (row : ℕ) : Type 0 where
+pub record IsFirstUnsound (kept_are : List Row) (others : OtherRows) (row : ℕ) : Type 0 where
   pub before : List Request
   pub place : row ≡ suc (length before)
   pub within : length before < length kept_are
@@ -134,14 +134,14 @@ pub record IsFirstUnsound (kept_are : List Row) (others : Others) (row : ℕ) : 
   pub unsound : (r : Request) → IsSound kept_are others before r → ⊥
 
 -- this row is told: the first that is not sound, or 0 where each one is
-abbrev pub IsTold : List Row → Others → ℕ → Type 0
+abbrev pub IsTold : List Row → OtherRows → ℕ → Type 0
 IsTold kept_are others row = IsFirstUnsound kept_are others row ⊎ ((row ≡ 0) × ((F : List Request) × (length F ≡ length kept_are) × AreSound kept_are others [] F))
 
 -- the rows stand for no requests
-abbrev pub StandForNone : List Row → Others → Type 0
+abbrev pub StandForNone : List Row → OtherRows → Type 0
 StandForNone kept_are others = (F : List Request) → AreRowsOf kept_are others F → ⊥
 
 -- the rows stand for requests, so many of which are registered; or for none, and this row is told
-abbrev pub IsVerdict : List Row → Others → Verdict → Type 0
+abbrev pub IsVerdict : List Row → OtherRows → Verdict → Type 0
 IsVerdict kept_are others (Sound filings) = (F : List Request) × AreRowsOf kept_are others F × (filings ≡ length (register F))
 IsVerdict kept_are others (Damaged row) = StandForNone kept_are others × IsTold kept_are others row

@@ -1,8 +1,8 @@
 -- Values that rows are held against.
 use Rattle.sqlite.specs.declared.types.Value.{Value}
 use Rattle.sqlite.specs.declared.types.Value.TheVariants as value
-use Rattle.register_store.specs.declared.cells.Cell.{Cell}
-use Rattle.register_store.specs.declared.cells.Cell.TheVariants.{Null, Int, Text, Blob}
+use Rattle.register_store.specs.declared.decode.cells.Cell.{Cell}
+use Rattle.register_store.specs.declared.decode.cells.Cell.TheVariants.{Null, Int, Text, Blob}
 
 abbrev pub value_of : Cell → Value
 value_of Null = value.Null

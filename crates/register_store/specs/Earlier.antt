@@ -6,10 +6,10 @@ use Rattle.sqlite.specs.Effect.{Database, IsDatabase}
 use Rattle.sqlite.specs.Schema.{Schema}
 use Rattle.sqlite.specs.Table.{Table}
 use Rattle.filing_model.specs.Request.{Request}
-use Rattle.table_rows.specs.Rows.{Holds}
+use Rattle.table_rows.specs.Rows.{TableHas}
 use Rattle.table_rows.specs.Tables.{BeginsWith, no_schema}
-use Rattle.register_store.specs.declared.earlier.Earlier.{Earlier}
-use Rattle.register_store.specs.declared.earlier.Earlier.TheVariants.{Second, Third}
+use Rattle.register_store.specs.declared.migrate.earlier.Earlier.{Earlier}
+use Rattle.register_store.specs.declared.migrate.earlier.Earlier.TheVariants.{Second, Third}
 use Rattle.register_store.specs.Register.{form_row, migrated_row}
 use Rattle.register_store.specs.Schema.{common_tables, meta_table, migrated_table, amends_table, has_name}
 use Rattle.register_store.specs.Walk.{AreAllOf}
@@ -46,12 +46,12 @@ IsAlone form schema = schema ≡ made_from no_schema (tables_of form)
 -- as many as the one row of `migrated` says.
 abbrev pub HasEarly : Earlier → Database → ℕ → ℕ → Type 0
 HasEarly Second db early kept = early ≡ kept
-HasEarly Third db early kept = Holds db migrated_table (migrated_row early ∷ []) × (early ≤ kept)
+HasEarly Third db early kept = TableHas db migrated_table (migrated_row early ∷ []) × (early ≤ kept)
 
 -- the rows stand for these requests, in this form; none is to replace a filing, as there is no `amends`
 pub record StandsForEarlier (form : Earlier) (db : Database) (early : ℕ) (F : List Request) : Type 0 where
   pub declared : BeginsWith (tables_of form) db.schema
-  pub meta_is : Holds db meta_table (form_row (form_number form) ∷ [])
+  pub meta_is : TableHas db meta_table (form_row (form_number form) ∷ [])
   pub are : AreAllOf F [] db
   pub early_is : HasEarly form db early (length F)
 

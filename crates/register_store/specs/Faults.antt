@@ -15,7 +15,7 @@ store_fault_by cause.Memory = store.Memory
 store_fault_by cause.Disk = store.Store
 store_fault_by cause.Other = store.Store
 
--- want of memory is told as that alone
+-- that memory ran out is told as that alone
 abbrev pub store_fault : Error → StoreFault
 store_fault error = store_fault_by (cause_of error)
 

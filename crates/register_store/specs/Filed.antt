@@ -4,8 +4,8 @@ use Rattle.std.specs.List.{AllByRecursion, range_with_len}
 use Rattle.filing_model.specs.Listing.{replacing}
 use Rattle.filing_model.specs.Register.{Filing}
 use Rattle.filing_model.specs.Request.{Request}
-use Rattle.register_store.specs.declared.filed.Entry.{Entry}
-use Rattle.register_store.specs.declared.filed.Filed.{Filed}
+use Rattle.register_store.specs.declared.opening.filed.Entry.{Entry}
+use Rattle.register_store.specs.declared.opening.filed.Filed.{Filed}
 
 -- what is held of a filing
 pub record Line : Type 0 where

@@ -16,7 +16,7 @@ use Rattle.filing_model.specs.Request.{Request}
 use Rattle.filing_model.specs.Register.{Kept, kept}
 use Rattle.filing_model.specs.Answer.{kept_for}
 use Rattle.filing_model.specs.Views.{the_request}
-use Rattle.register_store.specs.declared.found.Found.{Found}
+use Rattle.register_store.specs.declared.select.found.FoundRow.{FoundRow}
 use Rattle.register_store.specs.Columns.{bytes_in}
 use Rattle.register_store.specs.Register.{number_of}
 
@@ -71,7 +71,7 @@ IsPlaced at seq [] k = ⊥
 IsPlaced at seq (x ∷ ks) k = ((seq ≡ at) × (k ≡ x)) ⊎ IsPlaced (at + 1) seq ks k
 
 -- what was found is the kept request of this filer and key, at its place
-pub record IsFound (filer key : List ℕ) (F : List Request) (found : Found) : Type 0 where
+pub record IsFound (filer key : List ℕ) (F : List Request) (found : FoundRow) : Type 0 where
   pub k : Kept
   pub seq : ℕ
   pub placed : IsPlaced 1 seq (kept F) k
@@ -81,12 +81,12 @@ pub record IsFound (filer key : List ℕ) (F : List Request) (found : Found) : T
   pub number_is : found.number ≡ number_of k.outcome
 
 -- so is an answer, also where nothing is kept of them
-abbrev pub IsLookUp : List ℕ → List ℕ → List Request → Option Found → Type 0
+abbrev pub IsLookUp : List ℕ → List ℕ → List Request → Option FoundRow → Type 0
 IsLookUp filer key F None = (target : Option ℕ) (body : List ℕ) → kept_for (kept F) (the_request filer key target body) ≡ None
 IsLookUp filer key F (Some found) = IsFound filer key F found
 
 -- what was read of rows, of which there is one at most
-abbrev pub IsReading : List Row → Option Found → Type 0
+abbrev pub IsReading : List Row → Option FoundRow → Type 0
 IsReading rows None = rows ≡ []
 IsReading rows (Some found) = (rows ≢ []) × ((seq : ℕ) (k : Kept) → rows ≡ found_row seq k ∷ []
     → (found.seq ≡ pos seq) × (found.body.items ≡ k.request.body) × (found.number ≡ number_of k.outcome))

@@ -11,17 +11,17 @@ use Rattle.sqlite.specs.declared.types.Value.TheVariants.{Int}
 use Rattle.filing_model.specs.Request.{Request}
 use Rattle.filing_model.specs.Register.{register}
 use Rattle.table_rows.specs.Causes.{cause_of}
-use Rattle.table_rows.specs.Standing.{Stands}
+use Rattle.table_rows.specs.Standing.{HasCommitted}
 use Rattle.table_rows.specs.declared.cause.Cause.{Cause}
 use Rattle.table_rows.specs.declared.cause.Cause.TheVariants as cause
-use Rattle.register_store.specs.declared.audit.Verdict.TheVariants as verdict
-use Rattle.register_store.specs.declared.earlier.Earlier.{Earlier}
-use Rattle.register_store.specs.declared.earlier.Earlier.TheVariants.{Second, Third}
+use Rattle.register_store.specs.declared.opening.audit.Verdict.TheVariants as verdict
+use Rattle.register_store.specs.declared.migrate.earlier.Earlier.{Earlier}
+use Rattle.register_store.specs.declared.migrate.earlier.Earlier.TheVariants.{Second, Third}
 use Rattle.register_store.specs.declared.fault.OpenFault.{OpenFault}
 use Rattle.register_store.specs.declared.fault.OpenFault.TheVariants as fault
 use Rattle.register_store.specs.declared.opening.Counts.{Counts}
-use Rattle.register_store.specs.declared.walk.Totals.{Totals}
-use Rattle.register_store.specs.Audit.{Others, IsVerdict}
+use Rattle.register_store.specs.declared.opening.walk.Totals.{Totals}
+use Rattle.register_store.specs.Audit.{OtherRows, IsVerdict}
 use Rattle.register_store.specs.Earlier.{form_number, is_blocked, IsEarlierOf}
 use Rattle.register_store.specs.Faults.{table_fault}
 use Rattle.register_store.specs.Making.{create_migrated, create_amends, begun}
@@ -70,7 +70,7 @@ abbrev pub HasNoTotals : {S : Type 0} → Ghosts S → OpenFault → Held S → 
 HasNoTotals g fault.NotOurs old new = ⊥
 HasNoTotals g (fault.Damaged row) old new =
     ((row ≡ 0) × StopsFor g cause.Other row_texts old new)
-    ⊎ ((kept : List Row) × (others : Others) × AreRead g row_texts old new (kept ∷ others.finding ∷ others.filing ∷ others.fact ∷ []) × (others.amends ≡ []) × IsVerdict kept others (verdict.Damaged row))
+    ⊎ ((kept : List Row) × (others : OtherRows) × AreRead g row_texts old new (kept ∷ others.finding ∷ others.filing ∷ others.fact ∷ []) × (others.amends ≡ []) × IsVerdict kept others (verdict.Damaged row))
 HasNoTotals g fault.Memory old new = StopsFor g cause.Memory row_texts old new ⊎ ((rows : List (List Row)) × AreRead g row_texts old new rows)
 HasNoTotals g fault.Disk old new = StopsFor g cause.Disk row_texts old new
 
@@ -162,7 +162,7 @@ pub record MigratesTo {S : Type 0} (g : Ghosts S) (old : Held S) (trees : Trees)
 pub record Migrates {S : Type 0} (g : Ghosts S) (form : Earlier) (counts : Counts) (old new : Held S) : Type 0 where
   pub requests : List Request
   pub were : IsEarlierOf form counts.early requests (state g old).now
-  pub are : Stands (IsRegisterOf counts.early requests) (state g new)
+  pub are : HasCommitted (IsRegisterOf counts.early requests) (state g new)
   pub kept_is : counts.kept ≡ length requests
   pub filings_is : counts.filings ≡ length (register requests)
 

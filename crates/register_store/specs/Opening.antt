@@ -8,10 +8,10 @@ use Rattle.sqlite.specs.declared.error.Error.{Error}
 use Rattle.table_rows.specs.Causes.{cause_of}
 use Rattle.table_rows.specs.declared.cause.Cause.{Cause}
 use Rattle.table_rows.specs.declared.cause.Cause.TheVariants as cause
-use Rattle.register_store.specs.declared.audit.Verdict.TheVariants as verdict
+use Rattle.register_store.specs.declared.opening.audit.Verdict.TheVariants as verdict
 use Rattle.register_store.specs.declared.fault.OpenFault.{OpenFault}
 use Rattle.register_store.specs.declared.fault.OpenFault.TheVariants as fault
-use Rattle.register_store.specs.Audit.{Others, IsVerdict}
+use Rattle.register_store.specs.Audit.{OtherRows, IsVerdict}
 use Rattle.register_store.specs.Register.{meta_row, migrated_row}
 
 -- ---- the rows of the tables, each in the order of its key
@@ -84,7 +84,7 @@ abbrev pub SaysNothing : ℕ → Later → Type 0
 SaysNothing kept later = (early : ℕ) → SaysEarly kept early later → ⊥
 
 -- why the rows stand for no register: the first kept row that is not sound, or 0; and 0 where the five tables are sound, but not `migrated`
-abbrev pub AreDamaged : List Row → Others → Later → ℕ → Type 0
+abbrev pub AreDamaged : List Row → OtherRows → Later → ℕ → Type 0
 AreDamaged kept others later row =
     IsVerdict kept others (verdict.Damaged row) ⊎ ((row ≡ 0) × ((filings : ℕ) × IsVerdict kept others (verdict.Sound filings)) × SaysNothing (length kept) later)
 
@@ -98,7 +98,7 @@ IsNoRegister g old new = StopsFor g cause.Other (all_meta ∷ []) old new ⊎ ((
 abbrev pub IsDamagedAt : {S : Type 0} → Ghosts S → ℕ → Held S → Held S → Type 0
 IsDamagedAt g row old new =
     ((row ≡ 0) × StopsFor g cause.Other table_texts old new)
-    ⊎ ((later : Later) × (kept : List Row) × (others : Others)
+    ⊎ ((later : Later) × (kept : List Row) × (others : OtherRows)
     × AreRead g table_texts old new (later.migrated ∷ later.amends ∷ kept ∷ others.finding ∷ others.filing ∷ others.fact ∷ []) × (others.amends ≡ later.amends) × AreDamaged kept others later row)
 
 -- so it is where the rows of `intake_meta` are the one row
@@ -110,7 +110,7 @@ abbrev pub IsRefusedAfter : {S : Type 0} → Ghosts S → Later → OpenFault �
 IsRefusedAfter g later fault.NotOurs old new = ⊥
 IsRefusedAfter g later (fault.Damaged row) old new =
     ((row ≡ 0) × StopsFor g cause.Other row_texts old new)
-    ⊎ ((kept : List Row) × (others : Others) × AreRead g row_texts old new (kept ∷ others.finding ∷ others.filing ∷ others.fact ∷ []) × (others.amends ≡ later.amends) × AreDamaged kept others later row)
+    ⊎ ((kept : List Row) × (others : OtherRows) × AreRead g row_texts old new (kept ∷ others.finding ∷ others.filing ∷ others.fact ∷ []) × (others.amends ≡ later.amends) × AreDamaged kept others later row)
 IsRefusedAfter g later fault.Memory old new = StopsFor g cause.Memory row_texts old new ⊎ ((rows : List (List Row)) × AreRead g row_texts old new rows)
 IsRefusedAfter g later fault.Disk old new = StopsFor g cause.Disk row_texts old new
 

@@ -2,7 +2,7 @@
 use Rattle.std.specs.Prelude.{ℕ, Bool, List, filter, bytes_eq}
 use Rattle.filing_model.specs.Request.{Request}
 use Rattle.filing_model.specs.Register.{Filing, Kept, filings, kept}
-use Rattle.register_store.specs.declared.counts.Own.{Own}
+use Rattle.register_store.specs.declared.select.counts.Own.{Own}
 
 -- whether the kept request is the filer's
 abbrev pub is_filers : List ℕ → Kept → Bool

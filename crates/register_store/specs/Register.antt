@@ -16,7 +16,7 @@ use Rattle.xbrl_report.specs.ReportParts.{facts}
 use Rattle.filing_model.specs.Request.{Request, firsts}
 use Rattle.filing_model.specs.Register.{Outcome, Kept, kept}
 use Rattle.filing_model.specs.Register.Outcome.{Registered, Refused}
-use Rattle.table_rows.specs.Rows.{Holds, counted_from}
+use Rattle.table_rows.specs.Rows.{TableHas, counted_from}
 use Rattle.register_store.specs.Schema.{IsDeclared, meta_table, kept_table, finding_table, filing_table, fact_table, migrated_table, amends_table}
 
 -- ---- what a kept request puts into each table, as SELECT * shows it; `seq` is its place among the kept ones, from 1
@@ -90,13 +90,13 @@ joined_from rows seq (k ∷ ks) = rows seq k ++ joined_from rows (seq + 1) ks
 -- the tables of a register have these rows, each once and in any order, and no others
 pub record HasRows (db : Database) (early : ℕ) (kept_are finding_are filing_are fact_are amends_are : List Row) : Type 0 where
   pub declared : IsDeclared db.schema
-  pub meta_is : Holds db meta_table (meta_row ∷ [])
-  pub kept_is : Holds db kept_table kept_are
-  pub finding_is : Holds db finding_table finding_are
-  pub filing_is : Holds db filing_table filing_are
-  pub fact_is : Holds db fact_table fact_are
-  pub migrated_is : Holds db migrated_table (migrated_row early ∷ [])
-  pub amends_is : Holds db amends_table amends_are
+  pub meta_is : TableHas db meta_table (meta_row ∷ [])
+  pub kept_is : TableHas db kept_table kept_are
+  pub finding_is : TableHas db finding_table finding_are
+  pub filing_is : TableHas db filing_table filing_are
+  pub fact_is : TableHas db fact_table fact_are
+  pub migrated_is : TableHas db migrated_table (migrated_row early ∷ [])
+  pub amends_is : TableHas db amends_table amends_are
 
 -- a request as filers may complete one
 pub record IsCompleted (r : Request) : Type 0 where

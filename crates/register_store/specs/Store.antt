@@ -1,14 +1,14 @@
 -- What the store of a register holds and shows.
-use Rattle.std.specs.Prelude.{◌≡◌, ◌≤◌, ◌^◌, ℕ, false, List, length, None, refl}
+use Rattle.std.specs.Prelude.{◌≡◌, ◌≤◌, ◌^◌, ℕ, false, List, length, None, Result, IsTrue, OnOk, refl}
 use Rattle.std.specs.Coded.{Coded, code_by, coded×, coded_ℕ}
 use Rattle.sqlite.specs.Store.{Ghosts}
 use Rattle.sqlite.specs.Held.{Held, held_code, state}
 use Rattle.sqlite.specs.Effect.{Database, IsDatabase}
-use Rattle.sqlite.specs.State.{State}
+use Rattle.sqlite.specs.State.{State, HasCleanDisk}
 use Rattle.sqlite.specs.Tree.{Trees}
 use Rattle.filing_model.specs.Request.{Request}
 use Rattle.filing_model.specs.Register.{register}
-use Rattle.table_rows.specs.Standing.{Stands}
+use Rattle.table_rows.specs.Standing.{HasCommitted}
 use Rattle.register_store.specs.Register.{StandsFor}
 
 -- a connection, how many requests are kept, how many of them are filings, and how many were kept before there were problem details
@@ -44,13 +44,21 @@ pub record IsRegisterOf (early : ℕ) (F : List Request) (db : Database) : Type 
 -- While it is open, the store's rows stand for these requests, and are committed. One that a fault of the disk shut says
 -- nothing of its rows.
 pub record HasRequests {S : Type 0} (g : Ghosts S) (store : StoreParts S) (F : List Request) : Type 0 where
-  pub stands : Stands (IsRegisterOf store.early F) (shows g store)
+  pub stands : HasCommitted (IsRegisterOf store.early F) (shows g store)
   pub kept_is : store.kept ≡ length F
   pub filings_is : store.filings ≡ length (register F)
   pub within : store.early ≤ length F
 
 -- an open after a crash that left these trees finds the rows of these requests
-pub record Leaves (early : ℕ) (F : List Request) (trees : Trees) : Type 0 where
+pub record LeavesRegister (early : ℕ) (F : List Request) (trees : Trees) : Type 0 where
   pub db : Database
   pub is : trees ≡ db.trees
   pub register : IsRegisterOf early F db
+
+-- Where the disk is clean at the end, the rows that stood for requests stand for them still, and are committed.
+abbrev pub KeepsRegister : State → State → Type 0
+KeepsRegister old new = HasCleanDisk new → (early : ℕ) (F : List Request) → HasCommitted (IsRegisterOf early F) old → HasCommitted (IsRegisterOf early F) new
+
+-- so an answer leaves the store open
+abbrev pub AnswersOpen : {X E : Type 0} → State → State → Result X E → Type 0
+AnswersOpen old new result = HasCleanDisk new → (early : ℕ) (F : List Request) → HasCommitted (IsRegisterOf early F) old → OnOk result (IsTrue new.is_open)

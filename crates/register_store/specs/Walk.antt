@@ -4,11 +4,11 @@ use Rattle.std.specs.List.{AllByRecursion}
 use Rattle.sqlite.specs.Order.{Row}
 use Rattle.sqlite.specs.Effect.{Database}
 use Rattle.table_rows.specs.Picking.{rows_in, Picks, Finds, HasLeft, has_number}
-use Rattle.table_rows.specs.Rows.{Holds, counted_from}
+use Rattle.table_rows.specs.Rows.{TableHas, counted_from}
 use Rattle.filing_model.specs.Request.{Request, firsts}
 use Rattle.filing_model.specs.Register.{Kept, judged, kept, register}
-use Rattle.register_store.specs.declared.walk.Totals.{Totals}
-use Rattle.register_store.specs.declared.walk.Left.{Left}
+use Rattle.register_store.specs.declared.opening.walk.Totals.{Totals}
+use Rattle.register_store.specs.declared.opening.walk.Left.{Left}
 use Rattle.register_store.specs.declared.opening.Counts.{Counts}
 use Rattle.register_store.specs.Opening.{Later, SaysEarly}
 use Rattle.register_store.specs.Found.{has_texts}
@@ -57,10 +57,10 @@ pub record Walked (amends_are : List Row) (total count : ℕ) (left : Left) (db 
 pub record AreAllOf (requests : List Request) (amends_are : List Row) (db : Database) : Type 0 where
   pub distinct : firsts requests ≡ requests
   pub completed : AllByRecursion IsCompleted requests
-  pub kept_is : Holds db kept_table (counted_from kept_row 1 (kept requests))
-  pub finding_is : Holds db finding_table (joined_from finding_rows 1 (kept requests))
-  pub filing_is : Holds db filing_table (joined_from filing_rows 1 (kept requests))
-  pub fact_is : Holds db fact_table (joined_from fact_rows 1 (kept requests))
+  pub kept_is : TableHas db kept_table (counted_from kept_row 1 (kept requests))
+  pub finding_is : TableHas db finding_table (joined_from finding_rows 1 (kept requests))
+  pub filing_is : TableHas db filing_table (joined_from filing_rows 1 (kept requests))
+  pub fact_is : TableHas db fact_table (joined_from fact_rows 1 (kept requests))
   pub amends_is : amends_are ≡ joined_from amends_rows 1 (kept requests)
 
 -- so they have, and so many requests are kept and registered

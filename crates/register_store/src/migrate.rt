@@ -8,17 +8,19 @@ ghost use Rattle.sqlite.specs.Tree.{Trees};
 ghost use Rattle.sqlite.specs.declared.error.Error.{Error};
 ghost use Rattle.sqlite.specs.declared.types.Value.TheVariants.{Int};
 ghost use Rattle.sqlite.specs.State.{HasCleanDisk, KeepsCommit, Survives, ExecutesInside};
-ghost use Rattle.table_rows.specs.Standing.{Stands};
+ghost use Rattle.table_rows.specs.Standing.{HasCommitted, CommitsNothing};
 ghost use Rattle.register_store.specs.Changes.{AddsNothing};
 ghost use Rattle.register_store.specs.Earlier.{IsAlone, IsEarlierOf, is_blocked};
 ghost use Rattle.register_store.specs.Migrating.{insert_early, write_fault, migrating, AreDone, StopsAt, AreCommitted, AreUndone, AreTreesOf, IsMigrated, IsNotMigrated, Migrates, MigratesTo};
-ghost use Rattle.register_store.specs.Store.{IsRegisterOf, Leaves};
+ghost use Rattle.register_store.specs.Store.{IsRegisterOf, LeavesRegister};
 
-use crate::create::run;
-use crate::earlier::{Earlier, read_earlier};
+pub(crate) mod earlier;
+
 use crate::fault::OpenFault;
-use crate::names;
+use crate::migrate::earlier::{Earlier, read_earlier};
 use crate::opening::{Counts, is_settled};
+use crate::schema::create::run;
+use crate::schema::names;
 use sqlite::{Alter, Connection, Error, Transaction, params};
 use std::alloc::Global;
 use table_rows::Cause;
@@ -47,7 +49,7 @@ fn tell_early<S: Alter>(tx: &mut Transaction<'_, S>, early: u64) -> Result<(), E
         (state S.Store tx.new.conn.now) (Err error)) }
     ensures keeps { HasCleanDisk (state S.Store tx.new.conn.now)
         → KeepsCommit (state S.Store tx.old.conn.now) (state S.Store tx.new.conn.now) }
-    ensures survives { Survives (state S.Store tx.old.conn.now) (state S.Store tx.new.conn.now) (λ _. ⊥) }
+    ensures survives { CommitsNothing (state S.Store tx.old.conn.now) (state S.Store tx.new.conn.now) }
 {
     tx.execute("INSERT INTO migrated VALUES (1, ?1)", params![early as i64])?;
     Ok(())
@@ -65,7 +67,7 @@ fn write_second<S: Alter>(tx: &mut Transaction<'_, S>, early: u64) -> Result<(),
         StopsAt S.Store error (migrating Earlier.Second early) tx.old.conn.now tx.new.conn.now) }
     ensures keeps { HasCleanDisk (state S.Store tx.new.conn.now)
         → KeepsCommit (state S.Store tx.old.conn.now) (state S.Store tx.new.conn.now) }
-    ensures survives { Survives (state S.Store tx.old.conn.now) (state S.Store tx.new.conn.now) (λ _. ⊥) }
+    ensures survives { CommitsNothing (state S.Store tx.old.conn.now) (state S.Store tx.new.conn.now) }
 {
     run(
         tx,
@@ -89,7 +91,7 @@ fn write_third<S: Alter>(tx: &mut Transaction<'_, S>) -> Result<(), Error>
         → IfErr result (λ error. StopsAt S.Store error (migrating Earlier.Third 0) tx.old.conn.now tx.new.conn.now) }
     ensures keeps { HasCleanDisk (state S.Store tx.new.conn.now)
         → KeepsCommit (state S.Store tx.old.conn.now) (state S.Store tx.new.conn.now) }
-    ensures survives { Survives (state S.Store tx.old.conn.now) (state S.Store tx.new.conn.now) (λ _. ⊥) }
+    ensures survives { CommitsNothing (state S.Store tx.old.conn.now) (state S.Store tx.new.conn.now) }
 {
     run(
         tx,
@@ -108,7 +110,7 @@ fn write_all<S: Alter>(tx: &mut Transaction<'_, S>, form: Earlier, early: u64) -
         → IfErr result (λ error. StopsAt S.Store error (migrating form early) tx.old.conn.now tx.new.conn.now) }
     ensures keeps { HasCleanDisk (state S.Store tx.new.conn.now)
         → KeepsCommit (state S.Store tx.old.conn.now) (state S.Store tx.new.conn.now) }
-    ensures survives { Survives (state S.Store tx.old.conn.now) (state S.Store tx.new.conn.now) (λ _. ⊥) }
+    ensures survives { CommitsNothing (state S.Store tx.old.conn.now) (state S.Store tx.new.conn.now) }
 {
     match form {
         Earlier::Second => write_second(tx, early),
@@ -156,8 +158,8 @@ pub fn migrate_register<S: Alter>(
         → IfOk result (λ counts.
         (form : Earlier) (early : ℕ) (F : List Request) → IsAlone form (state S.Store conn.old).now.schema
         → IsEarlierOf form early F (state S.Store conn.old).now
-        → (counts.early ≡ early) × Stands (IsRegisterOf early F) (state S.Store conn.new) × (counts.kept ≡ length F)
-        × (counts.filings ≡ length (register F))) }
+        → (counts.early ≡ early) × HasCommitted (IsRegisterOf early F) (state S.Store conn.new)
+        × (counts.kept ≡ length F) × (counts.filings ≡ length (register F))) }
     ensures few { IfOk result (λ counts.
         (counts.kept ≤ 2 ^ 62) × (counts.filings ≤ counts.kept) × (counts.early ≤ counts.kept)) }
 
@@ -183,7 +185,7 @@ pub fn migrate_register<S: Alter>(
         → OnOk result ((form : Earlier) (early : ℕ) (F : List Request)
         → IsAlone form (state S.Store conn.old).now.schema → IsEarlierOf form early F (state S.Store conn.old).now
         → IsTrue (state S.Store conn.new).is_open
-        × ((trees : Trees) → (state S.Store conn.new).may_leave trees → Leaves early F trees)) }
+        × ((trees : Trees) → (state S.Store conn.new).may_leave trees → LeavesRegister early F trees)) }
 {
     prove!(is_settled(conn));
     match read_earlier(alloc, conn) {

@@ -6,9 +6,9 @@ ghost use Rattle.filing_model.specs.Request.{Request};
 ghost use Rattle.sqlite.specs.Held.{state};
 ghost use Rattle.sqlite.specs.Order.{column};
 ghost use Rattle.sqlite.specs.declared.types.Value.TheVariants.{Int};
-ghost use Rattle.sqlite.specs.State.{HasCleanDisk, IsLive, IsUnchanged, KeepsCommit, Survives};
+ghost use Rattle.sqlite.specs.State.{HasCleanDisk, IsLive, IsUnchanged, KeepsCommit};
 ghost use Rattle.table_rows.specs.Causes.{cause_of};
-ghost use Rattle.table_rows.specs.Standing.{Stands};
+ghost use Rattle.table_rows.specs.Standing.{HasCommitted, CommitsNothing, StaysAutocommit};
 ghost use Rattle.register_store.specs.Audit.{IsVerdict};
 ghost use Rattle.register_store.specs.Faults.{meta_fault, table_fault};
 ghost use Rattle.register_store.specs.Opening.{all_meta, row_texts, new_texts, IsRead, AreRead, StopsFor, SaysEarly, SaysNothing, AreDamaged, IsRefused, IsRefusedAfter};
@@ -17,12 +17,20 @@ ghost use Rattle.register_store.specs.Schema.{IsDeclared, HasCommon};
 ghost use Rattle.register_store.specs.Store.{IsRegisterOf};
 ghost use Rattle.register_store.specs.Walk.{AreCounted};
 
-use crate::audit::{Verdict, audit};
-use crate::cells::{Cell, is_row};
+pub(crate) mod audit;
+pub(crate) mod damage;
+pub(crate) mod filed;
+pub(crate) mod segments;
+pub(crate) mod spans;
+pub(crate) mod walk;
+pub(crate) mod watch;
+
+use crate::decode::cells::{Cell, is_row};
 use crate::fault::OpenFault;
-use crate::reads;
-use crate::walk::{Totals, count_by_walk};
-use crate::watch::Watch;
+use crate::opening::audit::{Verdict, audit};
+use crate::opening::walk::{Totals, count_by_walk};
+use crate::opening::watch::Watch;
+use crate::select::reads;
 use sqlite::types::ValueRef;
 use sqlite::{Alter, Connection, Error, Row};
 use std::alloc::Global;
@@ -71,8 +79,8 @@ fn read_meta<S: Alter>(conn: &mut Connection<S>) -> Result<(), OpenFault>
         → OnOk result (IsRead S.Store all_meta conn.old conn.new (meta_row ∷ [])) }
     ensures refused { HasCleanDisk (state S.Store conn.new)
         → IfErr result (λ fault. IsRefused S.Store fault conn.old conn.new) }
-    ensures mode { conn.old.in_transaction ≡ false → conn.new.in_transaction ≡ false }
-    ensures survives { Survives (state S.Store conn.old) (state S.Store conn.new) (λ _. ⊥) }
+    ensures mode { StaysAutocommit conn.old conn.new }
+    ensures survives { CommitsNothing (state S.Store conn.old) (state S.Store conn.new) }
 {
     match reads::meta_rows(conn) {
         Ok(rows) => {
@@ -102,8 +110,8 @@ pub(crate) fn read_tables<S: Alter>(conn: &mut Connection<S>) -> Result<Tables, 
         (tables.kept.items ∷ tables.findings.items ∷ tables.filings.items ∷ tables.facts.items ∷ [])) }
     ensures failed { HasCleanDisk (state S.Store conn.new)
         → IfErr result (λ error. StopsFor S.Store (cause_of error) row_texts conn.old conn.new) }
-    ensures mode { conn.old.in_transaction ≡ false → conn.new.in_transaction ≡ false }
-    ensures survives { Survives (state S.Store conn.old) (state S.Store conn.new) (λ _. ⊥) }
+    ensures mode { StaysAutocommit conn.old conn.new }
+    ensures survives { CommitsNothing (state S.Store conn.old) (state S.Store conn.new) }
 {
     match reads::kept_rows(conn) {
         Ok(kept) => match reads::finding_rows(conn) {
@@ -138,8 +146,8 @@ fn read_later<S: Alter>(conn: &mut Connection<S>) -> Result<Later, Error>
         AreRead S.Store new_texts conn.old conn.new (later.migrated.items ∷ later.amends.items ∷ [])) }
     ensures failed { HasCleanDisk (state S.Store conn.new)
         → IfErr result (λ error. StopsFor S.Store (cause_of error) new_texts conn.old conn.new) }
-    ensures mode { conn.old.in_transaction ≡ false → conn.new.in_transaction ≡ false }
-    ensures survives { Survives (state S.Store conn.old) (state S.Store conn.new) (λ _. ⊥) }
+    ensures mode { StaysAutocommit conn.old conn.new }
+    ensures survives { CommitsNothing (state S.Store conn.old) (state S.Store conn.new) }
 {
     match reads::migrated_rows(conn) {
         Ok(migrated) => match reads::amends_rows(conn) {
@@ -279,8 +287,8 @@ fn count_one_by_one<S: Alter, W: Watch>(
         × StopsFor S.Store (cause_of error) row_texts conn.old conn.new) }
     ensures same { HasCleanDisk (state S.Store conn.new)
         → OnOk result (IsUnchanged (state S.Store conn.old) (state S.Store conn.new)) }
-    ensures mode { conn.old.in_transaction ≡ false → conn.new.in_transaction ≡ false }
-    ensures survives { Survives (state S.Store conn.old) (state S.Store conn.new) (λ _. ⊥) }
+    ensures mode { StaysAutocommit conn.old conn.new }
+    ensures survives { CommitsNothing (state S.Store conn.old) (state S.Store conn.new) }
 {
     match count_by_walk(alloc, conn, &later.amends, watch) {
         Ok(Some(totals)) => Ok(counts_of(totals, later)),
@@ -325,8 +333,8 @@ fn count_all<S: Alter, W: Watch>(
           migrated = later.now.migrated.items;
           amends = later.now.amends.items;
         }) fault conn.old conn.new) }
-    ensures mode { conn.old.in_transaction ≡ false → conn.new.in_transaction ≡ false }
-    ensures survives { Survives (state S.Store conn.old) (state S.Store conn.new) (λ _. ⊥) }
+    ensures mode { StaysAutocommit conn.old conn.new }
+    ensures survives { CommitsNothing (state S.Store conn.old) (state S.Store conn.new) }
 {
     match count_one_by_one(alloc, conn, later, watch) {
         Ok(Some(counts)) => Ok(counts),
@@ -359,13 +367,13 @@ pub fn read_register<S: Alter, W: Watch>(
     ensures found { HasCleanDisk (state S.Store conn.new) → IsDeclared (state S.Store conn.old).now.schema
         → IfOk result (λ counts.
         (F : List Request) × IsRegisterOf counts.early F (state S.Store conn.old).now
-        × Stands (IsRegisterOf counts.early F) (state S.Store conn.new) × (counts.kept ≡ length F)
+        × HasCommitted (IsRegisterOf counts.early F) (state S.Store conn.new) × (counts.kept ≡ length F)
         × (counts.filings ≡ length (register F))) }
     ensures only { HasCleanDisk (state S.Store conn.new)
         → IfOk result (λ counts.
         (early : ℕ) (F : List Request) → IsRegisterOf early F (state S.Store conn.old).now
-        → (counts.early ≡ early) × Stands (IsRegisterOf early F) (state S.Store conn.new) × (counts.kept ≡ length F)
-        × (counts.filings ≡ length (register F))) }
+        → (counts.early ≡ early) × HasCommitted (IsRegisterOf early F) (state S.Store conn.new)
+        × (counts.kept ≡ length F) × (counts.filings ≡ length (register F))) }
     ensures few { IfOk result (λ counts.
         (counts.kept ≤ 2 ^ 62) × (counts.filings ≤ counts.kept) × (counts.early ≤ counts.kept)) }
 
@@ -383,7 +391,7 @@ pub fn read_register<S: Alter, W: Watch>(
     ensures keeps { HasCleanDisk (state S.Store conn.new)
         → OnErr result (KeepsCommit (state S.Store conn.old) (state S.Store conn.new)) }
     ensures mode { conn.new.in_transaction ≡ false }
-    ensures survives { Survives (state S.Store conn.old) (state S.Store conn.new) (λ _. ⊥) }
+    ensures survives { CommitsNothing (state S.Store conn.old) (state S.Store conn.new) }
 {
     prove!(is_settled(conn));
     match read_meta(conn) {

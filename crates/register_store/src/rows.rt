@@ -1,13 +1,13 @@
 //! The statements on the tables, one in each function. What may live here: texts of SQL, and their parameters.
 
-ghost use Rattle.std.specs.Prelude.{◌≡◌, ◌<◌, ◌^◌, pos, false, [], ◌∷◌, option_map, string_bytes, IsTrue, IfOk, IfSome, OnOk};
+ghost use Rattle.std.specs.Prelude.{◌≡◌, ◌<◌, ◌^◌, pos, [], ◌∷◌, option_map, string_bytes, IsTrue, IfOk, IfSome, OnOk};
 ghost use Rattle.sqlite.specs.declared.types.Value.TheVariants.{Int, Text, Blob};
 ghost use Rattle.sqlite.specs.Values.{or_null};
 ghost use Rattle.sqlite.specs.Held.{state};
-ghost use Rattle.sqlite.specs.State.{HasCleanDisk, KeepsCommit, Survives};
+ghost use Rattle.sqlite.specs.State.{HasCleanDisk, KeepsCommit};
 ghost use Rattle.table_rows.specs.Rows.{counted_from};
 ghost use Rattle.table_rows.specs.Reading.{ReadsRows};
-ghost use Rattle.table_rows.specs.Standing.{Keeps};
+ghost use Rattle.table_rows.specs.Standing.{Keeps, CommitsNothing, StaysAutocommit};
 ghost use Rattle.register_store.specs.Reads.{Knows, KnowsAll, by_second};
 ghost use Rattle.register_store.specs.Found.{has_texts, has_seq, unsorted, found_in, pair_in, target_alone};
 ghost use Rattle.register_store.specs.Schema.{kept_table, finding_table, filing_table, fact_table, amends_table};
@@ -48,7 +48,7 @@ pub fn insert_kept<S: Alter>(
         (state S.Store tx.old.conn.now) (state S.Store tx.new.conn.now)) }
     ensures keeps { HasCleanDisk (state S.Store tx.new.conn.now)
         → KeepsCommit (state S.Store tx.old.conn.now) (state S.Store tx.new.conn.now) }
-    ensures survives { Survives (state S.Store tx.old.conn.now) (state S.Store tx.new.conn.now) (λ _. ⊥) }
+    ensures survives { CommitsNothing (state S.Store tx.old.conn.now) (state S.Store tx.new.conn.now) }
 {
     let number = signed(number);
     tx.execute(
@@ -74,7 +74,7 @@ pub fn insert_filing<S: Alter>(
         (state S.Store tx.new.conn.now)) }
     ensures keeps { HasCleanDisk (state S.Store tx.new.conn.now)
         → KeepsCommit (state S.Store tx.old.conn.now) (state S.Store tx.new.conn.now) }
-    ensures survives { Survives (state S.Store tx.old.conn.now) (state S.Store tx.new.conn.now) (λ _. ⊥) }
+    ensures survives { CommitsNothing (state S.Store tx.old.conn.now) (state S.Store tx.new.conn.now) }
 {
     tx.execute(
         "INSERT INTO filing VALUES (?1, ?2)",
@@ -99,7 +99,7 @@ pub fn insert_amends<S: Alter>(
         (state S.Store tx.new.conn.now)) }
     ensures keeps { HasCleanDisk (state S.Store tx.new.conn.now)
         → KeepsCommit (state S.Store tx.old.conn.now) (state S.Store tx.new.conn.now) }
-    ensures survives { Survives (state S.Store tx.old.conn.now) (state S.Store tx.new.conn.now) (λ _. ⊥) }
+    ensures survives { CommitsNothing (state S.Store tx.old.conn.now) (state S.Store tx.new.conn.now) }
 {
     tx.execute(
         "INSERT INTO amends VALUES (?1, ?2)",
@@ -125,7 +125,7 @@ fn insert_finding<S: Alter>(
         (state S.Store tx.new.conn.now)) }
     ensures keeps { HasCleanDisk (state S.Store tx.new.conn.now)
         → KeepsCommit (state S.Store tx.old.conn.now) (state S.Store tx.new.conn.now) }
-    ensures survives { Survives (state S.Store tx.old.conn.now) (state S.Store tx.new.conn.now) (λ _. ⊥) }
+    ensures survives { CommitsNothing (state S.Store tx.old.conn.now) (state S.Store tx.new.conn.now) }
 {
     let code = u32::from(finding.code.number());
     let place = finding.place.as_bytes();
@@ -150,7 +150,7 @@ pub fn insert_findings<S: Alter>(
         (state S.Store tx.new.conn.now)) }
     ensures keeps { HasCleanDisk (state S.Store tx.new.conn.now)
         → KeepsCommit (state S.Store tx.old.conn.now) (state S.Store tx.new.conn.now) }
-    ensures survives { Survives (state S.Store tx.old.conn.now) (state S.Store tx.new.conn.now) (λ _. ⊥) }
+    ensures survives { CommitsNothing (state S.Store tx.old.conn.now) (state S.Store tx.new.conn.now) }
 {
     let mut at = 0u64;
     'findings: for finding in findings {
@@ -187,7 +187,7 @@ fn insert_fact<S: Alter>(
         (state S.Store tx.new.conn.now)) }
     ensures keeps { HasCleanDisk (state S.Store tx.new.conn.now)
         → KeepsCommit (state S.Store tx.old.conn.now) (state S.Store tx.new.conn.now) }
-    ensures survives { Survives (state S.Store tx.old.conn.now) (state S.Store tx.new.conn.now) (λ _. ⊥) }
+    ensures survives { CommitsNothing (state S.Store tx.old.conn.now) (state S.Store tx.new.conn.now) }
 {
     let id = fact.id.as_bytes();
     let concept = fact.concept.as_bytes();
@@ -222,7 +222,7 @@ pub fn insert_facts<S: Alter>(
         (state S.Store tx.new.conn.now)) }
     ensures keeps { HasCleanDisk (state S.Store tx.new.conn.now)
         → KeepsCommit (state S.Store tx.old.conn.now) (state S.Store tx.new.conn.now) }
-    ensures survives { Survives (state S.Store tx.old.conn.now) (state S.Store tx.new.conn.now) (λ _. ⊥) }
+    ensures survives { CommitsNothing (state S.Store tx.old.conn.now) (state S.Store tx.new.conn.now) }
 {
     let mut at = 0u64;
     'facts: for fact in facts {
@@ -243,8 +243,8 @@ pub fn rows_with_key<S: Alter>(
         ReadsRows kept_table (has_texts filer.now key.now) unsorted found_in rows.items (state S.Store conn.old)
         (state S.Store conn.new)) }
     ensures keeps { HasCleanDisk (state S.Store conn.new) → Keeps (state S.Store conn.old) (state S.Store conn.new) }
-    ensures mode { conn.old.in_transaction ≡ false → conn.new.in_transaction ≡ false }
-    ensures survives { Survives (state S.Store conn.old) (state S.Store conn.new) (λ _. ⊥) }
+    ensures mode { StaysAutocommit conn.old conn.new }
+    ensures survives { CommitsNothing (state S.Store conn.old) (state S.Store conn.new) }
 {
     conn.query_all(
         "SELECT seq, body, number FROM kept WHERE filer = ?1 AND idem = ?2",
@@ -259,8 +259,8 @@ pub fn rows_of_findings<S: Alter>(conn: &mut Connection<S>, seq: i64) -> Result<
         ReadsRows finding_table (has_seq seq) by_second pair_in rows.items (state S.Store conn.old)
         (state S.Store conn.new)) }
     ensures keeps { HasCleanDisk (state S.Store conn.new) → Keeps (state S.Store conn.old) (state S.Store conn.new) }
-    ensures mode { conn.old.in_transaction ≡ false → conn.new.in_transaction ≡ false }
-    ensures survives { Survives (state S.Store conn.old) (state S.Store conn.new) (λ _. ⊥) }
+    ensures mode { StaysAutocommit conn.old conn.new }
+    ensures survives { CommitsNothing (state S.Store conn.old) (state S.Store conn.new) }
 {
     conn.query_all(
         "SELECT code, place FROM finding WHERE seq = ?1 ORDER BY pos",
@@ -275,8 +275,8 @@ pub fn rows_of_target<S: Alter>(conn: &mut Connection<S>, seq: i64) -> Result<Ve
         ReadsRows amends_table (has_seq seq) unsorted target_alone rows.items (state S.Store conn.old)
         (state S.Store conn.new)) }
     ensures keeps { HasCleanDisk (state S.Store conn.new) → Keeps (state S.Store conn.old) (state S.Store conn.new) }
-    ensures mode { conn.old.in_transaction ≡ false → conn.new.in_transaction ≡ false }
-    ensures survives { Survives (state S.Store conn.old) (state S.Store conn.new) (λ _. ⊥) }
+    ensures mode { StaysAutocommit conn.old conn.new }
+    ensures survives { CommitsNothing (state S.Store conn.old) (state S.Store conn.new) }
 {
     conn.query_all("SELECT target FROM amends WHERE seq = ?1", params![seq])
 }

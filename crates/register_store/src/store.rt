@@ -15,14 +15,17 @@ ghost use Rattle.sqlite.specs.Tree.{Trees};
 ghost use Rattle.sqlite.specs.State.{HasCleanDisk, IsUnchanged, KeepsCommit, Survives};
 ghost use Rattle.table_rows.specs.Tables.{no_schema};
 ghost use Rattle.register_store.specs.Schema.{is_taken};
+ghost use Rattle.table_rows.specs.Standing.{CommitsNothing};
 
-use crate::create::make_register;
+pub(crate) mod files;
+
 use crate::fault::{CreateFault, OpenFault, StoreFault};
-use crate::found::find_kept;
 use crate::migrate::migrate_register;
+use crate::opening::watch::Unwatched;
 use crate::opening::{Counts, read_register};
 use crate::outcome::{KeptRow, NewRow, Outcome};
-use crate::watch::Unwatched;
+use crate::schema::create::make_register;
+use crate::select::found::find_kept;
 use crate::write::keep;
 use key_string::KeyText;
 use sqlite::{Alter, Connection};
@@ -70,7 +73,7 @@ impl<S: Alter + Drop> Store<S> {
     ghost use Rattle.register_store.specs.Changes.{AddsNothing};
     ghost use Rattle.register_store.specs.Faults.{create_fault};
     ghost use Rattle.register_store.specs.Making.{Makes, FailsToMake};
-    ghost use Rattle.register_store.specs.Store.{shows, HasRequests, Leaves};
+    ghost use Rattle.register_store.specs.Store.{shows, HasRequests, LeavesRegister};
 
     /// Makes the tables of a register that has no request, in one transaction. A refusal gives the connection up, and
     /// leaves the database as it was. What is said of rows holds where the database had no table before.
@@ -97,11 +100,11 @@ impl<S: Alter + Drop> Store<S> {
         // A crash leaves what one before the call could leave, or the empty register, and after the call that alone.
         ensures crash { IfOk result (λ store.
             Survives (state S.Store conn) (shows S.Store store) (λ trees.
-            (state S.Store conn).now.schema ≡ no_schema → Leaves 0 [] trees)) }
+            (state S.Store conn).now.schema ≡ no_schema → LeavesRegister 0 [] trees)) }
         ensures durable { IfOk result (λ store.
             HasCleanDisk (shows S.Store store) → (state S.Store conn).now.schema ≡ no_schema
             → IsTrue (shows S.Store store).is_open
-            × ((trees : Trees) → (shows S.Store store).may_leave trees → Leaves 0 [] trees)) }
+            × ((trees : Trees) → (shows S.Store store).may_leave trees → LeavesRegister 0 [] trees)) }
     {
         match make_register(&mut conn) {
             Ok(()) => Ok(Store {
@@ -120,7 +123,7 @@ impl<S: Alter + Drop> Store<S> {
     ghost use Rattle.sqlite.specs.Held.{Held};
     ghost use Rattle.register_store.specs.Opening.{IsRefused};
     ghost use Rattle.register_store.specs.Schema.{IsDeclared};
-    ghost use Rattle.register_store.specs.Store.{shows, HasRequests, IsRegisterOf, Leaves};
+    ghost use Rattle.register_store.specs.Store.{shows, HasRequests, IsRegisterOf, LeavesRegister};
 
     /// Opens the register that the database holds. A refusal gives the connection up. Nothing is written, whatever the
     /// answer is. How the tables are declared is not tested.
@@ -142,7 +145,7 @@ impl<S: Alter + Drop> Store<S> {
         // A refusal says why, of the connection as it was given up (`read_register` names it); where the rows stand for requests,
         // it is by memory or disk.
         ensures refused { IfErr result (λ fault.
-            (last : Held S) × Survives (state S.Store conn) (state S.Store last) (λ _. ⊥)
+            (last : Held S) × CommitsNothing (state S.Store conn) (state S.Store last)
             × (HasCleanDisk (state S.Store last)
             → KeepsCommit (state S.Store conn) (state S.Store last) × IsRefused S.Store fault conn last)
             × (HasCleanDisk (state S.Store last) → (early : ℕ) (F : List Request)
@@ -150,12 +153,12 @@ impl<S: Alter + Drop> Store<S> {
             → (fault ≡ OpenFault.Memory) ⊎ (fault ≡ OpenFault.Disk))) }
 
         // A crash leaves what it could leave before, and after the call these requests alone.
-        ensures crash { IfOk result (λ store. Survives (state S.Store conn) (shows S.Store store) (λ _. ⊥)) }
+        ensures crash { IfOk result (λ store. CommitsNothing (state S.Store conn) (shows S.Store store)) }
         ensures durable { IfOk result (λ store.
             HasCleanDisk (shows S.Store store) → (early : ℕ) (F : List Request)
             → IsRegisterOf early F (state S.Store conn).now
             → IsTrue (shows S.Store store).is_open
-            × ((trees : Trees) → (shows S.Store store).may_leave trees → Leaves early F trees)) }
+            × ((trees : Trees) → (shows S.Store store).may_leave trees → LeavesRegister early F trees)) }
     {
         let mut conn = conn;
         match read_register(alloc, &mut conn, &mut Unwatched) {
@@ -179,7 +182,7 @@ impl<S: Alter + Drop> Store<S> {
 
 impl<S: Alter> Store<S> {
     ghost use Rattle.register_store.specs.Outcomes.{view_outcome, kept_as};
-    ghost use Rattle.register_store.specs.Store.{shows, HasRequests, Leaves};
+    ghost use Rattle.register_store.specs.Store.{shows, HasRequests, LeavesRegister};
 
     /// What is kept of this filer and key: the first request with its outcome, or `None` where they are new.
     pub fn find(&mut self, filer: &str, key: &KeyText) -> Result<Option<KeptRow>, StoreFault>
@@ -201,10 +204,11 @@ impl<S: Alter> Store<S> {
             → HasRequests S.Store self.new F }
         ensures counts { (self.new.kept ≡ self.old.kept) × (self.new.filings ≡ self.old.filings) }
         ensures early { self.new.early ≡ self.old.early }
-        ensures crash { Survives (shows S.Store self.old) (shows S.Store self.new) (λ _. ⊥) }
+        ensures crash { CommitsNothing (shows S.Store self.old) (shows S.Store self.new) }
         ensures durable { HasCleanDisk (shows S.Store self.new) → (F : List Request) → HasRequests S.Store self.old F
             → OnOk result (IsTrue (shows S.Store self.new).is_open
-            × ((trees : Trees) → (shows S.Store self.new).may_leave trees → Leaves self.old.early F trees)) }
+            × ((trees : Trees) → (shows S.Store self.new).may_leave trees
+            → LeavesRegister self.old.early F trees)) }
     {
         find_kept(&mut self.conn, self.alloc, self.early, filer, key.as_str())
     }
@@ -242,7 +246,7 @@ impl<S: Alter> Store<S> {
             → has_key F (the_request row.now.filer.now row.now.key.now row.now.target row.now.body.now) ≡ false
             → IsAmendmentJudgement row.now.filer.now row.now.body.now
             (is_free (register F) row.now.filer.now row.now.target) row.now.judged.now
-            → Leaves self.old.early
+            → LeavesRegister self.old.early
             (F ++ the_request row.now.filer.now row.now.key.now row.now.target row.now.body.now ∷ []) trees) }
         ensures durable { HasCleanDisk (shows S.Store self.new) → (F : List Request) → HasRequests S.Store self.old F
             → has_key F (the_request row.now.filer.now row.now.key.now row.now.target row.now.body.now) ≡ false
@@ -250,7 +254,7 @@ impl<S: Alter> Store<S> {
             (is_free (register F) row.now.filer.now row.now.target) row.now.judged.now
             → OnOk result (IsTrue (shows S.Store self.new).is_open
             × ((trees : Trees) → (shows S.Store self.new).may_leave trees
-            → Leaves self.old.early
+            → LeavesRegister self.old.early
             (F ++ the_request row.now.filer.now row.now.key.now row.now.target row.now.body.now ∷ []) trees)) }
     {
         let number = self.filings + 1;
@@ -303,11 +307,11 @@ impl<S: Alter> Store<S> {
 
 impl<S: Alter + Drop> Store<S> {
     ghost use Rattle.sqlite.specs.Held.{Held};
-    ghost use Rattle.register_store.specs.declared.earlier.Earlier.{Earlier};
+    ghost use Rattle.register_store.specs.declared.migrate.earlier.Earlier.{Earlier};
     ghost use Rattle.register_store.specs.Changes.{AddsNothing};
     ghost use Rattle.register_store.specs.Earlier.{IsAlone, IsEarlierOf, is_blocked};
     ghost use Rattle.register_store.specs.Migrating.{IsNotMigrated, MigratesTo};
-    ghost use Rattle.register_store.specs.Store.{shows, HasRequests, Leaves};
+    ghost use Rattle.register_store.specs.Store.{shows, HasRequests, LeavesRegister};
 
     /// Brings the register that the database holds from an earlier form into the present one, in one transaction, and opens
     /// it. A refusal gives the connection up, and leaves the rows as they were. What is said of the new rows holds where the
@@ -341,12 +345,12 @@ impl<S: Alter + Drop> Store<S> {
         ensures crash { IfOk result (λ store.
             Survives (state S.Store conn) (shows S.Store store) (λ trees.
             (form : Earlier) (early : ℕ) (F : List Request) → IsAlone form (state S.Store conn).now.schema
-            → IsEarlierOf form early F (state S.Store conn).now → Leaves early F trees)) }
+            → IsEarlierOf form early F (state S.Store conn).now → LeavesRegister early F trees)) }
         ensures durable { IfOk result (λ store.
             HasCleanDisk (shows S.Store store) → (form : Earlier) (early : ℕ) (F : List Request)
             → IsAlone form (state S.Store conn).now.schema → IsEarlierOf form early F (state S.Store conn).now
             → IsTrue (shows S.Store store).is_open
-            × ((trees : Trees) → (shows S.Store store).may_leave trees → Leaves early F trees)) }
+            × ((trees : Trees) → (shows S.Store store).may_leave trees → LeavesRegister early F trees)) }
     {
         let mut conn = conn;
         match migrate_register(alloc, &mut conn) {

@@ -12,6 +12,7 @@ ghost use Rattle.filing_model.specs.Register.{Outcome};
 ghost use Rattle.filing_model.specs.Views.{the_request};
 ghost use Rattle.register_store.specs.Outcomes.{outcome_of};
 ghost use Rattle.register_store.specs.Changes.{Adds, AddsInside, AddsTo, AddsNothing};
+ghost use Rattle.table_rows.specs.Standing.{CommitsNothing};
 
 use crate::outcome::NewRow;
 use crate::rows::{insert_amends, insert_facts, insert_filing, insert_findings, insert_kept};
@@ -38,7 +39,7 @@ fn write_refused<S: Alter>(
         (state S.Store tx.old.conn.now) (state S.Store tx.new.conn.now)) }
     ensures keeps { HasCleanDisk (state S.Store tx.new.conn.now)
         → KeepsCommit (state S.Store tx.old.conn.now) (state S.Store tx.new.conn.now) }
-    ensures survives { Survives (state S.Store tx.old.conn.now) (state S.Store tx.new.conn.now) (λ _. ⊥) }
+    ensures survives { CommitsNothing (state S.Store tx.old.conn.now) (state S.Store tx.new.conn.now) }
 {
     insert_kept(tx, seq, row, None)?;
     insert_findings(tx, seq, findings)
@@ -68,7 +69,7 @@ fn write_accepted<S: Alter>(
         (state S.Store tx.old.conn.now) (state S.Store tx.new.conn.now)) }
     ensures keeps { HasCleanDisk (state S.Store tx.new.conn.now)
         → KeepsCommit (state S.Store tx.old.conn.now) (state S.Store tx.new.conn.now) }
-    ensures survives { Survives (state S.Store tx.old.conn.now) (state S.Store tx.new.conn.now) (λ _. ⊥) }
+    ensures survives { CommitsNothing (state S.Store tx.old.conn.now) (state S.Store tx.new.conn.now) }
 {
     insert_kept(tx, seq, row, Some(number))?;
     insert_filing(tx, number, seq)?;
@@ -97,7 +98,7 @@ fn write_judged<S: Alter>(
         (state S.Store tx.old.conn.now) (state S.Store tx.new.conn.now)) }
     ensures keeps { HasCleanDisk (state S.Store tx.new.conn.now)
         → KeepsCommit (state S.Store tx.old.conn.now) (state S.Store tx.new.conn.now) }
-    ensures survives { Survives (state S.Store tx.old.conn.now) (state S.Store tx.new.conn.now) (λ _. ⊥) }
+    ensures survives { CommitsNothing (state S.Store tx.old.conn.now) (state S.Store tx.new.conn.now) }
 {
     match row.judged {
         Judged::Valid(report) => write_accepted(tx, seq, number, row, report.facts()),
@@ -129,7 +130,7 @@ fn write_amendment<S: Alter>(
         (state S.Store tx.old.conn.now) (state S.Store tx.new.conn.now)) }
     ensures keeps { HasCleanDisk (state S.Store tx.new.conn.now)
         → KeepsCommit (state S.Store tx.old.conn.now) (state S.Store tx.new.conn.now) }
-    ensures survives { Survives (state S.Store tx.old.conn.now) (state S.Store tx.new.conn.now) (λ _. ⊥) }
+    ensures survives { CommitsNothing (state S.Store tx.old.conn.now) (state S.Store tx.new.conn.now) }
 {
     let _key = row.key.as_str();
     insert_amends(tx, seq, target)?;
@@ -159,7 +160,7 @@ fn write<S: Alter>(
         (state S.Store tx.old.conn.now) (state S.Store tx.new.conn.now)) }
     ensures keeps { HasCleanDisk (state S.Store tx.new.conn.now)
         → KeepsCommit (state S.Store tx.old.conn.now) (state S.Store tx.new.conn.now) }
-    ensures survives { Survives (state S.Store tx.old.conn.now) (state S.Store tx.new.conn.now) (λ _. ⊥) }
+    ensures survives { CommitsNothing (state S.Store tx.old.conn.now) (state S.Store tx.new.conn.now) }
 {
     match row.target {
         Some(target) => write_amendment(tx, seq, number, target, row),

@@ -52,7 +52,7 @@ refused_none bytes left fault (given, all, refused) =
 never_failed : HasFailed 0 0 → ⊥
 never_failed failed = ⊎_elim (λ less. omega (arith, less)) (λ top. omega (arith, top)) failed
 
--- where none was read, and that is no want of memory, none is heard
+-- where none was read, and memory did not run out, none is heard
 none_read : (bytes left : List ℕ) (fault : ReplyFault) → IsReplyFailure (Some bytes) (Some left) 0 0 fault → cause_of_unheard (Reply fault) ≡ None → Hears bytes No None
 none_read bytes left Cut (fine, end, (given, all, cut)) none =
     let same : bytes ≡ given = all ∙ ap (λ rest. given ++ rest) end ∙ append-nil given in

@@ -3,14 +3,14 @@ use Rattle.std.proofs.Common.{◌≡◌, ℕ, suc, Bool, true, false, List, Opti
 use Rattle.sqlite_disk.specs.declared.Disk.{Ghosts}
 use Rattle.sqlite_store.specs.declared.store.FileStore.{FileStore}
 use Rattle.sqlite.specs.Files.{over_files}
-use Rattle.outbox_core.specs.Box.{Box, HasEntries}
+use Rattle.outbox_core.specs.OutboxParts.{OutboxParts, HasEntries}
 use Rattle.filing_world.specs.World.{Outbox}
 use Rattle.filing_world.specs.Step.{IsAway}
 use Rattle.schedule.specs.Played.{IsLent}
 use Rattle.schedule.proofs.Steps.{named, away_down}
 
 module _ (boxes : List Outbox) (number at : ℕ) (box : Outbox) (is : number ≡ suc at) (here : slice_get boxes at ≡ Some box) where
-  pub lent_at : {D : Type 0} {g : Ghosts D} (result : Option (Bor (Box (FileStore D g)))) → (IsSome result → box.up ≡ true)
+  pub lent_at : {D : Type 0} {g : Ghosts D} (result : Option (Bor (OutboxParts (FileStore D g)))) → (IsSome result → box.up ≡ true)
       → IfSome result (λ it. HasEntries over_files it.now box.entries × (it.now.filer ≡ box.filer)) → IfSome result (λ it. IsLent boxes number it.now)
   lent_at None up keeps = tt
   lent_at (Some it) up keeps = record { box = box; here = named boxes number at box is here; up = up refl; entries = keeps.0; filer = keeps.1 }

@@ -21,6 +21,6 @@ reopen_cause_by refusal.Memory = cause.Memory
 reopen_cause_by refusal.Disk = cause.Reopen
 reopen_cause_by refusal.Other = cause.Reopen
 
--- where a database was not opened: want of memory is told as that alone
+-- where a database was not opened: that memory ran out is told as that alone
 abbrev pub reopen_cause : Error → Cause
 reopen_cause error = reopen_cause_by (cause_of error)

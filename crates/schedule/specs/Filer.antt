@@ -3,7 +3,7 @@ use Rattle.std.specs.Prelude.{◌≡◌, ℕ, Bool, true, false, List}
 use Rattle.sqlite_disk.specs.declared.Disk.{Ghosts}
 use Rattle.sqlite.specs.Files.{over_files}
 use Rattle.filing_model.specs.Outbox.{Entry}
-use Rattle.outbox_core.specs.Box.{HasEntries}
+use Rattle.outbox_core.specs.OutboxParts.{HasEntries}
 use Rattle.outbox_core.specs.Entries.{contents_of}
 use Rattle.outbox_core.specs.Files.{HoldOutbox}
 use Rattle.schedule.specs.declared.filer.OutboxPlace.{OutboxPlace}

@@ -3,7 +3,7 @@ use Rattle.std.specs.Prelude.{◌≡◌, ℕ, ◌+◌, ◌-◌, ◌^◌, ◌⊎�
 use Rattle.sqlite_disk.specs.declared.Disk.{Ghosts}
 use Rattle.sqlite_store.specs.declared.store.FileStore.{FileStore}
 use Rattle.sqlite.specs.Files.{over_files}
-use Rattle.outbox_core.specs.Box.{Box, HasEntries}
+use Rattle.outbox_core.specs.OutboxParts.{OutboxParts, HasEntries}
 use Rattle.filing_model.specs.Request.{Request}
 use Rattle.filing_model.specs.Outbox.{Entry, request_of, bytes_of}
 use Rattle.filing_world.specs.World.{Outbox, Sent, Output, World, Event, numbered}
@@ -61,7 +61,7 @@ pub record IsRequest (box : Outbox) (number : ℕ) (text : List ℕ) : Type 0 wh
   pub bytes : text ≡ bytes_of (request_of box.filer entry)
 
 -- the outbox of this number is up, and this one, with the entries and the filer that it has in the world
-pub record IsLent {D : Type 0} {g : Ghosts D} (boxes : List Outbox) (number : ℕ) (it : Box (FileStore D g)) : Type 0 where
+pub record IsLent {D : Type 0} {g : Ghosts D} (boxes : List Outbox) (number : ℕ) (it : OutboxParts (FileStore D g)) : Type 0 where
   pub box : Outbox
   pub here : numbered boxes number ≡ Some box
   pub up : box.up ≡ true

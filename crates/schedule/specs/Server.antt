@@ -6,7 +6,7 @@ use Rattle.sqlite.specs.Files.{over_files}
 use Rattle.filing_model.specs.Request.{Request}
 use Rattle.register_store.specs.Files.{HoldRegister}
 use Rattle.intake_core.specs.declared.intake.Intake.{Intake}
-use Rattle.intake_core.specs.Held.{Holds, limit_of, early_in}
+use Rattle.intake_core.specs.Held.{HoldsRequests, limit_of, early_in}
 use Rattle.schedule.specs.declared.server.Place.{Place}
 use Rattle.schedule.specs.declared.server.Place.TheVariants.{Up, Down, Gone}
 
@@ -18,7 +18,7 @@ is_up Gone = false
 
 -- It holds these requests, and none of them was kept before there were problem details.
 abbrev pub HoldsNew : {S : Type 0} → database.Ghosts S → Intake S → List Request → Type 0
-HoldsNew g intake F = Holds g intake F × (early_in intake F ≡ [])
+HoldsNew g intake F = HoldsRequests g intake F × (early_in intake F ≡ [])
 
 -- The register has these requests and the intake this limit, or the files hold the register. What a fault took says nothing.
 abbrev pub Keeps : {D : Type 0} {g : Ghosts D} → Place D g → ℕ → List Request → Type 0

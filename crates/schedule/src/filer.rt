@@ -11,7 +11,7 @@ ghost use Rattle.filing_world.specs.Step.{with_entry, Hears, box_after};
 ghost use Rattle.filing_world.specs.Headline.{states_of};
 ghost use Rattle.sqlite.specs.Files.{over_files};
 ghost use Rattle.http_wire.specs.Posting.{IsTarget};
-ghost use Rattle.outbox_core.specs.Box.{HasEntries};
+ghost use Rattle.outbox_core.specs.OutboxParts.{HasEntries};
 ghost use Rattle.outbox_core.specs.Entries.{opened};
 ghost use Rattle.event_script.specs.Events.{view_crash};
 ghost use Rattle.schedule.specs.Listed.{listed};

@@ -11,7 +11,7 @@ ghost use Rattle.filing_world.specs.Headline.{states_of};
 ghost use Rattle.sqlite.specs.Files.{over_files};
 ghost use Rattle.sqlite.specs.Held.{state};
 ghost use Rattle.http_wire.specs.Posting.{IsTarget};
-ghost use Rattle.outbox_core.specs.Box.{contents, HasEntries};
+ghost use Rattle.outbox_core.specs.OutboxParts.{contents, HasEntries};
 ghost use Rattle.outbox_core.specs.Entries.{Contents, opened};
 ghost use Rattle.outbox_core.specs.Files.{HoldOutbox};
 ghost use Rattle.outbox_core.specs.Rows.{IsOutboxOf};

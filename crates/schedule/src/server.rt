@@ -9,7 +9,7 @@ ghost use Rattle.filing_model.specs.Stopping.{BeginsPlaces, ServesUntil};
 ghost use Rattle.filing_model.specs.Text.{completed};
 ghost use Rattle.filing_world.specs.Step.{is_no};
 ghost use Rattle.sqlite.specs.Files.{over_files};
-ghost use Rattle.intake_core.specs.Held.{Holds};
+ghost use Rattle.intake_core.specs.Held.{HoldsRequests};
 ghost use Rattle.gateway_server.specs.Stopping.{view_stop};
 ghost use Rattle.schedule.specs.Server.{Keeps, is_up};
 
@@ -235,7 +235,7 @@ impl<D: Honest> Server<D> {
     /// The intake, where it is up.
     pub(crate) fn intake(&self) -> Option<&Intake<FileStore<D>>>
         ensures lent { IsSome result ↔ (self.now.up ≡ true) }
-        ensures keeps { IfSome result (λ intake. Holds over_files intake.now (firsts self.now.done)) }
+        ensures keeps { IfSome result (λ intake. HoldsRequests over_files intake.now (firsts self.now.done)) }
     {
         match &self.place {
             Place::Up(intake) => Some(intake),

@@ -9,7 +9,7 @@ ghost use Rattle.filing_world.specs.Step.{Step, Run, CannotPlay, IsAway};
 ghost use Rattle.filing_world.specs.Invariant.{AllOwn};
 ghost use Rattle.filing_world.specs.Headline.{AreFilers, Holds, start, states, confirmed};
 ghost use Rattle.sqlite.specs.Files.{over_files};
-ghost use Rattle.intake_core.specs.Held.{Holds as Lends};
+ghost use Rattle.intake_core.specs.Held.{HoldsRequests as Lends};
 ghost use Rattle.schedule.specs.Played.{world_of, next_number, Tells, EndsBy, IsLent};
 ghost use Rattle.schedule.specs.Listed.{view_listed, are_up};
 

@@ -1,5 +1,5 @@
-//! The worked examples of schedules: each plays one script over the public calls, and tells whether what came of it is
-//! what is to come. What may live here: the scripts and what is to come as data, written out by hand, and what plays
+//! The worked examples of schedules: each plays one script over the public calls, and tells whether the result is the
+//! expected one. What may live here: the scripts and the expected results as data, written out by hand, and what plays
 //! them, shows what came of them and compares.
 #![tactic(auto)]
 

@@ -22,7 +22,7 @@ pub fn run(alloc: Global, number: u32) -> Result<bool, AllocError> {
     }
 }
 
-/// A script, and what is to come of it.
+/// A script, and its expected result.
 #[derive(Clone, Copy)]
 struct Scene<'a> {
     script: &'a str,

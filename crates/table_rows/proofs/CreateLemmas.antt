@@ -14,7 +14,7 @@ use Rattle.sqlite.specs.Does.{Tally, lacks_sequence}
 use Rattle.sqlite.specs.State.{State, Writes, Executes}
 use Rattle.sqlite.proofs.Callers.{IsPlain, command_of, runs_as, statement_of}
 use Rattle.sqlite.specs.Listing.{understood}
-use Rattle.table_rows.specs.Rows.{Holds}
+use Rattle.table_rows.specs.Rows.{TableHas}
 use Rattle.table_rows.proofs.PartLemmas.{went, same_value}
 
 -- what a text that creates a table has to be
@@ -57,5 +57,5 @@ creates before text table old new count is plain was h =
     let empty = empty_push first.0.trees before.tables (record table { tree = next_tree before }) old_tables new_table in
     record { schema_is = ap (λ (d : Database). d.schema) now ∙ schema; empty = subst (λ (t : Trees). AreEmpty t (created before table).tables) (sym (ap (λ (d : Database). d.trees) now)) empty }
 
-pub none_held : (table : Table) (old new : Database) → old.trees table.tree ≡ [] → new.trees table.tree ≡ old.trees table.tree → Holds new table []
+pub none_held : (table : Table) (old new : Database) → old.trees table.tree ≡ [] → new.trees table.tree ≡ old.trees table.tree → TableHas new table []
 none_held table old new empty same = rw (same, empty) (IsPermutation-refl [])

@@ -55,7 +55,7 @@ failed_store old new e h is = go h.0 (sym (ap cause_of h.1) ∙ is) h.2
     go Broken same why = cc
     go Unstorable same why = why
 
--- a query over one table and with no parameter is refused for want of memory or by the disk alone
+-- a query over one table and with no parameter is refused by memory or by the disk alone
 module _ (sql : List ℕ) (tree : ℕ) (test columns : List Term) (order : List (Term × Key)) (old new : State) where
   abbrev q : Query
   q = one_table tree test columns order

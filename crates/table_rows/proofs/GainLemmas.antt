@@ -14,7 +14,7 @@ use Rattle.sqlite.specs.Table.{Table}
 use Rattle.sqlite.specs.Effect.{Database}
 use Rattle.sqlite.specs.State.{State, ExecutesInside, Executes}
 use Rattle.table_rows.specs.Tables.{BeginsWith, schema_with}
-use Rattle.table_rows.specs.Rows.{shown, Holds, KeepsOthers, Gains, GainsInside}
+use Rattle.table_rows.specs.Rows.{shown, TableHas, KeepsOthers, Gains, GainsInside}
 use Rattle.table_rows.proofs.InsertLemmas.{Inserted, put_fresh}
 
 -- ---- a value as its column takes it
@@ -98,11 +98,11 @@ module _ (ours : List Table) (table : Table) where
         others = others_then table ours a b c p.others q.others;
       }
 
-  pub holds_more : (had rows : List Row) (old new : Database) → Holds old table had → Gains ours table rows old new → Holds new table (had ++ rows)
+  pub holds_more : (had rows : List Row) (old new : Database) → TableHas old table had → Gains ours table rows old new → TableHas new table (had ++ rows)
   holds_more had rows old new h g =
       IsPermutation-trans _ _ _ (IsPermutation-append_comm had rows) (IsPermutation-trans _ _ _ (IsPermutation-append_right rows _ _ h) g.gained)
 
-pub same_rows : (table : Table) (rows : List Row) (old new : Database) → new.trees table.tree ≡ old.trees table.tree → Holds old table rows → Holds new table rows
+pub same_rows : (table : Table) (rows : List Row) (old new : Database) → new.trees table.tree ≡ old.trees table.tree → TableHas old table rows → TableHas new table rows
 same_rows table rows old new same h = subst (λ all. IsPermutation rows (map (shown table) all)) (sym same) h
 
 pub still_declared : (ours : List Table) (old new : Database) → new.schema ≡ old.schema → BeginsWith ours old.schema → BeginsWith ours new.schema

@@ -12,7 +12,7 @@ use Rattle.sqlite.specs.Listing.{understood, reads_listing}
 use Rattle.sqlite.specs.State.{State, IsUnchanged, Shown, FailsToQuery, QueriesRow}
 use Rattle.sqlite.proofs.Callers.{IsPlain, command_of, reads_as, first_as}
 use Rattle.table_rows.specs.Rows.{row_or_none}
-use Rattle.table_rows.specs.Standing.{Stands}
+use Rattle.table_rows.specs.Standing.{HasCommitted}
 use Rattle.table_rows.proofs.StandLemmas.{stands_on, shown_keeps, failure_keeps, row_found, row_keeps, failed_with_rows}
 
 -- under this schema the text is this query, which writes nothing
@@ -27,7 +27,7 @@ pub record Tells (Is : Database → Type 0) (q : Query) (params : Row) (db : Dat
   pub stood : Is db
   pub answer : IsSureAnswer q (overlay db.trees []) params rows
 
-module _ (Is : Database → Type 0) (sql : List ℕ) (q : Query) (asks : (db : Database) → Is db → Asks db.schema sql q) (params : Row) (old new : State) (was : Stands Is old) where
+module _ (Is : Database → Type 0) (sql : List ℕ) (q : Query) (asks : (db : Database) → Is db → Asks db.schema sql q) (params : Row) (old new : State) (was : HasCommitted Is old) where
   known : IsTrue old.is_open → IsPlain (understood old.now.schema sql)
   known alive = (asks old.now (was.now alive)).plain
 
@@ -40,10 +40,10 @@ module _ (Is : Database → Type 0) (sql : List ℕ) (q : Query) (asks : (db : D
       let it = asks old.now stood in
       record { stood = stood; answer = (reads_as sql params old new old.now.schema refl _ it.is it.plain it.listing rows h).answer }
 
-  pub shown_stands : (rows : List Row) → Shown sql params old new rows → Stands Is new
+  pub shown_stands : (rows : List Row) → Shown sql params old new rows → HasCommitted Is new
   shown_stands rows h = stands_on Is old new (inl (shown_same rows h)) was
 
-  pub failed_stands : (e : Error) → FailsToQuery sql params old new e → Stands Is new
+  pub failed_stands : (e : Error) → FailsToQuery sql params old new e → HasCommitted Is new
   failed_stands e h = stands_on Is old new (failure_keeps sql params old new known e h) was
 
   -- the first row is that of an answer, and where there is none an answer has no row
@@ -65,5 +65,5 @@ module _ (Is : Database → Type 0) (sql : List ℕ) (q : Query) (asks : (db : D
   first_same (Ok None) (inr none) = shown_same [] none.1
   first_same (Err e) h = tt
 
-  pub first_stands : (r : Result (Option Row) Error) → QueriesRow sql params old new (row_or_none r) → Stands Is new
+  pub first_stands : (r : Result (Option Row) Error) → QueriesRow sql params old new (row_or_none r) → HasCommitted Is new
   first_stands r h = stands_on Is old new (row_keeps sql params old new known _ h) was

@@ -15,9 +15,9 @@ use Rattle.sqlite.specs.Command.TheVariants.{Select, Rows}
 use Rattle.sqlite.specs.Listing.{understood}
 use Rattle.sqlite.specs.State.{State, IsStatement, IsNoStatement, IsUnchanged, RunsCommand, ShowsRows, FailsToShow, FailsToQuery, IsNotRun, Shown, QueriesRow, store_error}
 use Rattle.sqlite.proofs.Callers.{IsPlain}
-use Rattle.table_rows.specs.Standing.{Stands, Keeps}
+use Rattle.table_rows.specs.Standing.{HasCommitted, Keeps}
 
-pub stands_on : (Is : Database → Type 0) (old new : State) → Keeps old new → Stands Is old → Stands Is new
+pub stands_on : (Is : Database → Type 0) (old new : State) → Keeps old new → HasCommitted Is old → HasCommitted Is new
 stands_on Is old new (inl same) was = record {
   autocommit = same.0.mode ∙ was.autocommit;
   now = λ alive. subst Is (sym same.0.now_is) (was.now same.0.was_open);
@@ -99,5 +99,5 @@ module _ (sql : List ℕ) (params : Row) (old new : State) (plain : IsTrue old.i
   failed_with_rows (inr h) = shows_errors h.0 h.1 (timed params h.0.formats h.1.now) h.0.returning refl h.2
 
 -- what a crash leaves of an open store are the rows that it shows
-pub lasting : (Is : Database → Type 0) (s : State) → Stands Is s → IsTrue s.is_open → (trees : Trees) → trees ≡ s.committed.trees → trees ≡ s.now.trees
+pub lasting : (Is : Database → Type 0) (s : State) → HasCommitted Is s → IsTrue s.is_open → (trees : Trees) → trees ≡ s.committed.trees → trees ≡ s.now.trees
 lasting Is s h alive trees last = last ∙ ap (λ (d : Database). d.trees) (h.committed alive)

@@ -7,7 +7,7 @@ use Rattle.sqlite.specs.Table.{Table}
 use Rattle.sqlite.specs.Effect.{Database}
 use Rattle.sqlite_keyed.proofs.ListLemmas.{IsPermutation-filter}
 use Rattle.table_rows.specs.Picking.{rows_in, CountsTo, Finds, HasLeft}
-use Rattle.table_rows.specs.Rows.{Holds}
+use Rattle.table_rows.specs.Rows.{TableHas}
 
 pub take_out : (p : Row → Bool) (all taken group rest : List Row) → IsPermutation (taken ++ rest) all → filter p taken ≡ [] → IsPermutation (filter p all) group
     → (more : List Row) × IsPermutation ((taken ++ group) ++ more) all × (length rest ≡ length more + length group)
@@ -39,7 +39,7 @@ module _ (table : Table) (db : Database) where
   none_taken n many = record { rest = rows_in db table; all = IsPermutation-refl (rows_in db table); many = sym many }
 
   -- where none is left, the table has these rows
-  pub all_taken : (rows : List Row) → HasLeft table rows 0 db → Holds db table rows
+  pub all_taken : (rows : List Row) → HasLeft table rows 0 db → TableHas db table rows
   all_taken rows left = go left.rest left.all left.many
     where
       go : (rest : List Row) → IsPermutation (rows ++ rest) (rows_in db table) → length rest ≡ 0 → IsPermutation rows (rows_in db table)

@@ -13,7 +13,7 @@ use Rattle.sqlite.specs.declared.error.Error.{Error}
 use Rattle.sqlite_resolve.specs.declared.compiled.Compiled.{Compiled}
 use Rattle.sqlite_resolve.specs.declared.error.CompileError.{CompileError}
 use Rattle.sqlite.proofs.Callers.{IsPlain, command_of, statement_of, runs_as}
-use Rattle.table_rows.specs.Standing.{Stands, Keeps}
+use Rattle.table_rows.specs.Standing.{HasCommitted, Keeps}
 use Rattle.table_rows.proofs.StandLemmas.{run_keeps, stands_on}
 
 -- what the command makes of this database is one like that
@@ -25,10 +25,10 @@ LeadsTo s text params command After =
 abbrev pub EndsNone : Command → Type 0
 EndsNone command = (k : Command) → k ≡ command → (k ≡ Commit → ⊥) × ((name : List ℕ) → k ≡ Release name → ⊥)
 
-module _ (Is After : Database → Type 0) (sql : List ℕ) (params : Row) (command : Command) (old new : State) (was : Stands Is old) (is : command_of (understood old.now.schema sql) ≡ command)
+module _ (Is After : Database → Type 0) (sql : List ℕ) (params : Row) (command : Command) (old new : State) (was : HasCommitted Is old) (is : command_of (understood old.now.schema sql) ≡ command)
     (plain : IsPlain (understood old.now.schema sql)) (leads : LeadsTo old (statement_of sql (understood old.now.schema sql)) params command After) where
   pub written_stands : (count : ℕ) → ((text : List ℕ) → Runs old new None command text params count → Writes old new None command text params count) → Executes sql params old new (Ok count)
-      → Stands After new × IsTrue new.is_open
+      → HasCommitted After new × IsTrue new.is_open
   written_stands count writes h =
       let w = writes _ (runs_as sql params old new old.now.schema refl command is plain count h) in
       let stored = leads w.tally new.now w.changed w.sound in (
@@ -59,6 +59,6 @@ module _ (sql : List ℕ) (params : Row) (old new : State) where
   refused_keeps e (inl (inr failed)) = inr failed.3
   refused_keeps e (inr h) = elim (cases_Bool (shows_rows false h.0)) [ inl shows ↦ inl (rw shows at h.2).1 | inr runs ↦ run_keeps sql old new h.0 _ e (rw runs at h.2) ]
 
-  pub refused_stands : (Is : Database → Type 0) → Stands Is old → (r : Result ℕ Error) → Executes sql params old new r → OnErr r (Stands Is new)
+  pub refused_stands : (Is : Database → Type 0) → HasCommitted Is old → (r : Result ℕ Error) → Executes sql params old new r → OnErr r (HasCommitted Is new)
   refused_stands Is was (Ok count) h = tt
   refused_stands Is was (Err e) h = stands_on Is old new (refused_keeps e h) was

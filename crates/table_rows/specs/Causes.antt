@@ -5,7 +5,7 @@ use Rattle.sqlite.specs.declared.error.ErrorCode.TheVariants.{OutOfMemory, Syste
 use Rattle.table_rows.specs.declared.cause.Cause.{Cause}
 use Rattle.table_rows.specs.declared.cause.Cause.TheVariants.{Memory, Disk, Other}
 
--- want of memory is told as that alone, and a fault of the disk as a fault of the disk
+-- that memory ran out is told as that alone, and a fault of the disk as a fault of the disk
 abbrev pub cause_of : Error → Cause
 cause_of (SqliteFailure OutOfMemory) = Memory
 cause_of (SqliteFailure SystemIoFailure) = Disk

@@ -8,7 +8,7 @@ use Rattle.sqlite.specs.Order.{Row}
 use Rattle.sqlite.specs.Table.{Table}
 use Rattle.sqlite.specs.State.{State, IsUnchanged}
 use Rattle.sqlite_trees.specs.Tree.{IsAscending}
-use Rattle.table_rows.specs.Rows.{Holds}
+use Rattle.table_rows.specs.Rows.{TableHas}
 
 -- what ORDER BY a column says
 abbrev pub ascending : Key
@@ -22,5 +22,5 @@ RisesBy sort = IsAscending (λ a b. key_cmp 0 (map (λ _. ascending) (sort a)) (
 -- that has no ties; nothing was written
 pub record ReadsRows (table : Table) (keep : Row → Bool) (sort show : Row → Row) (rows : List Row) (old new : State) : Type 0 where
   pub same : IsUnchanged old new
-  pub any : (wanted : List Row) → Holds old.now table wanted → IsPermutation (map show (filter keep wanted)) rows
-  pub ordered : (wanted : List Row) → Holds old.now table wanted → RisesBy sort (filter keep wanted) → rows ≡ map show (filter keep wanted)
+  pub any : (wanted : List Row) → TableHas old.now table wanted → IsPermutation (map show (filter keep wanted)) rows
+  pub ordered : (wanted : List Row) → TableHas old.now table wanted → RisesBy sort (filter keep wanted) → rows ≡ map show (filter keep wanted)

@@ -15,8 +15,8 @@ abbrev pub shown : Table → Row → Row
 shown table row = map (λ at. column row (place_of table at)) (range_with_len 0 (length table.columns))
 
 -- the table has these rows, each once and in any order
-abbrev pub Holds : Database → Table → List Row → Type 0
-Holds db table rows = IsPermutation rows (map (shown table) (db.trees table.tree))
+abbrev pub TableHas : Database → Table → List Row → Type 0
+TableHas db table rows = IsPermutation rows (map (shown table) (db.trees table.tree))
 
 -- each of our tables beside this one has the rows that it had
 abbrev pub KeepsOthers : List Table → Table → Database → Database → Type 0

@@ -2,10 +2,11 @@
 use Rattle.std.specs.Prelude.{◌≡◌, ◌⊎◌, false, IsTrue}
 use Rattle.sqlite.specs.Tree.{Trees}
 use Rattle.sqlite.specs.Effect.{Database}
-use Rattle.sqlite.specs.State.{State, IsUnchanged, IsRolledBack}
+use Rattle.sqlite.specs.Held.{Held}
+use Rattle.sqlite.specs.State.{State, IsUnchanged, IsRolledBack, Survives}
 
 -- no transaction is under way, and while the store is open the database is such a one, committed as it is
-pub record Stands (Is : Database → Type 0) (s : State) : Type 0 where
+pub record HasCommitted (Is : Database → Type 0) (s : State) : Type 0 where
   pub autocommit : s.in_transaction ≡ false
   pub now : IsTrue s.is_open → Is s.now
   pub committed : IsTrue s.is_open → s.committed ≡ s.now
@@ -16,4 +17,12 @@ Keeps old new = IsUnchanged old new ⊎ IsRolledBack old new
 
 -- what a call may commit, by what its database was
 abbrev pub Commits : {X : Type 0} → (X → Database → Type 0) → State → (X → Trees → Type 0) → Trees → Type 0
-Commits {X} Is s After trees = (x : X) → Stands (Is x) s → IsTrue s.is_open → After x trees
+Commits {X} Is s After trees = (x : X) → HasCommitted (Is x) s → IsTrue s.is_open → After x trees
+
+-- nothing was committed: a crash inside the call leaves what one before it could leave
+abbrev pub CommitsNothing : State → State → Type 0
+CommitsNothing old new = Survives old new (λ _. ⊥)
+
+-- between transactions before the call, and so after it
+abbrev pub StaysAutocommit : {S : Type 0} → Held S → Held S → Type 0
+StaysAutocommit old new = old.in_transaction ≡ false → new.in_transaction ≡ false

@@ -1,10 +1,10 @@
 //! The first row of a query.
 
-ghost use Rattle.std.specs.Prelude.{◌≡◌, false};
 ghost use Rattle.sqlite.specs.Held.{state};
 ghost use Rattle.sqlite.specs.State.{CommitsShowing, HasCleanDisk, QueriesRow, Survives};
 ghost use Rattle.sqlite.specs.Values.{bound};
 ghost use Rattle.table_rows.specs.Rows.{row_or_none};
+ghost use Rattle.table_rows.specs.Standing.{StaysAutocommit};
 
 use sqlite::types::ValueRef;
 use sqlite::{Alter, Connection, Error, Row};
@@ -17,7 +17,7 @@ pub fn first_row<S: Alter>(
 ) -> Result<Option<Row>, Error>
     ensures row { HasCleanDisk (state S.Store conn.new)
         → QueriesRow sql.now (bound params.now) (state S.Store conn.old) (state S.Store conn.new) (row_or_none result) }
-    ensures mode { conn.old.in_transaction ≡ false → conn.new.in_transaction ≡ false }
+    ensures mode { StaysAutocommit conn.old conn.new }
     ensures survives { Survives (state S.Store conn.old) (state S.Store conn.new)
         (CommitsShowing sql.now (bound params.now) (state S.Store conn.old)) }
 {

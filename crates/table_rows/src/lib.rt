@@ -1,6 +1,6 @@
 //! What one statement on one table does, said of rows as `SELECT *` shows them. What may live here: the
 //! refusals of `sqlite` by their cause, the first row of a query, a count of rows, and what holds of every table that a
-//! store declares. No table, no text and no meaning of a row is known here.
+//! store declares. It knows no table of ours, no text of SQL and no meaning of a row.
 #![tactic(auto)]
 
 mod cause;

@@ -9,7 +9,7 @@ use sqlite::{Alter, MemStore};
 use std::alloc::Global;
 use std::io::{self, Read, Write};
 
-/// What is given to an intake on one connection, and what is to come of it.
+/// What is given to an intake on one connection, and the expected result.
 #[derive(Clone, Copy)]
 pub(crate) struct Connection<'a> {
     pub(crate) given: &'a [u8],
@@ -111,7 +111,7 @@ impl Connection<'_> {
         self.is_so(&served, &output)
     }
 
-    /// Whether this came of it. A writer in memory fails for want of memory alone.
+    /// Whether this came of it. A writer in memory fails where memory runs out, and for nothing else.
     pub(crate) fn is_so(&self, served: &Served, output: &[u8]) -> Result<bool, Stop> {
         match served.ended {
             Ended::Fault(ConnFault::Memory | ConnFault::Write { .. }) => Err(Stop::Memory),

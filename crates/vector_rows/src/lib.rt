@@ -1,5 +1,5 @@
-//! The worked examples of the protocol: each runs one example over the public calls, and tells whether what came is
-//! what is to come. What may live here: the examples as data, written out by hand, and what runs and compares them.
+//! The worked examples of the protocol: each runs one example over the public calls, and tells whether the result is
+//! the expected one. What may live here: the examples as data, written out by hand, and what runs and compares them.
 #![tactic(auto)]
 
 mod amendments;

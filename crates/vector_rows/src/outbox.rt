@@ -263,7 +263,7 @@ fn exchanged<S: Alter>(
     )
 }
 
-/// How an exchange was refused, if it was. A writer in memory fails for want of memory alone.
+/// How an exchange was refused, if it was. A writer in memory fails where memory runs out, and for nothing else.
 fn fault_of(outcome: Result<State, ExchangeFault>) -> Result<Option<ExchangeFault>, Stop> {
     match outcome {
         Ok(_) => Ok(None),

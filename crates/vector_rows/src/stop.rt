@@ -142,7 +142,7 @@ impl From<outbox_core::TakeFault> for Stop {
     }
 }
 
-/// How a call was refused, if it was; `Err` for want of memory.
+/// How a call was refused, if it was; `Err` where memory ran out.
 pub(crate) fn refusal<T: Drop, F: Copy + Into<Stop>>(
     outcome: Result<T, F>,
 ) -> Result<Option<F>, Stop> {

@@ -46,7 +46,7 @@ fn room(alloc: Global) -> Result<Vec<u8>, AllocError> {
     }
 }
 
-/// Whether a request that was refused for want of memory was told so, or nothing.
+/// Whether a request that was refused because memory ran out was told so, or nothing.
 fn is_told(served: &Served, output: &[u8]) -> bool {
     match served.ended {
         Ended::InputEnded => output == UNAVAILABLE.as_bytes(),

@@ -1,4 +1,4 @@
-//! The life of an entry, where each call is made again that was refused for want of memory: the entries are those of
+//! The life of an entry, where each call is made again that was refused because memory ran out: the entries are those of
 //! before, and the second answer is that of ample memory. Run it with each allocation refused too, one in a run.
 
 use super::{BODY, calls};

@@ -190,7 +190,7 @@ fn is_free<S: Alter>(store: &mut Store<S>, number: u64) -> Result<bool, StoreFau
     }
 }
 
-/// Whether the filing is replaced once, where each call is made again that was refused for want of memory.
+/// Whether the filing is replaced once, where each call is made again that was refused because memory ran out.
 fn survives_refusals<S: Fresh>(alloc: Global) -> Result<bool, Fail> {
     let store: Store<S> = with_one(alloc)?;
     let mut intake = Intake::new(alloc, store, 10);

@@ -1,4 +1,4 @@
-//! The calls that the tests make, each in a function of its own that has no clause: what calls it carries none of theirs.
+//! The calls that the tests make, each in a function of its own that has no clause: what calls it carries no clause of the call's.
 
 use crate::databases::ready;
 use crate::targets::first_if;

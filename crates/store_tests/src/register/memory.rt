@@ -1,4 +1,4 @@
-//! The life of a register, where each call is made again that was refused for want of memory: what is kept is that of
+//! The life of a register, where each call is made again that was refused because memory ran out: what is kept is that of
 //! before, and the second answer is that of ample memory. Run it with each allocation refused too, one in a run.
 
 use super::REPORT;

@@ -3,10 +3,10 @@ use Rattle.std.proofs.KnownBytes.{Appends-nil}
 use Rattle.sqlite.specs.State.{HasCleanDisk}
 use Rattle.sqlite.proofs.StateLemmas.{survives_then}
 use Rattle.filing_model.specs.Outbox.{Entry, moved}
-use Rattle.outbox_core.specs.Box.{shows}
+use Rattle.outbox_core.specs.OutboxParts.{shows}
 use Rattle.outbox_core.specs.Entries.{contents_of, entry_at, set_state}
 use Rattle.outbox_core.specs.Reading.{view_state}
-use Rattle.outbox_core.specs.Rows.{Leaves}
+use Rattle.outbox_core.specs.Rows.{LeavesOutbox}
 use Rattle.filer_client.specs.Exchange.{Hears}
 use Rattle.filer_client.proofs.Settled.{set_settled}
 use Rattle.filer_client.proofs.client.exchange.Goals as goal
@@ -34,6 +34,6 @@ returns-in_ok-map_err-in-Request-clause-crash g c =
     let stands = c.open_request.ensures.kept early entries had in
     let still = (c.in_ok-text.ensures.durable early entries had).0 in
     subst (λ (filer : List ℕ). Hears (g.R.Source.left c.args.reader.now) (g.R.Source.left c.hand_over.new.reader)
-    (λ reply. (e : Entry) × (entry_at entries c.args.id ≡ Some e) × Leaves (contents_of filer (set_state entries c.args.id (moved e.state reply))) trees))
+    (λ reply. (e : Entry) × (entry_at entries c.args.id ≡ Some e) × LeavesOutbox (contents_of filer (set_state entries c.args.id (moved e.state reply))) trees))
     c.open_request.ensures.filer (moves entries stands still))
     c.open_request.ensures.crash c.hand_over.ensures.crash

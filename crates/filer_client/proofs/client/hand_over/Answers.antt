@@ -1,6 +1,6 @@
 use Rattle.sqlite.proofs.StateLemmas.{survives_weaker}
 use Rattle.http_wire.specs.Replies.{reply_parts}
-use Rattle.outbox_core.specs.Box.{shows}
+use Rattle.outbox_core.specs.OutboxParts.{shows}
 use Rattle.filer_client.proofs.client.hand_over.Goals as goal
 
 pub returns-clause-crash : goal.returns-clause-crash

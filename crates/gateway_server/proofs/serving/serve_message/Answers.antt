@@ -13,7 +13,7 @@ use Rattle.gateway_server.specs.Route.{view_message}
 use Rattle.gateway_server.specs.Stopping.{IsBefore, IsStoppedAfter, view_stop}
 use Rattle.gateway_server.proofs.Lent.{lent_is, body_short}
 use Rattle.gateway_server.proofs.Stopping.{IsCountAt-next}
-use Rattle.gateway_server.proofs.Turns.{message_before, message_unmarked, message_replied}
+use Rattle.gateway_server.proofs.Transitions.{message_before, message_unmarked, message_replied}
 use Rattle.gateway_server.proofs.serving.serve_message.Goals as goal
 
 pub mark-requires : goal.mark-requires

@@ -2,7 +2,7 @@ use Rattle.std.proofs.Common.{◌+◌, ◌∙◌, subst}
 use Rattle.http_wire.specs.Message.{Refused}
 use Rattle.filing_model.specs.Text.{reply_text_with}
 use Rattle.gateway_server.specs.Stopping.{IsBefore, IsStoppedAfter, view_stop}
-use Rattle.gateway_server.proofs.Turns.{refusal_before, refusal_unmarked, refusal_replied}
+use Rattle.gateway_server.proofs.Transitions.{refusal_before, refusal_unmarked, refusal_replied}
 use Rattle.gateway_server.proofs.serving.serve_refusal.Goals as goal
 
 pub returns-then-is_before-clause-serves : goal.returns-then-is_before-clause-serves

@@ -6,7 +6,7 @@ use Rattle.http_wire.specs.Calls.{HoldsPlace, WritesUpTo, IsFault}
 use Rattle.http_wire.specs.Head.{IsHeadFault}
 use Rattle.http_wire.specs.Received.{held_bytes, read_count}
 use Rattle.http_wire.proofs.DeviceLemmas.{Appends-nil}
-use Rattle.http_wire.proofs.FoundLemmas.{Asks-unended, WritesUpTo-read, IsFault-read, HoldsPlace-ended}
+use Rattle.http_wire.proofs.NextPlaceLemmas.{Asks-unended, WritesUpTo-read, IsFault-read, HoldsPlace-ended}
 use Rattle.http_wire.proofs.ReceivedLemmas.{Receives-join, ReceivesNothing-join}
 use Rattle.http_wire.proofs.place.find_place.Goals as goal
 

@@ -1,10 +1,10 @@
 use Rattle.std.proofs.Common.{◌<◌, ◌≤◌, length, subst, refl, arith, rules}
 use Rattle.std.specs.Io.KnownBytes.{Appends}
 use Rattle.http_wire.specs.Calls.{HoldsPlace, interim_if}
-use Rattle.http_wire.specs.Found.{framing_awaits}
+use Rattle.http_wire.specs.NextPlace.{framing_awaits}
 use Rattle.http_wire.specs.Parsed.{parsed_end}
 use Rattle.http_wire.specs.Received.{held_bytes, read_count}
-use Rattle.http_wire.proofs.FoundLemmas.{IsHeadOf-within, IsHeadOf-read, IsParsed-whole, IsRest-cut, HoldsPlace-whole, Asks-framing, awaits-framing, WritesUpTo-read, IsFault-read, IsFault-send}
+use Rattle.http_wire.proofs.NextPlaceLemmas.{IsHeadOf-within, IsHeadOf-read, IsParsed-whole, IsRest-cut, HoldsPlace-whole, Asks-framing, awaits-framing, WritesUpTo-read, IsFault-read, IsFault-send}
 use Rattle.http_wire.proofs.ReceivedLemmas.{Receives-nil}
 use Rattle.http_wire.proofs.place.read_request.Goals as goal
 

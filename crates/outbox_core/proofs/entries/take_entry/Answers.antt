@@ -7,7 +7,7 @@ use Rattle.table_rows.proofs.ResultLemmas.{if_ok}
 use Rattle.filing_model.specs.Outbox.{moved}
 use Rattle.outbox_core.specs.Entries.{entry_at, with_state}
 use Rattle.outbox_core.specs.Reading.{view_state}
-use Rattle.outbox_core.specs.Rows.{Leaves}
+use Rattle.outbox_core.specs.Rows.{LeavesOutbox}
 use Rattle.outbox_core.proofs.ReadLemmas.{moved_read, none_there, entry_read}
 use Rattle.outbox_core.proofs.entries.take_entry.Goals as goal
 
@@ -34,7 +34,7 @@ returns-in-Ok-Some-clause-crash g c =
     let early : HasCleanDisk mid = omega (arith, c.move_entry.ensures.crash.clean) in
     let o = entry_at it.entries c.args.id in
     let at = sym (rw c.in-Ok-Some.field-0-is at (c.in-Ok-Some.ensures.found early it was)) in
-    entry_read o (view_state c.in-Ok-Some.from) (λ s. Leaves (with_state it c.args.id (moved s (reply_parts c.args.reply.now))) trees) at
+    entry_read o (view_state c.in-Ok-Some.from) (λ s. LeavesOutbox (with_state it c.args.id (moved s (reply_parts c.args.reply.now))) trees) at
     (h it (c.in-Ok-Some.ensures.kept early it was) (c.in-Ok-Some.ensures.open early it was) at))
     c.state_of_entry.ensures.crash c.move_entry.ensures.crash
 

@@ -3,7 +3,7 @@ use Rattle.std.proofs.lemmas.Result.{IfOk-weaker}
 use Rattle.std.proofs.lemmas.List.Sorted.{IsPermutation-sym, IsPermutation-trans}
 use Rattle.sqlite.specs.Effect.{Database}
 use Rattle.sqlite.proofs.Callers.{unchanged_then}
-use Rattle.table_rows.specs.Rows.{Holds}
+use Rattle.table_rows.specs.Rows.{TableHas}
 use Rattle.outbox_core.specs.Schema.{HasCommon, entry_table}
 use Rattle.outbox_core.specs.Rows.{IsOutboxOf, entry_rows}
 use Rattle.outbox_core.proofs.AuditLemmas.{targets_paired}
@@ -32,7 +32,7 @@ returns-in-Ok-clause-counted g c clean declared =
     let common : HasCommon (state g.S.Store c.read_targets.new.conn).now.schema = subst (λ (d : Database). HasCommon d.schema) (sym same) (has_common _ declared) in
     IfOk-weaker c.count_entries.result _ _ (λ count found. (
       found.0,
-      subst (λ (d : Database). Holds d entry_table (entry_rows found.0)) same found.1,
+      subst (λ (d : Database). TableHas d entry_table (entry_rows found.0)) same found.1,
       IsPermutation-trans _ _ _ (rw c.as_slice.ensures.value at found.2) held.0,
       found.3,
       found.4,

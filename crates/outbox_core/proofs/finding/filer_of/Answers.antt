@@ -1,7 +1,7 @@
 use Rattle.std.proofs.Common.{◌≡◌, [], ◌∷◌, true, None, Some, option_map, sym, ap, subst, ◌∙◌}
 use Rattle.sqlite.specs.Held.{state}
 use Rattle.key_string.specs.Filer.{is_filer}
-use Rattle.table_rows.specs.Rows.{Holds}
+use Rattle.table_rows.specs.Rows.{TableHas}
 use Rattle.outbox_core.specs.Schema.{meta_table}
 use Rattle.outbox_core.specs.Rows.{form_row}
 use Rattle.outbox_core.specs.Audit.{filer_in}
@@ -17,7 +17,7 @@ returns-in-Some-clause-found g c clean declared =
     let some : filer_in c.args.form c.in-Ok.rows.items ≡ Some c.in-Some.filer.now = rw c.as_slice.ensures.value at (sym c.filer_in.ensures ∙ ap (option_map (λ f. f.now)) c.in-Some.is) in
     let found = filer_found db c.args.form c.in-Ok.rows.items c.in-Some.filer.now held.0 some in
     let name = c.in_ok-from_str-in-Some.ensures.ok in
-    (subst (λ f. Holds db meta_table (form_row c.args.form f ∷ [])) (sym name) found.0, subst (λ f. is_filer f ≡ true) (sym name) found.1, held.1)
+    (subst (λ f. TableHas db meta_table (form_row c.args.form f ∷ [])) (sym name) found.0, subst (λ f. is_filer f ≡ true) (sym name) found.1, held.1)
 
 pub returns-in-Some-clause-code : goal.returns-in-Some-clause-code
 returns-in-Some-clause-code g c =

@@ -2,8 +2,8 @@ use Rattle.std.proofs.Common.{inl, not, Err, IsTrue, sym, ap, subst, ◌∙◌, 
 use Rattle.sqlite.specs.Held.{state}
 use Rattle.sqlite.specs.Effect.{Database, IsDatabase}
 use Rattle.sqlite.specs.State.{HasCleanDisk}
-use Rattle.table_rows.specs.Rows.{Holds}
-use Rattle.table_rows.specs.Standing.{Stands}
+use Rattle.table_rows.specs.Rows.{TableHas}
+use Rattle.table_rows.specs.Standing.{HasCommitted}
 use Rattle.table_rows.proofs.StandLemmas.{stands_on}
 use Rattle.table_rows.proofs.StepLemmas.{keeps_then, nothing_left}
 use Rattle.outbox_core.specs.Schema.{IsDeclared, entry_table, target_table}
@@ -27,15 +27,15 @@ returns-in-Ok-count_all-clause-found g c clean declared =
     let two = c.in-Ok-count_all.ensures.counted clean still in
     let it = contents_of (string_bytes c.in-Ok.filer) two.0 in
     let sound : IsDatabase old.now = (c.is_settled.ensures.live same.0.was_open).0 in
-    let entries = subst (λ (d : Database). Holds d entry_table (entry_rows two.0)) same.0.now_is two.1 in
-    let targets = subst (λ (d : Database). Holds d target_table (target_rows two.0)) same.0.now_is two.2 in
+    let entries = subst (λ (d : Database). TableHas d entry_table (entry_rows two.0)) same.0.now_is two.1 in
+    let targets = subst (λ (d : Database). TableHas d target_table (target_rows two.0)) same.0.now_is two.2 in
     let here : IsOutboxOf it old.now = record {
       sound = sound;
       rows = record { declared = declared; meta_is = one.0; entries_are = entries; targets_are = targets };
       list = kept_list (string_bytes c.in-Ok.filer) two.0 one.1 two.3 (distinct_held old.now two.0 sound (has_common _ declared) entries);
     } in
     let settled : IsTrue c.is_settled.result = c.is_settled.ensures.value ∙ ap not c.requires.autocommit in
-    let stood : Stands (IsOutboxOf it) old = record { autocommit = c.requires.autocommit; now = λ _. here; committed = λ alive. sym (c.is_settled.ensures.settled settled alive) } in
+    let stood : HasCommitted (IsOutboxOf it) old = record { autocommit = c.requires.autocommit; now = λ _. here; committed = λ alive. sym (c.is_settled.ensures.settled settled alive) } in
     (two.0, here, stands_on (IsOutboxOf it) mid new (inl two.5) (stands_on (IsOutboxOf it) old mid (inl same) stood), two.4)
 
 pub returns-in-Err-count_all-clause-refused : goal.returns-in-Err-count_all-clause-refused

@@ -4,7 +4,7 @@ use Rattle.sqlite.specs.Effect.{Database}
 use Rattle.sqlite.specs.State.{HasCleanDisk}
 use Rattle.sqlite.proofs.Callers.{unchanged_then}
 use Rattle.std.proofs.lemmas.List.Sorted.{IsPermutation-refl}
-use Rattle.table_rows.specs.Rows.{Holds}
+use Rattle.table_rows.specs.Rows.{TableHas}
 use Rattle.outbox_core.specs.Schema.{HasCommon, entry_table}
 use Rattle.outbox_core.specs.Rows.{entry_rows}
 use Rattle.outbox_core.proofs.ListLemmas.{kept_list}
@@ -22,7 +22,7 @@ returns-in-Ok-count_whole-clause-found g c clean common live =
     let sound = live same.0.was_open in
     let still : HasCommon (state g.S.Store c.filer_of.new.conn).now.schema = subst (λ (d : Database). HasCommon d.schema) (sym same.0.now_is) common in
     let two = c.in-Ok-count_whole.ensures.counted clean still tt in
-    let entries = subst (λ (d : Database). Holds d entry_table (entry_rows two.0)) same.0.now_is two.1 in (
+    let entries = subst (λ (d : Database). TableHas d entry_table (entry_rows two.0)) same.0.now_is two.1 in (
       two.0,
       record {
         sound = sound;
@@ -54,6 +54,6 @@ returns-in-Err-count_whole-clause-sound g c clean it is unlimited =
     let early : HasCleanDisk (state g.S.Store c.filer_of.new.conn) = c.in-Err-count_whole.ensures.clean clean in
     let same = (c.in-Ok.ensures.found early is.declared).2.0.now_is in
     let still : HasCommon (state g.S.Store c.filer_of.new.conn).now.schema = subst (λ (d : Database). HasCommon d.schema) (sym same) is.declared in
-    let entries = subst (λ (d : Database). Holds d entry_table (entry_rows it.entries)) (sym same) is.entries_are in
+    let entries = subst (λ (d : Database). TableHas d entry_table (entry_rows it.entries)) (sym same) is.entries_are in
     let none : IsPermutation _ [] = subst (λ rows. IsPermutation rows []) (sym (no_targets it.entries is.untargeted)) (IsPermutation-refl []) in
     c.in-Err-count_whole.ensures.whole clean it.entries still entries (kept_entries it is.list) none (c.filer_of.ensures.limit ∙ unlimited)

@@ -7,7 +7,7 @@ use Rattle.sqlite.specs.State.{State, HasCleanDisk, KeepsCommit, Survives}
 use Rattle.sqlite.proofs.StateLemmas.{survives_then}
 use Rattle.sqlite.proofs.Callers.{survives_begin}
 use Rattle.outbox_core.specs.Entries.{Contents}
-use Rattle.outbox_core.specs.Rows.{IsOutboxOf, Leaves}
+use Rattle.outbox_core.specs.Rows.{IsOutboxOf, LeavesOutbox}
 use Rattle.outbox_core.specs.Earlier.{IsAlone, IsEarlierOf, Raises}
 use Rattle.outbox_core.proofs.MakeLemmas.{begun_keeps, commit_keeps}
 use Rattle.outbox_core.proofs.EarlierLemmas.{makes_current}
@@ -41,7 +41,7 @@ returns-clause-committed g c clean =
     here) (c.commit.ensures.ok late)
 
 abbrev LeavesAll : State → Trees → Type 0
-LeavesAll old trees = (it : Contents) → IsAlone old.now.schema → IsEarlierOf it old.now → Leaves it trees
+LeavesAll old trees = (it : Contents) → IsAlone old.now.schema → IsEarlierOf it old.now → LeavesOutbox it trees
 
 pub returns-clause-crash : goal.returns-clause-crash
 returns-clause-crash g c =

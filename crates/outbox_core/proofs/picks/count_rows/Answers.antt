@@ -9,7 +9,7 @@ use Rattle.outbox_core.proofs.picks.count_rows.Goals as goal
 pub returns-in-Ok-clause-counted : goal.returns-in-Ok-clause-counted
 returns-in-Ok-clause-counted g c clean d =
     told_count common_tables entry_table count_text count_asks (state g.S.Store c.args.conn.now) (state g.S.Store c.query_all.new.self) d c.in-Ok.rows.items (c.in-Ok.ensures.ok clean)
-    c.count_in.result (rw c.deref.ensures.value at c.count_in.ensures)
+    c.count_in.result (rw c.deref.ensures.value at c.count_in.ensures.value)
 
 pub returns-in-Ok-clause-same : goal.returns-in-Ok-clause-same
 returns-in-Ok-clause-same g c clean = query_same count_text count_reads _ (state g.S.Store c.args.conn.now) (state g.S.Store c.query_all.new.self) c.in-Ok.rows.items (c.in-Ok.ensures.ok clean)

@@ -8,7 +8,7 @@ use Rattle.sqlite.specs.declared.error.Error.{Error}
 use Rattle.table_rows.specs.Causes.{cause_of}
 use Rattle.table_rows.specs.declared.cause.Cause.{Cause}
 use Rattle.table_rows.specs.declared.cause.Cause.TheVariants as cause
-use Rattle.register_store.specs.Audit.{Others}
+use Rattle.register_store.specs.Audit.{OtherRows}
 use Rattle.register_store.specs.Faults.{table_fault, table_fault_by}
 use Rattle.register_store.specs.Opening.{Later as Rows, row_texts, AreRead, StopsFor, AreDamaged, IsRefusedAfter}
 use Rattle.register_store.specs.declared.fault.OpenFault.{OpenFault}
@@ -23,7 +23,7 @@ use Rattle.register_store.proofs.opening.count_all.Goals as goal
 abbrev rows_of : Later → Rows
 rows_of l = record { migrated = l.migrated.items; amends = l.amends.items }
 
-abbrev others_in : Rows → Tables → Others
+abbrev others_in : Rows → Tables → OtherRows
 others_in later t = record { finding = t.findings.items; filing = t.filings.items; fact = t.facts.items; amends = later.amends }
 
 abbrev rows_in : Tables → List (List Row)
@@ -38,7 +38,7 @@ module _ {S : Type 0} (g : Ghosts S) (later : Rows) (a e : Held S) where
       go cause.Disk h = h
       go cause.Other h = inl (refl, h)
 
-  refused_by : (kept : List Row) (others : Others) → others.amends ≡ later.amends → AreRead g row_texts a e (kept ∷ others.finding ∷ others.filing ∷ others.fact ∷ []) → (why : OpenFault)
+  refused_by : (kept : List Row) (others : OtherRows) → others.amends ≡ later.amends → AreRead g row_texts a e (kept ∷ others.finding ∷ others.filing ∷ others.fact ∷ []) → (why : OpenFault)
       → (why ≡ fault.Memory) ⊎ ((row : ℕ) × (why ≡ fault.Damaged row) × AreDamaged kept others later row) → IsRefusedAfter g later why a e
   refused_by kept others same read why (inl is) = subst (λ f. IsRefusedAfter g later f a e) (sym is) (inr (kept ∷ others.finding ∷ others.filing ∷ others.fact ∷ [], read))
   refused_by kept others same read why (inr h) = subst (λ f. IsRefusedAfter g later f a e) (sym h.1) (inr (kept, others, read, same, h.2))

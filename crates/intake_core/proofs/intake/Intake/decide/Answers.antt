@@ -11,10 +11,10 @@ use Rattle.filing_model.specs.Views.{the_request}
 use Rattle.filing_model.proofs.Answers.{answer_kept}
 use Rattle.filing_model.proofs.Keeping.{kept_has_key}
 use Rattle.register_store.specs.Outcomes.{kept_as}
-use Rattle.register_store.specs.Store.{shows, Leaves}
+use Rattle.register_store.specs.Store.{shows, LeavesRegister}
 use Rattle.intake_core.specs.Answered.{IsAnswerTo}
 use Rattle.intake_core.specs.Held.{early_of, early_in}
-use Rattle.intake_core.proofs.Deciding.{has_key-none, firsts-more, Holds-asked, Holds-repeat, Holds-new}
+use Rattle.intake_core.proofs.Deciding.{has_key-none, firsts-more, HoldsRequests-asked, HoldsRequests-repeat, HoldsRequests-new}
 use Rattle.intake_core.proofs.intake.Intake.decide.Goals as goal
 
 pub returns-in-Some-clause-answer : goal.returns-in-Some-clause-answer
@@ -25,8 +25,8 @@ returns-in-Some-clause-answer g c = λ clean requests h.
     let found : kept_for (kept requests) r ≡ Some k = sym (rw c.in-Some.is at (c.in_ok-row.ensures.found cleaned requests h.rows c.args.target c.args.body.now)) in
     let styled : c.in-Some.row.style ≡ style_of (early_in c.args.self.now requests) r = rw c.in-Some.is at (c.in_ok-row.ensures.style cleaned requests h.rows c.args.target c.args.body.now) in (
       (c.repeat.ensures.answer.0 ∙ sym (answer_kept requests r k found), subst (λ (s : Style). HasStyle s c.repeat.result) styled c.repeat.ensures.answer.1),
-      Holds-repeat requests r c.repeat.new.self (kept_has_key requests r k found)
-          (c.repeat.ensures.same requests (Holds-asked requests c.args.self.now _ h refl c.in_ok-row.ensures.early (c.in_ok-row.ensures.same cleaned requests h.rows)) found (styled ∙ ap (λ n. style_of (take n requests) r) (sym c.in_ok-row.ensures.early))),
+      HoldsRequests-repeat requests r c.repeat.new.self (kept_has_key requests r k found)
+          (c.repeat.ensures.same requests (HoldsRequests-asked requests c.args.self.now _ h refl c.in_ok-row.ensures.early (c.in_ok-row.ensures.same cleaned requests h.rows)) found (styled ∙ ap (λ n. style_of (take n requests) r) (sym c.in_ok-row.ensures.early))),
     )
 
 pub returns-in-Some-clause-room : goal.returns-in-Some-clause-room
@@ -42,15 +42,15 @@ returns-in-None-clause-answer g c = λ clean requests h.
     let r : Request = the_request c.args.filer.now c.args.key.now c.args.target c.args.body.now in
     let cleaned = c.keep.ensures.clean clean in
     let fresh = has_key-none requests r (sym (rw c.in-None.is at (c.in_ok-row.ensures.found cleaned requests h.rows c.args.target c.args.body.now))) in
-    let asked = Holds-asked requests c.args.self.now _ h refl c.in_ok-row.ensures.early (c.in_ok-row.ensures.same cleaned requests h.rows) in
-    IfOk-weaker c.keep.result _ _ (λ a told. (subst (λ n. IsAnswerTo (take n requests) requests r a) c.in_ok-row.ensures.early told.0, Holds-new requests r c.keep.new.self h.firsts' fresh told.1)) (c.keep.ensures.answer clean requests asked fresh)
+    let asked = HoldsRequests-asked requests c.args.self.now _ h refl c.in_ok-row.ensures.early (c.in_ok-row.ensures.same cleaned requests h.rows) in
+    IfOk-weaker c.keep.result _ _ (λ a told. (subst (λ n. IsAnswerTo (take n requests) requests r a) c.in_ok-row.ensures.early told.0, HoldsRequests-new requests r c.keep.new.self h.firsts' fresh told.1)) (c.keep.ensures.answer clean requests asked fresh)
 
 pub returns-in-None-clause-full : goal.returns-in-None-clause-full
 returns-in-None-clause-full g c = λ clean requests h k e.
     let r : Request = the_request c.args.filer.now c.args.key.now c.args.target c.args.body.now in
     let cleaned = c.keep.ensures.clean clean in
     let fresh = has_key-none requests r (sym (rw c.in-None.is at (c.in_ok-row.ensures.found cleaned requests h.rows c.args.target c.args.body.now))) in
-    let asked = Holds-asked requests c.args.self.now _ h refl c.in_ok-row.ensures.early (c.in_ok-row.ensures.same cleaned requests h.rows) in
+    let asked = HoldsRequests-asked requests c.args.self.now _ h refl c.in_ok-row.ensures.early (c.in_ok-row.ensures.same cleaned requests h.rows) in
     let full = c.keep.ensures.full requests asked k e in
     (fresh, full.0, full.1)
 
@@ -62,9 +62,9 @@ returns-in-None-clause-crash g c =
     (λ clean trees left requests h alive.
     let cleaned = c.keep.ensures.clean clean in
     let fresh = has_key-none requests r (sym (rw c.in-None.is at (c.in_ok-row.ensures.found cleaned requests h.rows c.args.target c.args.body.now))) in
-    let asked = Holds-asked requests c.args.self.now _ h refl c.in_ok-row.ensures.early (c.in_ok-row.ensures.same cleaned requests h.rows) in
+    let asked = HoldsRequests-asked requests c.args.self.now _ h refl c.in_ok-row.ensures.early (c.in_ok-row.ensures.same cleaned requests h.rows) in
     let still = (c.in_ok-row.ensures.durable cleaned requests h.rows).0 in
-    subst (λ (rs : List Request). Leaves (early_of c.args.self.now) rs trees) (sym (firsts-more requests r h.firsts' fresh)) (subst (λ n. Leaves n (requests ++ r ∷ []) trees) c.in_ok-row.ensures.early (left requests asked still fresh)))
+    subst (λ (rs : List Request). LeavesRegister (early_of c.args.self.now) rs trees) (sym (firsts-more requests r h.firsts' fresh)) (subst (λ n. LeavesRegister n (requests ++ r ∷ []) trees) c.in_ok-row.ensures.early (left requests asked still fresh)))
     c.find.ensures.crash c.keep.ensures.crash
 
 pub returns-in-None-clause-open : goal.returns-in-None-clause-open
@@ -72,7 +72,7 @@ returns-in-None-clause-open g c = λ clean requests h.
     let r : Request = the_request c.args.filer.now c.args.key.now c.args.target c.args.body.now in
     let cleaned = c.keep.ensures.clean clean in
     let fresh = has_key-none requests r (sym (rw c.in-None.is at (c.in_ok-row.ensures.found cleaned requests h.rows c.args.target c.args.body.now))) in
-    let asked = Holds-asked requests c.args.self.now _ h refl c.in_ok-row.ensures.early (c.in_ok-row.ensures.same cleaned requests h.rows) in
+    let asked = HoldsRequests-asked requests c.args.self.now _ h refl c.in_ok-row.ensures.early (c.in_ok-row.ensures.same cleaned requests h.rows) in
     c.keep.ensures.open clean requests asked fresh
 
 pub returns-in-Some-clause-crash : goal.returns-in-Some-clause-crash

@@ -2,7 +2,7 @@ use Rattle.std.proofs.Common.{◌++◌, ◌∷◌, [], subst}
 use Rattle.sqlite.proofs.StateLemmas.{survives_then}
 use Rattle.filing_model.specs.Request.{Request}
 use Rattle.filing_model.specs.Views.{the_request}
-use Rattle.register_store.specs.Store.{Leaves}
+use Rattle.register_store.specs.Store.{LeavesRegister}
 use Rattle.intake_core.specs.Held.{shows}
 use Rattle.intake_core.proofs.intake.Intake.keep.Goals as goal
 
@@ -15,5 +15,5 @@ returns-clause-crash g c =
     let cleaned = c.keep_judged.ensures.clean clean in
     let free = c.in_ok-free.ensures.answer cleaned requests h in
     let still = c.in_ok-free.ensures.open cleaned requests h alive in
-    subst (λ n. Leaves n (requests ++ r ∷ []) trees) c.in_ok-free.ensures.early (left requests (c.in_ok-free.ensures.same cleaned requests h) still fresh free))
+    subst (λ n. LeavesRegister n (requests ++ r ∷ []) trees) c.in_ok-free.ensures.early (left requests (c.in_ok-free.ensures.same cleaned requests h) still fresh free))
     c.is_free.ensures.crash c.keep_judged.ensures.crash

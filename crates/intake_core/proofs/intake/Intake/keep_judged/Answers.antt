@@ -13,7 +13,7 @@ use Rattle.filing_model.proofs.Answers.{answer_new}
 use Rattle.register_store.specs.Outcomes.{view_outcome}
 use Rattle.register_store.specs.Store.{shows}
 use Rattle.intake_core.specs.Held.{early_of, early_in}
-use Rattle.intake_core.proofs.Deciding.{IsKeptIn-new, Holds-more, style_of-new}
+use Rattle.intake_core.proofs.Deciding.{IsKeptIn-new, HoldsRequests-more, style_of-new}
 use Rattle.intake_core.proofs.intake.Intake.keep_judged.Goals as goal
 
 pub returns-clause-answer : goal.returns-clause-answer
@@ -23,7 +23,7 @@ returns-clause-answer g c = λ clean requests h new free.
     let added = c.in_ok-outcome.ensures.added cleaned requests h.rows new (subst (λ (f : Bool). IsAmendmentJudgement c.args.filer.now c.args.body.now f c.in_ok-judged.judged) free c.in_ok-judged.ensures.judged) in
     let styled : Problem ≡ style_of (early_in c.args.self.now requests) r = sym (style_of-new (early_of c.args.self.now) requests r new) in (
       (c.answer_by.ensures.0 ∙ ap (λ o. answer_by o false) added.0 ∙ sym (answer_new requests r new), subst (λ (s : Style). HasStyle s c.answer_by.result) styled c.answer_by.ensures.1),
-      c.remember.ensures.same (requests ++ r ∷ []) (Holds-more requests r c.args.self.now _ new h refl c.in_ok-outcome.ensures.early added.1)
+      c.remember.ensures.same (requests ++ r ∷ []) (HoldsRequests-more requests r c.args.self.now _ new h refl c.in_ok-outcome.ensures.early added.1)
           (IsKeptIn-new requests r (view_outcome c.in_ok-outcome.outcome) new added.0)
           (sym (ap (λ n. style_of (take n (requests ++ r ∷ [])) r) c.in_ok-outcome.ensures.early ∙ ap (λ rs. style_of rs r) (take-append-le (early_of c.args.self.now) requests (r ∷ []) h.rows.within) ∙ style_of-new (early_of c.args.self.now) requests r new)),
     )

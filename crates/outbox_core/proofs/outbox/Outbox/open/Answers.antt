@@ -1,6 +1,6 @@
 use Rattle.std.proofs.Common.{subst, string_bytes}
 use Rattle.sqlite.specs.Held.{state}
-use Rattle.table_rows.specs.Standing.{Stands}
+use Rattle.table_rows.specs.Standing.{HasCommitted}
 use Rattle.outbox_core.specs.Entries.{contents_of}
 use Rattle.outbox_core.specs.Rows.{IsOutboxOf}
 use Rattle.outbox_core.proofs.ListLemmas.{leaves_last}
@@ -24,7 +24,7 @@ returns-in-Ok-clause-durable g c clean it is =
     let one = one_outbox (contents_of (string_bytes c.in-Ok.field-0.filer) found.0) it (state g.S.Store c.args.conn).now found.1 is in
     let new = state g.S.Store c.read_outbox.new.conn in
     let alive = c.in-Ok.ensures.open clean is.rows.declared in
-    (alive, λ trees may. leaves_last new it (subst (λ i. Stands (IsOutboxOf i) new) one found.2) alive trees (g.met.S.Store.settled c.read_outbox.new.conn.store trees alive may))
+    (alive, λ trees may. leaves_last new it (subst (λ i. HasCommitted (IsOutboxOf i) new) one found.2) alive trees (g.met.S.Store.settled c.read_outbox.new.conn.store trees alive may))
 
 pub returns-in-Err-clause-refused : goal.returns-in-Err-clause-refused
 returns-in-Err-clause-refused g c = (c.read_outbox.new.conn, c.read_outbox.ensures.crash, c.read_outbox.ensures.kept, c.in-Err.ensures.refused, c.in-Err.ensures.sound)

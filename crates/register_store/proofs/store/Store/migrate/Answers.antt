@@ -1,7 +1,7 @@
 use Rattle.std.proofs.Common.{sym, subst}
 use Rattle.sqlite.specs.Held.{state}
 use Rattle.sqlite.proofs.StateLemmas.{survives_weaker}
-use Rattle.table_rows.specs.Standing.{Stands}
+use Rattle.table_rows.specs.Standing.{HasCommitted}
 use Rattle.register_store.specs.Store.{IsRegisterOf}
 use Rattle.register_store.proofs.Surveyed.{early_within, leaves_migrated}
 use Rattle.register_store.proofs.store.Store.migrate.Goals as goal
@@ -17,7 +17,7 @@ returns-in-Ok-clause-only g c clean form early F alone is =
     let same = sym found.0 in (
       found.0,
       record {
-        stands = subst (λ n. Stands (IsRegisterOf n F) (state g.S.Store c.migrate_register.new.conn)) same found.1;
+        stands = subst (λ n. HasCommitted (IsRegisterOf n F) (state g.S.Store c.migrate_register.new.conn)) same found.1;
         kept_is = found.2;
         filings_is = found.3;
         within = rw found.0 (early_within form _ early _ is.rows.early_is);

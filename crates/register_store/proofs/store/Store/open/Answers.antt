@@ -1,5 +1,5 @@
 use Rattle.std.proofs.Common.{◌≤◌, length, sym, subst}
-use Rattle.table_rows.specs.Standing.{Stands}
+use Rattle.table_rows.specs.Standing.{HasCommitted}
 use Rattle.register_store.specs.Store.{IsRegisterOf}
 use Rattle.sqlite.specs.Held.{state}
 use Rattle.register_store.proofs.StoreLemmas.{leaves}
@@ -14,7 +14,7 @@ pub returns-in-Ok-clause-only : goal.returns-in-Ok-clause-only
 returns-in-Ok-clause-only g c clean early F is =
     let found = c.in-Ok.ensures.only clean early F is in
     let same = found.0 in
-    (same, record { stands = subst (λ n. Stands (IsRegisterOf n F) (state g.S.Store c.read_register.new.conn)) (sym same) found.1; kept_is = found.2; filings_is = found.3; within = subst (λ n. n ≤ length F) (sym same) is.rows.within })
+    (same, record { stands = subst (λ n. HasCommitted (IsRegisterOf n F) (state g.S.Store c.read_register.new.conn)) (sym same) found.1; kept_is = found.2; filings_is = found.3; within = subst (λ n. n ≤ length F) (sym same) is.rows.within })
 
 pub returns-in-Ok-clause-durable : goal.returns-in-Ok-clause-durable
 returns-in-Ok-clause-durable g c clean early F is =

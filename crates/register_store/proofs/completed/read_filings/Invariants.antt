@@ -1,9 +1,0 @@
-use Rattle.std.proofs.Common.{◌≡◌, ◌+◌, List, take, drop}
-use Rattle.filing_model.specs.Register.{Kept, filings}
-use Rattle.table_rows.specs.Rows.{counted_from}
-use Rattle.register_store.specs.Register.{kept_row, amends_rows, joined_from}
-use Rattle.register_store.proofs.completed.read_filings.Given as goal
-
-abbrev pub invariant-loop-at : goal.invariant-loop-at
-invariant-loop-at l = (ks : List Kept) → l.rows ≡ counted_from kept_row 1 ks → l.amends ≡ joined_from amends_rows 1 ks
-    → (l.list.items ≡ filings (take l.at ks)) × (l.rest ≡ joined_from amends_rows (l.at + 1) (drop l.at ks))

@@ -1,0 +1,25 @@
+use Rattle.std.proofs.Common.{◌≡◌, ℕ, List, map, take, false, IsTrue}
+use Rattle.std.specs.Prelude.{filter}
+use Rattle.sqlite.specs.Held.{state}
+use Rattle.sqlite.specs.State.{HasCleanDisk, Survives}
+use Rattle.filing_model.specs.Request.{Request}
+use Rattle.filing_model.specs.Register.{filings, kept}
+use Rattle.table_rows.specs.Rows.{counted_from}
+use Rattle.table_rows.specs.Standing.{HasCommitted}
+use Rattle.register_store.specs.Own.{is_filers, own_of}
+use Rattle.register_store.specs.Reads.{by_first, has_filer}
+use Rattle.register_store.specs.Register.{kept_row}
+use Rattle.register_store.specs.Store.{IsRegisterOf}
+use Rattle.register_store.proofs.select.counts.own_among.Given as goal
+
+abbrev pub invariant-loop-place : goal.invariant-loop-place
+invariant-loop-place g l =
+    let old = state g.S.Store l.fn.conn in
+    let now = state g.S.Store l.conn in record {
+      own : HasCleanDisk now → (early : ℕ) (F : List Request) → HasCommitted (IsRegisterOf early F) old → (filer : List ℕ) → l.places ≡ map by_first (filter (has_filer filer) (counted_from kept_row 1 (kept F)))
+          → l.own.items ≡ map own_of (filings (take l.place-index (filter (is_filers filer) (kept F))));
+      same : HasCleanDisk now → (early : ℕ) (F : List Request) → HasCommitted (IsRegisterOf early F) old → HasCommitted (IsRegisterOf early F) now;
+      alive : HasCleanDisk now → (early : ℕ) (F : List Request) → HasCommitted (IsRegisterOf early F) old → IsTrue old.is_open → IsTrue now.is_open;
+      mode : l.fn.conn.in_transaction ≡ false → l.conn.in_transaction ≡ false;
+      survives : Survives old now (λ _. ⊥);
+    }

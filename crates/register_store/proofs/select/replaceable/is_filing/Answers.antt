@@ -1,0 +1,13 @@
+use Rattle.std.proofs.Common.{◌∙◌, w64}
+use Rattle.std.proofs.lemmas.Int.{to_z-of_z}
+use Rattle.std.proofs.lemmas.Result.{IfOk-weaker}
+use Rattle.register_store.specs.Register.{number_of}
+use Rattle.register_store.specs.Reads.{number_alone}
+use Rattle.register_store.proofs.ListLemmas.{knows}
+use Rattle.register_store.proofs.ReplaceLemmas.{kept_shown}
+use Rattle.register_store.proofs.select.replaceable.is_filing.Goals as goal
+
+pub returns-in-Ok-clause-found : goal.returns-in-Ok-clause-found
+returns-in-Ok-clause-found g c clean e F was n k seq placed =
+    let read = c.in-Ok.ensures.read clean (knows F _ was) in
+    IfOk-weaker c.is_numbered.result _ _ (λ so h. h (number_of k.outcome) (c.deref.ensures.value ∙ kept_shown F _ _ _ number_alone was _ n k (to_z-of_z w64 c.args.seq c.ranges.seq ∙ seq) placed read)) c.is_numbered.ensures

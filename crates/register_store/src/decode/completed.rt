@@ -1,0 +1,131 @@
+//! Completed requests and filings as they are listed, and how a kept row reads as one.
+
+ghost use Rattle.std.specs.Prelude.{◌≡◌, List, map, option_map, IfOk};
+ghost use Rattle.filing_model.specs.Register.{Kept, filings};
+ghost use Rattle.sqlite.specs.Order.{column};
+ghost use Rattle.table_rows.specs.Rows.{counted_from};
+ghost use Rattle.register_store.specs.Register.{kept_row, amends_rows, joined_from};
+ghost use Rattle.register_store.specs.Columns.{request_in, number_in};
+
+use crate::fault::StoreFault;
+use crate::opening::segments::target_of;
+use sqlite::Row;
+use std::alloc::Global;
+use std::marker::Model;
+
+/// A completed request: who sent it, under which key, which filing it is to replace, if any, and the bytes of the report.
+#[derive(Drop)]
+pub struct Completed {
+    pub filer: String,
+    pub key: String,
+    pub target: Option<u64>,
+    pub body: Vec<u8>,
+}
+
+impl Model for Completed {
+    ghost use Rattle.std.specs.Prelude.{string_bytes};
+    ghost use Rattle.filing_model.specs.Request.{Request};
+
+    ghost Value = { Request };
+
+    ghost view = { λ r. record { filer = string_bytes r.filer; key = string_bytes r.key; target = r.target; body = r.body.items } };
+}
+
+/// A registered request under its number, which counts from 1, with the filing that it replaces, if any.
+#[derive(Drop)]
+pub struct Registered {
+    pub number: u64,
+    pub replaces: Option<u64>,
+    pub filer: String,
+    pub key: String,
+    pub body: Vec<u8>,
+}
+
+impl Model for Registered {
+    ghost use Rattle.std.specs.Prelude.{string_bytes};
+    ghost use Rattle.filing_model.specs.Register.{Filing};
+
+    ghost Value = { Filing };
+
+    ghost view = { λ f. record { number = f.number; request = record { filer = string_bytes f.filer; key = string_bytes f.key; target = f.replaces; body = f.body.items } } };
+}
+
+/// The request of a row with the columns `seq`, `filer`, `idem`, `body` and `number`, where it is to replace this filing, if any.
+fn read_request(row: &Row, target: Option<u64>) -> Result<Completed, StoreFault>
+    ensures { IfOk result (λ r. r ≡ request_in target row.now) }
+{
+    let filer = row.get(1)?;
+    let key = row.get(2)?;
+    let body = row.get(3)?;
+    Ok(Completed {
+        filer,
+        key,
+        target,
+        body,
+    })
+}
+
+/// The filing that such a row is, if it has a number.
+fn read_filing(row: &Row, replaces: Option<u64>) -> Result<Option<Registered>, StoreFault>
+    ensures { IfOk result (λ f.
+        f ≡ option_map (λ n. record { number = n; request = request_in replaces row.now })
+        (number_in (column row.now 4))) }
+{
+    let number: Option<u64> = row.get(4)?;
+    let Some(number) = number else {
+        return Ok(None);
+    };
+    let Completed {
+        filer,
+        key,
+        target: _,
+        body,
+    } = read_request(row, replaces)?;
+    Ok(Some(Registered {
+        number,
+        replaces,
+        filer,
+        key,
+        body,
+    }))
+}
+
+/// The requests of such rows, with the rows of `amends`, both in the order of the places, which are from 1 on.
+pub(crate) fn read_requests(
+    alloc: Global,
+    rows: &[Row],
+    amends: &[Row],
+) -> Result<Vec<Completed>, StoreFault>
+    ensures { (ks : List Kept) → rows.now ≡ counted_from kept_row 1 ks → amends.now ≡ joined_from amends_rows 1 ks
+        → IfOk result (λ list. list.items ≡ map (λ k. k.request) ks) }
+{
+    let mut list = Vec::new(alloc);
+    let mut rest = amends;
+    for at in 0..rows.len() {
+        let (target, behind) = target_of(rest, at as u64 + 1);
+        rest = behind;
+        list.push(read_request(&rows[at], target)?)?;
+    }
+    Ok(list)
+}
+
+/// The filings among them.
+pub(crate) fn read_filings(
+    alloc: Global,
+    rows: &[Row],
+    amends: &[Row],
+) -> Result<Vec<Registered>, StoreFault>
+    ensures { (ks : List Kept) → rows.now ≡ counted_from kept_row 1 ks → amends.now ≡ joined_from amends_rows 1 ks
+        → IfOk result (λ list. list.items ≡ filings ks) }
+{
+    let mut list = Vec::new(alloc);
+    let mut rest = amends;
+    for at in 0..rows.len() {
+        let (target, behind) = target_of(rest, at as u64 + 1);
+        rest = behind;
+        if let Some(filing) = read_filing(&rows[at], target)? {
+            list.push(filing)?;
+        }
+    }
+    Ok(list)
+}

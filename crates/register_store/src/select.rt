@@ -1,0 +1,8 @@
+//! What is read of a register that is open: requests, filings, and whether a filing may be replaced.
+
+pub(crate) mod counts;
+pub(crate) mod found;
+pub(crate) mod lists;
+pub(crate) mod picks;
+pub(crate) mod reads;
+pub(crate) mod replaceable;

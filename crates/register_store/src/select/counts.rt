@@ -1,0 +1,253 @@
+//! The filings of a filer as they are listed: what the indexes have of the filer's requests, and of no other filer's.
+
+ghost use Rattle.std.specs.Prelude.{◌≡◌, ℕ, pos, List, [], length, map, filter, unwrap_or, option_map, None, IsTrue, IfOk, OnOk};
+ghost use Rattle.std.specs.Ordering.{nat_cmp};
+ghost use Rattle.std.specs.BTreeMap.{get};
+ghost use Rattle.filing_model.specs.Request.{Request};
+ghost use Rattle.filing_model.specs.Listing.{listing, listings, replacing};
+ghost use Rattle.filing_model.specs.Register.{Filing, Kept, Outcome, filing_of, kept, register};
+ghost use Rattle.filing_model.specs.Views.{view_row};
+ghost use Rattle.xbrl_report.specs.ReportParts.{fact_count};
+ghost use Rattle.sqlite.specs.Held.{state};
+ghost use Rattle.sqlite.specs.State.{HasCleanDisk};
+ghost use Rattle.table_rows.specs.Rows.{counted_from};
+ghost use Rattle.table_rows.specs.Standing.{HasCommitted, CommitsNothing, StaysAutocommit};
+ghost use Rattle.register_store.specs.Found.{IsPlaced};
+ghost use Rattle.register_store.specs.Numbered.{facts_numbered};
+ghost use Rattle.register_store.specs.Own.{own_filings, own_of};
+ghost use Rattle.register_store.specs.Reads.{by_first, has_filer};
+ghost use Rattle.register_store.specs.Register.{kept_row, filing_rows_by, number_of};
+ghost use Rattle.register_store.specs.Store.{IsRegisterOf, AnswersOpen, KeepsRegister};
+
+use crate::fault::StoreFault;
+use crate::select::found::target_at;
+use crate::select::reads;
+use crate::select::replaceable::place_in;
+use filing_model::FilingRow;
+use sqlite::{Alter, Connection, Row};
+use std::alloc::{AllocError, Global};
+use std::collections::BTreeMap;
+
+/// The greatest number that a column holds.
+pub(crate) const MAX_NUMBER: u64 = i64::MAX as u64;
+
+/// A filing of the filer: its number, and which filing it replaces.
+#[derive(Drop)]
+pub(crate) struct Own {
+    pub(crate) number: u64,
+    pub(crate) replaces: Option<u64>,
+}
+
+/// How many facts the filing of this number has, none where there is no such filing.
+fn count_facts<S: Alter>(conn: &mut Connection<S>, number: u64) -> Result<usize, StoreFault>
+    ensures counted { HasCleanDisk (state S.Store conn.new) → (early : ℕ) (F : List Request)
+        → HasCommitted (IsRegisterOf early F) (state S.Store conn.old)
+        → IfOk result (λ count. count ≡ length (unwrap_or (facts_numbered number (register F)) [])) }
+    ensures same { KeepsRegister (state S.Store conn.old) (state S.Store conn.new) }
+    ensures open { AnswersOpen (state S.Store conn.old) (state S.Store conn.new) result }
+    ensures mode { StaysAutocommit conn.old conn.new }
+    ensures survives { CommitsNothing (state S.Store conn.old) (state S.Store conn.new) }
+{
+    if number > MAX_NUMBER {
+        return Err(StoreFault::Store);
+    }
+    match reads::fact_places(conn, number) {
+        Ok(rows) => Ok(rows.len()),
+        Err(error) => Err(StoreFault::from(error)),
+    }
+}
+
+/// The number in such a row's one column, if there is a row.
+fn first_number(rows: &[Row]) -> Result<Option<u64>, StoreFault>
+    ensures { IfOk result (λ number.
+        (seq : ℕ) (outcome : Outcome) → rows.now ≡ map by_first (filing_rows_by seq outcome)
+        → number ≡ number_of outcome) }
+{
+    match rows.first() {
+        None => Ok(None),
+        Some(row) => Ok(Some(row.get(0)?)),
+    }
+}
+
+/// The number of the kept request at this place, or `None` where it was refused.
+fn number_at<S: Alter>(conn: &mut Connection<S>, seq: i64) -> Result<Option<u64>, StoreFault>
+    ensures found { HasCleanDisk (state S.Store conn.new) → (early : ℕ) (F : List Request)
+        → HasCommitted (IsRegisterOf early F) (state S.Store conn.old) → (n : ℕ) (k : Kept) → seq ≡ pos n
+        → IsPlaced 1 n (kept F) k → IfOk result (λ number. number ≡ number_of k.outcome) }
+    ensures same { KeepsRegister (state S.Store conn.old) (state S.Store conn.new) }
+    ensures open { AnswersOpen (state S.Store conn.old) (state S.Store conn.new) result }
+    ensures mode { StaysAutocommit conn.old conn.new }
+    ensures survives { CommitsNothing (state S.Store conn.old) (state S.Store conn.new) }
+{
+    match reads::filing_at(conn, seq) {
+        Ok(rows) => first_number(&rows),
+        Err(error) => Err(StoreFault::from(error)),
+    }
+}
+
+/// The filing that the kept request at this place is, or `None` where it was refused.
+fn own_at<S: Alter>(conn: &mut Connection<S>, seq: i64) -> Result<Option<Own>, StoreFault>
+    ensures found { HasCleanDisk (state S.Store conn.new) → (early : ℕ) (F : List Request)
+        → HasCommitted (IsRegisterOf early F) (state S.Store conn.old) → (n : ℕ) (k : Kept) → seq ≡ pos n
+        → IsPlaced 1 n (kept F) k → IfOk result (λ own. own ≡ option_map own_of (filing_of k.request k.outcome)) }
+    ensures same { KeepsRegister (state S.Store conn.old) (state S.Store conn.new) }
+    ensures open { AnswersOpen (state S.Store conn.old) (state S.Store conn.new) result }
+    ensures mode { StaysAutocommit conn.old conn.new }
+    ensures survives { CommitsNothing (state S.Store conn.old) (state S.Store conn.new) }
+{
+    match number_at(conn, seq) {
+        Ok(Some(number)) => match target_at(conn, seq) {
+            Ok(replaces) => Ok(Some(Own { number, replaces })),
+            Err(fault) => Err(fault),
+        },
+        Ok(None) => Ok(None),
+        Err(fault) => Err(fault),
+    }
+}
+
+/// The filings among the filer's kept requests, which are at these places.
+fn own_among<S: Alter>(
+    conn: &mut Connection<S>,
+    alloc: Global,
+    places: &[Row],
+) -> Result<Vec<Own>, StoreFault>
+    ensures own { HasCleanDisk (state S.Store conn.new) → (early : ℕ) (F : List Request)
+        → HasCommitted (IsRegisterOf early F) (state S.Store conn.old) → (filer : List ℕ)
+        → places.now ≡ map by_first (filter (has_filer filer) (counted_from kept_row 1 (kept F)))
+        → IfOk result (λ own. own.items ≡ map own_of (own_filings filer F)) }
+    ensures same { KeepsRegister (state S.Store conn.old) (state S.Store conn.new) }
+    ensures open { HasCleanDisk (state S.Store conn.new) → (early : ℕ) (F : List Request)
+        → HasCommitted (IsRegisterOf early F) (state S.Store conn.old) → IsTrue (state S.Store conn.old).is_open
+        → OnOk result (IsTrue (state S.Store conn.new).is_open) }
+    ensures mode { StaysAutocommit conn.old conn.new }
+    ensures survives { CommitsNothing (state S.Store conn.old) (state S.Store conn.new) }
+{
+    let mut own = Vec::new(alloc);
+    for place in places {
+        let found = own_at(conn, place_in(place)?)?;
+        if let Some(filing) = found {
+            own.push(filing)?;
+        }
+    }
+    Ok(own)
+}
+
+/// The filer's filings.
+fn read_own<S: Alter>(
+    conn: &mut Connection<S>,
+    alloc: Global,
+    filer: &str,
+) -> Result<Vec<Own>, StoreFault>
+    ensures own { HasCleanDisk (state S.Store conn.new) → (early : ℕ) (F : List Request)
+        → HasCommitted (IsRegisterOf early F) (state S.Store conn.old)
+        → IfOk result (λ own. own.items ≡ map own_of (own_filings filer.now F)) }
+    ensures same { KeepsRegister (state S.Store conn.old) (state S.Store conn.new) }
+    ensures open { AnswersOpen (state S.Store conn.old) (state S.Store conn.new) result }
+    ensures mode { StaysAutocommit conn.old conn.new }
+    ensures survives { CommitsNothing (state S.Store conn.old) (state S.Store conn.new) }
+{
+    match reads::places_of(conn, filer) {
+        Ok(places) => own_among(conn, alloc, &places),
+        Err(error) => Err(StoreFault::from(error)),
+    }
+}
+
+/// Under the number of each filing that one of these replaces, the number of the first one that does.
+fn replacing_among(alloc: Global, own: &[Own]) -> Result<BTreeMap<u64, u64>, AllocError>
+    ensures { (fs : List Filing) → own.now ≡ map own_of fs
+        → IfOk result (λ by. (n : ℕ) → get nat_cmp by n ≡ replacing fs n) }
+{
+    let mut by = BTreeMap::new(alloc);
+    for filing in own {
+        if let Some(target) = filing.replaces {
+            if !by.contains_key(&target) {
+                by.insert(target, filing.number)?;
+            }
+        }
+    }
+    Ok(by)
+}
+
+/// The filing as it is listed with so many facts, where it is said which filing replaces which.
+fn row_of(filing: &Own, facts: usize, by: &BTreeMap<u64, u64>) -> FilingRow
+    ensures { (fs : List Filing) (f : Filing) → filing.now ≡ own_of f
+        → ((n : ℕ) → get nat_cmp by.now n ≡ replacing fs n) → facts ≡ fact_count f.request.body
+        → view_row result ≡ listing fs f }
+{
+    FilingRow {
+        number: filing.number,
+        facts,
+        replaces: filing.replaces,
+        replaced_by: by.get(&filing.number).copied(),
+    }
+}
+
+/// The filer's filings as they are listed, where it is said which of them replaces which.
+fn list_each<S: Alter>(
+    conn: &mut Connection<S>,
+    alloc: Global,
+    own: &[Own],
+    by: &BTreeMap<u64, u64>,
+) -> Result<Vec<FilingRow>, StoreFault>
+    ensures rows { HasCleanDisk (state S.Store conn.new) → (early : ℕ) (F : List Request)
+        → HasCommitted (IsRegisterOf early F) (state S.Store conn.old) → (filer : List ℕ)
+        → own.now ≡ map own_of (own_filings filer F)
+        → ((n : ℕ) → get nat_cmp by.now n ≡ replacing (own_filings filer F) n)
+        → IfOk result (λ rows. map view_row rows.items ≡ listings filer None (register F)) }
+    ensures same { KeepsRegister (state S.Store conn.old) (state S.Store conn.new) }
+    ensures open { HasCleanDisk (state S.Store conn.new) → (early : ℕ) (F : List Request)
+        → HasCommitted (IsRegisterOf early F) (state S.Store conn.old) → IsTrue (state S.Store conn.old).is_open
+        → OnOk result (IsTrue (state S.Store conn.new).is_open) }
+    ensures mode { StaysAutocommit conn.old conn.new }
+    ensures survives { CommitsNothing (state S.Store conn.old) (state S.Store conn.new) }
+{
+    let mut rows = Vec::new(alloc);
+    for filing in own {
+        let facts = count_facts(conn, filing.number)?;
+        rows.push(row_of(filing, facts, by))?;
+    }
+    Ok(rows)
+}
+
+/// The filer's filings as they are listed.
+fn list_own<S: Alter>(
+    conn: &mut Connection<S>,
+    alloc: Global,
+    own: &[Own],
+) -> Result<Vec<FilingRow>, StoreFault>
+    ensures rows { HasCleanDisk (state S.Store conn.new) → (early : ℕ) (F : List Request)
+        → HasCommitted (IsRegisterOf early F) (state S.Store conn.old) → (filer : List ℕ)
+        → own.now ≡ map own_of (own_filings filer F)
+        → IfOk result (λ rows. map view_row rows.items ≡ listings filer None (register F)) }
+    ensures same { KeepsRegister (state S.Store conn.old) (state S.Store conn.new) }
+    ensures open { HasCleanDisk (state S.Store conn.new) → (early : ℕ) (F : List Request)
+        → HasCommitted (IsRegisterOf early F) (state S.Store conn.old) → IsTrue (state S.Store conn.old).is_open
+        → OnOk result (IsTrue (state S.Store conn.new).is_open) }
+    ensures mode { StaysAutocommit conn.old conn.new }
+    ensures survives { CommitsNothing (state S.Store conn.old) (state S.Store conn.new) }
+{
+    match replacing_among(alloc, own) {
+        Ok(by) => list_each(conn, alloc, own, &by),
+        Err(error) => Err(StoreFault::from(error)),
+    }
+}
+
+/// The filings of a filer as they are listed.
+pub(crate) fn filings_of<S: Alter>(
+    conn: &mut Connection<S>,
+    alloc: Global,
+    filer: &str,
+) -> Result<Vec<FilingRow>, StoreFault>
+    ensures rows { HasCleanDisk (state S.Store conn.new) → (early : ℕ) (F : List Request)
+        → HasCommitted (IsRegisterOf early F) (state S.Store conn.old)
+        → IfOk result (λ rows. map view_row rows.items ≡ listings filer.now None (register F)) }
+    ensures same { KeepsRegister (state S.Store conn.old) (state S.Store conn.new) }
+    ensures open { AnswersOpen (state S.Store conn.old) (state S.Store conn.new) result }
+    ensures mode { StaysAutocommit conn.old conn.new }
+    ensures survives { CommitsNothing (state S.Store conn.old) (state S.Store conn.new) }
+{
+    match read_own(conn, alloc, filer) {
+        Ok(own) => list_own(conn, alloc, &own),
+        Err(fault) => Err(fault),
+    }
+}

@@ -1,0 +1,271 @@
+//! What is kept of a filer and key: its row, and the findings where it was refused.
+
+ghost use Rattle.std.specs.Prelude.{◌≡◌, ℕ, pos, List, map, take, option_map, Option, IsTrue, IfOk, IfSome, OnOk};
+ghost use Rattle.sqlite.specs.Held.{state};
+ghost use Rattle.sqlite.specs.State.{HasCleanDisk};
+ghost use Rattle.filing_model.specs.Request.{Request};
+ghost use Rattle.filing_model.specs.Register.{Kept, kept};
+ghost use Rattle.filing_model.specs.Answer.{kept_for};
+ghost use Rattle.filing_model.specs.Style.{style_of};
+ghost use Rattle.filing_model.specs.Views.{the_request};
+ghost use Rattle.table_rows.specs.Standing.{HasCommitted, CommitsNothing, StaysAutocommit};
+ghost use Rattle.register_store.specs.Register.{amends_rows_by, findings_of, number_of};
+ghost use Rattle.xbrl_report.specs.CodeNumber.{number_of as code_number};
+ghost use Rattle.register_store.specs.Store.{IsRegisterOf, AnswersOpen, KeepsRegister};
+ghost use Rattle.register_store.specs.Outcomes.{kept_as, style_at};
+ghost use Rattle.register_store.specs.Found.{IsFound, IsLookUp, IsPlaced, IsReading, found_row, finding_in, target_alone};
+
+use crate::decode::facts::read_text;
+use crate::fault::StoreFault;
+use crate::outcome::{KeptRow, Outcome};
+use crate::rows::{rows_of_findings, rows_of_target, rows_with_key};
+use filing_model::Style;
+use sqlite::{Alter, Connection, Row};
+use std::alloc::Global;
+use xbrl_report::{Code, Finding, Findings};
+
+/// A kept row without its filer and key: its place, the body, and its number where it was registered.
+#[derive(Drop)]
+pub struct FoundRow {
+    pub seq: i64,
+    pub body: Vec<u8>,
+    pub number: Option<u64>,
+}
+
+/// What a row with the columns `seq`, `body` and `number` says.
+fn read_found(row: &Row) -> Result<FoundRow, StoreFault>
+    ensures { IfOk result (λ found.
+        (seq : ℕ) (k : Kept) → row.now ≡ found_row seq k
+        → (found.seq ≡ pos seq) × (found.body.items ≡ k.request.body) × (found.number ≡ number_of k.outcome)) }
+{
+    let seq = row.get(0)?;
+    let body = row.get(1)?;
+    let number = row.get(2)?;
+    Ok(FoundRow { seq, body, number })
+}
+
+/// The code of this number.
+fn code_of(number: i64) -> Result<Code, StoreFault>
+    ensures { IfOk result (λ code. number ≡ pos (code_number code)) }
+{
+    match Code::of_number(number) {
+        Some(code) => Ok(code),
+        None => Err(StoreFault::Store),
+    }
+}
+
+/// The finding of a row with the columns `code` and `place`.
+fn read_finding(row: &Row) -> Result<Finding, StoreFault>
+    ensures { IfOk result (λ finding. finding ≡ finding_in row.now) }
+{
+    let number: i64 = row.get(0)?;
+    let code = code_of(number)?;
+    let place = read_text(row, 1)?;
+    Ok(Finding { place, code })
+}
+
+/// The findings of such rows.
+fn read_list(alloc: Global, rows: &[Row]) -> Result<Vec<Finding>, StoreFault>
+    ensures { IfOk result (λ list. list.items ≡ map finding_in rows.now) }
+{
+    let mut list = Vec::new(alloc);
+    for row in rows {
+        list.push(read_finding(row)?)?;
+    }
+    Ok(list)
+}
+
+/// The same, as they stand in a refusal.
+fn read_findings(alloc: Global, rows: &[Row]) -> Result<Findings, StoreFault>
+    ensures { IfOk result (λ findings. findings ≡ map finding_in rows.now) }
+{
+    match Findings::from_list(read_list(alloc, rows)?) {
+        Some(findings) => Ok(findings),
+        None => Err(StoreFault::Store),
+    }
+}
+
+/// What the first row says, if there is one.
+fn read_first(rows: &[Row]) -> Result<Option<FoundRow>, StoreFault>
+    ensures { IfOk result (IsReading rows.now) }
+{
+    match rows.first() {
+        None => Ok(None),
+        Some(row) => Ok(Some(read_found(row)?)),
+    }
+}
+
+/// The row that is kept for a filer and key.
+fn look_up<S: Alter>(
+    conn: &mut Connection<S>,
+    filer: &str,
+    key: &str,
+) -> Result<Option<FoundRow>, StoreFault>
+    ensures found { HasCleanDisk (state S.Store conn.new) → (early : ℕ) (F : List Request)
+        → HasCommitted (IsRegisterOf early F) (state S.Store conn.old) → IfOk result (IsLookUp filer.now key.now F) }
+    ensures same { KeepsRegister (state S.Store conn.old) (state S.Store conn.new) }
+    ensures open { AnswersOpen (state S.Store conn.old) (state S.Store conn.new) result }
+    ensures mode { StaysAutocommit conn.old conn.new }
+    ensures survives { CommitsNothing (state S.Store conn.old) (state S.Store conn.new) }
+{
+    match rows_with_key(conn, filer, key) {
+        Ok(rows) => read_first(&rows),
+        Err(error) => Err(StoreFault::from(error)),
+    }
+}
+
+/// The findings of the refused request at this place.
+fn findings_at<S: Alter>(
+    conn: &mut Connection<S>,
+    alloc: Global,
+    seq: i64,
+) -> Result<Findings, StoreFault>
+    ensures found { HasCleanDisk (state S.Store conn.new) → (early : ℕ) (F : List Request)
+        → HasCommitted (IsRegisterOf early F) (state S.Store conn.old) → (n : ℕ) (k : Kept) → seq ≡ pos n
+        → IsPlaced 1 n (kept F) k → IfOk result (λ findings. findings ≡ findings_of k.outcome) }
+    ensures same { KeepsRegister (state S.Store conn.old) (state S.Store conn.new) }
+    ensures open { AnswersOpen (state S.Store conn.old) (state S.Store conn.new) result }
+    ensures mode { StaysAutocommit conn.old conn.new }
+    ensures survives { CommitsNothing (state S.Store conn.old) (state S.Store conn.new) }
+{
+    match rows_of_findings(conn, seq) {
+        Ok(rows) => read_findings(alloc, &rows),
+        Err(error) => Err(StoreFault::from(error)),
+    }
+}
+
+/// The number in such a row's one column, if there is a row.
+fn read_target(rows: &[Row]) -> Result<Option<u64>, StoreFault>
+    ensures { IfOk result (λ target.
+        (seq : ℕ) (wanted : Option ℕ) → rows.now ≡ map target_alone (amends_rows_by seq wanted) → target ≡ wanted) }
+{
+    match rows.first() {
+        None => Ok(None),
+        Some(row) => Ok(Some(row.get(0)?)),
+    }
+}
+
+/// The filing that the request at this place is to replace, if any.
+pub(crate) fn target_at<S: Alter>(
+    conn: &mut Connection<S>,
+    seq: i64,
+) -> Result<Option<u64>, StoreFault>
+    ensures found { HasCleanDisk (state S.Store conn.new) → (early : ℕ) (F : List Request)
+        → HasCommitted (IsRegisterOf early F) (state S.Store conn.old) → (n : ℕ) (k : Kept) → seq ≡ pos n
+        → IsPlaced 1 n (kept F) k → IfOk result (λ target. target ≡ k.request.target) }
+    ensures same { KeepsRegister (state S.Store conn.old) (state S.Store conn.new) }
+    ensures open { AnswersOpen (state S.Store conn.old) (state S.Store conn.new) result }
+    ensures mode { StaysAutocommit conn.old conn.new }
+    ensures survives { CommitsNothing (state S.Store conn.old) (state S.Store conn.new) }
+{
+    match rows_of_target(conn, seq) {
+        Ok(rows) => read_target(&rows),
+        Err(error) => Err(StoreFault::from(error)),
+    }
+}
+
+/// The style in which the request at this place is answered, where the first so many are answered as before.
+fn style_at(early: u64, seq: i64) -> Style
+    ensures { (place : ℕ) → seq ≡ pos place → result ≡ style_at early place }
+{
+    match u64::try_from(seq) {
+        Ok(place) if place <= early => Style::Old,
+        _ => Style::Problem,
+    }
+}
+
+/// A kept row whole, with the filing that it is to replace, if any: with its number, or with its findings where it has none.
+fn complete<S: Alter>(
+    conn: &mut Connection<S>,
+    alloc: Global,
+    early: u64,
+    target: Option<u64>,
+    found: FoundRow,
+) -> Result<KeptRow, StoreFault>
+    ensures found { HasCleanDisk (state S.Store conn.new) → (filer key : List ℕ) (n : ℕ) (F : List Request)
+        → HasCommitted (IsRegisterOf n F) (state S.Store conn.old) → (is : IsFound filer key F found)
+        → target ≡ is.k.request.target → IfOk result (λ row. kept_as filer key row ≡ is.k) }
+    ensures style { (place : ℕ) → found.seq ≡ pos place → IfOk result (λ row. row.style ≡ style_at early place) }
+    ensures same { KeepsRegister (state S.Store conn.old) (state S.Store conn.new) }
+    ensures open { HasCleanDisk (state S.Store conn.new) → (n : ℕ) (F : List Request)
+        → HasCommitted (IsRegisterOf n F) (state S.Store conn.old) → IsTrue (state S.Store conn.old).is_open
+        → OnOk result (IsTrue (state S.Store conn.new).is_open) }
+    ensures mode { StaysAutocommit conn.old conn.new }
+    ensures survives { CommitsNothing (state S.Store conn.old) (state S.Store conn.new) }
+{
+    let FoundRow { seq, body, number } = found;
+    let style = style_at(early, seq);
+    match number {
+        Some(number) => Ok(KeptRow {
+            target,
+            body,
+            outcome: Outcome::Registered(number),
+            style,
+        }),
+        None => match findings_at(conn, alloc, seq) {
+            Ok(findings) => Ok(KeptRow {
+                target,
+                body,
+                outcome: Outcome::Refused(findings),
+                style,
+            }),
+            Err(fault) => Err(fault),
+        },
+    }
+}
+
+/// A kept row whole.
+fn complete_found<S: Alter>(
+    conn: &mut Connection<S>,
+    alloc: Global,
+    early: u64,
+    found: FoundRow,
+) -> Result<KeptRow, StoreFault>
+    ensures found { HasCleanDisk (state S.Store conn.new) → (filer key : List ℕ) (n : ℕ) (F : List Request)
+        → HasCommitted (IsRegisterOf n F) (state S.Store conn.old) → (is : IsFound filer key F found)
+        → IfOk result (λ row. kept_as filer key row ≡ is.k) }
+    ensures style { (place : ℕ) → found.seq ≡ pos place → IfOk result (λ row. row.style ≡ style_at early place) }
+    ensures same { KeepsRegister (state S.Store conn.old) (state S.Store conn.new) }
+    ensures open { HasCleanDisk (state S.Store conn.new) → (n : ℕ) (F : List Request)
+        → HasCommitted (IsRegisterOf n F) (state S.Store conn.old) → IsTrue (state S.Store conn.old).is_open
+        → OnOk result (IsTrue (state S.Store conn.new).is_open) }
+    ensures mode { StaysAutocommit conn.old conn.new }
+    ensures survives { CommitsNothing (state S.Store conn.old) (state S.Store conn.new) }
+{
+    match target_at(conn, found.seq) {
+        Ok(target) => complete(conn, alloc, early, target, found),
+        Err(fault) => Err(fault),
+    }
+}
+
+/// What is kept of a filer and key, or `None` where they are new. The first `early` requests are answered as before.
+pub fn find_kept<S: Alter>(
+    conn: &mut Connection<S>,
+    alloc: Global,
+    early: u64,
+    filer: &str,
+    key: &str,
+) -> Result<Option<KeptRow>, StoreFault>
+    ensures found { HasCleanDisk (state S.Store conn.new) → (n : ℕ) (F : List Request)
+        → HasCommitted (IsRegisterOf n F) (state S.Store conn.old) → (target : Option ℕ) (body : List ℕ)
+        → IfOk result (λ row.
+        option_map (kept_as filer.now key.now) row ≡ kept_for (kept F)
+        (the_request filer.now key.now target body)) }
+    ensures style { HasCleanDisk (state S.Store conn.new) → (F : List Request)
+        → HasCommitted (IsRegisterOf early F) (state S.Store conn.old) → (target : Option ℕ) (body : List ℕ)
+        → IfOk result (λ row.
+        IfSome row (λ r. r.style ≡ style_of (take early F) (the_request filer.now key.now target body))) }
+    ensures same { KeepsRegister (state S.Store conn.old) (state S.Store conn.new) }
+    ensures open { AnswersOpen (state S.Store conn.old) (state S.Store conn.new) result }
+    ensures mode { StaysAutocommit conn.old conn.new }
+    ensures crash { CommitsNothing (state S.Store conn.old) (state S.Store conn.new) }
+{
+    match look_up(conn, filer, key) {
+        Ok(Some(found)) => match complete_found(conn, alloc, early, found) {
+            Ok(row) => Ok(Some(row)),
+            Err(fault) => Err(fault),
+        },
+        Ok(None) => Ok(None),
+        Err(fault) => Err(fault),
+    }
+}

@@ -1,0 +1,139 @@
+//! What a store lists: the kept requests, the filings and their facts.
+
+ghost use Rattle.std.specs.Prelude.{◌≡◌, ℕ, List, IsTrue, IfOk, OnOk, None, map, option_map};
+ghost use Rattle.filing_model.specs.Listing.{listings};
+ghost use Rattle.filing_model.specs.Views.{view_row};
+ghost use Rattle.filing_model.specs.Request.{Request, firsts};
+ghost use Rattle.filing_model.specs.Register.{kept, register};
+ghost use Rattle.sqlite.specs.Held.{state};
+ghost use Rattle.table_rows.specs.Rows.{counted_from};
+ghost use Rattle.table_rows.specs.Standing.{HasCommitted, CommitsNothing, StaysAutocommit};
+ghost use Rattle.register_store.specs.Register.{kept_row, amends_rows, joined_from};
+ghost use Rattle.sqlite.specs.State.{HasCleanDisk};
+ghost use Rattle.sqlite.specs.Tree.{Trees};
+ghost use Rattle.register_store.specs.Numbered.{facts_numbered};
+ghost use Rattle.register_store.specs.Store.{IsRegisterOf, shows, HasRequests, LeavesRegister, AnswersOpen, KeepsRegister};
+
+use crate::decode::completed::{Completed, Registered, read_filings, read_requests};
+use crate::decode::facts::read_facts;
+use crate::fault::StoreFault;
+use crate::select::counts::filings_of;
+use crate::select::reads;
+use crate::store::Store;
+use filing_model::FilingRow;
+use sqlite::{Alter, Connection, Row};
+use xbrl_report::Fact;
+
+/// The rows of `kept` and of `amends`, each in the order of the places.
+#[derive(Drop)]
+struct Both {
+    kept: Vec<Row>,
+    amends: Vec<Row>,
+}
+
+fn read_both<S: Alter>(conn: &mut Connection<S>) -> Result<Both, StoreFault>
+    ensures read { HasCleanDisk (state S.Store conn.new) → (early : ℕ) (F : List Request)
+        → HasCommitted (IsRegisterOf early F) (state S.Store conn.old)
+        → IfOk result (λ both.
+        (firsts F ≡ F) × (both.kept.items ≡ counted_from kept_row 1 (kept F))
+        × (both.amends.items ≡ joined_from amends_rows 1 (kept F))) }
+    ensures same { KeepsRegister (state S.Store conn.old) (state S.Store conn.new) }
+    ensures open { AnswersOpen (state S.Store conn.old) (state S.Store conn.new) result }
+    ensures mode { StaysAutocommit conn.old conn.new }
+    ensures survives { CommitsNothing (state S.Store conn.old) (state S.Store conn.new) }
+{
+    match reads::kept_rows(conn) {
+        Ok(kept) => match reads::amends_rows(conn) {
+            Ok(amends) => Ok(Both { kept, amends }),
+            Err(error) => Err(StoreFault::from(error)),
+        },
+        Err(error) => Err(StoreFault::from(error)),
+    }
+}
+
+// Of each call: the rows are those of before, whatever the answer is, and a crash leaves what it could leave before.
+impl<S: Alter> Store<S> {
+    /// The kept requests, in the order in which they were completed.
+    pub fn requests(&mut self) -> Result<Vec<Completed>, StoreFault>
+        ensures rows { HasCleanDisk (shows S.Store self.new) → (F : List Request) → HasRequests S.Store self.old F
+            → IfOk result (λ rows. rows.items ≡ F) }
+        ensures same { HasCleanDisk (shows S.Store self.new) → (F : List Request) → HasRequests S.Store self.old F
+            → HasRequests S.Store self.new F }
+        ensures counts { (self.new.kept ≡ self.old.kept) × (self.new.filings ≡ self.old.filings) }
+        ensures early { self.new.early ≡ self.old.early }
+        ensures crash { CommitsNothing (shows S.Store self.old) (shows S.Store self.new) }
+        ensures durable { HasCleanDisk (shows S.Store self.new) → (F : List Request) → HasRequests S.Store self.old F
+            → OnOk result (IsTrue (shows S.Store self.new).is_open
+            × ((trees : Trees) → (shows S.Store self.new).may_leave trees
+            → LeavesRegister self.old.early F trees)) }
+    {
+        match read_both(&mut self.conn) {
+            Ok(both) => read_requests(self.alloc, &both.kept, &both.amends),
+            Err(fault) => Err(fault),
+        }
+    }
+
+    /// The registered requests under their numbers, ascending.
+    pub fn all_filings(&mut self) -> Result<Vec<Registered>, StoreFault>
+        ensures rows { HasCleanDisk (shows S.Store self.new) → (F : List Request) → HasRequests S.Store self.old F
+            → IfOk result (λ rows. rows.items ≡ register F) }
+        ensures same { HasCleanDisk (shows S.Store self.new) → (F : List Request) → HasRequests S.Store self.old F
+            → HasRequests S.Store self.new F }
+        ensures counts { (self.new.kept ≡ self.old.kept) × (self.new.filings ≡ self.old.filings) }
+        ensures early { self.new.early ≡ self.old.early }
+        ensures crash { CommitsNothing (shows S.Store self.old) (shows S.Store self.new) }
+        ensures durable { HasCleanDisk (shows S.Store self.new) → (F : List Request) → HasRequests S.Store self.old F
+            → OnOk result (IsTrue (shows S.Store self.new).is_open
+            × ((trees : Trees) → (shows S.Store self.new).may_leave trees
+            → LeavesRegister self.old.early F trees)) }
+    {
+        match read_both(&mut self.conn) {
+            Ok(both) => read_filings(self.alloc, &both.kept, &both.amends),
+            Err(fault) => Err(fault),
+        }
+    }
+
+    /// The filings of a filer, each with how many facts it has, which filing it replaces and which one replaces it, ascending by number.
+    /// A filer that never came has none.
+    pub fn filings(&mut self, filer: &str) -> Result<Vec<FilingRow>, StoreFault>
+        ensures rows { HasCleanDisk (shows S.Store self.new) → (F : List Request) → HasRequests S.Store self.old F
+            → IfOk result (λ rows. map view_row rows.items ≡ listings filer.now None (register F)) }
+        ensures same { HasCleanDisk (shows S.Store self.new) → (F : List Request) → HasRequests S.Store self.old F
+            → HasRequests S.Store self.new F }
+        ensures counts { (self.new.kept ≡ self.old.kept) × (self.new.filings ≡ self.old.filings) }
+        ensures early { self.new.early ≡ self.old.early }
+        ensures crash { CommitsNothing (shows S.Store self.old) (shows S.Store self.new) }
+        ensures durable { HasCleanDisk (shows S.Store self.new) → (F : List Request) → HasRequests S.Store self.old F
+            → OnOk result (IsTrue (shows S.Store self.new).is_open
+            × ((trees : Trees) → (shows S.Store self.new).may_leave trees
+            → LeavesRegister self.old.early F trees)) }
+    {
+        filings_of(&mut self.conn, self.alloc, filer)
+    }
+
+    /// The facts of the filing of this number, in the byte order of their identifiers, or `None` where there is no such
+    /// filing.
+    pub fn facts(&mut self, number: u64) -> Result<Option<Vec<Fact>>, StoreFault>
+        ensures facts { HasCleanDisk (shows S.Store self.new) → (F : List Request) → HasRequests S.Store self.old F
+            → IfOk result (λ facts. option_map (λ list. list.items) facts ≡ facts_numbered number (register F)) }
+        ensures same { HasCleanDisk (shows S.Store self.new) → (F : List Request) → HasRequests S.Store self.old F
+            → HasRequests S.Store self.new F }
+        ensures counts { (self.new.kept ≡ self.old.kept) × (self.new.filings ≡ self.old.filings) }
+        ensures early { self.new.early ≡ self.old.early }
+        ensures crash { CommitsNothing (shows S.Store self.old) (shows S.Store self.new) }
+        ensures durable { HasCleanDisk (shows S.Store self.new) → (F : List Request) → HasRequests S.Store self.old F
+            → IsTrue (shows S.Store self.new).is_open → (trees : Trees) → (shows S.Store self.new).may_leave trees
+            → LeavesRegister self.old.early F trees }
+    {
+        if number == 0 || self.filings < number {
+            return Ok(None);
+        }
+        match reads::facts_of_filing(&mut self.conn, number) {
+            Ok(rows) => match read_facts(self.alloc, &rows) {
+                Ok(facts) => Ok(Some(facts)),
+                Err(fault) => Err(fault),
+            },
+            Err(error) => Err(StoreFault::from(error)),
+        }
+    }
+}

@@ -1,0 +1,223 @@
+//! Whether a filer may replace a filing: it is the filer's, and no other filing replaces it.
+
+ghost use Rattle.std.specs.Prelude.{◌≡◌, ◌<◌, ◌^◌, ◌∷◌, [], ℕ, pos, false, List, Some, None, Option, map, filter, bytes_eq, IsTrue, IfOk, OnOk, is_some};
+ghost use Rattle.std.specs.List.{list_any};
+ghost use Rattle.filing_model.specs.Request.{Request};
+ghost use Rattle.filing_model.specs.Register.{Kept, is_amendment_of, is_filing_of, is_replaceable, kept, register};
+ghost use Rattle.sqlite.specs.Held.{state};
+ghost use Rattle.sqlite.specs.State.{HasCleanDisk};
+ghost use Rattle.sqlite.specs.Tree.{Trees};
+ghost use Rattle.table_rows.specs.Standing.{HasCommitted, CommitsNothing, StaysAutocommit};
+ghost use Rattle.register_store.specs.Found.{IsPlaced, IsPlaceOf};
+ghost use Rattle.register_store.specs.Reads.{by_first, has_second};
+ghost use Rattle.register_store.specs.Register.{amends_rows, joined_from, number_of};
+ghost use Rattle.sqlite.specs.declared.types.Value.TheVariants.{Int, Text};
+ghost use Rattle.sqlite.specs.Values.{or_null};
+ghost use Rattle.register_store.specs.Store.{IsRegisterOf, shows, HasRequests, LeavesRegister, AnswersOpen, KeepsRegister};
+
+use crate::fault::StoreFault;
+use crate::opening::audit::text_at;
+use crate::select::counts::MAX_NUMBER;
+use crate::select::reads;
+use crate::store::Store;
+use sqlite::{Alter, Connection, Row};
+
+/// The place in the one column of the first row, if there is a row.
+fn first_place(rows: &[Row]) -> Result<Option<i64>, StoreFault>
+    ensures { IfOk result (λ place.
+        (rows.now ≡ [] → place ≡ None)
+        × ((seq : ℕ) → rows.now ≡ (Int (pos seq) ∷ []) ∷ [] → place ≡ Some (pos seq))) }
+{
+    match rows.first() {
+        None => Ok(None),
+        Some(row) => Ok(Some(row.get(0)?)),
+    }
+}
+
+/// The place in the one column of the row.
+pub(crate) fn place_in(row: &Row) -> Result<i64, StoreFault>
+    ensures { IfOk result (λ place. (seq : ℕ) → row.now ≡ Int (pos seq) ∷ [] → place ≡ pos seq) }
+{
+    Ok(row.get(0)?)
+}
+
+/// Whether the one column of the first row is this text.
+fn is_text(rows: &[Row], text: &str) -> bool
+    ensures { (filer : List ℕ) → rows.now ≡ (Text filer ∷ []) ∷ [] → result ≡ bytes_eq filer text.now }
+{
+    match rows.first() {
+        None => false,
+        Some(row) => text_at(row, 0) == text.as_bytes(),
+    }
+}
+
+/// Whether the one column of the first row is a number.
+fn is_numbered(rows: &[Row]) -> Result<bool, StoreFault>
+    ensures { IfOk result (λ numbered.
+        (number : Option ℕ) → rows.now ≡ (or_null (λ n. Int (pos n)) number ∷ []) ∷ []
+        → numbered ≡ is_some number) }
+{
+    match rows.first() {
+        None => Ok(false),
+        Some(row) => {
+            let number: Option<u64> = row.get(0)?;
+            Ok(number.is_some())
+        }
+    }
+}
+
+/// Whether the kept request at this place is the filer's.
+fn is_filers<S: Alter>(conn: &mut Connection<S>, filer: &str, seq: i64) -> Result<bool, StoreFault>
+    ensures found { HasCleanDisk (state S.Store conn.new) → (early : ℕ) (F : List Request)
+        → HasCommitted (IsRegisterOf early F) (state S.Store conn.old) → (n : ℕ) (k : Kept) → seq ≡ pos n
+        → IsPlaced 1 n (kept F) k → IfOk result (λ so. so ≡ bytes_eq k.request.filer filer.now) }
+    ensures same { KeepsRegister (state S.Store conn.old) (state S.Store conn.new) }
+    ensures open { AnswersOpen (state S.Store conn.old) (state S.Store conn.new) result }
+    ensures mode { StaysAutocommit conn.old conn.new }
+    ensures survives { CommitsNothing (state S.Store conn.old) (state S.Store conn.new) }
+{
+    match reads::filer_at(conn, seq) {
+        Ok(rows) => Ok(is_text(&rows, filer)),
+        Err(error) => Err(StoreFault::from(error)),
+    }
+}
+
+/// Whether the kept request at this place is a filing.
+fn is_filing<S: Alter>(conn: &mut Connection<S>, seq: i64) -> Result<bool, StoreFault>
+    ensures found { HasCleanDisk (state S.Store conn.new) → (early : ℕ) (F : List Request)
+        → HasCommitted (IsRegisterOf early F) (state S.Store conn.old) → (n : ℕ) (k : Kept) → seq ≡ pos n
+        → IsPlaced 1 n (kept F) k → IfOk result (λ so. so ≡ is_some (number_of k.outcome)) }
+    ensures same { KeepsRegister (state S.Store conn.old) (state S.Store conn.new) }
+    ensures open { AnswersOpen (state S.Store conn.old) (state S.Store conn.new) result }
+    ensures mode { StaysAutocommit conn.old conn.new }
+    ensures survives { CommitsNothing (state S.Store conn.old) (state S.Store conn.new) }
+{
+    match reads::number_at(conn, seq) {
+        Ok(rows) => is_numbered(&rows),
+        Err(error) => Err(StoreFault::from(error)),
+    }
+}
+
+/// The place of the filing of this number, if there is one.
+fn place_of<S: Alter>(conn: &mut Connection<S>, number: u64) -> Result<Option<i64>, StoreFault>
+    requires { number < 2 ^ 63 }
+    ensures found { HasCleanDisk (state S.Store conn.new) → (early : ℕ) (F : List Request)
+        → HasCommitted (IsRegisterOf early F) (state S.Store conn.old) → IfOk result (IsPlaceOf number F) }
+    ensures same { KeepsRegister (state S.Store conn.old) (state S.Store conn.new) }
+    ensures open { AnswersOpen (state S.Store conn.old) (state S.Store conn.new) result }
+    ensures mode { StaysAutocommit conn.old conn.new }
+    ensures survives { CommitsNothing (state S.Store conn.old) (state S.Store conn.new) }
+{
+    match reads::place_of_filing(conn, number) {
+        Ok(rows) => first_place(&rows),
+        Err(error) => Err(StoreFault::from(error)),
+    }
+}
+
+/// Whether the filer has a filing of this number.
+fn has_filing<S: Alter>(
+    conn: &mut Connection<S>,
+    filer: &str,
+    number: u64,
+) -> Result<bool, StoreFault>
+    requires { number < 2 ^ 63 }
+    ensures found { HasCleanDisk (state S.Store conn.new) → (early : ℕ) (F : List Request)
+        → HasCommitted (IsRegisterOf early F) (state S.Store conn.old)
+        → IfOk result (λ so. so ≡ list_any (is_filing_of filer.now number) (register F)) }
+    ensures same { KeepsRegister (state S.Store conn.old) (state S.Store conn.new) }
+    ensures open { AnswersOpen (state S.Store conn.old) (state S.Store conn.new) result }
+    ensures mode { StaysAutocommit conn.old conn.new }
+    ensures survives { CommitsNothing (state S.Store conn.old) (state S.Store conn.new) }
+{
+    match place_of(conn, number) {
+        Ok(Some(seq)) => is_filers(conn, filer, seq),
+        Ok(None) => Ok(false),
+        Err(fault) => Err(fault),
+    }
+}
+
+/// Whether one of the kept requests at these places is a filing.
+fn is_any_filing<S: Alter>(conn: &mut Connection<S>, rows: &[Row]) -> Result<bool, StoreFault>
+    ensures found { HasCleanDisk (state S.Store conn.new) → (early : ℕ) (F : List Request)
+        → HasCommitted (IsRegisterOf early F) (state S.Store conn.old) → (number : ℕ)
+        → rows.now ≡ map by_first (filter (has_second number) (joined_from amends_rows 1 (kept F)))
+        → IfOk result (λ so. so ≡ list_any (is_amendment_of number) (register F)) }
+    ensures same { KeepsRegister (state S.Store conn.old) (state S.Store conn.new) }
+    ensures open { HasCleanDisk (state S.Store conn.new) → (early : ℕ) (F : List Request)
+        → HasCommitted (IsRegisterOf early F) (state S.Store conn.old) → IsTrue (state S.Store conn.old).is_open
+        → OnOk result (IsTrue (state S.Store conn.new).is_open) }
+    ensures mode { StaysAutocommit conn.old conn.new }
+    ensures survives { CommitsNothing (state S.Store conn.old) (state S.Store conn.new) }
+{
+    for row in rows {
+        if is_filing(conn, place_in(row)?)? {
+            return Ok(true);
+        }
+    }
+    Ok(false)
+}
+
+/// Whether a filing replaces the one of this number. A refused request that was to replace it does not.
+fn is_replaced<S: Alter>(conn: &mut Connection<S>, number: u64) -> Result<bool, StoreFault>
+    requires { number < 2 ^ 63 }
+    ensures found { HasCleanDisk (state S.Store conn.new) → (early : ℕ) (F : List Request)
+        → HasCommitted (IsRegisterOf early F) (state S.Store conn.old)
+        → IfOk result (λ so. so ≡ list_any (is_amendment_of number) (register F)) }
+    ensures same { KeepsRegister (state S.Store conn.old) (state S.Store conn.new) }
+    ensures open { AnswersOpen (state S.Store conn.old) (state S.Store conn.new) result }
+    ensures mode { StaysAutocommit conn.old conn.new }
+    ensures survives { CommitsNothing (state S.Store conn.old) (state S.Store conn.new) }
+{
+    match reads::places_with_target(conn, number) {
+        Ok(rows) => is_any_filing(conn, &rows),
+        Err(error) => Err(StoreFault::from(error)),
+    }
+}
+
+/// Whether the filer may replace the filing of this number.
+fn may_replace<S: Alter>(
+    conn: &mut Connection<S>,
+    filer: &str,
+    number: u64,
+) -> Result<bool, StoreFault>
+    requires { number < 2 ^ 63 }
+    ensures found { HasCleanDisk (state S.Store conn.new) → (early : ℕ) (F : List Request)
+        → HasCommitted (IsRegisterOf early F) (state S.Store conn.old)
+        → IfOk result (λ free. free ≡ is_replaceable (register F) filer.now number) }
+    ensures same { KeepsRegister (state S.Store conn.old) (state S.Store conn.new) }
+    ensures open { AnswersOpen (state S.Store conn.old) (state S.Store conn.new) result }
+    ensures mode { StaysAutocommit conn.old conn.new }
+    ensures survives { CommitsNothing (state S.Store conn.old) (state S.Store conn.new) }
+{
+    match has_filing(conn, filer, number) {
+        Ok(true) => match is_replaced(conn, number) {
+            Ok(replaced) => Ok(!replaced),
+            Err(fault) => Err(fault),
+        },
+        Ok(false) => Ok(false),
+        Err(fault) => Err(fault),
+    }
+}
+
+impl<S: Alter> Store<S> {
+    /// Whether the filer may replace the filing of this number: it is the filer's, and none replaces it.
+    pub fn replaceable(&mut self, filer: &str, number: u64) -> Result<bool, StoreFault>
+        ensures answer { HasCleanDisk (shows S.Store self.new) → (F : List Request) → HasRequests S.Store self.old F
+            → IfOk result (λ free. free ≡ is_replaceable (register F) filer.now number) }
+
+        // The rows are those of before, whatever the answer is, and a crash leaves what it could leave before.
+        ensures same { HasCleanDisk (shows S.Store self.new) → (F : List Request) → HasRequests S.Store self.old F
+            → HasRequests S.Store self.new F }
+        ensures counts { (self.new.kept ≡ self.old.kept) × (self.new.filings ≡ self.old.filings) }
+        ensures early { self.new.early ≡ self.old.early }
+        ensures crash { CommitsNothing (shows S.Store self.old) (shows S.Store self.new) }
+        ensures durable { HasCleanDisk (shows S.Store self.new) → (F : List Request) → HasRequests S.Store self.old F
+            → OnOk result (IsTrue (shows S.Store self.new).is_open
+            × ((trees : Trees) → (shows S.Store self.new).may_leave trees
+            → LeavesRegister self.old.early F trees)) }
+    {
+        // No filing has the number 0, and none a greater one than the number of filings.
+        let number = if number > MAX_NUMBER { 0 } else { number };
+        may_replace(&mut self.conn, filer, number)
+    }
+}
