@@ -65,9 +65,9 @@ class Peak:
 
 
 def bound_of(database, rows):
-    """What a command may hold that opens this file with so many rows and goes through them one at a time: 40 MB, 1.2 times the file, and
+    """What a command may hold that opens this file with so many rows and goes through them one at a time: 40 MB, 1.5 times the file, and
     100 bytes a row."""
-    return 40 * MEGABYTE + 1.2 * os.path.getsize(database) + 100 * rows
+    return 40 * MEGABYTE + 1.5 * os.path.getsize(database) + 100 * rows
 
 
 def file_all(peer, numbers, body):

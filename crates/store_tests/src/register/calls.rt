@@ -1,4 +1,5 @@
-//! The calls that the tests make, each in a function of its own that has no clause: what calls it carries no clause of the call's.
+//! The calls that the tests make, each in a function of its own that has no clause, so that a test does not carry the
+//! clauses of the call.
 
 use crate::databases::ready;
 use crate::targets::first_if;
