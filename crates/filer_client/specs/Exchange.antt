@@ -1,13 +1,16 @@
 -- What an exchange writes and reads, and what it makes of an entry.
-use Rattle.std.specs.Prelude.{◌≡◌, ◌≢◌, ◌⊎◌, ◌≤◌, ℕ, List, [], length, take, Option, Some, None, option_map}
+use Rattle.std.specs.Prelude.{◌≡◌, ◌≢◌, ◌⊎◌, ◌≤◌, ℕ, List, [], length, take, Option, Some, None, option_map, Result, OnOk}
 use Rattle.std.specs.Io.KnownBytes.{Appends}
+use Rattle.http_wire.specs.declared.device.Source.{Ghosts as Reads}
 use Rattle.http_wire.specs.Device.{HasFailed}
 use Rattle.http_wire.specs.Reply.{ReplyParts}
 use Rattle.http_wire.specs.ReplyFaults.{HasGiven, IsReplyFailure}
 use Rattle.http_wire.specs.Response.{GivesReply}
+use Rattle.sqlite.specs.Store.{Ghosts}
 use Rattle.filing_model.specs.Outbox.{Entry, State, Open, bytes_of, request_of, moved}
 use Rattle.outbox_core.specs.declared.fault.TakeFault.TheVariants.{NoEntry, Memory, Store}
 use Rattle.outbox_core.specs.Entries.{entry_at}
+use Rattle.outbox_core.specs.OutboxParts.{OutboxParts, contents, ForEntries, IsDurableAs}
 use Rattle.outbox_core.specs.Reading.{view_state}
 use Rattle.filer_client.specs.declared.fault.ExchangeFault.{ExchangeFault}
 use Rattle.filer_client.specs.declared.fault.ExchangeFault.TheVariants.{Write, Reply, Take}
@@ -45,6 +48,10 @@ IsToSend filer entries id (Settled state) = IsSettled entries id (view_state sta
 abbrev pub Hears : Option (List ℕ) → Option (List ℕ) → (ReplyParts → Type 0) → Type 0
 Hears before after P = (reply : ReplyParts) × HasGiven before after (λ bytes. GivesReply bytes reply) × P reply
 
+-- so it is of what this reader gave
+abbrev pub HearsFrom : {R : Type 0} → Reads R → R → R → (ReplyParts → Type 0) → Type 0
+HearsFrom g old new P = Hears (g.left old) (g.left new) P
+
 -- where a reply moves the entry of an id
 abbrev pub moved_at : List Entry → ℕ → ReplyParts → Option State
 moved_at entries id reply = option_map (λ e. moved e.state reply) (entry_at entries id)
@@ -77,3 +84,13 @@ abbrev pub IsFault : Option (List ℕ) → Option (List ℕ) → ℕ → ℕ →
 IsFault left left' reads reads' writes writes' (Write sent) = HasFailed writes writes' × (reads' ≡ reads)
 IsFault left left' reads reads' writes writes' (Reply fault) = IsReplyFailure left left' reads reads' fault × (writes' ≡ writes)
 IsFault left left' reads reads' writes writes' (Take fault) = (reads' ≡ reads) × (writes' ≡ writes)
+
+-- so it is where this is the reader
+abbrev pub IsFaultOf : {R : Type 0} → Reads R → R → R → ℕ → ℕ → ExchangeFault → Type 0
+IsFaultOf g old new writes writes' fault = IsFault (g.left old) (g.left new) (g.read_failures old) (g.read_failures new) writes writes' fault
+
+-- ---- what stands after a crash
+
+-- where it is answered, a crash leaves the entries of before alone
+abbrev pub IsDurableOnOk : {S X E : Type 0} → Ghosts S → OutboxParts S → OutboxParts S → Result X E → Type 0
+IsDurableOnOk g old new result = ForEntries g old new (λ entries. OnOk result (IsDurableAs g new (contents new entries)))

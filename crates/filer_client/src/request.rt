@@ -1,17 +1,15 @@
 //! The request of an entry.
 
-ghost use Rattle.std.specs.Prelude.{◌≡◌, ◌≤◌, ◌↔◌, List, length, true, Some, None, option_map, IsTrue, IfOk, IfErr, OnOk, Err};
+ghost use Rattle.std.specs.Prelude.{◌≡◌, ◌≤◌, ◌↔◌, length, true, Some, None, IsTrue, IfOk, IfErr, Err};
 ghost use Rattle.key_string.specs.Filer.{is_filer};
 ghost use Rattle.http_wire.specs.Posting.{IsTarget};
 ghost use Rattle.http_wire.specs.Head.{max_body_len};
 ghost use Rattle.sqlite.specs.State.{HasCleanDisk};
-ghost use Rattle.sqlite.specs.Tree.{Trees};
-ghost use Rattle.filing_model.specs.Outbox.{Entry as Item, bytes_of, request_of};
-ghost use Rattle.outbox_core.specs.OutboxParts.{shows, contents, HasEntries};
-ghost use Rattle.outbox_core.specs.Entries.{entry_at};
+ghost use Rattle.filing_model.specs.Outbox.{bytes_of, request_of};
+ghost use Rattle.outbox_core.specs.OutboxParts.{shows, HasEntries, ForEntries};
+ghost use Rattle.outbox_core.specs.Entries.{entry_at, found_at};
 ghost use Rattle.outbox_core.specs.Reading.{view_entry};
-ghost use Rattle.outbox_core.specs.Rows.{LeavesOutbox};
-ghost use Rattle.filer_client.specs.Exchange.{request_at, IsToSend};
+ghost use Rattle.filer_client.specs.Exchange.{request_at, IsToSend, IsDurableOnOk};
 ghost use Rattle.table_rows.specs.Standing.{CommitsNothing};
 
 use http_wire::append_request;
@@ -35,25 +33,19 @@ pub fn request_bytes<S: Alter>(
     outbox: &mut Outbox<S>,
     id: u64,
 ) -> Result<Vec<u8>, TakeFault>
-    ensures built { HasCleanDisk (shows S.Store outbox.new) → (entries : List Item)
-        → HasEntries S.Store outbox.old entries
-        → IfOk result (λ text. Some text.items ≡ request_at outbox.old.filer entries id) }
-    ensures no_entry { HasCleanDisk (shows S.Store outbox.new) → (entries : List Item)
-        → HasEntries S.Store outbox.old entries → result ≡ Err TakeFault.NoEntry → entry_at entries id ≡ None }
+    ensures built { ForEntries S.Store outbox.old outbox.new (λ entries.
+        IfOk result (λ text. Some text.items ≡ request_at outbox.old.filer entries id)) }
+    ensures no_entry { ForEntries S.Store outbox.old outbox.new (λ entries.
+        result ≡ Err TakeFault.NoEntry → entry_at entries id ≡ None) }
 
     // The entries are those of before, whatever the answer is, and a crash leaves what it could leave before; after Ok these alone.
-    ensures kept { HasCleanDisk (shows S.Store outbox.new) → (entries : List Item)
-        → HasEntries S.Store outbox.old entries → HasEntries S.Store outbox.new entries }
+    ensures kept { ForEntries S.Store outbox.old outbox.new (HasEntries S.Store outbox.new) }
     ensures stopped { IsTrue outbox.old.has_failed → (result ≡ Err TakeFault.Store) × (outbox.new ≡ outbox.old) }
     ensures stops { IsTrue outbox.new.has_failed ↔ (result ≡ Err TakeFault.Store) }
     ensures filer { outbox.new.filer ≡ outbox.old.filer }
     ensures clean { HasCleanDisk (shows S.Store outbox.new) → HasCleanDisk (shows S.Store outbox.old) }
     ensures crash { CommitsNothing (shows S.Store outbox.old) (shows S.Store outbox.new) }
-    ensures durable { HasCleanDisk (shows S.Store outbox.new) → (entries : List Item)
-        → HasEntries S.Store outbox.old entries
-        → OnOk result (IsTrue (shows S.Store outbox.new).is_open
-        × ((trees : Trees) → (shows S.Store outbox.new).may_leave trees
-        → LeavesOutbox (contents outbox.new entries) trees)) }
+    ensures durable { IsDurableOnOk S.Store outbox.old outbox.new result }
 {
     let entry = find_entry(outbox, id)?;
     request_of(alloc, outbox.filer(), &entry)
@@ -66,24 +58,19 @@ pub fn open_request<S: Alter>(
     outbox: &mut Outbox<S>,
     id: u64,
 ) -> Result<ToSend, TakeFault>
-    ensures found { HasCleanDisk (shows S.Store outbox.new) → (entries : List Item)
-        → HasEntries S.Store outbox.old entries → IfOk result (IsToSend outbox.old.filer entries id) }
-    ensures no_entry { HasCleanDisk (shows S.Store outbox.new) → (entries : List Item)
-        → HasEntries S.Store outbox.old entries → result ≡ Err TakeFault.NoEntry → entry_at entries id ≡ None }
+    ensures found { ForEntries S.Store outbox.old outbox.new (λ entries.
+        IfOk result (IsToSend outbox.old.filer entries id)) }
+    ensures no_entry { ForEntries S.Store outbox.old outbox.new (λ entries.
+        result ≡ Err TakeFault.NoEntry → entry_at entries id ≡ None) }
 
     // The entries are those of before, whatever the answer is, and a crash leaves what it could leave before; after Ok these alone.
-    ensures kept { HasCleanDisk (shows S.Store outbox.new) → (entries : List Item)
-        → HasEntries S.Store outbox.old entries → HasEntries S.Store outbox.new entries }
+    ensures kept { ForEntries S.Store outbox.old outbox.new (HasEntries S.Store outbox.new) }
     ensures stopped { IsTrue outbox.old.has_failed → (result ≡ Err TakeFault.Store) × (outbox.new ≡ outbox.old) }
     ensures stops { IsTrue outbox.new.has_failed ↔ (result ≡ Err TakeFault.Store) }
     ensures filer { outbox.new.filer ≡ outbox.old.filer }
     ensures clean { HasCleanDisk (shows S.Store outbox.new) → HasCleanDisk (shows S.Store outbox.old) }
     ensures crash { CommitsNothing (shows S.Store outbox.old) (shows S.Store outbox.new) }
-    ensures durable { HasCleanDisk (shows S.Store outbox.new) → (entries : List Item)
-        → HasEntries S.Store outbox.old entries
-        → OnOk result (IsTrue (shows S.Store outbox.new).is_open
-        × ((trees : Trees) → (shows S.Store outbox.new).may_leave trees
-        → LeavesOutbox (contents outbox.new entries) trees)) }
+    ensures durable { IsDurableOnOk S.Store outbox.old outbox.new result }
 {
     let entry = find_entry(outbox, id)?;
     match entry.state {
@@ -94,25 +81,19 @@ pub fn open_request<S: Alter>(
 
 /// The entry of this id.
 fn find_entry<S: Alter>(outbox: &mut Outbox<S>, id: u64) -> Result<Entry, TakeFault>
-    ensures found { HasCleanDisk (shows S.Store outbox.new) → (entries : List Item)
-        → HasEntries S.Store outbox.old entries
-        → IfOk result (λ entry. Some (view_entry entry) ≡ option_map (λ e. (id, e)) (entry_at entries id)) }
+    ensures found { ForEntries S.Store outbox.old outbox.new (λ entries.
+        IfOk result (λ entry. Some (view_entry entry) ≡ found_at entries id)) }
     ensures short { IfOk result (λ entry. length entry.body.items ≤ max_body_len) }
     ensures target { IfOk result (λ entry. IsTarget entry.target) }
-    ensures no_entry { HasCleanDisk (shows S.Store outbox.new) → (entries : List Item)
-        → HasEntries S.Store outbox.old entries → result ≡ Err TakeFault.NoEntry → entry_at entries id ≡ None }
-    ensures kept { HasCleanDisk (shows S.Store outbox.new) → (entries : List Item)
-        → HasEntries S.Store outbox.old entries → HasEntries S.Store outbox.new entries }
+    ensures no_entry { ForEntries S.Store outbox.old outbox.new (λ entries.
+        result ≡ Err TakeFault.NoEntry → entry_at entries id ≡ None) }
+    ensures kept { ForEntries S.Store outbox.old outbox.new (HasEntries S.Store outbox.new) }
     ensures stopped { IsTrue outbox.old.has_failed → (result ≡ Err TakeFault.Store) × (outbox.new ≡ outbox.old) }
     ensures stops { IsTrue outbox.new.has_failed ↔ (result ≡ Err TakeFault.Store) }
     ensures filer { outbox.new.filer ≡ outbox.old.filer }
     ensures clean { HasCleanDisk (shows S.Store outbox.new) → HasCleanDisk (shows S.Store outbox.old) }
     ensures crash { CommitsNothing (shows S.Store outbox.old) (shows S.Store outbox.new) }
-    ensures durable { HasCleanDisk (shows S.Store outbox.new) → (entries : List Item)
-        → HasEntries S.Store outbox.old entries
-        → OnOk result (IsTrue (shows S.Store outbox.new).is_open
-        × ((trees : Trees) → (shows S.Store outbox.new).may_leave trees
-        → LeavesOutbox (contents outbox.new entries) trees)) }
+    ensures durable { IsDurableOnOk S.Store outbox.old outbox.new result }
 {
     match outbox.entry(id) {
         Ok(Some(entry)) => Ok(entry),

@@ -1,7 +1,8 @@
 -- What an intake holds.
-use Rattle.std.specs.Prelude.{◌≡◌, ℕ, Bool, List, take}
+use Rattle.std.specs.Prelude.{◌≡◌, ◌∷◌, ◌++◌, [], ℕ, Bool, List, IsTrue, take}
 use Rattle.sqlite.specs.Store.{Ghosts}
-use Rattle.sqlite.specs.State.{State, HasCleanDisk}
+use Rattle.sqlite.specs.State.{State, HasCleanDisk, Survives}
+use Rattle.sqlite.specs.Tree.{Trees}
 use Rattle.filing_model.specs.Request.{Request, firsts}
 use Rattle.register_store.specs.Store.{StoreParts, HasRequests}
 use Rattle.register_store.specs.Store as register
@@ -41,6 +42,22 @@ pub record HoldsRequests {S : Type 0} (g : Ghosts S) (intake : Intake S) (reques
 -- So far the disk gave back what was written. What is said of rows holds where it is so at the end.
 abbrev pub IsClean : {S : Type 0} → Ghosts S → Intake S → Type 0
 IsClean g intake = HasCleanDisk (shows g intake)
+
+-- Whatever requests it held before: where the disk is clean at the end, this holds of them.
+abbrev pub ForRequests : {S : Type 0} → Ghosts S → Intake S → Intake S → (List Request → Type 0) → Type 0
+ForRequests g old new Holds = IsClean g new → (requests : List Request) → HoldsRequests g old requests → Holds requests
+
+-- these requests with another one, if it is the first of its filer and key
+abbrev pub with_request : List Request → Request → List Request
+with_request requests r = firsts (requests ++ r ∷ [])
+
+-- its register is open, and a crash now leaves the rows of these requests, and no others
+abbrev pub IsDurableAs : {S : Type 0} → Ghosts S → Intake S → ℕ → List Request → Type 0
+IsDurableAs g intake early requests = register.IsDurableAs g intake.store early requests
+
+-- A crash inside the call leaves what one before it could leave, or these trees, by the requests that were held.
+abbrev pub SurvivesAs : {S : Type 0} → Ghosts S → Intake S → Intake S → (List Request → Trees → Type 0) → Type 0
+SurvivesAs g old new Leaves = Survives (shows g old) (shows g new) (λ trees. (requests : List Request) → HoldsRequests g old requests → IsTrue (shows g old).is_open → Leaves requests trees)
 
 -- Whatever requests it held, where the disk is clean at the end it holds such as this says. The early ones, of which this is told
 -- first, are those of before.

@@ -10,8 +10,6 @@ ghost use Rattle.filing_model.specs.Listing.{listings};
 ghost use Rattle.filing_model.specs.Answer.{answer_from};
 ghost use Rattle.filing_model.specs.Style.{style_of, HasStyle};
 ghost use Rattle.filing_model.specs.Views.{view_answer, view_row, the_request};
-ghost use Rattle.sqlite.specs.Tree.{Trees};
-ghost use Rattle.sqlite.specs.State.{Survives};
 ghost use Rattle.register_store.specs.Outcomes.{view_outcome, kept_as};
 ghost use Rattle.register_store.specs.Store.{HasRequests, LeavesRegister};
 ghost use Rattle.intake_core.specs.declared.intake.Unavailable.TheVariants.{Down, Full, Memory, Store as StoreFailed};
@@ -94,7 +92,7 @@ impl<S: Alter + Drop> Drop for Intake<S> {
 
 impl<S: Alter> Intake<S> {
     ghost use Rattle.intake_core.specs.Answered.{IsAnswerTo};
-    ghost use Rattle.intake_core.specs.Held.{store_of, shows, limit_of, early_of, early_in, has_stopped, HoldsRequests, IsClean};
+    ghost use Rattle.intake_core.specs.Held.{store_of, shows, limit_of, early_of, early_in, has_stopped, HoldsRequests, IsClean, ForRequests, IsDurableAs, SurvivesAs, with_request};
 
     /// An intake over this register, which keeps at most `limit` keys.
     pub fn new(alloc: Global, store: Store<S>, limit: u64) -> Intake<S>
@@ -151,40 +149,37 @@ impl<S: Alter> Intake<S> {
         requires filer { is_filer filer.now ≡ true }
         requires target { IsTarget target }
         requires body { length body.now ≤ max_body_len }
-        ensures answer { IsClean S.Store self.new → (requests : List Request) → HoldsRequests S.Store self.old requests
-            → IfOk result (λ a.
+        ensures answer { ForRequests S.Store self.old self.new (λ requests.
+            IfOk result (λ a.
             IsAnswerTo (early_in self.old requests) requests (the_request filer.now key.now target body.now) a
             × HoldsRequests S.Store self.new
-            (firsts (requests ++ the_request filer.now key.now target body.now ∷ []))) }
+            (with_request requests (the_request filer.now key.now target body.now)))) }
 
         // Nothing changes where there is no answer, and the limit and the early requests never do.
-        ensures err { IsClean S.Store self.new → (requests : List Request) → HoldsRequests S.Store self.old requests
-            → OnErr result (HoldsRequests S.Store self.new requests) }
+        ensures err { ForRequests S.Store self.old self.new (λ requests.
+            OnErr result (HoldsRequests S.Store self.new requests)) }
         ensures clean { IsClean S.Store self.new → IsClean S.Store self.old }
         ensures limit { limit_of self.new ≡ limit_of self.old }
         ensures early { early_of self.new ≡ early_of self.old }
 
         // Full comes for a new key alone, and always where the limit is reached.
-        ensures full { IsClean S.Store self.new → (requests : List Request) → HoldsRequests S.Store self.old requests
-            → (k : ℕ) → result ≡ Err (Full k)
+        ensures full { ForRequests S.Store self.old self.new (λ requests.
+            (k : ℕ) → result ≡ Err (Full k)
             → (has_key requests (the_request filer.now key.now target body.now) ≡ false) × (limit_of self.old ≤ k)
-            × (k ≡ length requests) }
-        ensures room { IsClean S.Store self.new → (requests : List Request) → HoldsRequests S.Store self.old requests
-            → OnOk result (has_key requests (the_request filer.now key.now target body.now) ≡ false
-            → length requests < limit_of self.old) }
+            × (k ≡ length requests)) }
+        ensures room { ForRequests S.Store self.old self.new (λ requests.
+            OnOk result (has_key requests (the_request filer.now key.now target body.now) ≡ false
+            → length requests < limit_of self.old)) }
 
         // A crash leaves what one before the call could leave, or the requests with this one, and after an answer these alone.
-        ensures crash { Survives (shows S.Store self.old) (shows S.Store self.new) (λ trees.
-            (requests : List Request) → HoldsRequests S.Store self.old requests
-            → IsTrue (shows S.Store self.old).is_open
-            → LeavesRegister (early_of self.old)
-            (firsts (requests ++ the_request filer.now key.now target body.now ∷ [])) trees) }
-        ensures durable { IsClean S.Store self.new → (requests : List Request) → HoldsRequests S.Store self.old requests
-            → IsTrue (shows S.Store self.old).is_open
-            → OnOk result (IsTrue (shows S.Store self.new).is_open
-            × ((trees : Trees) → (shows S.Store self.new).may_leave trees
-            → LeavesRegister (early_of self.old)
-            (firsts (requests ++ the_request filer.now key.now target body.now ∷ [])) trees)) }
+        ensures crash { SurvivesAs S.Store self.old self.new (λ requests trees.
+            LeavesRegister (early_of self.old)
+            (with_request requests (the_request filer.now key.now target body.now)) trees) }
+        ensures durable { ForRequests S.Store self.old self.new (λ requests.
+            IsTrue (shows S.Store self.old).is_open
+            → OnOk result
+            (IsDurableAs S.Store self.new (early_of self.old)
+            (with_request requests (the_request filer.now key.now target body.now)))) }
 
         // After a refusal of the database there is no other answer than that.
         ensures down { has_stopped self.old ≡ true → (result ≡ Err Down) × (self.new ≡ self.old) }
@@ -204,26 +199,23 @@ impl<S: Alter> Intake<S> {
 }
 
 impl<S: Alter> Intake<S> {
-    ghost use Rattle.intake_core.specs.Held.{shows, limit_of, early_of, has_stopped, HoldsRequests, IsClean};
+    ghost use Rattle.intake_core.specs.Held.{shows, limit_of, early_of, has_stopped, HoldsRequests, IsClean, ForRequests, IsDurableAs};
 
     /// The filings of a filer, ascending by number. Full never comes here.
     pub fn list(&mut self, filer: &str) -> Result<Vec<FilingRow>, Unavailable>
-        ensures rows { IsClean S.Store self.new → (requests : List Request) → HoldsRequests S.Store self.old requests
-            → IfOk result (λ rows. map view_row rows.items ≡ listings filer.now None (register requests)) }
+        ensures rows { ForRequests S.Store self.old self.new (λ requests.
+            IfOk result (λ rows. map view_row rows.items ≡ listings filer.now None (register requests))) }
 
         // What is held stays, whatever the answer is.
-        ensures kept { IsClean S.Store self.new → (requests : List Request) → HoldsRequests S.Store self.old requests
-            → HoldsRequests S.Store self.new requests }
+        ensures kept { ForRequests S.Store self.old self.new (HoldsRequests S.Store self.new) }
         ensures clean { IsClean S.Store self.new → IsClean S.Store self.old }
         ensures limit { limit_of self.new ≡ limit_of self.old }
         ensures early { early_of self.new ≡ early_of self.old }
 
         // A crash leaves what it could leave before.
         ensures crash { CommitsNothing (shows S.Store self.old) (shows S.Store self.new) }
-        ensures durable { IsClean S.Store self.new → (requests : List Request) → HoldsRequests S.Store self.old requests
-            → OnOk result (IsTrue (shows S.Store self.new).is_open
-            × ((trees : Trees) → (shows S.Store self.new).may_leave trees
-            → LeavesRegister (early_of self.old) requests trees)) }
+        ensures durable { ForRequests S.Store self.old self.new (λ requests.
+            OnOk result (IsDurableAs S.Store self.new (early_of self.old) requests)) }
 
         // After a refusal of the database there is no other answer than that.
         ensures down { has_stopped self.old ≡ true → (result ≡ Err Down) × (self.new ≡ self.old) }
@@ -241,22 +233,19 @@ impl<S: Alter> Intake<S> {
 
     /// The registered requests under their numbers, ascending. Full never comes here.
     pub fn register(&mut self) -> Result<Vec<Registered>, Unavailable>
-        ensures rows { IsClean S.Store self.new → (requests : List Request) → HoldsRequests S.Store self.old requests
-            → IfOk result (λ rows. rows.items ≡ register requests) }
+        ensures rows { ForRequests S.Store self.old self.new (λ requests.
+            IfOk result (λ rows. rows.items ≡ register requests)) }
 
         // What is held stays, whatever the answer is.
-        ensures kept { IsClean S.Store self.new → (requests : List Request) → HoldsRequests S.Store self.old requests
-            → HoldsRequests S.Store self.new requests }
+        ensures kept { ForRequests S.Store self.old self.new (HoldsRequests S.Store self.new) }
         ensures clean { IsClean S.Store self.new → IsClean S.Store self.old }
         ensures limit { limit_of self.new ≡ limit_of self.old }
         ensures early { early_of self.new ≡ early_of self.old }
 
         // A crash leaves what it could leave before.
         ensures crash { CommitsNothing (shows S.Store self.old) (shows S.Store self.new) }
-        ensures durable { IsClean S.Store self.new → (requests : List Request) → HoldsRequests S.Store self.old requests
-            → OnOk result (IsTrue (shows S.Store self.new).is_open
-            × ((trees : Trees) → (shows S.Store self.new).may_leave trees
-            → LeavesRegister (early_of self.old) requests trees)) }
+        ensures durable { ForRequests S.Store self.old self.new (λ requests.
+            OnOk result (IsDurableAs S.Store self.new (early_of self.old) requests)) }
 
         // After a refusal of the database there is no other answer than that.
         ensures down { has_stopped self.old ≡ true → (result ≡ Err Down) × (self.new ≡ self.old) }
@@ -276,7 +265,7 @@ impl<S: Alter> Intake<S> {
 impl<S: Alter> Intake<S> {
     ghost use Rattle.intake_core.specs.Answered.{IsAnswerTo};
     ghost use Rattle.intake_core.specs.Cache.{IsKeptIn};
-    ghost use Rattle.intake_core.specs.Held.{store_of, shows, limit_of, early_of, early_in, has_stopped, HoldsRequests, IsClean};
+    ghost use Rattle.intake_core.specs.Held.{store_of, shows, limit_of, early_of, early_in, has_stopped, HoldsRequests, IsClean, ForRequests, SurvivesAs, with_request};
 
     /// The answer to a request that the cache remembers. The cache is made here, where there is memory for it.
     fn recall(
@@ -340,31 +329,29 @@ impl<S: Alter> Intake<S> {
         requires filer { is_filer filer.now ≡ true }
         requires target { IsTarget target }
         requires body { length body.now ≤ max_body_len }
-        ensures answer { IsClean S.Store self.new → (requests : List Request) → HoldsRequests S.Store self.old requests
-            → IfOk result (λ a.
+        ensures answer { ForRequests S.Store self.old self.new (λ requests.
+            IfOk result (λ a.
             IsAnswerTo (early_in self.old requests) requests (the_request filer.now key.now target body.now) a
             × HoldsRequests S.Store self.new
-            (firsts (requests ++ the_request filer.now key.now target body.now ∷ []))) }
-        ensures err { IsClean S.Store self.new → (requests : List Request) → HoldsRequests S.Store self.old requests
-            → OnErr result (HoldsRequests S.Store self.new requests) }
+            (with_request requests (the_request filer.now key.now target body.now)))) }
+        ensures err { ForRequests S.Store self.old self.new (λ requests.
+            OnErr result (HoldsRequests S.Store self.new requests)) }
         ensures clean { IsClean S.Store self.new → IsClean S.Store self.old }
         ensures limit { (limit_of self.new ≡ limit_of self.old) × (has_stopped self.new ≡ has_stopped self.old) }
         ensures early { early_of self.new ≡ early_of self.old }
-        ensures full { IsClean S.Store self.new → (requests : List Request) → HoldsRequests S.Store self.old requests
-            → (k : ℕ) → result ≡ Err (Full k)
+        ensures full { ForRequests S.Store self.old self.new (λ requests.
+            (k : ℕ) → result ≡ Err (Full k)
             → (has_key requests (the_request filer.now key.now target body.now) ≡ false) × (limit_of self.old ≤ k)
-            × (k ≡ length requests) }
-        ensures room { IsClean S.Store self.new → (requests : List Request) → HoldsRequests S.Store self.old requests
-            → OnOk result (has_key requests (the_request filer.now key.now target body.now) ≡ false
-            → length requests < limit_of self.old) }
+            × (k ≡ length requests)) }
+        ensures room { ForRequests S.Store self.old self.new (λ requests.
+            OnOk result (has_key requests (the_request filer.now key.now target body.now) ≡ false
+            → length requests < limit_of self.old)) }
         ensures running { result ≢ Err Down }
-        ensures crash { Survives (shows S.Store self.old) (shows S.Store self.new) (λ trees.
-            (requests : List Request) → HoldsRequests S.Store self.old requests
-            → IsTrue (shows S.Store self.old).is_open
-            → LeavesRegister (early_of self.old)
-            (firsts (requests ++ the_request filer.now key.now target body.now ∷ [])) trees) }
-        ensures open { IsClean S.Store self.new → (requests : List Request) → HoldsRequests S.Store self.old requests
-            → OnOk result (IsTrue (shows S.Store self.new).is_open) }
+        ensures crash { SurvivesAs S.Store self.old self.new (λ requests trees.
+            LeavesRegister (early_of self.old)
+            (with_request requests (the_request filer.now key.now target body.now)) trees) }
+        ensures open { ForRequests S.Store self.old self.new (λ requests.
+            OnOk result (IsTrue (shows S.Store self.new).is_open)) }
     {
         match self.store.find(filer, key)? {
             Some(row) => Ok(self.repeat(filer, target, key, body, row)),
@@ -401,18 +388,17 @@ impl<S: Alter> Intake<S> {
 
     /// Whether a request that is to replace this filing of the filer may do so; one without a target may.
     fn is_free(&mut self, filer: &str, target: Option<u64>) -> Result<bool, Unavailable>
-        ensures answer { IsClean S.Store self.new → (requests : List Request) → HoldsRequests S.Store self.old requests
-            → IfOk result (λ free. free ≡ is_free (register requests) filer.now target) }
-        ensures same { IsClean S.Store self.new → (requests : List Request) → HoldsRequests S.Store self.old requests
-            → HoldsRequests S.Store self.new requests }
+        ensures answer { ForRequests S.Store self.old self.new (λ requests.
+            IfOk result (λ free. free ≡ is_free (register requests) filer.now target)) }
+        ensures same { ForRequests S.Store self.old self.new (HoldsRequests S.Store self.new) }
         ensures clean { IsClean S.Store self.new → IsClean S.Store self.old }
         ensures limit { (limit_of self.new ≡ limit_of self.old) × (has_stopped self.new ≡ has_stopped self.old) }
         ensures early { early_of self.new ≡ early_of self.old }
         ensures count { (store_of self.new).kept ≡ (store_of self.old).kept }
         ensures running { (result ≢ Err Down) × ((k : ℕ) → result ≢ Err (Full k)) }
         ensures crash { CommitsNothing (shows S.Store self.old) (shows S.Store self.new) }
-        ensures open { IsClean S.Store self.new → (requests : List Request) → HoldsRequests S.Store self.old requests
-            → IsTrue (shows S.Store self.old).is_open → OnOk result (IsTrue (shows S.Store self.new).is_open) }
+        ensures open { ForRequests S.Store self.old self.new (λ requests.
+            IsTrue (shows S.Store self.old).is_open → OnOk result (IsTrue (shows S.Store self.new).is_open)) }
     {
         match target {
             None => Ok(true),
@@ -433,29 +419,28 @@ impl<S: Alter> Intake<S> {
         requires target { IsTarget target }
         requires body { length body.now ≤ max_body_len }
         requires room { (store_of self.old).kept < 2 ^ 62 }
-        ensures answer { IsClean S.Store self.new → (requests : List Request) → HoldsRequests S.Store self.old requests
-            → has_key requests (the_request filer.now key.now target body.now) ≡ false
+        ensures answer { ForRequests S.Store self.old self.new (λ requests.
+            has_key requests (the_request filer.now key.now target body.now) ≡ false
             → free ≡ is_free (register requests) filer.now target
             → IfOk result (λ a.
             IsAnswerTo (early_in self.old requests) requests (the_request filer.now key.now target body.now) a
-            × HoldsRequests S.Store self.new (requests ++ the_request filer.now key.now target body.now ∷ [])) }
-        ensures err { IsClean S.Store self.new → (requests : List Request) → HoldsRequests S.Store self.old requests
-            → OnErr result (HoldsRequests S.Store self.new requests) }
+            × HoldsRequests S.Store self.new
+            (requests ++ the_request filer.now key.now target body.now ∷ []))) }
+        ensures err { ForRequests S.Store self.old self.new (λ requests.
+            OnErr result (HoldsRequests S.Store self.new requests)) }
         ensures clean { IsClean S.Store self.new → IsClean S.Store self.old }
         ensures limit { (limit_of self.new ≡ limit_of self.old) × (has_stopped self.new ≡ has_stopped self.old) }
         ensures early { early_of self.new ≡ early_of self.old }
         ensures running { (result ≢ Err Down) × ((k : ℕ) → result ≢ Err (Full k)) }
-        ensures crash { Survives (shows S.Store self.old) (shows S.Store self.new) (λ trees.
-            (requests : List Request) → HoldsRequests S.Store self.old requests
-            → IsTrue (shows S.Store self.old).is_open
-            → has_key requests (the_request filer.now key.now target body.now) ≡ false
+        ensures crash { SurvivesAs S.Store self.old self.new (λ requests trees.
+            has_key requests (the_request filer.now key.now target body.now) ≡ false
             → free ≡ is_free (register requests) filer.now target
             → LeavesRegister (early_of self.old) (requests ++ the_request filer.now key.now target body.now ∷ [])
             trees) }
-        ensures open { IsClean S.Store self.new → (requests : List Request) → HoldsRequests S.Store self.old requests
-            → has_key requests (the_request filer.now key.now target body.now) ≡ false
+        ensures open { ForRequests S.Store self.old self.new (λ requests.
+            has_key requests (the_request filer.now key.now target body.now) ≡ false
             → free ≡ is_free (register requests) filer.now target
-            → OnOk result (IsTrue (shows S.Store self.new).is_open) }
+            → OnOk result (IsTrue (shows S.Store self.new).is_open)) }
     {
         let judged = judge_amendment(self.alloc, filer, body, free)?;
         let outcome = self.store.add(&NewRow {
@@ -480,13 +465,14 @@ impl<S: Alter> Intake<S> {
         requires filer { is_filer filer.now ≡ true }
         requires target { IsTarget target }
         requires body { length body.now ≤ max_body_len }
-        ensures answer { IsClean S.Store self.new → (requests : List Request) → HoldsRequests S.Store self.old requests
-            → has_key requests (the_request filer.now key.now target body.now) ≡ false
+        ensures answer { ForRequests S.Store self.old self.new (λ requests.
+            has_key requests (the_request filer.now key.now target body.now) ≡ false
             → IfOk result (λ a.
             IsAnswerTo (early_in self.old requests) requests (the_request filer.now key.now target body.now) a
-            × HoldsRequests S.Store self.new (requests ++ the_request filer.now key.now target body.now ∷ [])) }
-        ensures err { IsClean S.Store self.new → (requests : List Request) → HoldsRequests S.Store self.old requests
-            → OnErr result (HoldsRequests S.Store self.new requests) }
+            × HoldsRequests S.Store self.new
+            (requests ++ the_request filer.now key.now target body.now ∷ []))) }
+        ensures err { ForRequests S.Store self.old self.new (λ requests.
+            OnErr result (HoldsRequests S.Store self.new requests)) }
         ensures clean { IsClean S.Store self.new → IsClean S.Store self.old }
         ensures limit { (limit_of self.new ≡ limit_of self.old) × (has_stopped self.new ≡ has_stopped self.old) }
         ensures early { early_of self.new ≡ early_of self.old }
@@ -495,15 +481,13 @@ impl<S: Alter> Intake<S> {
         ensures room { (requests : List Request) → HoldsRequests S.Store self.old requests
             → OnOk result (length requests < limit_of self.old) }
         ensures running { result ≢ Err Down }
-        ensures crash { Survives (shows S.Store self.old) (shows S.Store self.new) (λ trees.
-            (requests : List Request) → HoldsRequests S.Store self.old requests
-            → IsTrue (shows S.Store self.old).is_open
-            → has_key requests (the_request filer.now key.now target body.now) ≡ false
+        ensures crash { SurvivesAs S.Store self.old self.new (λ requests trees.
+            has_key requests (the_request filer.now key.now target body.now) ≡ false
             → LeavesRegister (early_of self.old) (requests ++ the_request filer.now key.now target body.now ∷ [])
             trees) }
-        ensures open { IsClean S.Store self.new → (requests : List Request) → HoldsRequests S.Store self.old requests
-            → has_key requests (the_request filer.now key.now target body.now) ≡ false
-            → OnOk result (IsTrue (shows S.Store self.new).is_open) }
+        ensures open { ForRequests S.Store self.old self.new (λ requests.
+            has_key requests (the_request filer.now key.now target body.now) ≡ false
+            → OnOk result (IsTrue (shows S.Store self.new).is_open)) }
     {
         let kept = self.store.kept_count()?;
         if kept >= self.limit.keys {

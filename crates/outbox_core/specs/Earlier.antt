@@ -6,8 +6,9 @@ use Rattle.sqlite.specs.Schema.{Schema}
 use Rattle.sqlite.specs.Change.{created}
 use Rattle.sqlite.specs.Effect.{Database, IsDatabase}
 use Rattle.sqlite.specs.Store.{Ghosts}
+use Rattle.sqlite.specs.Tree.{Trees}
 use Rattle.sqlite.specs.Held.{Held, state}
-use Rattle.sqlite.specs.State.{Shown, ExecutesInside}
+use Rattle.sqlite.specs.State.{State, Shown, ExecutesInside}
 use Rattle.sqlite_catalog.specs.Change.{is_used}
 use Rattle.table_rows.specs.Rows.{TableHas}
 use Rattle.table_rows.specs.Tables.{no_schema}
@@ -16,7 +17,7 @@ use Rattle.outbox_core.specs.declared.fault.OutboxFault.{OutboxFault}
 use Rattle.outbox_core.specs.declared.fault.OutboxFault.TheVariants as fault
 use Rattle.outbox_core.specs.Schema.{HasCommon, meta_table, entry_table}
 use Rattle.outbox_core.specs.Entries.{Contents, IsOutbox}
-use Rattle.outbox_core.specs.Rows.{form_row, entry_rows}
+use Rattle.outbox_core.specs.Rows.{form_row, entry_rows, LeavesOutbox}
 use Rattle.outbox_core.specs.Making.{create_target}
 use Rattle.outbox_core.specs.Audit.{meta_text, entries_text, damaged_row, StopsFor, IsNoOutbox, ReadsFiler, IsDamagedAt}
 
@@ -32,6 +33,10 @@ pub record IsEarlierOf (it : Contents) (db : Database) : Type 0 where
   pub entries_are : TableHas db entry_table (entry_rows it.entries)
   pub untargeted : AllByRecursion (λ e. e.target ≡ None) it.entries
   pub list : IsOutbox it
+
+-- the outbox of that form that stood alone in the database is left in this one
+abbrev pub LeavesMigrated : State → Trees → Type 0
+LeavesMigrated old trees = (it : Contents) → IsAlone old.now.schema → IsEarlierOf it old.now → LeavesOutbox it trees
 
 -- ---- what is read
 

@@ -1,5 +1,5 @@
 -- The entries of an outbox as a list, numbered from 1.
-use Rattle.std.specs.Prelude.{◌≡◌, ℕ, suc, ◌≤◌, ◌<◌, ◌^◌, ◌==◌, Bool, true, false, List, [], ◌∷◌, ◌++◌, bytes_eq, Option, option_and_then}
+use Rattle.std.specs.Prelude.{◌≡◌, ℕ, suc, ◌≤◌, ◌<◌, ◌^◌, ◌==◌, Bool, true, false, List, [], ◌∷◌, ◌++◌, bytes_eq, find, Option, option_map, option_and_then}
 use Rattle.std.specs.List.{AllByRecursion}
 use Rattle.key_string.specs.Filer.{is_filer}
 use Rattle.filing_model.specs.Numbered.{numbered as element, changed}
@@ -29,6 +29,10 @@ numbered = numbered_from 1
 abbrev pub entry_at : List Entry → ℕ → Option Entry
 entry_at = element
 
+-- the same under its id
+abbrev pub found_at : List Entry → ℕ → Option (ℕ × Entry)
+found_at entries id = option_map (λ e. (id, e)) (entry_at entries id)
+
 -- the filing that the entry of an id is to replace, if it is to replace one
 abbrev pub target_at : List Entry → ℕ → Option ℕ
 target_at entries id = option_and_then (λ e. e.target) (entry_at entries id)
@@ -45,6 +49,10 @@ is_open_state _ = false
 
 abbrev pub is_open : ℕ × Entry → Bool
 is_open x = is_open_state x.1.state
+
+-- the open entry with the least id
+abbrev pub first_open : List Entry → Option (ℕ × Entry)
+first_open entries = find is_open (numbered entries)
 
 -- an entry as it is first kept
 abbrev pub opened : List ℕ → Option ℕ → List ℕ → Entry

@@ -1,4 +1,5 @@
 -- The database's refusals as an outbox names them.
+use Rattle.std.specs.Prelude.{◌≡◌, ◌⊎◌, ℕ}
 use Rattle.sqlite.specs.declared.error.Error.{Error}
 use Rattle.table_rows.specs.declared.cause.Cause.{Cause}
 use Rattle.table_rows.specs.declared.cause.Cause.TheVariants as cause
@@ -38,6 +39,14 @@ entry_fault_by cause.Other = outbox.Damaged 0
 -- where `entry` cannot be read
 abbrev pub entry_fault : Error → OutboxFault
 entry_fault error = entry_fault_by (cause_of error)
+
+-- memory or the disk failed
+abbrev pub IsFailure : OutboxFault → Type 0
+IsFailure fault = (fault ≡ outbox.Memory) ⊎ (fault ≡ outbox.Disk)
+
+-- a row is damaged, or memory or the disk failed
+abbrev pub IsDamageOrFailure : OutboxFault → Type 0
+IsDamageOrFailure fault = ((row : ℕ) × (fault ≡ outbox.Damaged row)) ⊎ IsFailure fault
 
 -- that memory ran out is told as that alone
 abbrev pub store_fault_by : Cause → StoreFault

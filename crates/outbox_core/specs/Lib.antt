@@ -4,6 +4,7 @@ pub mod Rows
 pub mod Reading
 pub mod Faults
 pub mod OutboxParts
+pub mod Promises
 pub mod Audit
 pub mod Making
 pub mod Changes

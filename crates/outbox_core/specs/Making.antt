@@ -5,6 +5,9 @@ use Rattle.sqlite.specs.Store.{Ghosts}
 use Rattle.sqlite.specs.Tree.{Trees}
 use Rattle.sqlite.specs.Held.{Held, state}
 use Rattle.sqlite.specs.State.{ExecutesInside}
+use Rattle.table_rows.specs.Tables.{no_schema}
+use Rattle.outbox_core.specs.Entries.{empty}
+use Rattle.outbox_core.specs.Rows.{LeavesOutbox}
 
 abbrev pub create_meta : List ℕ
 create_meta = codes "CREATE TABLE outbox_meta (id INTEGER PRIMARY KEY, kind TEXT NOT NULL, form INTEGER NOT NULL, filer TEXT NOT NULL) STRICT"
@@ -32,3 +35,7 @@ pub record RunsAll {S : Type 0} (g : Ghosts S) (filer : List ℕ) (old new : Hel
 -- the trees are what all four make of the database, whatever it was
 abbrev pub AreMade : {S : Type 0} → Ghosts S → List ℕ → Held S → Trees → Type 0
 AreMade {S} g filer old trees = (last : Held S) × RunsAll g filer (record old { in_transaction = true }) last × (trees ≡ (state g last).now.trees)
+
+-- so they are; and they are those of the outbox with no entry where the database had no tables before
+abbrev pub LeavesMade : {S : Type 0} → Ghosts S → List ℕ → Held S → Trees → Type 0
+LeavesMade g filer old trees = AreMade g filer old trees × ((state g old).now.schema ≡ no_schema → LeavesOutbox (empty filer) trees)

@@ -1,13 +1,15 @@
 -- What an outbox shows.
-use Rattle.std.specs.Prelude.{◌≡◌, ℕ, Bool, List, length, Result, IsTrue, OnOk, refl}
+use Rattle.std.specs.Prelude.{◌≡◌, ℕ, Bool, List, length, Result, Some, IsTrue, OnErr, refl}
 use Rattle.std.specs.Coded.{Coded, code_by, coded×, coded_ℕ, coded_bool, coded_list}
 use Rattle.sqlite.specs.Store.{Ghosts}
+use Rattle.sqlite.specs.Tree.{Trees}
 use Rattle.sqlite.specs.Held.{Held, held_code, state}
-use Rattle.sqlite.specs.State.{State, HasCleanDisk}
-use Rattle.filing_model.specs.Outbox.{Entry}
+use Rattle.sqlite.specs.State.{State, HasCleanDisk, Survives}
+use Rattle.http_wire.specs.Reply.{ReplyParts}
+use Rattle.filing_model.specs.Outbox.{Entry, moved}
 use Rattle.table_rows.specs.Standing.{HasCommitted}
-use Rattle.outbox_core.specs.Entries.{Contents}
-use Rattle.outbox_core.specs.Rows.{IsOutboxOf}
+use Rattle.outbox_core.specs.Entries.{Contents, entry_at, with_state}
+use Rattle.outbox_core.specs.Rows.{IsOutboxOf, LeavesOutbox}
 
 -- a connection, the filer, how many entries there are, and whether a call was refused as Store
 pub record OutboxParts (S : Type 0) : Type 0 where
@@ -35,10 +37,23 @@ pub record HasEntries {S : Type 0} (g : Ghosts S) (box : OutboxParts S) (entries
   pub stands : HasCommitted (IsOutboxOf (contents box entries)) (shows g box)
   pub count : box.count ≡ length entries
 
--- Where the disk is clean at the end, the outbox that stood in the rows stands in them still, and is committed.
-abbrev pub KeepsOutbox : State → State → Type 0
-KeepsOutbox old new = HasCleanDisk new → (it : Contents) → HasCommitted (IsOutboxOf it) old → HasCommitted (IsOutboxOf it) new
+-- Whatever entries it had before: where the disk is clean at the end, this holds of them.
+abbrev pub ForEntries : {S : Type 0} → Ghosts S → OutboxParts S → OutboxParts S → (List Entry → Type 0) → Type 0
+ForEntries g old new P = HasCleanDisk (shows g new) → (entries : List Entry) → HasEntries g old entries → P entries
 
--- so an answer leaves the store open
-abbrev pub AnswersOpen : {X E : Type 0} → State → State → Result X E → Type 0
-AnswersOpen old new result = HasCleanDisk new → (it : Contents) → HasCommitted (IsOutboxOf it) old → OnOk result (IsTrue new.is_open)
+-- a refusal changes no entry
+abbrev pub KeepsOnRefusal : {S X E : Type 0} → Ghosts S → OutboxParts S → OutboxParts S → Result X E → Type 0
+KeepsOnRefusal g old new result = ForEntries g old new (λ entries. OnErr result (HasEntries g new entries))
+
+-- It is open, and a crash now leaves this outbox alone.
+abbrev pub IsDurableAs : {S : Type 0} → Ghosts S → OutboxParts S → Contents → Type 0
+IsDurableAs g box it = IsTrue (shows g box).is_open × ((trees : Trees) → (shows g box).may_leave trees → LeavesOutbox it trees)
+
+-- A crash inside the call leaves what one before it could leave, or this, by the entries of before.
+abbrev pub SurvivesAs : {S : Type 0} → Ghosts S → OutboxParts S → OutboxParts S → (List Entry → Trees → Type 0) → Type 0
+SurvivesAs g old new Leaves =
+    Survives (shows g old) (shows g new) (λ trees. (entries : List Entry) → HasEntries g old entries → IsTrue (shows g old).is_open → Leaves entries trees)
+
+-- the id names an entry, and the trees are of this outbox after its move by the reply
+abbrev pub LeavesMoved : Contents → ℕ → ReplyParts → Trees → Type 0
+LeavesMoved it id reply trees = (e : Entry) × (entry_at it.entries id ≡ Some e) × LeavesOutbox (with_state it id (moved e.state reply)) trees

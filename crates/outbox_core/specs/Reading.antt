@@ -1,5 +1,5 @@
 -- Entries and states without where they lie in memory.
-use Rattle.std.specs.Prelude.{◌≡◌, ℕ, pos, if◌then◌else◌}
+use Rattle.std.specs.Prelude.{◌≡◌, ℕ, pos, if◌then◌else◌, Option, option_map, Result, IfOk}
 use Rattle.std.specs.Ordering.{int_eq}
 use Rattle.sqlite.specs.declared.types.Value.{Value}
 use Rattle.sqlite.specs.declared.types.Value.TheVariants.{Int, Text, Blob}
@@ -19,6 +19,10 @@ view_state Stored.Clashed = Clashed
 -- the id of an entry, and the rest
 abbrev pub view_entry : Read → ℕ × Entry
 view_entry e = (e.id, record { key = e.key; target = e.target; body = e.body.items; state = view_state e.state })
+
+-- the answer is this entry under its id, or none
+abbrev pub Finds : {E : Type 0} → Result (Option Read) E → Option (ℕ × Entry) → Type 0
+Finds result found = IfOk result (λ entry. option_map view_entry entry ≡ found)
 
 -- what the columns of a row say of an entry
 pub record Shows (row : Row) (e : Read) : Type 0 where

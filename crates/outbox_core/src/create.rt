@@ -4,14 +4,13 @@ ghost use Rattle.std.specs.Prelude.{◌≡◌, ◌≢◌, ◌||◌, ◌⊎◌, �
 ghost use Rattle.key_string.specs.Filer.{is_filer};
 ghost use Rattle.sqlite.specs.Held.{state};
 ghost use Rattle.sqlite.specs.Values.{bound};
-ghost use Rattle.sqlite.specs.Tree.{Trees};
 ghost use Rattle.sqlite.specs.State.{HasCleanDisk, KeepsCommit, Survives, ExecutesInside};
 ghost use Rattle.table_rows.specs.Tables.{no_schema};
 ghost use Rattle.outbox_core.specs.Schema.{is_taken};
 ghost use Rattle.outbox_core.specs.Entries.{empty};
-ghost use Rattle.outbox_core.specs.Rows.{IsOutboxOf, LeavesOutbox};
-ghost use Rattle.outbox_core.specs.Making.{RunsAll, AreMade};
-ghost use Rattle.table_rows.specs.Standing.{CommitsNothing};
+ghost use Rattle.outbox_core.specs.Rows.{IsOutboxOf};
+ghost use Rattle.outbox_core.specs.Making.{RunsAll, AreMade, LeavesMade};
+ghost use Rattle.table_rows.specs.Standing.{CommitsNothing, StaysCommitted, IsCommitted, IsLasting};
 
 use crate::fault::OutboxFault;
 use key_string::is_filer;
@@ -39,8 +38,7 @@ pub(crate) fn run<S: Alter>(
         → OnOk result ((count : ℕ)
         × ExecutesInside 0 sql.now (bound params.now) (state S.Store tx.old.conn.now)
         (state S.Store tx.new.conn.now) (Ok count)) }
-    ensures keeps { HasCleanDisk (state S.Store tx.new.conn.now)
-        → KeepsCommit (state S.Store tx.old.conn.now) (state S.Store tx.new.conn.now) }
+    ensures keeps { StaysCommitted S.Store tx.old.conn.now tx.new.conn.now }
     ensures survives { CommitsNothing (state S.Store tx.old.conn.now) (state S.Store tx.new.conn.now) }
 {
     tx.execute(sql, params)?;
@@ -51,8 +49,7 @@ fn make_tables<S: Alter>(tx: &mut Transaction<'_, S>, filer: &str) -> Result<(),
     ensures same_reference { tx.new.conn.ghost_name ≡ tx.old.conn.ghost_name }
     ensures ran { HasCleanDisk (state S.Store tx.new.conn.now)
         → OnOk result (RunsAll S.Store filer.now tx.old.conn.now tx.new.conn.now) }
-    ensures keeps { HasCleanDisk (state S.Store tx.new.conn.now)
-        → KeepsCommit (state S.Store tx.old.conn.now) (state S.Store tx.new.conn.now) }
+    ensures keeps { StaysCommitted S.Store tx.old.conn.now tx.new.conn.now }
     ensures survives { CommitsNothing (state S.Store tx.old.conn.now) (state S.Store tx.new.conn.now) }
 {
     run(
@@ -86,12 +83,8 @@ fn make<S: Alter>(conn: &mut Connection<S>, filer: &str) -> Result<(), Error>
         → OnOk result (AreMade S.Store filer.now conn.old (state S.Store conn.new).now.trees) }
     ensures made { HasCleanDisk (state S.Store conn.new) → (state S.Store conn.old).now.schema ≡ no_schema
         → OnOk result (IsOutboxOf (empty filer.now) (state S.Store conn.new).now) }
-    ensures committed { HasCleanDisk (state S.Store conn.new)
-        → OnOk result (IsTrue (state S.Store conn.new).is_open
-        × ((state S.Store conn.new).committed ≡ (state S.Store conn.new).now)) }
-    ensures durable { HasCleanDisk (state S.Store conn.new)
-        → OnOk result ((trees : Trees) → (state S.Store conn.new).may_leave trees
-        → trees ≡ (state S.Store conn.new).now.trees) }
+    ensures committed { HasCleanDisk (state S.Store conn.new) → OnOk result (IsCommitted (state S.Store conn.new)) }
+    ensures durable { HasCleanDisk (state S.Store conn.new) → OnOk result (IsLasting (state S.Store conn.new)) }
     ensures undone { HasCleanDisk (state S.Store conn.new)
         → OnErr result (KeepsCommit (state S.Store conn.old) (state S.Store conn.new)) }
     ensures crash { Survives (state S.Store conn.old) (state S.Store conn.new) (AreMade S.Store filer.now conn.old) }
@@ -113,9 +106,7 @@ pub fn make_outbox<S: Alter>(
     ensures code { IfOk result (λ code. string_bytes code ≡ filer.now) }
     ensures made { HasCleanDisk (state S.Store conn.new) → (state S.Store conn.old).now.schema ≡ no_schema
         → OnOk result (IsOutboxOf (empty filer.now) (state S.Store conn.new).now) }
-    ensures committed { HasCleanDisk (state S.Store conn.new)
-        → OnOk result (IsTrue (state S.Store conn.new).is_open
-        × ((state S.Store conn.new).committed ≡ (state S.Store conn.new).now)) }
+    ensures committed { HasCleanDisk (state S.Store conn.new) → OnOk result (IsCommitted (state S.Store conn.new)) }
 
     // BadFiler comes where the text is no filer code, and always there; Taken where it is one and one of the names is in
     // use, and always there. Neither touches the connection.
@@ -132,12 +123,8 @@ pub fn make_outbox<S: Alter>(
         → OnOk result (AreMade S.Store filer.now conn.old (state S.Store conn.new).now.trees) }
     ensures undone { HasCleanDisk (state S.Store conn.new)
         → OnErr result (KeepsCommit (state S.Store conn.old) (state S.Store conn.new)) }
-    ensures crash { Survives (state S.Store conn.old) (state S.Store conn.new) (λ trees.
-        AreMade S.Store filer.now conn.old trees
-        × ((state S.Store conn.old).now.schema ≡ no_schema → LeavesOutbox (empty filer.now) trees)) }
-    ensures durable { HasCleanDisk (state S.Store conn.new)
-        → OnOk result ((trees : Trees) → (state S.Store conn.new).may_leave trees
-        → trees ≡ (state S.Store conn.new).now.trees) }
+    ensures crash { Survives (state S.Store conn.old) (state S.Store conn.new) (LeavesMade S.Store filer.now conn.old) }
+    ensures durable { HasCleanDisk (state S.Store conn.new) → OnOk result (IsLasting (state S.Store conn.new)) }
 {
     if !is_filer(filer) {
         return Err(OutboxFault::BadFiler);

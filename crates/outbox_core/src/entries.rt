@@ -1,7 +1,7 @@
 //! What the calls on an outbox do to its entries, in two statements at most.
 
-ghost use Rattle.std.specs.Prelude.{◌≡◌, ◌≢◌, ◌+◌, ◌^◌, ◌<◌, ◌≤◌, ℕ, Option, length, find, map, option_map, None, Some, IsTrue, IfOk, IfErr, OnOk, OnErr, IfSome, ◌⊎◌};
-ghost use Rattle.sqlite.specs.State.{HasCleanDisk, Survives};
+ghost use Rattle.std.specs.Prelude.{◌≡◌, ◌≢◌, ◌+◌, ◌^◌, ◌<◌, ◌≤◌, ℕ, Option, length, find, map, option_map, None, Some, IsTrue, IfOk, IfErr, OnOk, IfSome, ◌⊎◌};
+ghost use Rattle.sqlite.specs.State.{Survives};
 ghost use Rattle.sqlite.specs.Held.{state};
 ghost use Rattle.key_string.specs.Key.{IsKey};
 ghost use Rattle.http_wire.specs.Head.{max_body_len};
@@ -9,10 +9,11 @@ ghost use Rattle.http_wire.specs.Posting.{IsTarget};
 ghost use Rattle.http_wire.specs.Replies.{reply_parts};
 ghost use Rattle.filing_model.specs.Outbox.{Entry as Item, moved};
 ghost use Rattle.table_rows.specs.Standing.{HasCommitted, Commits, CommitsNothing};
-ghost use Rattle.outbox_core.specs.Entries.{Contents, IsOutbox, opened, numbered, has_text, is_open, entry_at, with_entry, with_state};
+ghost use Rattle.outbox_core.specs.Entries.{IsOutbox, opened, numbered, has_text, entry_at, found_at, first_open, with_entry, with_state};
 ghost use Rattle.outbox_core.specs.Rows.{IsOutboxOf, LeavesOutbox, entry_row};
-ghost use Rattle.outbox_core.specs.Reading.{view_entry, view_state, view_pair, id_and_state};
-ghost use Rattle.outbox_core.specs.OutboxParts.{AnswersOpen, KeepsOutbox};
+ghost use Rattle.outbox_core.specs.Reading.{Finds, view_entry, view_state, view_pair, id_and_state};
+ghost use Rattle.outbox_core.specs.OutboxParts.{LeavesMoved};
+ghost use Rattle.outbox_core.specs.Promises.{ForContents, KeepsOutbox, KeepsOutboxOnRefusal, AnswersOpen};
 
 use crate::entry::{Entry, read_states, state_in};
 use crate::fault::{PutFault, StoreFault, TakeFault};
@@ -38,16 +39,12 @@ fn insert_next<S: Alter>(
     body: &[u8],
 ) -> Result<u64, PutFault>
     requires { IsTarget target }
-    ensures added { HasCleanDisk (state S.Store conn.new) → (it : Contents)
-        → HasCommitted (IsOutboxOf it) (state S.Store conn.old) → IsTrue (state S.Store conn.old).is_open
-        → count ≡ length it.entries → IsOutbox (with_entry it (opened key.now target body.now))
-        → IfOk result (λ id.
-        (id ≡ 1 + length it.entries)
+    ensures added { ForContents S.Store conn.old conn.new (λ it.
+        IsTrue (state S.Store conn.old).is_open → count ≡ length it.entries
+        → IsOutbox (with_entry it (opened key.now target body.now)) → IfOk result (λ id. (id ≡ 1 + length it.entries)
         × HasCommitted (IsOutboxOf (with_entry it (opened key.now target body.now))) (state S.Store conn.new)
-        × IsTrue (state S.Store conn.new).is_open) }
-    ensures kept { HasCleanDisk (state S.Store conn.new) → (it : Contents)
-        → HasCommitted (IsOutboxOf it) (state S.Store conn.old)
-        → OnErr result (HasCommitted (IsOutboxOf it) (state S.Store conn.new)) }
+        × IsTrue (state S.Store conn.new).is_open)) }
+    ensures kept { KeepsOutboxOnRefusal (state S.Store conn.old) (state S.Store conn.new) result }
     ensures causes { IfErr result (λ fault. (fault ≡ PutFault.Memory) ⊎ (fault ≡ PutFault.Store)) }
     ensures few { IfOk result (λ id. id ≤ 2 ^ 62) }
     ensures crash { Survives (state S.Store conn.old) (state S.Store conn.new)
@@ -75,21 +72,15 @@ pub(crate) fn add_entry<S: Alter>(
     requires key { IsKey key.now }
     requires target { IsTarget target }
     requires body { length body.now ≤ max_body_len }
-    ensures added { HasCleanDisk (state S.Store conn.new) → (it : Contents)
-        → HasCommitted (IsOutboxOf it) (state S.Store conn.old) → count ≡ length it.entries
-        → IfOk result (λ id.
-        (id ≡ 1 + length it.entries)
+    ensures added { ForContents S.Store conn.old conn.new (λ it.
+        count ≡ length it.entries → IfOk result (λ id. (id ≡ 1 + length it.entries)
         × HasCommitted (IsOutboxOf (with_entry it (opened key.now target body.now))) (state S.Store conn.new)
-        × IsTrue (state S.Store conn.new).is_open) }
-    ensures unused { HasCleanDisk (state S.Store conn.new) → (it : Contents)
-        → HasCommitted (IsOutboxOf it) (state S.Store conn.old)
-        → OnOk result (find (has_text key.now) (numbered it.entries) ≡ None) }
-    ensures used { HasCleanDisk (state S.Store conn.new) → (it : Contents)
-        → HasCommitted (IsOutboxOf it) (state S.Store conn.old) → (id : _) → result ≡ Err (PutFault.KeyUsed id)
-        → option_map (λ x. x.0) (find (has_text key.now) (numbered it.entries)) ≡ Some id }
-    ensures kept { HasCleanDisk (state S.Store conn.new) → (it : Contents)
-        → HasCommitted (IsOutboxOf it) (state S.Store conn.old)
-        → OnErr result (HasCommitted (IsOutboxOf it) (state S.Store conn.new)) }
+        × IsTrue (state S.Store conn.new).is_open)) }
+    ensures unused { ForContents S.Store conn.old conn.new (λ it.
+        OnOk result (find (has_text key.now) (numbered it.entries) ≡ None)) }
+    ensures used { ForContents S.Store conn.old conn.new (λ it. (id : _) → result ≡ Err (PutFault.KeyUsed id)
+        → option_map (λ x. x.0) (find (has_text key.now) (numbered it.entries)) ≡ Some id) }
+    ensures kept { KeepsOutboxOnRefusal (state S.Store conn.old) (state S.Store conn.new) result }
     ensures few { IfOk result (λ id. id ≤ 2 ^ 62) }
     ensures any_size { result ≢ Err PutFault.TooLarge }
     ensures crash { Survives (state S.Store conn.old) (state S.Store conn.new)
@@ -109,9 +100,8 @@ fn read_entry<S: Alter>(
     alloc: Global,
     row: &Row,
 ) -> Result<Entry, StoreFault>
-    ensures read { HasCleanDisk (state S.Store conn.new) → (it : Contents)
-        → HasCommitted (IsOutboxOf it) (state S.Store conn.old) → (x : ℕ × Item) → row.now ≡ entry_row x
-        → entry_at it.entries x.0 ≡ Some x.1 → IfOk result (λ entry. view_entry entry ≡ x) }
+    ensures read { ForContents S.Store conn.old conn.new (λ it. (x : ℕ × Item)
+        → row.now ≡ entry_row x → entry_at it.entries x.0 ≡ Some x.1 → IfOk result (λ entry. view_entry entry ≡ x)) }
     ensures short { IfOk result (λ entry. length entry.body.items ≤ max_body_len) }
     ensures within { IfOk result (λ entry. IsTarget entry.target) }
     ensures kept { KeepsOutbox (state S.Store conn.old) (state S.Store conn.new) }
@@ -132,16 +122,13 @@ fn read_found<S: Alter>(
     alloc: Global,
     found: Option<Row>,
 ) -> Result<Option<Entry>, StoreFault>
-    ensures read { HasCleanDisk (state S.Store conn.new) → (it : Contents)
-        → HasCommitted (IsOutboxOf it) (state S.Store conn.old) → (o : Option (ℕ × Item))
-        → found ≡ option_map entry_row o → IfSome o (λ x. entry_at it.entries x.0 ≡ Some x.1)
-        → IfOk result (λ entry. option_map view_entry entry ≡ o) }
+    ensures read { ForContents S.Store conn.old conn.new (λ it. (o : Option (ℕ × Item))
+        → found ≡ option_map entry_row o → IfSome o (λ x. entry_at it.entries x.0 ≡ Some x.1) → Finds result o) }
     ensures short { IfOk result (λ entry. IfSome entry (λ e. length e.body.items ≤ max_body_len)) }
     ensures within { IfOk result (λ entry. IfSome entry (λ e. IsTarget e.target)) }
     ensures kept { KeepsOutbox (state S.Store conn.old) (state S.Store conn.new) }
-    ensures open { HasCleanDisk (state S.Store conn.new) → (it : Contents)
-        → HasCommitted (IsOutboxOf it) (state S.Store conn.old) → IsTrue (state S.Store conn.old).is_open
-        → OnOk result (IsTrue (state S.Store conn.new).is_open) }
+    ensures open { ForContents S.Store conn.old conn.new (λ it.
+        IsTrue (state S.Store conn.old).is_open → OnOk result (IsTrue (state S.Store conn.new).is_open)) }
     ensures crash { CommitsNothing (state S.Store conn.old) (state S.Store conn.new) }
 {
     match found {
@@ -159,9 +146,7 @@ pub(crate) fn entry_of<S: Alter>(
     id: u64,
 ) -> Result<Option<Entry>, StoreFault>
     requires { id < 2 ^ 63 }
-    ensures found { HasCleanDisk (state S.Store conn.new) → (it : Contents)
-        → HasCommitted (IsOutboxOf it) (state S.Store conn.old)
-        → IfOk result (λ entry. option_map view_entry entry ≡ option_map (λ e. (id, e)) (entry_at it.entries id)) }
+    ensures found { ForContents S.Store conn.old conn.new (λ it. Finds result (found_at it.entries id)) }
     ensures short { IfOk result (λ entry. IfSome entry (λ e. length e.body.items ≤ max_body_len)) }
     ensures within { IfOk result (λ entry. IfSome entry (λ e. IsTarget e.target)) }
     ensures kept { KeepsOutbox (state S.Store conn.old) (state S.Store conn.new) }
@@ -178,9 +163,7 @@ pub(crate) fn open_entry<S: Alter>(
     conn: &mut Connection<S>,
     alloc: Global,
 ) -> Result<Option<Entry>, StoreFault>
-    ensures found { HasCleanDisk (state S.Store conn.new) → (it : Contents)
-        → HasCommitted (IsOutboxOf it) (state S.Store conn.old)
-        → IfOk result (λ entry. option_map view_entry entry ≡ find is_open (numbered it.entries)) }
+    ensures found { ForContents S.Store conn.old conn.new (λ it. Finds result (first_open it.entries)) }
     ensures short { IfOk result (λ entry. IfSome entry (λ e. length e.body.items ≤ max_body_len)) }
     ensures within { IfOk result (λ entry. IfSome entry (λ e. IsTarget e.target)) }
     ensures kept { KeepsOutbox (state S.Store conn.old) (state S.Store conn.new) }
@@ -195,9 +178,8 @@ pub(crate) fn open_entry<S: Alter>(
 /// The state of the entry of this id.
 fn state_of_entry<S: Alter>(conn: &mut Connection<S>, id: u64) -> Result<Option<State>, StoreFault>
     requires { id < 2 ^ 63 }
-    ensures found { HasCleanDisk (state S.Store conn.new) → (it : Contents)
-        → HasCommitted (IsOutboxOf it) (state S.Store conn.old)
-        → IfOk result (λ state. option_map view_state state ≡ option_map (λ e. e.state) (entry_at it.entries id)) }
+    ensures found { ForContents S.Store conn.old conn.new (λ it.
+        IfOk result (λ state. option_map view_state state ≡ option_map (λ e. e.state) (entry_at it.entries id))) }
     ensures kept { KeepsOutbox (state S.Store conn.old) (state S.Store conn.new) }
     ensures open { AnswersOpen (state S.Store conn.old) (state S.Store conn.new) result }
     ensures crash { CommitsNothing (state S.Store conn.old) (state S.Store conn.new) }
@@ -214,9 +196,8 @@ pub(crate) fn states_of<S: Alter>(
     conn: &mut Connection<S>,
     alloc: Global,
 ) -> Result<Vec<(u64, State)>, StoreFault>
-    ensures found { HasCleanDisk (state S.Store conn.new) → (it : Contents)
-        → HasCommitted (IsOutboxOf it) (state S.Store conn.old)
-        → IfOk result (λ states. map view_pair states.items ≡ map id_and_state (numbered it.entries)) }
+    ensures found { ForContents S.Store conn.old conn.new (λ it.
+        IfOk result (λ states. map view_pair states.items ≡ map id_and_state (numbered it.entries))) }
     ensures kept { KeepsOutbox (state S.Store conn.old) (state S.Store conn.new) }
     ensures crash { CommitsNothing (state S.Store conn.old) (state S.Store conn.new) }
 {
@@ -235,16 +216,12 @@ fn move_entry<S: Alter>(
     reply: &Reply,
 ) -> Result<State, TakeFault>
     requires { id < 2 ^ 63 }
-    ensures moved { HasCleanDisk (state S.Store conn.new) → (it : Contents)
-        → HasCommitted (IsOutboxOf it) (state S.Store conn.old) → IsTrue (state S.Store conn.old).is_open
-        → option_map (λ e. e.state) (entry_at it.entries id) ≡ Some (view_state from)
-        → IfOk result (λ to.
+    ensures moved { ForContents S.Store conn.old conn.new (λ it. IsTrue (state S.Store conn.old).is_open
+        → option_map (λ e. e.state) (entry_at it.entries id) ≡ Some (view_state from) → IfOk result (λ to.
         (view_state to ≡ moved (view_state from) (reply_parts reply.now))
         × HasCommitted (IsOutboxOf (with_state it id (view_state to))) (state S.Store conn.new)
-        × IsTrue (state S.Store conn.new).is_open) }
-    ensures kept { HasCleanDisk (state S.Store conn.new) → (it : Contents)
-        → HasCommitted (IsOutboxOf it) (state S.Store conn.old)
-        → OnErr result (HasCommitted (IsOutboxOf it) (state S.Store conn.new)) }
+        × IsTrue (state S.Store conn.new).is_open)) }
+    ensures kept { KeepsOutboxOnRefusal (state S.Store conn.old) (state S.Store conn.new) result }
     ensures causes { IfErr result (λ fault. (fault ≡ TakeFault.Memory) ⊎ (fault ≡ TakeFault.Store)) }
     ensures crash { Survives (state S.Store conn.old) (state S.Store conn.new)
         (Commits IsOutboxOf (state S.Store conn.old) (λ it trees.
@@ -270,22 +247,15 @@ pub(crate) fn take_entry<S: Alter>(
     reply: &Reply,
 ) -> Result<State, TakeFault>
     requires { id < 2 ^ 63 }
-    ensures moved { HasCleanDisk (state S.Store conn.new) → (it : Contents)
-        → HasCommitted (IsOutboxOf it) (state S.Store conn.old)
-        → IfOk result (λ to.
+    ensures moved { ForContents S.Store conn.old conn.new (λ it. IfOk result (λ to.
         (Some (view_state to) ≡ option_map (λ e. moved e.state (reply_parts reply.now)) (entry_at it.entries id))
         × HasCommitted (IsOutboxOf (with_state it id (view_state to))) (state S.Store conn.new)
-        × IsTrue (state S.Store conn.new).is_open) }
-    ensures no_entry { HasCleanDisk (state S.Store conn.new) → (it : Contents)
-        → HasCommitted (IsOutboxOf it) (state S.Store conn.old) → result ≡ Err TakeFault.NoEntry
-        → entry_at it.entries id ≡ None }
-    ensures kept { HasCleanDisk (state S.Store conn.new) → (it : Contents)
-        → HasCommitted (IsOutboxOf it) (state S.Store conn.old)
-        → OnErr result (HasCommitted (IsOutboxOf it) (state S.Store conn.new)) }
+        × IsTrue (state S.Store conn.new).is_open)) }
+    ensures no_entry { ForContents S.Store conn.old conn.new (λ it.
+        result ≡ Err TakeFault.NoEntry → entry_at it.entries id ≡ None) }
+    ensures kept { KeepsOutboxOnRefusal (state S.Store conn.old) (state S.Store conn.new) result }
     ensures crash { Survives (state S.Store conn.old) (state S.Store conn.new)
-        (Commits IsOutboxOf (state S.Store conn.old) (λ it trees.
-        (e : Item) × (entry_at it.entries id ≡ Some e)
-        × LeavesOutbox (with_state it id (moved e.state (reply_parts reply.now))) trees)) }
+        (Commits IsOutboxOf (state S.Store conn.old) (λ it. LeavesMoved it id (reply_parts reply.now))) }
 {
     match state_of_entry(conn, id) {
         Ok(Some(from)) => move_entry(conn, alloc, id, from, reply),

@@ -8,14 +8,15 @@ ghost use Rattle.sqlite.specs.Held.{state};
 ghost use Rattle.sqlite.specs.Order.{Row as Stored};
 ghost use Rattle.sqlite.specs.State.{HasCleanDisk, IsLive, IsUnchanged, KeepsCommit, Shown};
 ghost use Rattle.table_rows.specs.Rows.{TableHas};
-ghost use Rattle.table_rows.specs.Standing.{HasCommitted, CommitsNothing, StaysAutocommit};
+ghost use Rattle.table_rows.specs.Standing.{HasCommitted, CommitsNothing, StaysAutocommit, StaysCommitted};
 ghost use Rattle.outbox_core.specs.Schema.{IsDeclared, HasCommon, meta_table, entry_table, target_table};
-ghost use Rattle.outbox_core.specs.Entries.{Contents, contents_of};
+ghost use Rattle.outbox_core.specs.Entries.{contents_of};
 ghost use Rattle.outbox_core.specs.Rows.{IsOutboxOf, form_row, entry_rows, target_rows};
-ghost use Rattle.outbox_core.specs.Faults.{meta_fault, entry_fault};
+ghost use Rattle.outbox_core.specs.Faults.{meta_fault, entry_fault, IsFailure, IsDamageOrFailure};
 ghost use Rattle.outbox_core.specs.Audit.{meta_text, targets_text, entries_text, damaged_row, IsKept, IsPair, StopsFor, IsNoOutbox, ReadsFiler, IsDamagedAt, AreDamaged, AreStopped, IsRefused};
 ghost use Rattle.outbox_core.specs.Walk.{AreCounted};
 ghost use Rattle.table_rows.specs.declared.cause.Cause.TheVariants as cause;
+ghost use Rattle.outbox_core.specs.Promises.{ForOutbox};
 
 use crate::audit::{damaged_row, filer_in};
 use crate::fault::OutboxFault;
@@ -63,15 +64,12 @@ pub(crate) fn filer_of<S: Alter>(
         → IsNoOutbox form (state S.Store conn.old) (state S.Store conn.new) }
     ensures disk { HasCleanDisk (state S.Store conn.new) → result ≡ Err OutboxFault.Disk
         → StopsFor cause.Disk meta_text (state S.Store conn.old) (state S.Store conn.new) }
-    ensures others { IfErr result (λ fault.
-        (fault ≡ OutboxFault.NotOurs) ⊎ ((fault ≡ OutboxFault.Memory) ⊎ (fault ≡ OutboxFault.Disk))) }
-    ensures ours { HasCleanDisk (state S.Store conn.new) → (filer : List ℕ)
-        → HasCommon (state S.Store conn.old).now.schema
-        → TableHas (state S.Store conn.old).now meta_table (form_row form filer ∷ []) → is_filer filer ≡ true
-        → (state S.Store conn.old).step_limit ≡ None
-        → IfErr result (λ fault. (fault ≡ OutboxFault.Memory) ⊎ (fault ≡ OutboxFault.Disk)) }
-    ensures kept { HasCleanDisk (state S.Store conn.new)
-        → KeepsCommit (state S.Store conn.old) (state S.Store conn.new) }
+    ensures others { IfErr result (λ fault. (fault ≡ OutboxFault.NotOurs) ⊎ IsFailure fault) }
+    ensures ours { HasCleanDisk (state S.Store conn.new)
+        → (filer : List ℕ) → HasCommon (state S.Store conn.old).now.schema
+        → TableHas (state S.Store conn.old).now meta_table (form_row form filer ∷ [])
+        → is_filer filer ≡ true → (state S.Store conn.old).step_limit ≡ None → IfErr result IsFailure }
+    ensures kept { StaysCommitted S.Store conn.old conn.new }
     ensures limit { conn.new.step_limit ≡ conn.old.step_limit }
     ensures crash { CommitsNothing (state S.Store conn.old) (state S.Store conn.new) }
     ensures mode { StaysAutocommit conn.old conn.new }
@@ -99,14 +97,10 @@ fn read_targets<S: Alter>(conn: &mut Connection<S>) -> Result<Vec<Row>, OutboxFa
         → (row ≡ 0) × StopsFor cause.Other targets_text (state S.Store conn.old) (state S.Store conn.new) }
     ensures disk { HasCleanDisk (state S.Store conn.new) → result ≡ Err OutboxFault.Disk
         → StopsFor cause.Disk targets_text (state S.Store conn.old) (state S.Store conn.new) }
-    ensures others { IfErr result (λ fault.
-        ((row : _) × (fault ≡ OutboxFault.Damaged row))
-        ⊎ ((fault ≡ OutboxFault.Memory) ⊎ (fault ≡ OutboxFault.Disk))) }
-    ensures whole { HasCleanDisk (state S.Store conn.new) → (it : Contents) → IsOutboxOf it (state S.Store conn.old).now
-        → (state S.Store conn.old).step_limit ≡ None
-        → IfErr result (λ fault. (fault ≡ OutboxFault.Memory) ⊎ (fault ≡ OutboxFault.Disk)) }
-    ensures kept { HasCleanDisk (state S.Store conn.new)
-        → KeepsCommit (state S.Store conn.old) (state S.Store conn.new) }
+    ensures others { IfErr result IsDamageOrFailure }
+    ensures whole { ForOutbox S.Store conn.old conn.new (λ it.
+        (state S.Store conn.old).step_limit ≡ None → IfErr result IsFailure) }
+    ensures kept { StaysCommitted S.Store conn.old conn.new }
     ensures limit { conn.new.step_limit ≡ conn.old.step_limit }
     ensures crash { CommitsNothing (state S.Store conn.old) (state S.Store conn.new) }
     ensures mode { StaysAutocommit conn.old conn.new }
@@ -138,17 +132,14 @@ pub(crate) fn count_whole<S: Alter>(
         × (damaged_row targets.now rows ≡ None)) }
     ensures disk { HasCleanDisk (state S.Store conn.new) → result ≡ Err OutboxFault.Disk
         → StopsFor cause.Disk entries_text (state S.Store conn.old) (state S.Store conn.new) }
-    ensures others { IfErr result (λ fault.
-        ((row : _) × (fault ≡ OutboxFault.Damaged row))
-        ⊎ ((fault ≡ OutboxFault.Memory) ⊎ (fault ≡ OutboxFault.Disk))) }
+    ensures others { IfErr result IsDamageOrFailure }
     ensures few { IfOk result (λ count. count ≤ 2 ^ 62) }
-    ensures whole { HasCleanDisk (state S.Store conn.new) → (entries : List Item)
-        → HasCommon (state S.Store conn.old).now.schema
-        → TableHas (state S.Store conn.old).now entry_table (entry_rows entries) → AllByRecursion IsKept entries
-        → IsPermutation (target_rows entries) targets.now → (state S.Store conn.old).step_limit ≡ None
-        → IfErr result (λ fault. (fault ≡ OutboxFault.Memory) ⊎ (fault ≡ OutboxFault.Disk)) }
-    ensures kept { HasCleanDisk (state S.Store conn.new)
-        → KeepsCommit (state S.Store conn.old) (state S.Store conn.new) }
+    ensures whole { HasCleanDisk (state S.Store conn.new)
+        → (entries : List Item) → HasCommon (state S.Store conn.old).now.schema
+        → TableHas (state S.Store conn.old).now entry_table (entry_rows entries)
+        → AllByRecursion IsKept entries → IsPermutation (target_rows entries) targets.now
+        → (state S.Store conn.old).step_limit ≡ None → IfErr result IsFailure }
+    ensures kept { StaysCommitted S.Store conn.old conn.new }
     ensures limit { conn.new.step_limit ≡ conn.old.step_limit }
     ensures crash { CommitsNothing (state S.Store conn.old) (state S.Store conn.new) }
     ensures mode { StaysAutocommit conn.old conn.new }
@@ -175,7 +166,7 @@ fn count_one_by_one<S: Alter>(
     ensures few { IfOk result (λ found. IfSome found (λ count. count ≤ 2 ^ 62)) }
     ensures disk { HasCleanDisk (state S.Store conn.new) → result ≡ Err OutboxFault.Disk
         → StopsFor cause.Disk entries_text (state S.Store conn.old) (state S.Store conn.new) }
-    ensures others { IfErr result (λ fault. (fault ≡ OutboxFault.Memory) ⊎ (fault ≡ OutboxFault.Disk)) }
+    ensures others { IfErr result IsFailure }
     ensures same { HasCleanDisk (state S.Store conn.new)
         → OnOk result (IsUnchanged (state S.Store conn.old) (state S.Store conn.new)) }
     ensures kept { HasCleanDisk (state S.Store conn.new)
@@ -210,17 +201,14 @@ fn count_entries<S: Alter>(
         → IsDamagedAt targets.now row (state S.Store conn.old) (state S.Store conn.new) }
     ensures disk { HasCleanDisk (state S.Store conn.new) → result ≡ Err OutboxFault.Disk
         → StopsFor cause.Disk entries_text (state S.Store conn.old) (state S.Store conn.new) }
-    ensures others { IfErr result (λ fault.
-        ((row : _) × (fault ≡ OutboxFault.Damaged row))
-        ⊎ ((fault ≡ OutboxFault.Memory) ⊎ (fault ≡ OutboxFault.Disk))) }
+    ensures others { IfErr result IsDamageOrFailure }
     ensures few { IfOk result (λ count. count ≤ 2 ^ 62) }
-    ensures whole { HasCleanDisk (state S.Store conn.new) → (entries : List Item)
-        → HasCommon (state S.Store conn.old).now.schema
-        → TableHas (state S.Store conn.old).now entry_table (entry_rows entries) → AllByRecursion IsKept entries
-        → IsPermutation (target_rows entries) targets.now → (state S.Store conn.old).step_limit ≡ None
-        → IfErr result (λ fault. (fault ≡ OutboxFault.Memory) ⊎ (fault ≡ OutboxFault.Disk)) }
-    ensures kept { HasCleanDisk (state S.Store conn.new)
-        → KeepsCommit (state S.Store conn.old) (state S.Store conn.new) }
+    ensures whole { HasCleanDisk (state S.Store conn.new)
+        → (entries : List Item) → HasCommon (state S.Store conn.old).now.schema
+        → TableHas (state S.Store conn.old).now entry_table (entry_rows entries)
+        → AllByRecursion IsKept entries → IsPermutation (target_rows entries) targets.now
+        → (state S.Store conn.old).step_limit ≡ None → IfErr result IsFailure }
+    ensures kept { StaysCommitted S.Store conn.old conn.new }
     ensures limit { conn.new.step_limit ≡ conn.old.step_limit }
     ensures crash { CommitsNothing (state S.Store conn.old) (state S.Store conn.new) }
     ensures mode { StaysAutocommit conn.old conn.new }
@@ -244,15 +232,11 @@ fn count_all<S: Alter>(alloc: Global, conn: &mut Connection<S>) -> Result<u64, O
         → AreDamaged S.Store row conn.old conn.new }
     ensures disk { HasCleanDisk (state S.Store conn.new) → result ≡ Err OutboxFault.Disk
         → AreStopped S.Store conn.old conn.new }
-    ensures others { IfErr result (λ fault.
-        ((row : _) × (fault ≡ OutboxFault.Damaged row))
-        ⊎ ((fault ≡ OutboxFault.Memory) ⊎ (fault ≡ OutboxFault.Disk))) }
+    ensures others { IfErr result IsDamageOrFailure }
     ensures few { IfOk result (λ count. count ≤ 2 ^ 62) }
-    ensures whole { HasCleanDisk (state S.Store conn.new) → (it : Contents) → IsOutboxOf it (state S.Store conn.old).now
-        → (state S.Store conn.old).step_limit ≡ None
-        → IfErr result (λ fault. (fault ≡ OutboxFault.Memory) ⊎ (fault ≡ OutboxFault.Disk)) }
-    ensures kept { HasCleanDisk (state S.Store conn.new)
-        → KeepsCommit (state S.Store conn.old) (state S.Store conn.new) }
+    ensures whole { ForOutbox S.Store conn.old conn.new (λ it.
+        (state S.Store conn.old).step_limit ≡ None → IfErr result IsFailure) }
+    ensures kept { StaysCommitted S.Store conn.old conn.new }
     ensures crash { CommitsNothing (state S.Store conn.old) (state S.Store conn.new) }
     ensures mode { StaysAutocommit conn.old conn.new }
     ensures clean { HasCleanDisk (state S.Store conn.new) → HasCleanDisk (state S.Store conn.old) }
@@ -303,13 +287,11 @@ pub fn read_outbox<S: Alter>(
     // A refusal says why; an outbox is refused by memory or disk.
     ensures refused { HasCleanDisk (state S.Store conn.new)
         → IfErr result (λ fault. IsRefused S.Store fault conn.old conn.new) }
-    ensures sound { HasCleanDisk (state S.Store conn.new) → (it : Contents) → IsOutboxOf it (state S.Store conn.old).now
-        → IfErr result (λ fault. (fault ≡ OutboxFault.Memory) ⊎ (fault ≡ OutboxFault.Disk)) }
+    ensures sound { ForOutbox S.Store conn.old conn.new (λ _. IfErr result IsFailure) }
     ensures others { IfErr result (λ fault. (fault ≢ OutboxFault.BadFiler) × (fault ≢ OutboxFault.Taken)) }
 
     // Whatever database it is, what is committed is what was committed, and a crash leaves what it could leave before.
-    ensures kept { HasCleanDisk (state S.Store conn.new)
-        → KeepsCommit (state S.Store conn.old) (state S.Store conn.new) }
+    ensures kept { StaysCommitted S.Store conn.old conn.new }
     ensures crash { CommitsNothing (state S.Store conn.old) (state S.Store conn.new) }
     ensures autocommit { conn.new.in_transaction ≡ false }
 {

@@ -1,17 +1,17 @@
 //! An outbox in the form before this one is brought into this one.
 
-ghost use Rattle.std.specs.Prelude.{◌≡◌, ◌≤◌, ◌^◌, ◌⊎◌, List, [], length, true, false, None, Ok, IsTrue, IfOk, IfErr, OnOk, OnErr, string_bytes};
+ghost use Rattle.std.specs.Prelude.{◌≡◌, ◌≤◌, ◌^◌, List, [], length, true, false, None, Ok, IsTrue, IfOk, IfErr, OnOk, OnErr, string_bytes};
 ghost use Rattle.key_string.specs.Filer.{is_filer};
 ghost use Rattle.filing_model.specs.Outbox.{Entry as Item};
 ghost use Rattle.sqlite.specs.Effect.{IsDatabase};
 ghost use Rattle.sqlite.specs.Held.{state};
-ghost use Rattle.sqlite.specs.Tree.{Trees};
 ghost use Rattle.sqlite.specs.State.{HasCleanDisk, IsUnchanged, KeepsCommit, Survives};
-ghost use Rattle.table_rows.specs.Standing.{HasCommitted, CommitsNothing, StaysAutocommit};
+ghost use Rattle.table_rows.specs.Standing.{HasCommitted, CommitsNothing, StaysAutocommit, StaysCommitted, IsCommitted, IsLasting};
 ghost use Rattle.outbox_core.specs.Schema.{HasCommon};
 ghost use Rattle.outbox_core.specs.Entries.{Contents, contents_of};
-ghost use Rattle.outbox_core.specs.Rows.{IsOutboxOf, LeavesOutbox};
-ghost use Rattle.outbox_core.specs.Earlier.{IsAlone, IsEarlierOf, IsFound, IsNotFound, Raises, IsNotMigrated, is_blocked};
+ghost use Rattle.outbox_core.specs.Rows.{IsOutboxOf};
+ghost use Rattle.outbox_core.specs.Earlier.{IsAlone, IsEarlierOf, IsFound, IsNotFound, Raises, IsNotMigrated, is_blocked, LeavesMigrated};
+ghost use Rattle.outbox_core.specs.Faults.{IsFailure};
 
 use crate::create::run;
 use crate::fault::OutboxFault;
@@ -36,11 +36,10 @@ fn read_earlier<S: Alter>(
     ensures read { HasCleanDisk (state S.Store conn.new) → OnOk result (IsFound S.Store conn.old conn.new) }
     ensures refused { HasCleanDisk (state S.Store conn.new)
         → IfErr result (λ fault. IsNotFound S.Store fault conn.old conn.new) }
-    ensures sound { HasCleanDisk (state S.Store conn.new) → (it : Contents)
-        → IsEarlierOf it (state S.Store conn.old).now → (state S.Store conn.old).step_limit ≡ None
-        → IfErr result (λ fault. (fault ≡ OutboxFault.Memory) ⊎ (fault ≡ OutboxFault.Disk)) }
-    ensures kept { HasCleanDisk (state S.Store conn.new)
-        → KeepsCommit (state S.Store conn.old) (state S.Store conn.new) }
+    ensures sound { HasCleanDisk (state S.Store conn.new)
+        → (it : Contents) → IsEarlierOf it (state S.Store conn.old).now
+        → (state S.Store conn.old).step_limit ≡ None → IfErr result IsFailure }
+    ensures kept { StaysCommitted S.Store conn.old conn.new }
     ensures crash { CommitsNothing (state S.Store conn.old) (state S.Store conn.new) }
     ensures mode { StaysAutocommit conn.old conn.new }
 {
@@ -58,8 +57,7 @@ fn raise<S: Alter>(tx: &mut Transaction<'_, S>) -> Result<(), Error>
     ensures same_reference { tx.new.conn.ghost_name ≡ tx.old.conn.ghost_name }
     ensures ran { HasCleanDisk (state S.Store tx.new.conn.now)
         → OnOk result (Raises S.Store tx.old.conn.now tx.new.conn.now) }
-    ensures keeps { HasCleanDisk (state S.Store tx.new.conn.now)
-        → KeepsCommit (state S.Store tx.old.conn.now) (state S.Store tx.new.conn.now) }
+    ensures keeps { StaysCommitted S.Store tx.old.conn.now tx.new.conn.now }
     ensures survives { CommitsNothing (state S.Store tx.old.conn.now) (state S.Store tx.new.conn.now) }
 {
     run(
@@ -77,17 +75,12 @@ fn write<S: Alter>(conn: &mut Connection<S>) -> Result<(), Error>
     ensures migrated { HasCleanDisk (state S.Store conn.new) → (it : Contents)
         → IsAlone (state S.Store conn.old).now.schema → IsEarlierOf it (state S.Store conn.old).now
         → OnOk result (IsOutboxOf it (state S.Store conn.new).now) }
-    ensures committed { HasCleanDisk (state S.Store conn.new)
-        → OnOk result (IsTrue (state S.Store conn.new).is_open
-        × ((state S.Store conn.new).committed ≡ (state S.Store conn.new).now)) }
-    ensures durable { HasCleanDisk (state S.Store conn.new)
-        → OnOk result ((trees : Trees) → (state S.Store conn.new).may_leave trees
-        → trees ≡ (state S.Store conn.new).now.trees) }
+    ensures committed { HasCleanDisk (state S.Store conn.new) → OnOk result (IsCommitted (state S.Store conn.new)) }
+    ensures durable { HasCleanDisk (state S.Store conn.new) → OnOk result (IsLasting (state S.Store conn.new)) }
     ensures undone { HasCleanDisk (state S.Store conn.new)
         → OnErr result (KeepsCommit (state S.Store conn.old) (state S.Store conn.new)) }
-    ensures crash { Survives (state S.Store conn.old) (state S.Store conn.new) (λ trees.
-        (it : Contents) → IsAlone (state S.Store conn.old).now.schema → IsEarlierOf it (state S.Store conn.old).now
-        → LeavesOutbox it trees) }
+    ensures crash { Survives (state S.Store conn.old) (state S.Store conn.new)
+        (LeavesMigrated (state S.Store conn.old)) }
 {
     let mut tx = conn.transaction();
     raise(&mut tx)?;
@@ -119,21 +112,16 @@ pub fn migrate_outbox<S: Alter>(
     // What is committed is what was committed.
     ensures refused { HasCleanDisk (state S.Store conn.new)
         → IfErr result (λ fault. IsNotMigrated S.Store fault conn.old conn.new) }
-    ensures sound { HasCleanDisk (state S.Store conn.new)
-        → IfErr result (λ fault.
+    ensures sound { HasCleanDisk (state S.Store conn.new) → IfErr result (λ fault.
         (it : Contents) → IsEarlierOf it (state S.Store conn.old).now
-        → is_blocked (state S.Store conn.old).now.schema ≡ false
-        → (fault ≡ OutboxFault.Memory) ⊎ (fault ≡ OutboxFault.Disk)) }
+        → is_blocked (state S.Store conn.old).now.schema ≡ false → IsFailure fault) }
     ensures undone { HasCleanDisk (state S.Store conn.new)
         → OnErr result (KeepsCommit (state S.Store conn.old) (state S.Store conn.new)) }
 
     // A crash leaves what it could leave before, or the migrated rows, and after the call these alone.
-    ensures crash { Survives (state S.Store conn.old) (state S.Store conn.new) (λ trees.
-        (it : Contents) → IsAlone (state S.Store conn.old).now.schema → IsEarlierOf it (state S.Store conn.old).now
-        → LeavesOutbox it trees) }
-    ensures durable { HasCleanDisk (state S.Store conn.new)
-        → OnOk result ((trees : Trees) → (state S.Store conn.new).may_leave trees
-        → trees ≡ (state S.Store conn.new).now.trees) }
+    ensures crash { Survives (state S.Store conn.old) (state S.Store conn.new)
+        (LeavesMigrated (state S.Store conn.old)) }
+    ensures durable { HasCleanDisk (state S.Store conn.new) → OnOk result (IsLasting (state S.Store conn.new)) }
 {
     prove!(is_settled(conn));
     match read_earlier(alloc, conn) {

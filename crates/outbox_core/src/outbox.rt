@@ -1,9 +1,8 @@
 //! The outbox of a filer.
 
 ghost use Rattle.std.specs.Prelude.{◌≡◌, ◌≢◌, List, ◌+◌, ◌^◌, ◌<◌, ◌≤◌, ◌↔◌, [], ◌∷◌, ◌++◌, length, find, map, option_map, false, None, Some, IsTrue, IfOk, IfErr, OnOk, OnErr, IfSome, IsSome, true, Err};
-ghost use Rattle.sqlite.specs.State.{HasCleanDisk, KeepsCommit, Survives};
+ghost use Rattle.sqlite.specs.State.{HasCleanDisk, Survives};
 ghost use Rattle.sqlite.specs.Held.{state};
-ghost use Rattle.sqlite.specs.Tree.{Trees};
 ghost use Rattle.key_string.specs.Filer.{is_filer};
 ghost use Rattle.http_wire.specs.Head.{max_body_len};
 ghost use Rattle.http_wire.specs.Posting.{IsTarget};
@@ -11,11 +10,10 @@ ghost use Rattle.http_wire.specs.Replies.{reply_parts};
 ghost use Rattle.filing_model.specs.Outbox.{Entry as Item, moved};
 ghost use Rattle.table_rows.specs.Tables.{no_schema};
 ghost use Rattle.outbox_core.specs.Schema.{is_taken};
-ghost use Rattle.outbox_core.specs.Entries.{empty, opened, numbered, has_text, is_open, entry_at, set_state};
+ghost use Rattle.outbox_core.specs.Entries.{empty, opened, numbered, has_text, entry_at, found_at, first_open, set_state};
 ghost use Rattle.outbox_core.specs.Rows.{LeavesOutbox};
-ghost use Rattle.outbox_core.specs.Making.{AreMade};
-ghost use Rattle.outbox_core.specs.Reading.{view_entry, view_state, view_pair, id_and_state};
-ghost use Rattle.table_rows.specs.Standing.{CommitsNothing};
+ghost use Rattle.outbox_core.specs.Reading.{Finds, view_state, view_pair, id_and_state};
+ghost use Rattle.table_rows.specs.Standing.{CommitsNothing, StaysCommitted};
 
 use crate::create::make_outbox;
 use crate::entries::{add_entry, entry_of, open_entry, states_of, take_entry};
@@ -70,7 +68,8 @@ impl<S: Alter + Drop> Drop for Outbox<S> {
 
 impl<S: Alter + Drop> Outbox<S> {
     ghost use Rattle.sqlite.specs.Held.{Held};
-    ghost use Rattle.outbox_core.specs.OutboxParts.{shows, HasEntries};
+    ghost use Rattle.outbox_core.specs.Making.{LeavesMade};
+    ghost use Rattle.outbox_core.specs.OutboxParts.{shows, HasEntries, IsDurableAs};
 
     /// Makes the tables of an outbox of this filer that has no entry, in one transaction. A refusal gives the connection
     /// up, and leaves the database as it was, as `make_outbox` says of one that is kept. The tables are those of an outbox
@@ -93,20 +92,14 @@ impl<S: Alter + Drop> Outbox<S> {
 
         // A refusal commits nothing, of the connection as it was given up.
         ensures refused { OnErr result ((last : Held S)
-            × Survives (state S.Store conn) (state S.Store last) (λ trees.
-            AreMade S.Store filer.now conn trees
-            × ((state S.Store conn).now.schema ≡ no_schema → LeavesOutbox (empty filer.now) trees))
-            × (HasCleanDisk (state S.Store last) → KeepsCommit (state S.Store conn) (state S.Store last))) }
+            × Survives (state S.Store conn) (state S.Store last) (LeavesMade S.Store filer.now conn)
+            × StaysCommitted S.Store conn last) }
 
         // A crash leaves what one before the call could leave, or the outbox with no entry, and after the call that alone.
         ensures crash { IfOk result (λ outbox.
-            Survives (state S.Store conn) (shows S.Store outbox) (λ trees.
-            AreMade S.Store filer.now conn trees
-            × ((state S.Store conn).now.schema ≡ no_schema → LeavesOutbox (empty filer.now) trees))) }
-        ensures durable { IfOk result (λ outbox.
-            HasCleanDisk (shows S.Store outbox) → (state S.Store conn).now.schema ≡ no_schema
-            → IsTrue (shows S.Store outbox).is_open
-            × ((trees : Trees) → (shows S.Store outbox).may_leave trees → LeavesOutbox (empty filer.now) trees)) }
+            Survives (state S.Store conn) (shows S.Store outbox) (LeavesMade S.Store filer.now conn)) }
+        ensures durable { IfOk result (λ outbox. HasCleanDisk (shows S.Store outbox)
+            → (state S.Store conn).now.schema ≡ no_schema → IsDurableAs S.Store outbox (empty filer.now)) }
     {
         let mut conn = conn;
         match make_outbox(alloc, &mut conn, filer) {
@@ -125,11 +118,11 @@ impl<S: Alter + Drop> Outbox<S> {
 impl<S: Alter + Drop> Outbox<S> {
     ghost use Rattle.sqlite.specs.Held.{Held};
     ghost use Rattle.outbox_core.specs.Schema.{IsDeclared};
-    ghost use Rattle.std.specs.Prelude.{◌⊎◌};
-    ghost use Rattle.outbox_core.specs.Entries.{Contents};
     ghost use Rattle.outbox_core.specs.Rows.{IsOutboxOf};
     ghost use Rattle.outbox_core.specs.Audit.{IsRefused};
-    ghost use Rattle.outbox_core.specs.OutboxParts.{shows, contents, HasEntries};
+    ghost use Rattle.outbox_core.specs.Faults.{IsFailure};
+    ghost use Rattle.outbox_core.specs.OutboxParts.{shows, contents, HasEntries, IsDurableAs};
+    ghost use Rattle.outbox_core.specs.Promises.{ForOutbox};
 
     /// Opens the outbox that the database holds. A refusal gives the connection up, and leaves the database as it was. How
     /// the tables are declared is not tested.
@@ -143,23 +136,17 @@ impl<S: Alter + Drop> Outbox<S> {
         ensures able { IfOk result (λ outbox. outbox.has_failed ≡ false) }
 
         // Where the database is an outbox, it is that one that is opened, and after the call a crash leaves it alone.
-        ensures same { IfOk result (λ outbox.
-            HasCleanDisk (shows S.Store outbox) → (it : Contents) → IsOutboxOf it (state S.Store conn).now
-            → (outbox.filer ≡ it.filer) × HasEntries S.Store outbox it.entries) }
-        ensures durable { IfOk result (λ outbox.
-            HasCleanDisk (shows S.Store outbox) → (it : Contents) → IsOutboxOf it (state S.Store conn).now
-            → IsTrue (shows S.Store outbox).is_open
-            × ((trees : Trees) → (shows S.Store outbox).may_leave trees → LeavesOutbox it trees)) }
+        ensures same { IfOk result (λ outbox. ForOutbox S.Store conn outbox.conn (λ it.
+            (outbox.filer ≡ it.filer) × HasEntries S.Store outbox it.entries)) }
+        ensures durable { IfOk result (λ outbox. ForOutbox S.Store conn outbox.conn (IsDurableAs S.Store outbox)) }
         ensures crash { IfOk result (λ outbox. CommitsNothing (state S.Store conn) (shows S.Store outbox)) }
 
         // A refusal writes nothing and says why, of the connection as it was given up, as `read_outbox` says of one that is
         // kept; an outbox is refused by memory or disk.
         ensures refused { IfErr result (λ fault.
             (last : Held S) × CommitsNothing (state S.Store conn) (state S.Store last)
-            × (HasCleanDisk (state S.Store last) → KeepsCommit (state S.Store conn) (state S.Store last))
-            × (HasCleanDisk (state S.Store last) → IsRefused S.Store fault conn last)
-            × (HasCleanDisk (state S.Store last) → (it : Contents) → IsOutboxOf it (state S.Store conn).now
-            → (fault ≡ OutboxFault.Memory) ⊎ (fault ≡ OutboxFault.Disk))) }
+            × StaysCommitted S.Store conn last × (HasCleanDisk (state S.Store last) → IsRefused S.Store fault conn last)
+            × ForOutbox S.Store conn last (λ _. IsFailure fault)) }
         ensures no_other { IfErr result (λ fault. (fault ≢ OutboxFault.BadFiler) × (fault ≢ OutboxFault.Taken)) }
     {
         let mut conn = conn;
@@ -178,10 +165,10 @@ impl<S: Alter + Drop> Outbox<S> {
 
 impl<S: Alter + Drop> Outbox<S> {
     ghost use Rattle.sqlite.specs.Held.{Held};
-    ghost use Rattle.std.specs.Prelude.{◌⊎◌};
     ghost use Rattle.outbox_core.specs.Entries.{Contents};
-    ghost use Rattle.outbox_core.specs.Earlier.{IsAlone, IsEarlierOf, IsNotMigrated, is_blocked};
-    ghost use Rattle.outbox_core.specs.OutboxParts.{shows, contents, HasEntries};
+    ghost use Rattle.outbox_core.specs.Earlier.{IsAlone, IsEarlierOf, IsNotMigrated, LeavesMigrated, is_blocked};
+    ghost use Rattle.outbox_core.specs.Faults.{IsFailure};
+    ghost use Rattle.outbox_core.specs.OutboxParts.{shows, contents, HasEntries, IsDurableAs};
 
     /// Brings the outbox that the database holds from the form before this one into this one, in one transaction, and opens
     /// it: no entry has a target. A refusal gives the connection up, and leaves the rows as they were. What is said of the new
@@ -202,26 +189,17 @@ impl<S: Alter + Drop> Outbox<S> {
         // A refusal says why, of the connection as it was given up (`migrate_outbox` names it); where the rows hold an outbox in
         // that form and the name is not in the way, it is by memory or disk.
         ensures refused { IfErr result (λ fault.
-            (last : Held S)
-            × Survives (state S.Store conn) (state S.Store last) (λ trees.
-            (it : Contents) → IsAlone (state S.Store conn).now.schema → IsEarlierOf it (state S.Store conn).now
-            → LeavesOutbox it trees)
-            × (HasCleanDisk (state S.Store last) → KeepsCommit (state S.Store conn) (state S.Store last))
+            (last : Held S) × Survives (state S.Store conn) (state S.Store last) (LeavesMigrated (state S.Store conn))
+            × StaysCommitted S.Store conn last
             × (HasCleanDisk (state S.Store last) → IsNotMigrated S.Store fault conn last)
             × (HasCleanDisk (state S.Store last) → (it : Contents) → IsEarlierOf it (state S.Store conn).now
-            → is_blocked (state S.Store conn).now.schema ≡ false
-            → (fault ≡ OutboxFault.Memory) ⊎ (fault ≡ OutboxFault.Disk))) }
+            → is_blocked (state S.Store conn).now.schema ≡ false → IsFailure fault)) }
 
         // A crash leaves what it could leave before, or the migrated rows, and after the call these alone.
         ensures crash { IfOk result (λ outbox.
-            Survives (state S.Store conn) (shows S.Store outbox) (λ trees.
-            (it : Contents) → IsAlone (state S.Store conn).now.schema → IsEarlierOf it (state S.Store conn).now
-            → LeavesOutbox it trees)) }
-        ensures durable { IfOk result (λ outbox.
-            HasCleanDisk (shows S.Store outbox) → (entries : List Item) → HasEntries S.Store outbox entries
-            → IsTrue (shows S.Store outbox).is_open
-            × ((trees : Trees) → (shows S.Store outbox).may_leave trees
-            → LeavesOutbox (contents outbox entries) trees)) }
+            Survives (state S.Store conn) (shows S.Store outbox) (LeavesMigrated (state S.Store conn))) }
+        ensures durable { IfOk result (λ outbox. HasCleanDisk (shows S.Store outbox) → (entries : List Item)
+            → HasEntries S.Store outbox entries → IsDurableAs S.Store outbox (contents outbox entries)) }
     {
         let mut conn = conn;
         match migrate_outbox(alloc, &mut conn) {
@@ -238,7 +216,7 @@ impl<S: Alter + Drop> Outbox<S> {
 }
 
 impl<S: Alter> Outbox<S> {
-    ghost use Rattle.outbox_core.specs.OutboxParts.{shows, contents, HasEntries};
+    ghost use Rattle.outbox_core.specs.OutboxParts.{shows, contents, HasEntries, ForEntries, KeepsOnRefusal, IsDurableAs, SurvivesAs, LeavesMoved};
 
     /// The code of the filer.
     pub fn filer(&self) -> &str
@@ -266,35 +244,26 @@ impl<S: Alter> Outbox<S> {
     /// refusal gives the key and the body up. With 2^62 entries the answer is Store.
     pub fn put(&mut self, key: KeyText, target: Option<u64>, body: Vec<u8>) -> Result<u64, PutFault>
         requires { IsTarget target }
-        ensures added { HasCleanDisk (shows S.Store self.new) → (entries : List Item)
-            → HasEntries S.Store self.old entries
-            → IfOk result (λ id.
-            (id ≡ 1 + length entries)
-            × HasEntries S.Store self.new (entries ++ opened key target body.items ∷ [])) }
-        ensures unused { HasCleanDisk (shows S.Store self.new) → (entries : List Item)
-            → HasEntries S.Store self.old entries → OnOk result (find (has_text key) (numbered entries) ≡ None) }
-        ensures used { HasCleanDisk (shows S.Store self.new) → (entries : List Item)
-            → HasEntries S.Store self.old entries → (id : _) → result ≡ Err (PutFault.KeyUsed id)
-            → option_map (λ x. x.0) (find (has_text key) (numbered entries)) ≡ Some id }
+        ensures added { ForEntries S.Store self.old self.new (λ entries. IfOk result (λ id.
+            (id ≡ 1 + length entries) × HasEntries S.Store self.new (entries ++ opened key target body.items ∷ []))) }
+        ensures unused { ForEntries S.Store self.old self.new (λ entries.
+            OnOk result (find (has_text key) (numbered entries) ≡ None)) }
+        ensures used { ForEntries S.Store self.old self.new (λ entries. (id : _) → result ≡ Err (PutFault.KeyUsed id)
+            → option_map (λ x. x.0) (find (has_text key) (numbered entries)) ≡ Some id) }
         ensures too_large { (result ≡ Err PutFault.TooLarge) ↔ ((self.old.has_failed ≡ false)
             × (max_body_len < length body.items)) }
 
         // A refusal changes no entry.
-        ensures kept { HasCleanDisk (shows S.Store self.new) → (entries : List Item)
-            → HasEntries S.Store self.old entries → OnErr result (HasEntries S.Store self.new entries) }
+        ensures kept { KeepsOnRefusal S.Store self.old self.new result }
         ensures stopped { IsTrue self.old.has_failed → (result ≡ Err PutFault.Store) × (self.new ≡ self.old) }
         ensures stops { IsTrue self.new.has_failed ↔ (result ≡ Err PutFault.Store) }
         ensures filer { self.new.filer ≡ self.old.filer }
 
         // A crash leaves what one before the call could leave, or the entries with this one, and after Ok these alone.
-        ensures crash { Survives (shows S.Store self.old) (shows S.Store self.new) (λ trees.
-            (entries : List Item) → HasEntries S.Store self.old entries → IsTrue (shows S.Store self.old).is_open
-            → LeavesOutbox (contents self.old (entries ++ opened key target body.items ∷ [])) trees) }
-        ensures durable { HasCleanDisk (shows S.Store self.new) → (entries : List Item)
-            → HasEntries S.Store self.old entries
-            → OnOk result (IsTrue (shows S.Store self.new).is_open
-            × ((trees : Trees) → (shows S.Store self.new).may_leave trees
-            → LeavesOutbox (contents self.new (entries ++ opened key target body.items ∷ [])) trees)) }
+        ensures crash { SurvivesAs S.Store self.old self.new (λ entries.
+            LeavesOutbox (contents self.old (entries ++ opened key target body.items ∷ []))) }
+        ensures durable { ForEntries S.Store self.old self.new (λ entries. OnOk result
+            (IsDurableAs S.Store self.new (contents self.new (entries ++ opened key target body.items ∷ [])))) }
     {
         if self.has_failed {
             return Err(PutFault::Store);
@@ -322,28 +291,20 @@ impl<S: Alter> Outbox<S> {
 
     /// The entry of this id, or `None` where there is none.
     pub fn entry(&mut self, id: u64) -> Result<Option<Entry>, StoreFault>
-        ensures found { HasCleanDisk (shows S.Store self.new) → (entries : List Item)
-            → HasEntries S.Store self.old entries
-            → IfOk result (λ entry. option_map view_entry entry ≡ option_map (λ e. (id, e)) (entry_at entries id)) }
+        ensures found { ForEntries S.Store self.old self.new (λ entries. Finds result (found_at entries id)) }
         ensures short { IfOk result (λ entry. IfSome entry (λ e. length e.body.items ≤ max_body_len)) }
         ensures within { IfOk result (λ entry. IfSome entry (λ e. IsTarget e.target)) }
 
         // The entries are those of before, whatever the answer is, and a crash leaves what it could leave before.
-        ensures kept { HasCleanDisk (shows S.Store self.new) → (entries : List Item)
-            → HasEntries S.Store self.old entries → HasEntries S.Store self.new entries }
+        ensures kept { ForEntries S.Store self.old self.new (HasEntries S.Store self.new) }
         ensures stopped { IsTrue self.old.has_failed → (result ≡ Err StoreFault.Store) × (self.new ≡ self.old) }
         ensures stops { IsTrue self.new.has_failed ↔ (result ≡ Err StoreFault.Store) }
         ensures filer { self.new.filer ≡ self.old.filer }
         ensures crash { CommitsNothing (shows S.Store self.old) (shows S.Store self.new) }
 
         // Where an entry is answered, a crash leaves these entries alone.
-        ensures durable { HasCleanDisk (shows S.Store self.new) → (entries : List Item)
-            → HasEntries S.Store self.old entries
-            → IfOk result (λ entry.
-            IsSome entry
-            → IsTrue (shows S.Store self.new).is_open
-            × ((trees : Trees) → (shows S.Store self.new).may_leave trees
-            → LeavesOutbox (contents self.new entries) trees)) }
+        ensures durable { ForEntries S.Store self.old self.new (λ entries.
+            IfOk result (λ entry. IsSome entry → IsDurableAs S.Store self.new (contents self.new entries))) }
     {
         if self.has_failed {
             return Err(StoreFault::Store);
@@ -362,15 +323,12 @@ impl<S: Alter> Outbox<S> {
 
     /// The open entry with the least id, or `None` where no entry is open.
     pub fn next_open(&mut self) -> Result<Option<Entry>, StoreFault>
-        ensures found { HasCleanDisk (shows S.Store self.new) → (entries : List Item)
-            → HasEntries S.Store self.old entries
-            → IfOk result (λ entry. option_map view_entry entry ≡ find is_open (numbered entries)) }
+        ensures found { ForEntries S.Store self.old self.new (λ entries. Finds result (first_open entries)) }
         ensures short { IfOk result (λ entry. IfSome entry (λ e. length e.body.items ≤ max_body_len)) }
         ensures within { IfOk result (λ entry. IfSome entry (λ e. IsTarget e.target)) }
 
         // The entries are those of before, whatever the answer is, and a crash leaves what it could leave before.
-        ensures kept { HasCleanDisk (shows S.Store self.new) → (entries : List Item)
-            → HasEntries S.Store self.old entries → HasEntries S.Store self.new entries }
+        ensures kept { ForEntries S.Store self.old self.new (HasEntries S.Store self.new) }
         ensures stopped { IsTrue self.old.has_failed → (result ≡ Err StoreFault.Store) × (self.new ≡ self.old) }
         ensures stops { IsTrue self.new.has_failed ↔ (result ≡ Err StoreFault.Store) }
         ensures filer { self.new.filer ≡ self.old.filer }
@@ -390,13 +348,11 @@ impl<S: Alter> Outbox<S> {
 
     /// The id and the state of each entry, in the order of the ids.
     pub fn states(&mut self) -> Result<Vec<(u64, State)>, StoreFault>
-        ensures found { HasCleanDisk (shows S.Store self.new) → (entries : List Item)
-            → HasEntries S.Store self.old entries
-            → IfOk result (λ states. map view_pair states.items ≡ map id_and_state (numbered entries)) }
+        ensures found { ForEntries S.Store self.old self.new (λ entries.
+            IfOk result (λ states. map view_pair states.items ≡ map id_and_state (numbered entries))) }
 
         // The entries are those of before, whatever the answer is, and a crash leaves what it could leave before.
-        ensures kept { HasCleanDisk (shows S.Store self.new) → (entries : List Item)
-            → HasEntries S.Store self.old entries → HasEntries S.Store self.new entries }
+        ensures kept { ForEntries S.Store self.old self.new (HasEntries S.Store self.new) }
         ensures stopped { IsTrue self.old.has_failed → (result ≡ Err StoreFault.Store) × (self.new ≡ self.old) }
         ensures stops { IsTrue self.new.has_failed ↔ (result ≡ Err StoreFault.Store) }
         ensures filer { self.new.filer ≡ self.old.filer }
@@ -417,34 +373,24 @@ impl<S: Alter> Outbox<S> {
     /// Moves an entry by the status and the content of a reply, and answers its state. An entry that is not open
     /// keeps its state, and no entry's key, target or body changes.
     pub fn take(&mut self, id: u64, reply: &Reply) -> Result<State, TakeFault>
-        ensures moved { HasCleanDisk (shows S.Store self.new) → (entries : List Item)
-            → HasEntries S.Store self.old entries
-            → IfOk result (λ to.
+        ensures moved { ForEntries S.Store self.old self.new (λ entries. IfOk result (λ to.
             (Some (view_state to) ≡ option_map (λ e. moved e.state (reply_parts reply.now)) (entry_at entries id))
-            × HasEntries S.Store self.new (set_state entries id (view_state to))) }
-        ensures no_entry { HasCleanDisk (shows S.Store self.new) → (entries : List Item)
-            → HasEntries S.Store self.old entries → result ≡ Err TakeFault.NoEntry → entry_at entries id ≡ None }
+            × HasEntries S.Store self.new (set_state entries id (view_state to)))) }
+        ensures no_entry { ForEntries S.Store self.old self.new (λ entries.
+            result ≡ Err TakeFault.NoEntry → entry_at entries id ≡ None) }
 
         // A refusal changes no entry.
-        ensures kept { HasCleanDisk (shows S.Store self.new) → (entries : List Item)
-            → HasEntries S.Store self.old entries → OnErr result (HasEntries S.Store self.new entries) }
+        ensures kept { KeepsOnRefusal S.Store self.old self.new result }
         ensures stopped { IsTrue self.old.has_failed → (result ≡ Err TakeFault.Store) × (self.new ≡ self.old) }
         ensures stops { IsTrue self.new.has_failed ↔ (result ≡ Err TakeFault.Store) }
         ensures filer { self.new.filer ≡ self.old.filer }
 
         // A crash leaves what one before the call could leave, or the entries after the move where the id names one, and after
         // Ok these alone.
-        ensures crash { Survives (shows S.Store self.old) (shows S.Store self.new) (λ trees.
-            (entries : List Item) → HasEntries S.Store self.old entries → IsTrue (shows S.Store self.old).is_open
-            → (e : Item) × (entry_at entries id ≡ Some e)
-            × LeavesOutbox (contents self.old (set_state entries id (moved e.state (reply_parts reply.now))))
-            trees) }
-        ensures durable { HasCleanDisk (shows S.Store self.new) → (entries : List Item)
-            → HasEntries S.Store self.old entries
-            → IfOk result (λ to.
-            IsTrue (shows S.Store self.new).is_open
-            × ((trees : Trees) → (shows S.Store self.new).may_leave trees
-            → LeavesOutbox (contents self.new (set_state entries id (view_state to))) trees)) }
+        ensures crash { SurvivesAs S.Store self.old self.new (λ entries.
+            LeavesMoved (contents self.old entries) id (reply_parts reply.now)) }
+        ensures durable { ForEntries S.Store self.old self.new (λ entries. IfOk result (λ to.
+            IsDurableAs S.Store self.new (contents self.new (set_state entries id (view_state to))))) }
     {
         if self.has_failed {
             return Err(TakeFault::Store);

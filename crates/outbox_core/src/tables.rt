@@ -1,19 +1,19 @@
 //! The statements on the rows of the three tables.
 
-ghost use Rattle.std.specs.Prelude.{◌≡◌, ◌^◌, ◌<◌, pos, OnErr, find, map, option_map, IsTrue, IfOk, IfErr, OnOk, IsSome, [], ◌∷◌};
+ghost use Rattle.std.specs.Prelude.{◌≡◌, ◌^◌, ◌<◌, pos, find, map, option_map, IsTrue, IfOk, IfErr, OnOk, IsSome, [], ◌∷◌};
 ghost use Rattle.sqlite.specs.Values.{or_null};
 ghost use Rattle.sqlite.specs.declared.types.Value.TheVariants.{Null, Int, Text, Blob};
-ghost use Rattle.sqlite.specs.State.{HasCleanDisk, Survives, Shown, FailsToQuery, IsUnchanged, KeepsCommit};
+ghost use Rattle.sqlite.specs.State.{HasCleanDisk, Survives, Shown, FailsToQuery, IsUnchanged};
 ghost use Rattle.sqlite.specs.Held as held;
 ghost use Rattle.table_rows.specs.Rows.{TableHas};
-ghost use Rattle.table_rows.specs.Standing.{HasCommitted, Commits, CommitsNothing, StaysAutocommit};
+ghost use Rattle.table_rows.specs.Standing.{HasCommitted, Commits, CommitsNothing, StaysAutocommit, StaysCommitted};
 ghost use Rattle.outbox_core.specs.Schema.{IsDeclared, HasCommon, meta_table, entry_table, target_table};
 ghost use Rattle.outbox_core.specs.Audit.{meta_text, targets_text, entries_text};
-ghost use Rattle.outbox_core.specs.Entries.{Contents, numbered, has_id, has_text, is_open, entry_at, target_at, with_state, FitsNumber};
+ghost use Rattle.outbox_core.specs.Entries.{numbered, has_id, has_text, entry_at, first_open, target_at, with_state, FitsNumber};
 ghost use Rattle.outbox_core.specs.Changes.{GainsRows};
 ghost use Rattle.outbox_core.specs.Rows.{IsOutboxOf, LeavesOutbox, code_of, number_of, entry_row, id_row, state_row, bare_state_row};
 ghost use Rattle.outbox_core.specs.Reading.{view_state};
-ghost use Rattle.outbox_core.specs.OutboxParts.{AnswersOpen, KeepsOutbox};
+ghost use Rattle.outbox_core.specs.Promises.{ForContents, KeepsOutbox, KeepsOutboxOnRefusal, AnswersOpen};
 
 use crate::state::State;
 use sqlite::{Alter, Connection, Error, Row, Transaction, params};
@@ -21,9 +21,8 @@ use table_rows::first_row;
 
 /// The row of the id of the entry that has the key.
 fn id_row_of_key<S: Alter>(conn: &mut Connection<S>, key: &str) -> Result<Option<Row>, Error>
-    ensures found { HasCleanDisk (held.state S.Store conn.new) → (it : Contents)
-        → HasCommitted (IsOutboxOf it) (held.state S.Store conn.old)
-        → IfOk result (λ row. row ≡ option_map id_row (find (has_text key.now) (numbered it.entries))) }
+    ensures found { ForContents S.Store conn.old conn.new (λ it.
+        IfOk result (λ row. row ≡ option_map id_row (find (has_text key.now) (numbered it.entries)))) }
     ensures kept { KeepsOutbox (held.state S.Store conn.old) (held.state S.Store conn.new) }
     ensures open { AnswersOpen (held.state S.Store conn.old) (held.state S.Store conn.new) result }
     ensures crash { CommitsNothing (held.state S.Store conn.old) (held.state S.Store conn.new) }
@@ -37,9 +36,8 @@ fn id_row_of_key<S: Alter>(conn: &mut Connection<S>, key: &str) -> Result<Option
 
 /// The id of the entry that has the key.
 pub(crate) fn id_of_key<S: Alter>(conn: &mut Connection<S>, key: &str) -> Result<Option<u64>, Error>
-    ensures found { HasCleanDisk (held.state S.Store conn.new) → (it : Contents)
-        → HasCommitted (IsOutboxOf it) (held.state S.Store conn.old)
-        → IfOk result (λ id. id ≡ option_map (λ x. x.0) (find (has_text key.now) (numbered it.entries))) }
+    ensures found { ForContents S.Store conn.old conn.new (λ it.
+        IfOk result (λ id. id ≡ option_map (λ x. x.0) (find (has_text key.now) (numbered it.entries)))) }
     ensures kept { KeepsOutbox (held.state S.Store conn.old) (held.state S.Store conn.new) }
     ensures open { AnswersOpen (held.state S.Store conn.old) (held.state S.Store conn.new) result }
     ensures crash { CommitsNothing (held.state S.Store conn.old) (held.state S.Store conn.new) }
@@ -57,9 +55,8 @@ pub(crate) fn entry_with_id<S: Alter>(
     id: u64,
 ) -> Result<Option<Row>, Error>
     requires { id < 2 ^ 63 }
-    ensures found { HasCleanDisk (held.state S.Store conn.new) → (it : Contents)
-        → HasCommitted (IsOutboxOf it) (held.state S.Store conn.old)
-        → IfOk result (λ row. row ≡ option_map entry_row (find (has_id id) (numbered it.entries))) }
+    ensures found { ForContents S.Store conn.old conn.new (λ it.
+        IfOk result (λ row. row ≡ option_map entry_row (find (has_id id) (numbered it.entries)))) }
     ensures kept { KeepsOutbox (held.state S.Store conn.old) (held.state S.Store conn.new) }
     ensures open { AnswersOpen (held.state S.Store conn.old) (held.state S.Store conn.new) result }
     ensures crash { CommitsNothing (held.state S.Store conn.old) (held.state S.Store conn.new) }
@@ -77,9 +74,8 @@ pub(crate) fn state_with_id<S: Alter>(
     id: u64,
 ) -> Result<Option<Row>, Error>
     requires { id < 2 ^ 63 }
-    ensures found { HasCleanDisk (held.state S.Store conn.new) → (it : Contents)
-        → HasCommitted (IsOutboxOf it) (held.state S.Store conn.old)
-        → IfOk result (λ row. row ≡ option_map bare_state_row (find (has_id id) (numbered it.entries))) }
+    ensures found { ForContents S.Store conn.old conn.new (λ it.
+        IfOk result (λ row. row ≡ option_map bare_state_row (find (has_id id) (numbered it.entries)))) }
     ensures kept { KeepsOutbox (held.state S.Store conn.old) (held.state S.Store conn.new) }
     ensures open { AnswersOpen (held.state S.Store conn.old) (held.state S.Store conn.new) result }
     ensures crash { CommitsNothing (held.state S.Store conn.old) (held.state S.Store conn.new) }
@@ -93,9 +89,8 @@ pub(crate) fn state_with_id<S: Alter>(
 
 /// The row of the open entry with the least id.
 pub(crate) fn first_open_entry<S: Alter>(conn: &mut Connection<S>) -> Result<Option<Row>, Error>
-    ensures found { HasCleanDisk (held.state S.Store conn.new) → (it : Contents)
-        → HasCommitted (IsOutboxOf it) (held.state S.Store conn.old)
-        → IfOk result (λ row. row ≡ option_map entry_row (find is_open (numbered it.entries))) }
+    ensures found { ForContents S.Store conn.old conn.new (λ it.
+        IfOk result (λ row. row ≡ option_map entry_row (first_open it.entries))) }
     ensures kept { KeepsOutbox (held.state S.Store conn.old) (held.state S.Store conn.new) }
     ensures open { AnswersOpen (held.state S.Store conn.old) (held.state S.Store conn.new) result }
     ensures crash { CommitsNothing (held.state S.Store conn.old) (held.state S.Store conn.new) }
@@ -109,9 +104,8 @@ pub(crate) fn first_open_entry<S: Alter>(conn: &mut Connection<S>) -> Result<Opt
 
 /// The id, the state and the number of each entry, in the order of the ids.
 pub(crate) fn state_rows<S: Alter>(conn: &mut Connection<S>) -> Result<Vec<Row>, Error>
-    ensures found { HasCleanDisk (held.state S.Store conn.new) → (it : Contents)
-        → HasCommitted (IsOutboxOf it) (held.state S.Store conn.old)
-        → IfOk result (λ rows. rows.items ≡ map state_row (numbered it.entries)) }
+    ensures found { ForContents S.Store conn.old conn.new (λ it.
+        IfOk result (λ rows. rows.items ≡ map state_row (numbered it.entries))) }
     ensures kept { KeepsOutbox (held.state S.Store conn.old) (held.state S.Store conn.new) }
     ensures crash { CommitsNothing (held.state S.Store conn.old) (held.state S.Store conn.new) }
 {
@@ -130,8 +124,7 @@ pub(crate) fn meta_rows<S: Alter>(conn: &mut Connection<S>) -> Result<Vec<Row>, 
     ensures failed { HasCleanDisk (held.state S.Store conn.new)
         → IfErr result (FailsToQuery meta_text [] (held.state S.Store conn.old) (held.state S.Store conn.new)) }
     ensures mode { StaysAutocommit conn.old conn.new }
-    ensures kept { HasCleanDisk (held.state S.Store conn.new)
-        → KeepsCommit (held.state S.Store conn.old) (held.state S.Store conn.new) }
+    ensures kept { StaysCommitted S.Store conn.old conn.new }
     ensures clean { HasCleanDisk (held.state S.Store conn.new) → HasCleanDisk (held.state S.Store conn.old) }
     ensures limit { conn.new.step_limit ≡ conn.old.step_limit }
     ensures crash { CommitsNothing (held.state S.Store conn.old) (held.state S.Store conn.new) }
@@ -151,8 +144,7 @@ pub(crate) fn all_rows<S: Alter>(conn: &mut Connection<S>) -> Result<Vec<Row>, E
     ensures failed { HasCleanDisk (held.state S.Store conn.new)
         → IfErr result (FailsToQuery entries_text [] (held.state S.Store conn.old) (held.state S.Store conn.new)) }
     ensures mode { StaysAutocommit conn.old conn.new }
-    ensures kept { HasCleanDisk (held.state S.Store conn.new)
-        → KeepsCommit (held.state S.Store conn.old) (held.state S.Store conn.new) }
+    ensures kept { StaysCommitted S.Store conn.old conn.new }
     ensures clean { HasCleanDisk (held.state S.Store conn.new) → HasCleanDisk (held.state S.Store conn.old) }
     ensures crash { CommitsNothing (held.state S.Store conn.old) (held.state S.Store conn.new) }
 {
@@ -174,8 +166,7 @@ pub(crate) fn target_rows<S: Alter>(conn: &mut Connection<S>) -> Result<Vec<Row>
     ensures failed { HasCleanDisk (held.state S.Store conn.new)
         → IfErr result (FailsToQuery targets_text [] (held.state S.Store conn.old) (held.state S.Store conn.new)) }
     ensures mode { StaysAutocommit conn.old conn.new }
-    ensures kept { HasCleanDisk (held.state S.Store conn.new)
-        → KeepsCommit (held.state S.Store conn.old) (held.state S.Store conn.new) }
+    ensures kept { StaysCommitted S.Store conn.old conn.new }
     ensures clean { HasCleanDisk (held.state S.Store conn.new) → HasCleanDisk (held.state S.Store conn.old) }
     ensures limit { conn.new.step_limit ≡ conn.old.step_limit }
     ensures crash { CommitsNothing (held.state S.Store conn.old) (held.state S.Store conn.new) }
@@ -186,9 +177,8 @@ pub(crate) fn target_rows<S: Alter>(conn: &mut Connection<S>) -> Result<Vec<Row>
 /// The row of the target of the entry that has the id.
 fn target_with_id<S: Alter>(conn: &mut Connection<S>, id: u64) -> Result<Option<Row>, Error>
     requires { id < 2 ^ 63 }
-    ensures found { HasCleanDisk (held.state S.Store conn.new) → (it : Contents)
-        → HasCommitted (IsOutboxOf it) (held.state S.Store conn.old)
-        → IfOk result (λ row. row ≡ option_map (λ number. Int (pos number) ∷ []) (target_at it.entries id)) }
+    ensures found { ForContents S.Store conn.old conn.new (λ it.
+        IfOk result (λ row. row ≡ option_map (λ number. Int (pos number) ∷ []) (target_at it.entries id))) }
     ensures kept { KeepsOutbox (held.state S.Store conn.old) (held.state S.Store conn.new) }
     ensures open { AnswersOpen (held.state S.Store conn.old) (held.state S.Store conn.new) result }
     ensures crash { CommitsNothing (held.state S.Store conn.old) (held.state S.Store conn.new) }
@@ -203,9 +193,8 @@ fn target_with_id<S: Alter>(conn: &mut Connection<S>, id: u64) -> Result<Option<
 /// The target of the entry that has the id, if it has one.
 pub(crate) fn target_of<S: Alter>(conn: &mut Connection<S>, id: u64) -> Result<Option<u64>, Error>
     requires { id < 2 ^ 63 }
-    ensures found { HasCleanDisk (held.state S.Store conn.new) → (it : Contents)
-        → HasCommitted (IsOutboxOf it) (held.state S.Store conn.old)
-        → IfOk result (λ target. target ≡ target_at it.entries id) }
+    ensures found { ForContents S.Store conn.old conn.new (λ it.
+        IfOk result (λ target. target ≡ target_at it.entries id)) }
     ensures kept { KeepsOutbox (held.state S.Store conn.old) (held.state S.Store conn.new) }
     ensures open { AnswersOpen (held.state S.Store conn.old) (held.state S.Store conn.new) result }
     ensures crash { CommitsNothing (held.state S.Store conn.old) (held.state S.Store conn.new) }
@@ -231,8 +220,7 @@ pub(crate) fn insert_entry<S: Alter>(
         → OnOk result
         (GainsRows entry_table ((Int (pos id) ∷ Text key.now ∷ Blob body.now ∷ Int (pos 0) ∷ Null ∷ []) ∷ [])
         (held.state S.Store tx.old.conn.now) (held.state S.Store tx.new.conn.now)) }
-    ensures keeps { HasCleanDisk (held.state S.Store tx.new.conn.now)
-        → KeepsCommit (held.state S.Store tx.old.conn.now) (held.state S.Store tx.new.conn.now) }
+    ensures keeps { StaysCommitted S.Store tx.old.conn.now tx.new.conn.now }
     ensures survives { CommitsNothing (held.state S.Store tx.old.conn.now) (held.state S.Store tx.new.conn.now) }
 {
     tx.execute(
@@ -256,8 +244,7 @@ pub(crate) fn insert_target<S: Alter>(
         → OnOk result
         (GainsRows target_table ((Int (pos id) ∷ Int (pos number) ∷ []) ∷ []) (held.state S.Store tx.old.conn.now)
         (held.state S.Store tx.new.conn.now)) }
-    ensures keeps { HasCleanDisk (held.state S.Store tx.new.conn.now)
-        → KeepsCommit (held.state S.Store tx.old.conn.now) (held.state S.Store tx.new.conn.now) }
+    ensures keeps { StaysCommitted S.Store tx.old.conn.now tx.new.conn.now }
     ensures survives { CommitsNothing (held.state S.Store tx.old.conn.now) (held.state S.Store tx.new.conn.now) }
 {
     tx.execute(
@@ -296,14 +283,11 @@ pub(crate) fn set_state<S: Alter>(
 ) -> Result<usize, Error>
     requires id { id < 2 ^ 63 }
     requires number { FitsNumber (view_state state) }
-    ensures moved { HasCleanDisk (held.state S.Store conn.new) → (it : Contents)
-        → HasCommitted (IsOutboxOf it) (held.state S.Store conn.old) → IsTrue (held.state S.Store conn.old).is_open
-        → IsSome (entry_at it.entries id)
+    ensures moved { ForContents S.Store conn.old conn.new (λ it.
+        IsTrue (held.state S.Store conn.old).is_open → IsSome (entry_at it.entries id)
         → OnOk result (HasCommitted (IsOutboxOf (with_state it id (view_state state))) (held.state S.Store conn.new)
-        × IsTrue (held.state S.Store conn.new).is_open) }
-    ensures kept { HasCleanDisk (held.state S.Store conn.new) → (it : Contents)
-        → HasCommitted (IsOutboxOf it) (held.state S.Store conn.old)
-        → OnErr result (HasCommitted (IsOutboxOf it) (held.state S.Store conn.new)) }
+        × IsTrue (held.state S.Store conn.new).is_open)) }
+    ensures kept { KeepsOutboxOnRefusal (held.state S.Store conn.old) (held.state S.Store conn.new) result }
     ensures crash { Survives (held.state S.Store conn.old) (held.state S.Store conn.new)
         (Commits IsOutboxOf (held.state S.Store conn.old) (λ it trees.
         IsSome (entry_at it.entries id) → LeavesOutbox (with_state it id (view_state state)) trees)) }

@@ -2,11 +2,11 @@
 
 ghost use Rattle.std.specs.Prelude.{◌≡◌, ◌<◌, ◌^◌, false, OnOk, OnErr};
 ghost use Rattle.sqlite.specs.Held.{state};
-ghost use Rattle.sqlite.specs.State.{HasCleanDisk, KeepsCommit, Survives};
+ghost use Rattle.sqlite.specs.State.{HasCleanDisk, Survives};
 ghost use Rattle.http_wire.specs.Posting.{IsTarget};
 ghost use Rattle.outbox_core.specs.Entries.{opened};
 ghost use Rattle.outbox_core.specs.Changes.{Adds, AddsInside, AddsTo, AddsNothing};
-ghost use Rattle.table_rows.specs.Standing.{CommitsNothing};
+ghost use Rattle.table_rows.specs.Standing.{CommitsNothing, StaysCommitted};
 
 use crate::tables::{insert_entry, insert_target};
 use sqlite::{Alter, Connection, Error, Transaction};
@@ -26,8 +26,7 @@ fn write_entry<S: Alter>(
         → OnOk result
         (AddsInside id (opened key.now target body.now) (state S.Store tx.old.conn.now)
         (state S.Store tx.new.conn.now)) }
-    ensures keeps { HasCleanDisk (state S.Store tx.new.conn.now)
-        → KeepsCommit (state S.Store tx.old.conn.now) (state S.Store tx.new.conn.now) }
+    ensures keeps { StaysCommitted S.Store tx.old.conn.now tx.new.conn.now }
     ensures survives { CommitsNothing (state S.Store tx.old.conn.now) (state S.Store tx.new.conn.now) }
 {
     insert_entry(tx, id, key, body)?;

@@ -14,6 +14,7 @@ pub mod Opening
 pub mod Outcomes
 pub mod Own
 pub mod Reads
+pub mod Refusals
 pub mod Register
 pub mod Schema
 pub mod Spans

@@ -4,10 +4,12 @@ use Rattle.std.specs.Coded.{Coded, code_by, coded×, coded_ℕ}
 use Rattle.sqlite.specs.Store.{Ghosts}
 use Rattle.sqlite.specs.Held.{Held, held_code, state}
 use Rattle.sqlite.specs.Effect.{Database, IsDatabase}
-use Rattle.sqlite.specs.State.{State, HasCleanDisk}
+use Rattle.sqlite.specs.State.{State, HasCleanDisk, Survives}
 use Rattle.sqlite.specs.Tree.{Trees}
-use Rattle.filing_model.specs.Request.{Request}
-use Rattle.filing_model.specs.Register.{register}
+use Rattle.xbrl_report.specs.declared.judging.Judged.{Judged}
+use Rattle.xbrl_report.specs.Judgement.{IsAmendmentJudgement}
+use Rattle.filing_model.specs.Request.{Request, has_key}
+use Rattle.filing_model.specs.Register.{is_free, register}
 use Rattle.table_rows.specs.Standing.{HasCommitted}
 use Rattle.register_store.specs.Register.{StandsFor}
 
@@ -59,6 +61,31 @@ pub record LeavesRegister (early : ℕ) (F : List Request) (trees : Trees) : Typ
 abbrev pub KeepsRegister : State → State → Type 0
 KeepsRegister old new = HasCleanDisk new → (early : ℕ) (F : List Request) → HasCommitted (IsRegisterOf early F) old → HasCommitted (IsRegisterOf early F) new
 
+-- Whatever requests the rows stood for before, and were committed: where the disk is clean at the end, this holds of them.
+abbrev pub ForRegister : {S : Type 0} → Ghosts S → Held S → Held S → (ℕ → List Request → Type 0) → Type 0
+ForRegister g old new Holds = HasCleanDisk (state g new) → (early : ℕ) (F : List Request) → HasCommitted (IsRegisterOf early F) (state g old) → Holds early F
+
 -- so an answer leaves the store open
 abbrev pub AnswersOpen : {X E : Type 0} → State → State → Result X E → Type 0
 AnswersOpen old new result = HasCleanDisk new → (early : ℕ) (F : List Request) → HasCommitted (IsRegisterOf early F) old → OnOk result (IsTrue new.is_open)
+
+-- Whatever requests it had before: where the disk is clean at the end, this holds of them.
+abbrev pub ForRequests : {S : Type 0} → Ghosts S → StoreParts S → StoreParts S → (List Request → Type 0) → Type 0
+ForRequests g old new Holds = HasCleanDisk (shows g new) → (F : List Request) → HasRequests g old F → Holds F
+
+-- Where the filer and key are new after these requests, and the report was judged by whether the filing that it is to replace, if any,
+-- is free after them, this holds of the request.
+abbrev pub ForNew : List Request → Request → Judged → (Request → Type 0) → Type 0
+ForNew F r judged Holds = has_key F r ≡ false → IsAmendmentJudgement r.filer r.body (is_free (register F) r.filer r.target) judged → Holds r
+
+-- a crash now leaves the rows of these requests, and no others
+abbrev pub LeavesOnly : State → ℕ → List Request → Type 0
+LeavesOnly s early F = (trees : Trees) → s.may_leave trees → LeavesRegister early F trees
+
+-- it is open, and a crash now leaves the rows of these requests, and no others
+abbrev pub IsDurableAs : {S : Type 0} → Ghosts S → StoreParts S → ℕ → List Request → Type 0
+IsDurableAs g store early F = IsTrue (shows g store).is_open × LeavesOnly (shows g store) early F
+
+-- A crash inside the call leaves what one before it could leave, or these trees, by the requests of before.
+abbrev pub SurvivesAs : {S : Type 0} → Ghosts S → StoreParts S → StoreParts S → (List Request → Trees → Type 0) → Type 0
+SurvivesAs g old new Leaves = Survives (shows g old) (shows g new) (λ trees. (F : List Request) → HasRequests g old F → IsTrue (shows g old).is_open → Leaves F trees)

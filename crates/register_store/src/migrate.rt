@@ -4,15 +4,14 @@ ghost use Rattle.std.specs.Prelude.{◌≡◌, ◌⊎◌, ◌<◌, ◌≤◌, �
 ghost use Rattle.filing_model.specs.Register.{register};
 ghost use Rattle.filing_model.specs.Request.{Request};
 ghost use Rattle.sqlite.specs.Held.{state};
-ghost use Rattle.sqlite.specs.Tree.{Trees};
 ghost use Rattle.sqlite.specs.declared.error.Error.{Error};
 ghost use Rattle.sqlite.specs.declared.types.Value.TheVariants.{Int};
-ghost use Rattle.sqlite.specs.State.{HasCleanDisk, KeepsCommit, Survives, ExecutesInside};
-ghost use Rattle.table_rows.specs.Standing.{HasCommitted, CommitsNothing};
+ghost use Rattle.sqlite.specs.State.{HasCleanDisk, Survives, ExecutesInside};
+ghost use Rattle.table_rows.specs.Standing.{HasCommitted, CommitsNothing, IsLasting, StaysCommitted};
 ghost use Rattle.register_store.specs.Changes.{AddsNothing};
 ghost use Rattle.register_store.specs.Earlier.{IsAlone, IsEarlierOf, is_blocked};
 ghost use Rattle.register_store.specs.Migrating.{insert_early, write_fault, migrating, AreDone, StopsAt, AreCommitted, AreUndone, AreTreesOf, IsMigrated, IsNotMigrated, Migrates, MigratesTo};
-ghost use Rattle.register_store.specs.Store.{IsRegisterOf, LeavesRegister};
+ghost use Rattle.register_store.specs.Store.{IsRegisterOf, LeavesOnly};
 
 pub(crate) mod earlier;
 
@@ -47,8 +46,7 @@ fn tell_early<S: Alter>(tx: &mut Transaction<'_, S>, early: u64) -> Result<(), E
         → IfErr result (λ error.
         ExecutesInside 0 insert_early (Int (pos early) ∷ []) (state S.Store tx.old.conn.now)
         (state S.Store tx.new.conn.now) (Err error)) }
-    ensures keeps { HasCleanDisk (state S.Store tx.new.conn.now)
-        → KeepsCommit (state S.Store tx.old.conn.now) (state S.Store tx.new.conn.now) }
+    ensures keeps { StaysCommitted S.Store tx.old.conn.now tx.new.conn.now }
     ensures survives { CommitsNothing (state S.Store tx.old.conn.now) (state S.Store tx.new.conn.now) }
 {
     tx.execute("INSERT INTO migrated VALUES (1, ?1)", params![early as i64])?;
@@ -65,8 +63,7 @@ fn write_second<S: Alter>(tx: &mut Transaction<'_, S>, early: u64) -> Result<(),
         → IsTrue (state S.Store tx.old.conn.now).in_transaction
         → IfErr result (λ error.
         StopsAt S.Store error (migrating Earlier.Second early) tx.old.conn.now tx.new.conn.now) }
-    ensures keeps { HasCleanDisk (state S.Store tx.new.conn.now)
-        → KeepsCommit (state S.Store tx.old.conn.now) (state S.Store tx.new.conn.now) }
+    ensures keeps { StaysCommitted S.Store tx.old.conn.now tx.new.conn.now }
     ensures survives { CommitsNothing (state S.Store tx.old.conn.now) (state S.Store tx.new.conn.now) }
 {
     run(
@@ -89,8 +86,7 @@ fn write_third<S: Alter>(tx: &mut Transaction<'_, S>) -> Result<(), Error>
     ensures stopped { HasCleanDisk (state S.Store tx.new.conn.now)
         → IsTrue (state S.Store tx.old.conn.now).in_transaction
         → IfErr result (λ error. StopsAt S.Store error (migrating Earlier.Third 0) tx.old.conn.now tx.new.conn.now) }
-    ensures keeps { HasCleanDisk (state S.Store tx.new.conn.now)
-        → KeepsCommit (state S.Store tx.old.conn.now) (state S.Store tx.new.conn.now) }
+    ensures keeps { StaysCommitted S.Store tx.old.conn.now tx.new.conn.now }
     ensures survives { CommitsNothing (state S.Store tx.old.conn.now) (state S.Store tx.new.conn.now) }
 {
     run(
@@ -108,8 +104,7 @@ fn write_all<S: Alter>(tx: &mut Transaction<'_, S>, form: Earlier, early: u64) -
     ensures stopped { HasCleanDisk (state S.Store tx.new.conn.now)
         → IsTrue (state S.Store tx.old.conn.now).in_transaction
         → IfErr result (λ error. StopsAt S.Store error (migrating form early) tx.old.conn.now tx.new.conn.now) }
-    ensures keeps { HasCleanDisk (state S.Store tx.new.conn.now)
-        → KeepsCommit (state S.Store tx.old.conn.now) (state S.Store tx.new.conn.now) }
+    ensures keeps { StaysCommitted S.Store tx.old.conn.now tx.new.conn.now }
     ensures survives { CommitsNothing (state S.Store tx.old.conn.now) (state S.Store tx.new.conn.now) }
 {
     match form {
@@ -125,9 +120,7 @@ fn write<S: Alter>(conn: &mut Connection<S>, form: Earlier, early: u64) -> Resul
     ensures autocommit { conn.new.in_transaction ≡ false }
     ensures written { HasCleanDisk (state S.Store conn.new)
         → OnOk result (AreCommitted S.Store (migrating form early) conn.old conn.new) }
-    ensures durable { HasCleanDisk (state S.Store conn.new)
-        → OnOk result ((trees : Trees) → (state S.Store conn.new).may_leave trees
-        → trees ≡ (state S.Store conn.new).now.trees) }
+    ensures durable { HasCleanDisk (state S.Store conn.new) → OnOk result (IsLasting (state S.Store conn.new)) }
     ensures undone { HasCleanDisk (state S.Store conn.new)
         → IfErr result (λ error. AreUndone S.Store error (migrating form early) conn.old conn.new) }
     ensures neither { HasCleanDisk (state S.Store conn.new)
@@ -184,8 +177,7 @@ pub fn migrate_register<S: Alter>(
     ensures durable { HasCleanDisk (state S.Store conn.new)
         → OnOk result ((form : Earlier) (early : ℕ) (F : List Request)
         → IsAlone form (state S.Store conn.old).now.schema → IsEarlierOf form early F (state S.Store conn.old).now
-        → IsTrue (state S.Store conn.new).is_open
-        × ((trees : Trees) → (state S.Store conn.new).may_leave trees → LeavesRegister early F trees)) }
+        → IsTrue (state S.Store conn.new).is_open × (LeavesOnly (state S.Store conn.new) early F)) }
 {
     prove!(is_settled(conn));
     match read_earlier(alloc, conn) {

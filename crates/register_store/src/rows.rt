@@ -4,10 +4,10 @@ ghost use Rattle.std.specs.Prelude.{◌≡◌, ◌<◌, ◌^◌, pos, [], ◌∷
 ghost use Rattle.sqlite.specs.declared.types.Value.TheVariants.{Int, Text, Blob};
 ghost use Rattle.sqlite.specs.Values.{or_null};
 ghost use Rattle.sqlite.specs.Held.{state};
-ghost use Rattle.sqlite.specs.State.{HasCleanDisk, KeepsCommit};
+ghost use Rattle.sqlite.specs.State.{HasCleanDisk};
 ghost use Rattle.table_rows.specs.Rows.{counted_from};
 ghost use Rattle.table_rows.specs.Reading.{ReadsRows};
-ghost use Rattle.table_rows.specs.Standing.{Keeps, CommitsNothing, StaysAutocommit};
+ghost use Rattle.table_rows.specs.Standing.{Keeps, CommitsNothing, StaysAutocommit, StaysCommitted};
 ghost use Rattle.register_store.specs.Reads.{Knows, KnowsAll, by_second};
 ghost use Rattle.register_store.specs.Found.{has_texts, has_seq, unsorted, found_in, pair_in, target_alone};
 ghost use Rattle.register_store.specs.Schema.{kept_table, finding_table, filing_table, fact_table, amends_table};
@@ -46,8 +46,7 @@ pub fn insert_kept<S: Alter>(
         → OnOk result (GainsRows kept_table
         ((Int (pos seq) ∷ Text row.now.filer.now ∷ Text row.now.key.now ∷ Blob row.now.body.now ∷ or_null (λ n. Int (pos n)) number ∷ []) ∷ [])
         (state S.Store tx.old.conn.now) (state S.Store tx.new.conn.now)) }
-    ensures keeps { HasCleanDisk (state S.Store tx.new.conn.now)
-        → KeepsCommit (state S.Store tx.old.conn.now) (state S.Store tx.new.conn.now) }
+    ensures keeps { StaysCommitted S.Store tx.old.conn.now tx.new.conn.now }
     ensures survives { CommitsNothing (state S.Store tx.old.conn.now) (state S.Store tx.new.conn.now) }
 {
     let number = signed(number);
@@ -72,8 +71,7 @@ pub fn insert_filing<S: Alter>(
         → OnOk result
         (GainsRows filing_table ((Int (pos number) ∷ Int (pos seq) ∷ []) ∷ []) (state S.Store tx.old.conn.now)
         (state S.Store tx.new.conn.now)) }
-    ensures keeps { HasCleanDisk (state S.Store tx.new.conn.now)
-        → KeepsCommit (state S.Store tx.old.conn.now) (state S.Store tx.new.conn.now) }
+    ensures keeps { StaysCommitted S.Store tx.old.conn.now tx.new.conn.now }
     ensures survives { CommitsNothing (state S.Store tx.old.conn.now) (state S.Store tx.new.conn.now) }
 {
     tx.execute(
@@ -97,8 +95,7 @@ pub fn insert_amends<S: Alter>(
         → OnOk result
         (GainsRows amends_table ((Int (pos seq) ∷ Int (pos target) ∷ []) ∷ []) (state S.Store tx.old.conn.now)
         (state S.Store tx.new.conn.now)) }
-    ensures keeps { HasCleanDisk (state S.Store tx.new.conn.now)
-        → KeepsCommit (state S.Store tx.old.conn.now) (state S.Store tx.new.conn.now) }
+    ensures keeps { StaysCommitted S.Store tx.old.conn.now tx.new.conn.now }
     ensures survives { CommitsNothing (state S.Store tx.old.conn.now) (state S.Store tx.new.conn.now) }
 {
     tx.execute(
@@ -123,8 +120,7 @@ fn insert_finding<S: Alter>(
         → OnOk result
         (GainsRows finding_table (finding_row seq at finding.now ∷ []) (state S.Store tx.old.conn.now)
         (state S.Store tx.new.conn.now)) }
-    ensures keeps { HasCleanDisk (state S.Store tx.new.conn.now)
-        → KeepsCommit (state S.Store tx.old.conn.now) (state S.Store tx.new.conn.now) }
+    ensures keeps { StaysCommitted S.Store tx.old.conn.now tx.new.conn.now }
     ensures survives { CommitsNothing (state S.Store tx.old.conn.now) (state S.Store tx.new.conn.now) }
 {
     let code = u32::from(finding.code.number());
@@ -148,8 +144,7 @@ pub fn insert_findings<S: Alter>(
         → OnOk result
         (GainsRows finding_table (counted_from (finding_row seq) 1 findings.now) (state S.Store tx.old.conn.now)
         (state S.Store tx.new.conn.now)) }
-    ensures keeps { HasCleanDisk (state S.Store tx.new.conn.now)
-        → KeepsCommit (state S.Store tx.old.conn.now) (state S.Store tx.new.conn.now) }
+    ensures keeps { StaysCommitted S.Store tx.old.conn.now tx.new.conn.now }
     ensures survives { CommitsNothing (state S.Store tx.old.conn.now) (state S.Store tx.new.conn.now) }
 {
     let mut at = 0u64;
@@ -185,8 +180,7 @@ fn insert_fact<S: Alter>(
         → OnOk result
         (GainsRows fact_table (fact_row number at fact.now ∷ []) (state S.Store tx.old.conn.now)
         (state S.Store tx.new.conn.now)) }
-    ensures keeps { HasCleanDisk (state S.Store tx.new.conn.now)
-        → KeepsCommit (state S.Store tx.old.conn.now) (state S.Store tx.new.conn.now) }
+    ensures keeps { StaysCommitted S.Store tx.old.conn.now tx.new.conn.now }
     ensures survives { CommitsNothing (state S.Store tx.old.conn.now) (state S.Store tx.new.conn.now) }
 {
     let id = fact.id.as_bytes();
@@ -220,8 +214,7 @@ pub fn insert_facts<S: Alter>(
         → OnOk result
         (GainsRows fact_table (counted_from (fact_row number) 1 facts.now) (state S.Store tx.old.conn.now)
         (state S.Store tx.new.conn.now)) }
-    ensures keeps { HasCleanDisk (state S.Store tx.new.conn.now)
-        → KeepsCommit (state S.Store tx.old.conn.now) (state S.Store tx.new.conn.now) }
+    ensures keeps { StaysCommitted S.Store tx.old.conn.now tx.new.conn.now }
     ensures survives { CommitsNothing (state S.Store tx.old.conn.now) (state S.Store tx.new.conn.now) }
 {
     let mut at = 0u64;

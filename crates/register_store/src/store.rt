@@ -1,20 +1,21 @@
 //! The store of a register: its connection, and how much it holds.
 
-ghost use Rattle.std.specs.Prelude.{◌≡◌, ◌≢◌, ◌≤◌, ◌<◌, ◌^◌, ◌+◌, ◌↔◌, ◌⊎◌, ℕ, true, false, List, [], ◌∷◌, ◌++◌, length, option_map, take, Option, None, Ok, Err, IsTrue, IfOk, IfErr, IfSome, OnOk, OnErr};
+ghost use Rattle.std.specs.Prelude.{◌≡◌, ◌≤◌, ◌<◌, ◌^◌, ◌+◌, ◌↔◌, ℕ, true, false, List, [], ◌∷◌, ◌++◌, length, option_map, take, Option, None, Ok, Err, IsTrue, IfOk, IfErr, IfSome, OnOk, OnErr};
 ghost use Rattle.key_string.specs.Filer.{is_filer};
 ghost use Rattle.http_wire.specs.Head.{max_body_len};
 ghost use Rattle.http_wire.specs.Posting.{IsTarget};
-ghost use Rattle.xbrl_report.specs.Judgement.{IsAmendmentJudgement, HasFacts};
-ghost use Rattle.filing_model.specs.Request.{Request, has_key};
-ghost use Rattle.filing_model.specs.Register.{is_free, kept, judged, register};
+ghost use Rattle.xbrl_report.specs.Judgement.{HasFacts};
+ghost use Rattle.filing_model.specs.Request.{Request};
+ghost use Rattle.filing_model.specs.Register.{kept, judged, register};
 ghost use Rattle.filing_model.specs.Answer.{kept_for};
 ghost use Rattle.filing_model.specs.Style.{style_of};
 ghost use Rattle.filing_model.specs.Views.{the_request};
 ghost use Rattle.sqlite.specs.Held.{state};
-ghost use Rattle.sqlite.specs.Tree.{Trees};
-ghost use Rattle.sqlite.specs.State.{HasCleanDisk, IsUnchanged, KeepsCommit, Survives};
+ghost use Rattle.sqlite.specs.State.{HasCleanDisk, IsUnchanged, Survives};
 ghost use Rattle.table_rows.specs.Tables.{no_schema};
 ghost use Rattle.register_store.specs.Schema.{is_taken};
+ghost use Rattle.register_store.specs.Refusals.{GivesUpMaking, GivesUpMigrating, GivesUpOpening};
+ghost use Rattle.register_store.specs.Store.{ForNew, ForRequests, IsDurableAs, SurvivesAs};
 ghost use Rattle.table_rows.specs.Standing.{CommitsNothing};
 
 pub(crate) mod files;
@@ -68,11 +69,7 @@ impl<S: Alter + Drop> Drop for Store<S> {
 }
 
 impl<S: Alter + Drop> Store<S> {
-    ghost use Rattle.sqlite.specs.Held.{Held};
-    ghost use Rattle.sqlite.specs.declared.error.Error.{Error};
-    ghost use Rattle.register_store.specs.Changes.{AddsNothing};
-    ghost use Rattle.register_store.specs.Faults.{create_fault};
-    ghost use Rattle.register_store.specs.Making.{Makes, FailsToMake};
+    ghost use Rattle.register_store.specs.Making.{Makes};
     ghost use Rattle.register_store.specs.Store.{shows, HasRequests, LeavesRegister};
 
     /// Makes the tables of a register that has no request, in one transaction. A refusal gives the connection up, and
@@ -89,13 +86,8 @@ impl<S: Alter + Drop> Store<S> {
         // Taken comes where one of the names is in use, and always there.
         ensures taken { (result ≡ Err CreateFault.Taken) ↔ IsTrue (is_taken (state S.Store conn).now.schema) }
 
-        // After a refusal nothing was written, of the connection as it was given up (`make_register` names it), and another than
-        // Taken has its cause in a statement or in the commit.
-        ensures refused { IfErr result (λ fault.
-            (last : Held S) × Survives (state S.Store conn) (state S.Store last) (Makes S.Store conn)
-            × (HasCleanDisk (state S.Store last) → AddsNothing (state S.Store conn) (state S.Store last))
-            × (HasCleanDisk (state S.Store last) → fault ≢ CreateFault.Taken
-            → (error : Error) × (fault ≡ create_fault error) × FailsToMake S.Store error conn last)) }
+        // Of the connection as it was given up; `make_register` says the same of one that is kept.
+        ensures refused { IfErr result (GivesUpMaking S.Store conn) }
 
         // A crash leaves what one before the call could leave, or the empty register, and after the call that alone.
         ensures crash { IfOk result (λ store.
@@ -103,8 +95,7 @@ impl<S: Alter + Drop> Store<S> {
             (state S.Store conn).now.schema ≡ no_schema → LeavesRegister 0 [] trees)) }
         ensures durable { IfOk result (λ store.
             HasCleanDisk (shows S.Store store) → (state S.Store conn).now.schema ≡ no_schema
-            → IsTrue (shows S.Store store).is_open
-            × ((trees : Trees) → (shows S.Store store).may_leave trees → LeavesRegister 0 [] trees)) }
+            → IsDurableAs S.Store store 0 []) }
     {
         match make_register(&mut conn) {
             Ok(()) => Ok(Store {
@@ -120,8 +111,6 @@ impl<S: Alter + Drop> Store<S> {
 }
 
 impl<S: Alter + Drop> Store<S> {
-    ghost use Rattle.sqlite.specs.Held.{Held};
-    ghost use Rattle.register_store.specs.Opening.{IsRefused};
     ghost use Rattle.register_store.specs.Schema.{IsDeclared};
     ghost use Rattle.register_store.specs.Store.{shows, HasRequests, IsRegisterOf, LeavesRegister};
 
@@ -142,23 +131,14 @@ impl<S: Alter + Drop> Store<S> {
         ensures same { IfOk result (λ store.
             HasCleanDisk (shows S.Store store) → IsUnchanged (state S.Store conn) (shows S.Store store)) }
 
-        // A refusal says why, of the connection as it was given up (`read_register` names it); where the rows stand for requests,
-        // it is by memory or disk.
-        ensures refused { IfErr result (λ fault.
-            (last : Held S) × CommitsNothing (state S.Store conn) (state S.Store last)
-            × (HasCleanDisk (state S.Store last)
-            → KeepsCommit (state S.Store conn) (state S.Store last) × IsRefused S.Store fault conn last)
-            × (HasCleanDisk (state S.Store last) → (early : ℕ) (F : List Request)
-            → IsRegisterOf early F (state S.Store conn).now
-            → (fault ≡ OpenFault.Memory) ⊎ (fault ≡ OpenFault.Disk))) }
+        // Of the connection as it was given up; `read_register` says the same of one that is kept.
+        ensures refused { IfErr result (GivesUpOpening S.Store conn) }
 
         // A crash leaves what it could leave before, and after the call these requests alone.
         ensures crash { IfOk result (λ store. CommitsNothing (state S.Store conn) (shows S.Store store)) }
         ensures durable { IfOk result (λ store.
             HasCleanDisk (shows S.Store store) → (early : ℕ) (F : List Request)
-            → IsRegisterOf early F (state S.Store conn).now
-            → IsTrue (shows S.Store store).is_open
-            × ((trees : Trees) → (shows S.Store store).may_leave trees → LeavesRegister early F trees)) }
+            → IsRegisterOf early F (state S.Store conn).now → IsDurableAs S.Store store early F) }
     {
         let mut conn = conn;
         match read_register(alloc, &mut conn, &mut Unwatched) {
@@ -186,29 +166,26 @@ impl<S: Alter> Store<S> {
 
     /// What is kept of this filer and key: the first request with its outcome, or `None` where they are new.
     pub fn find(&mut self, filer: &str, key: &KeyText) -> Result<Option<KeptRow>, StoreFault>
-        ensures found { HasCleanDisk (shows S.Store self.new) → (F : List Request) → HasRequests S.Store self.old F
-            → (target : Option ℕ) (body : List ℕ)
+        ensures found { ForRequests S.Store self.old self.new (λ F.
+            (target : Option ℕ) (body : List ℕ)
             → IfOk result (λ row.
             option_map (kept_as filer.now key.now) row ≡ kept_for (kept F)
-            (the_request filer.now key.now target body)) }
+            (the_request filer.now key.now target body))) }
 
         // It is answered in the style of before where it is among the first that were kept then.
-        ensures style { HasCleanDisk (shows S.Store self.new) → (F : List Request) → HasRequests S.Store self.old F
-            → (target : Option ℕ) (body : List ℕ)
+        ensures style { ForRequests S.Store self.old self.new (λ F.
+            (target : Option ℕ) (body : List ℕ)
             → IfOk result (λ row.
             IfSome row (λ r.
-            r.style ≡ style_of (take self.old.early F) (the_request filer.now key.now target body))) }
+            r.style ≡ style_of (take self.old.early F) (the_request filer.now key.now target body)))) }
 
         // The rows are those of before, whatever the answer is, and a crash leaves what it could leave before.
-        ensures same { HasCleanDisk (shows S.Store self.new) → (F : List Request) → HasRequests S.Store self.old F
-            → HasRequests S.Store self.new F }
+        ensures same { ForRequests S.Store self.old self.new (HasRequests S.Store self.new) }
         ensures counts { (self.new.kept ≡ self.old.kept) × (self.new.filings ≡ self.old.filings) }
         ensures early { self.new.early ≡ self.old.early }
         ensures crash { CommitsNothing (shows S.Store self.old) (shows S.Store self.new) }
-        ensures durable { HasCleanDisk (shows S.Store self.new) → (F : List Request) → HasRequests S.Store self.old F
-            → OnOk result (IsTrue (shows S.Store self.new).is_open
-            × ((trees : Trees) → (shows S.Store self.new).may_leave trees
-            → LeavesRegister self.old.early F trees)) }
+        ensures durable { ForRequests S.Store self.old self.new (λ F.
+            OnOk result (IsDurableAs S.Store self.new self.old.early F)) }
     {
         find_kept(&mut self.conn, self.alloc, self.early, filer, key.as_str())
     }
@@ -222,40 +199,26 @@ impl<S: Alter> Store<S> {
         requires target { IsTarget row.now.target }
         requires facts { HasFacts row.now.body.now row.now.judged.now }
         requires few { self.old.kept < 2 ^ 62 }
-        ensures added { HasCleanDisk (shows S.Store self.new) → (F : List Request) → HasRequests S.Store self.old F
-            → has_key F (the_request row.now.filer.now row.now.key.now row.now.target row.now.body.now) ≡ false
-            → IsAmendmentJudgement row.now.filer.now row.now.body.now
-            (is_free (register F) row.now.filer.now row.now.target) row.now.judged.now
-            → IfOk result (λ outcome.
-            (view_outcome outcome
-            ≡ (judged (kept F) (the_request row.now.filer.now row.now.key.now row.now.target
-            row.now.body.now)).outcome)
-            × HasRequests S.Store self.new
-            (F ++ the_request row.now.filer.now row.now.key.now row.now.target row.now.body.now ∷ [])) }
+        ensures added { ForRequests S.Store self.old self.new (λ F.
+            ForNew F (the_request row.now.filer.now row.now.key.now row.now.target row.now.body.now)
+            row.now.judged.now (λ r.
+            IfOk result (λ outcome.
+            (view_outcome outcome ≡ (judged (kept F) r).outcome)
+            × HasRequests S.Store self.new (F ++ r ∷ [])))) }
 
         // A refusal changes nothing.
-        ensures same { HasCleanDisk (shows S.Store self.new) → (F : List Request) → HasRequests S.Store self.old F
-            → OnErr result (HasRequests S.Store self.new F) }
+        ensures same { ForRequests S.Store self.old self.new (λ F. OnErr result (HasRequests S.Store self.new F)) }
         ensures count { OnOk result (self.new.kept ≡ self.old.kept + 1) }
         ensures counts { OnErr result ((self.new.kept ≡ self.old.kept) × (self.new.filings ≡ self.old.filings)) }
         ensures early { self.new.early ≡ self.old.early }
 
         // A crash leaves what one before the call could leave, or the rows with this request, and after Ok these alone.
-        ensures crash { Survives (shows S.Store self.old) (shows S.Store self.new) (λ trees.
-            (F : List Request) → HasRequests S.Store self.old F → IsTrue (shows S.Store self.old).is_open
-            → has_key F (the_request row.now.filer.now row.now.key.now row.now.target row.now.body.now) ≡ false
-            → IsAmendmentJudgement row.now.filer.now row.now.body.now
-            (is_free (register F) row.now.filer.now row.now.target) row.now.judged.now
-            → LeavesRegister self.old.early
-            (F ++ the_request row.now.filer.now row.now.key.now row.now.target row.now.body.now ∷ []) trees) }
-        ensures durable { HasCleanDisk (shows S.Store self.new) → (F : List Request) → HasRequests S.Store self.old F
-            → has_key F (the_request row.now.filer.now row.now.key.now row.now.target row.now.body.now) ≡ false
-            → IsAmendmentJudgement row.now.filer.now row.now.body.now
-            (is_free (register F) row.now.filer.now row.now.target) row.now.judged.now
-            → OnOk result (IsTrue (shows S.Store self.new).is_open
-            × ((trees : Trees) → (shows S.Store self.new).may_leave trees
-            → LeavesRegister self.old.early
-            (F ++ the_request row.now.filer.now row.now.key.now row.now.target row.now.body.now ∷ []) trees)) }
+        ensures crash { SurvivesAs S.Store self.old self.new (λ F trees.
+            ForNew F (the_request row.now.filer.now row.now.key.now row.now.target row.now.body.now)
+            row.now.judged.now (λ r. LeavesRegister self.old.early (F ++ r ∷ []) trees)) }
+        ensures durable { ForRequests S.Store self.old self.new (λ F.
+            ForNew F (the_request row.now.filer.now row.now.key.now row.now.target row.now.body.now)
+            row.now.judged.now (λ r. OnOk result (IsDurableAs S.Store self.new self.old.early (F ++ r ∷ [])))) }
     {
         let number = self.filings + 1;
         let outcome = Outcome::of(self.alloc, row.judged, number)?;
@@ -306,11 +269,8 @@ impl<S: Alter> Store<S> {
 }
 
 impl<S: Alter + Drop> Store<S> {
-    ghost use Rattle.sqlite.specs.Held.{Held};
     ghost use Rattle.register_store.specs.declared.migrate.earlier.Earlier.{Earlier};
-    ghost use Rattle.register_store.specs.Changes.{AddsNothing};
-    ghost use Rattle.register_store.specs.Earlier.{IsAlone, IsEarlierOf, is_blocked};
-    ghost use Rattle.register_store.specs.Migrating.{IsNotMigrated, MigratesTo};
+    ghost use Rattle.register_store.specs.Earlier.{IsAlone, IsEarlierOf};
     ghost use Rattle.register_store.specs.Store.{shows, HasRequests, LeavesRegister};
 
     /// Brings the register that the database holds from an earlier form into the present one, in one transaction, and opens
@@ -330,16 +290,8 @@ impl<S: Alter + Drop> Store<S> {
             → IsAlone form (state S.Store conn).now.schema → IsEarlierOf form early F (state S.Store conn).now
             → (store.early ≡ early) × HasRequests S.Store store F) }
 
-        // A refusal says why, of the connection as it was given up (`migrate_register` names it); where the rows stand for requests
-        // and no name is in the way, it is by memory, or by the disk or another failure of a statement that writes.
-        ensures refused { IfErr result (λ fault.
-            (last : Held S) × Survives (state S.Store conn) (state S.Store last) (MigratesTo S.Store conn)
-            × (HasCleanDisk (state S.Store last)
-            → AddsNothing (state S.Store conn) (state S.Store last) × IsNotMigrated S.Store fault conn last)
-            × (HasCleanDisk (state S.Store last) → (form : Earlier) (early : ℕ) (F : List Request)
-            → IsEarlierOf form early F (state S.Store conn).now
-            → is_blocked (state S.Store conn).now.schema form ≡ false
-            → (fault ≡ OpenFault.Memory) ⊎ (fault ≡ OpenFault.Disk))) }
+        // Of the connection as it was given up; `migrate_register` says the same of one that is kept.
+        ensures refused { IfErr result (GivesUpMigrating S.Store conn) }
 
         // A crash leaves what it could leave before, or the migrated rows, and after the call these alone.
         ensures crash { IfOk result (λ store.
@@ -349,8 +301,7 @@ impl<S: Alter + Drop> Store<S> {
         ensures durable { IfOk result (λ store.
             HasCleanDisk (shows S.Store store) → (form : Earlier) (early : ℕ) (F : List Request)
             → IsAlone form (state S.Store conn).now.schema → IsEarlierOf form early F (state S.Store conn).now
-            → IsTrue (shows S.Store store).is_open
-            × ((trees : Trees) → (shows S.Store store).may_leave trees → LeavesRegister early F trees)) }
+            → IsDurableAs S.Store store early F) }
     {
         let mut conn = conn;
         match migrate_register(alloc, &mut conn) {

@@ -1,9 +1,10 @@
 -- What a connection keeps between calls.
 use Rattle.std.specs.Prelude.{◌≡◌, ◌⊎◌, false, IsTrue}
+use Rattle.sqlite.specs.Store.{Ghosts}
 use Rattle.sqlite.specs.Tree.{Trees}
 use Rattle.sqlite.specs.Effect.{Database}
-use Rattle.sqlite.specs.Held.{Held}
-use Rattle.sqlite.specs.State.{State, IsUnchanged, IsRolledBack, Survives}
+use Rattle.sqlite.specs.Held.{Held, state}
+use Rattle.sqlite.specs.State.{State, HasCleanDisk, IsUnchanged, IsRolledBack, KeepsCommit, Survives}
 
 -- no transaction is under way, and while the store is open the database is such a one, committed as it is
 pub record HasCommitted (Is : Database → Type 0) (s : State) : Type 0 where
@@ -26,3 +27,15 @@ CommitsNothing old new = Survives old new (λ _. ⊥)
 -- between transactions before the call, and so after it
 abbrev pub StaysAutocommit : {S : Type 0} → Held S → Held S → Type 0
 StaysAutocommit old new = old.in_transaction ≡ false → new.in_transaction ≡ false
+
+-- Where the disk is clean at the end, what was committed is committed still.
+abbrev pub StaysCommitted : {S : Type 0} → Ghosts S → Held S → Held S → Type 0
+StaysCommitted g old new = HasCleanDisk (state g new) → KeepsCommit (state g old) (state g new)
+
+-- the store is open, and the database is committed as it is
+abbrev pub IsCommitted : State → Type 0
+IsCommitted s = IsTrue s.is_open × (s.committed ≡ s.now)
+
+-- a crash leaves the database as it is
+abbrev pub IsLasting : State → Type 0
+IsLasting s = (trees : Trees) → s.may_leave trees → trees ≡ s.now.trees

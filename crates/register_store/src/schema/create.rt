@@ -2,16 +2,15 @@
 
 ghost use Rattle.std.specs.Prelude.{◌≡◌, ◌≢◌, ◌↔◌, ℕ, false, [], Ok, Err, IsTrue, IfErr, OnOk, OnErr};
 ghost use Rattle.sqlite.specs.Held.{state};
-ghost use Rattle.sqlite.specs.Tree.{Trees};
 ghost use Rattle.sqlite.specs.declared.error.Error.{Error};
-ghost use Rattle.sqlite.specs.State.{HasCleanDisk, KeepsCommit, Survives, ExecutesInside};
+ghost use Rattle.sqlite.specs.State.{HasCleanDisk, Survives, ExecutesInside};
 ghost use Rattle.table_rows.specs.Tables.{no_schema};
 ghost use Rattle.register_store.specs.Changes.{AddsNothing};
 ghost use Rattle.register_store.specs.Faults.{create_fault};
 ghost use Rattle.register_store.specs.Making.{common_texts, later_texts, making_texts, AreRun, StopsWith, Makes, FailsToMake};
 ghost use Rattle.register_store.specs.Schema.{is_taken};
 ghost use Rattle.register_store.specs.Store.{IsRegisterOf};
-ghost use Rattle.table_rows.specs.Standing.{CommitsNothing};
+ghost use Rattle.table_rows.specs.Standing.{CommitsNothing, IsLasting, StaysCommitted};
 
 use crate::fault::CreateFault;
 use crate::opening::is_settled;
@@ -28,8 +27,7 @@ pub(crate) fn run<S: Alter>(tx: &mut Transaction<'_, S>, sql: &str) -> Result<()
         → IsTrue (state S.Store tx.old.conn.now).in_transaction
         → IfErr result (λ error.
         ExecutesInside 0 sql.now [] (state S.Store tx.old.conn.now) (state S.Store tx.new.conn.now) (Err error)) }
-    ensures keeps { HasCleanDisk (state S.Store tx.new.conn.now)
-        → KeepsCommit (state S.Store tx.old.conn.now) (state S.Store tx.new.conn.now) }
+    ensures keeps { StaysCommitted S.Store tx.old.conn.now tx.new.conn.now }
     ensures survives { CommitsNothing (state S.Store tx.old.conn.now) (state S.Store tx.new.conn.now) }
 {
     tx.execute(sql, &[])?;
@@ -46,8 +44,7 @@ fn make_common<S: Alter>(tx: &mut Transaction<'_, S>) -> Result<(), Error>
         → IfErr result (λ error. StopsWith S.Store error common_texts tx.old.conn.now tx.new.conn.now) }
     ensures inside { HasCleanDisk (state S.Store tx.new.conn.now)
         → OnOk result (IsTrue (state S.Store tx.new.conn.now).in_transaction) }
-    ensures keeps { HasCleanDisk (state S.Store tx.new.conn.now)
-        → KeepsCommit (state S.Store tx.old.conn.now) (state S.Store tx.new.conn.now) }
+    ensures keeps { StaysCommitted S.Store tx.old.conn.now tx.new.conn.now }
     ensures survives { CommitsNothing (state S.Store tx.old.conn.now) (state S.Store tx.new.conn.now) }
 {
     run(
@@ -82,8 +79,7 @@ fn make_later<S: Alter>(tx: &mut Transaction<'_, S>) -> Result<(), Error>
         → IfErr result (λ error. StopsWith S.Store error later_texts tx.old.conn.now tx.new.conn.now) }
     ensures inside { HasCleanDisk (state S.Store tx.new.conn.now)
         → OnOk result (IsTrue (state S.Store tx.new.conn.now).in_transaction) }
-    ensures keeps { HasCleanDisk (state S.Store tx.new.conn.now)
-        → KeepsCommit (state S.Store tx.old.conn.now) (state S.Store tx.new.conn.now) }
+    ensures keeps { StaysCommitted S.Store tx.old.conn.now tx.new.conn.now }
     ensures survives { CommitsNothing (state S.Store tx.old.conn.now) (state S.Store tx.new.conn.now) }
 {
     run(
@@ -107,8 +103,7 @@ fn make_tables<S: Alter>(tx: &mut Transaction<'_, S>) -> Result<(), Error>
         → IfErr result (λ error. StopsWith S.Store error making_texts tx.old.conn.now tx.new.conn.now) }
     ensures inside { HasCleanDisk (state S.Store tx.new.conn.now)
         → OnOk result (IsTrue (state S.Store tx.new.conn.now).in_transaction) }
-    ensures keeps { HasCleanDisk (state S.Store tx.new.conn.now)
-        → KeepsCommit (state S.Store tx.old.conn.now) (state S.Store tx.new.conn.now) }
+    ensures keeps { StaysCommitted S.Store tx.old.conn.now tx.new.conn.now }
     ensures survives { CommitsNothing (state S.Store tx.old.conn.now) (state S.Store tx.new.conn.now) }
 {
     make_common(tx)?;
@@ -122,9 +117,7 @@ fn make<S: Alter>(conn: &mut Connection<S>) -> Result<(), Error>
     ensures made { HasCleanDisk (state S.Store conn.new) → (state S.Store conn.old).now.schema ≡ no_schema
         → OnOk result (IsTrue (state S.Store conn.new).is_open × IsRegisterOf 0 [] (state S.Store conn.new).now
         × ((state S.Store conn.new).committed ≡ (state S.Store conn.new).now)) }
-    ensures durable { HasCleanDisk (state S.Store conn.new)
-        → OnOk result ((trees : Trees) → (state S.Store conn.new).may_leave trees
-        → trees ≡ (state S.Store conn.new).now.trees) }
+    ensures durable { HasCleanDisk (state S.Store conn.new) → OnOk result (IsLasting (state S.Store conn.new)) }
     ensures failed { HasCleanDisk (state S.Store conn.new)
         → IfErr result (λ error. FailsToMake S.Store error conn.old conn.new) }
     ensures neither { HasCleanDisk (state S.Store conn.new)
@@ -144,9 +137,7 @@ pub fn make_register<S: Alter>(conn: &mut Connection<S>) -> Result<(), CreateFau
     ensures made { HasCleanDisk (state S.Store conn.new) → (state S.Store conn.old).now.schema ≡ no_schema
         → OnOk result (IsTrue (state S.Store conn.new).is_open × IsRegisterOf 0 [] (state S.Store conn.new).now
         × ((state S.Store conn.new).committed ≡ (state S.Store conn.new).now)) }
-    ensures durable { HasCleanDisk (state S.Store conn.new)
-        → OnOk result ((trees : Trees) → (state S.Store conn.new).may_leave trees
-        → trees ≡ (state S.Store conn.new).now.trees) }
+    ensures durable { HasCleanDisk (state S.Store conn.new) → OnOk result (IsLasting (state S.Store conn.new)) }
 
     // Taken comes where one of the names is in use, and always there. Another refusal has its cause in a statement or in the commit.
     ensures taken { (result ≡ Err CreateFault.Taken) ↔ IsTrue (is_taken (state S.Store conn.old).now.schema) }

@@ -3,21 +3,19 @@
 ghost use Rattle.std.specs.Prelude.{◌≡◌, ℕ, pos, List, [], length, map, filter, unwrap_or, option_map, None, IsTrue, IfOk, OnOk};
 ghost use Rattle.std.specs.Ordering.{nat_cmp};
 ghost use Rattle.std.specs.BTreeMap.{get};
-ghost use Rattle.filing_model.specs.Request.{Request};
 ghost use Rattle.filing_model.specs.Listing.{listing, listings, replacing};
 ghost use Rattle.filing_model.specs.Register.{Filing, Kept, Outcome, filing_of, kept, register};
 ghost use Rattle.filing_model.specs.Views.{view_row};
 ghost use Rattle.xbrl_report.specs.ReportParts.{fact_count};
 ghost use Rattle.sqlite.specs.Held.{state};
-ghost use Rattle.sqlite.specs.State.{HasCleanDisk};
 ghost use Rattle.table_rows.specs.Rows.{counted_from};
-ghost use Rattle.table_rows.specs.Standing.{HasCommitted, CommitsNothing, StaysAutocommit};
+ghost use Rattle.table_rows.specs.Standing.{CommitsNothing, StaysAutocommit};
 ghost use Rattle.register_store.specs.Found.{IsPlaced};
 ghost use Rattle.register_store.specs.Numbered.{facts_numbered};
 ghost use Rattle.register_store.specs.Own.{own_filings, own_of};
 ghost use Rattle.register_store.specs.Reads.{by_first, has_filer};
 ghost use Rattle.register_store.specs.Register.{kept_row, filing_rows_by, number_of};
-ghost use Rattle.register_store.specs.Store.{IsRegisterOf, AnswersOpen, KeepsRegister};
+ghost use Rattle.register_store.specs.Store.{AnswersOpen, KeepsRegister, ForRegister};
 
 use crate::fault::StoreFault;
 use crate::select::found::target_at;
@@ -40,9 +38,8 @@ pub(crate) struct Own {
 
 /// How many facts the filing of this number has, none where there is no such filing.
 fn count_facts<S: Alter>(conn: &mut Connection<S>, number: u64) -> Result<usize, StoreFault>
-    ensures counted { HasCleanDisk (state S.Store conn.new) → (early : ℕ) (F : List Request)
-        → HasCommitted (IsRegisterOf early F) (state S.Store conn.old)
-        → IfOk result (λ count. count ≡ length (unwrap_or (facts_numbered number (register F)) [])) }
+    ensures counted { ForRegister S.Store conn.old conn.new (λ _ F.
+        IfOk result (λ count. count ≡ length (unwrap_or (facts_numbered number (register F)) []))) }
     ensures same { KeepsRegister (state S.Store conn.old) (state S.Store conn.new) }
     ensures open { AnswersOpen (state S.Store conn.old) (state S.Store conn.new) result }
     ensures mode { StaysAutocommit conn.old conn.new }
@@ -71,9 +68,9 @@ fn first_number(rows: &[Row]) -> Result<Option<u64>, StoreFault>
 
 /// The number of the kept request at this place, or `None` where it was refused.
 fn number_at<S: Alter>(conn: &mut Connection<S>, seq: i64) -> Result<Option<u64>, StoreFault>
-    ensures found { HasCleanDisk (state S.Store conn.new) → (early : ℕ) (F : List Request)
-        → HasCommitted (IsRegisterOf early F) (state S.Store conn.old) → (n : ℕ) (k : Kept) → seq ≡ pos n
-        → IsPlaced 1 n (kept F) k → IfOk result (λ number. number ≡ number_of k.outcome) }
+    ensures found { ForRegister S.Store conn.old conn.new (λ _ F.
+        (n : ℕ) (k : Kept) → seq ≡ pos n → IsPlaced 1 n (kept F) k
+        → IfOk result (λ number. number ≡ number_of k.outcome)) }
     ensures same { KeepsRegister (state S.Store conn.old) (state S.Store conn.new) }
     ensures open { AnswersOpen (state S.Store conn.old) (state S.Store conn.new) result }
     ensures mode { StaysAutocommit conn.old conn.new }
@@ -87,9 +84,9 @@ fn number_at<S: Alter>(conn: &mut Connection<S>, seq: i64) -> Result<Option<u64>
 
 /// The filing that the kept request at this place is, or `None` where it was refused.
 fn own_at<S: Alter>(conn: &mut Connection<S>, seq: i64) -> Result<Option<Own>, StoreFault>
-    ensures found { HasCleanDisk (state S.Store conn.new) → (early : ℕ) (F : List Request)
-        → HasCommitted (IsRegisterOf early F) (state S.Store conn.old) → (n : ℕ) (k : Kept) → seq ≡ pos n
-        → IsPlaced 1 n (kept F) k → IfOk result (λ own. own ≡ option_map own_of (filing_of k.request k.outcome)) }
+    ensures found { ForRegister S.Store conn.old conn.new (λ _ F.
+        (n : ℕ) (k : Kept) → seq ≡ pos n → IsPlaced 1 n (kept F) k
+        → IfOk result (λ own. own ≡ option_map own_of (filing_of k.request k.outcome))) }
     ensures same { KeepsRegister (state S.Store conn.old) (state S.Store conn.new) }
     ensures open { AnswersOpen (state S.Store conn.old) (state S.Store conn.new) result }
     ensures mode { StaysAutocommit conn.old conn.new }
@@ -111,14 +108,12 @@ fn own_among<S: Alter>(
     alloc: Global,
     places: &[Row],
 ) -> Result<Vec<Own>, StoreFault>
-    ensures own { HasCleanDisk (state S.Store conn.new) → (early : ℕ) (F : List Request)
-        → HasCommitted (IsRegisterOf early F) (state S.Store conn.old) → (filer : List ℕ)
-        → places.now ≡ map by_first (filter (has_filer filer) (counted_from kept_row 1 (kept F)))
-        → IfOk result (λ own. own.items ≡ map own_of (own_filings filer F)) }
+    ensures own { ForRegister S.Store conn.old conn.new (λ _ F.
+        (filer : List ℕ) → places.now ≡ map by_first (filter (has_filer filer) (counted_from kept_row 1 (kept F)))
+        → IfOk result (λ own. own.items ≡ map own_of (own_filings filer F))) }
     ensures same { KeepsRegister (state S.Store conn.old) (state S.Store conn.new) }
-    ensures open { HasCleanDisk (state S.Store conn.new) → (early : ℕ) (F : List Request)
-        → HasCommitted (IsRegisterOf early F) (state S.Store conn.old) → IsTrue (state S.Store conn.old).is_open
-        → OnOk result (IsTrue (state S.Store conn.new).is_open) }
+    ensures open { ForRegister S.Store conn.old conn.new (λ _ _.
+        IsTrue (state S.Store conn.old).is_open → OnOk result (IsTrue (state S.Store conn.new).is_open)) }
     ensures mode { StaysAutocommit conn.old conn.new }
     ensures survives { CommitsNothing (state S.Store conn.old) (state S.Store conn.new) }
 {
@@ -138,9 +133,8 @@ fn read_own<S: Alter>(
     alloc: Global,
     filer: &str,
 ) -> Result<Vec<Own>, StoreFault>
-    ensures own { HasCleanDisk (state S.Store conn.new) → (early : ℕ) (F : List Request)
-        → HasCommitted (IsRegisterOf early F) (state S.Store conn.old)
-        → IfOk result (λ own. own.items ≡ map own_of (own_filings filer.now F)) }
+    ensures own { ForRegister S.Store conn.old conn.new (λ _ F.
+        IfOk result (λ own. own.items ≡ map own_of (own_filings filer.now F))) }
     ensures same { KeepsRegister (state S.Store conn.old) (state S.Store conn.new) }
     ensures open { AnswersOpen (state S.Store conn.old) (state S.Store conn.new) result }
     ensures mode { StaysAutocommit conn.old conn.new }
@@ -189,15 +183,13 @@ fn list_each<S: Alter>(
     own: &[Own],
     by: &BTreeMap<u64, u64>,
 ) -> Result<Vec<FilingRow>, StoreFault>
-    ensures rows { HasCleanDisk (state S.Store conn.new) → (early : ℕ) (F : List Request)
-        → HasCommitted (IsRegisterOf early F) (state S.Store conn.old) → (filer : List ℕ)
-        → own.now ≡ map own_of (own_filings filer F)
+    ensures rows { ForRegister S.Store conn.old conn.new (λ _ F.
+        (filer : List ℕ) → own.now ≡ map own_of (own_filings filer F)
         → ((n : ℕ) → get nat_cmp by.now n ≡ replacing (own_filings filer F) n)
-        → IfOk result (λ rows. map view_row rows.items ≡ listings filer None (register F)) }
+        → IfOk result (λ rows. map view_row rows.items ≡ listings filer None (register F))) }
     ensures same { KeepsRegister (state S.Store conn.old) (state S.Store conn.new) }
-    ensures open { HasCleanDisk (state S.Store conn.new) → (early : ℕ) (F : List Request)
-        → HasCommitted (IsRegisterOf early F) (state S.Store conn.old) → IsTrue (state S.Store conn.old).is_open
-        → OnOk result (IsTrue (state S.Store conn.new).is_open) }
+    ensures open { ForRegister S.Store conn.old conn.new (λ _ _.
+        IsTrue (state S.Store conn.old).is_open → OnOk result (IsTrue (state S.Store conn.new).is_open)) }
     ensures mode { StaysAutocommit conn.old conn.new }
     ensures survives { CommitsNothing (state S.Store conn.old) (state S.Store conn.new) }
 {
@@ -215,14 +207,12 @@ fn list_own<S: Alter>(
     alloc: Global,
     own: &[Own],
 ) -> Result<Vec<FilingRow>, StoreFault>
-    ensures rows { HasCleanDisk (state S.Store conn.new) → (early : ℕ) (F : List Request)
-        → HasCommitted (IsRegisterOf early F) (state S.Store conn.old) → (filer : List ℕ)
-        → own.now ≡ map own_of (own_filings filer F)
-        → IfOk result (λ rows. map view_row rows.items ≡ listings filer None (register F)) }
+    ensures rows { ForRegister S.Store conn.old conn.new (λ _ F.
+        (filer : List ℕ) → own.now ≡ map own_of (own_filings filer F)
+        → IfOk result (λ rows. map view_row rows.items ≡ listings filer None (register F))) }
     ensures same { KeepsRegister (state S.Store conn.old) (state S.Store conn.new) }
-    ensures open { HasCleanDisk (state S.Store conn.new) → (early : ℕ) (F : List Request)
-        → HasCommitted (IsRegisterOf early F) (state S.Store conn.old) → IsTrue (state S.Store conn.old).is_open
-        → OnOk result (IsTrue (state S.Store conn.new).is_open) }
+    ensures open { ForRegister S.Store conn.old conn.new (λ _ _.
+        IsTrue (state S.Store conn.old).is_open → OnOk result (IsTrue (state S.Store conn.new).is_open)) }
     ensures mode { StaysAutocommit conn.old conn.new }
     ensures survives { CommitsNothing (state S.Store conn.old) (state S.Store conn.new) }
 {
@@ -238,9 +228,8 @@ pub(crate) fn filings_of<S: Alter>(
     alloc: Global,
     filer: &str,
 ) -> Result<Vec<FilingRow>, StoreFault>
-    ensures rows { HasCleanDisk (state S.Store conn.new) → (early : ℕ) (F : List Request)
-        → HasCommitted (IsRegisterOf early F) (state S.Store conn.old)
-        → IfOk result (λ rows. map view_row rows.items ≡ listings filer.now None (register F)) }
+    ensures rows { ForRegister S.Store conn.old conn.new (λ _ F.
+        IfOk result (λ rows. map view_row rows.items ≡ listings filer.now None (register F))) }
     ensures same { KeepsRegister (state S.Store conn.old) (state S.Store conn.new) }
     ensures open { AnswersOpen (state S.Store conn.old) (state S.Store conn.new) result }
     ensures mode { StaysAutocommit conn.old conn.new }

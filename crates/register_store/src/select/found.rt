@@ -11,7 +11,7 @@ ghost use Rattle.filing_model.specs.Views.{the_request};
 ghost use Rattle.table_rows.specs.Standing.{HasCommitted, CommitsNothing, StaysAutocommit};
 ghost use Rattle.register_store.specs.Register.{amends_rows_by, findings_of, number_of};
 ghost use Rattle.xbrl_report.specs.CodeNumber.{number_of as code_number};
-ghost use Rattle.register_store.specs.Store.{IsRegisterOf, AnswersOpen, KeepsRegister};
+ghost use Rattle.register_store.specs.Store.{IsRegisterOf, AnswersOpen, KeepsRegister, ForRegister};
 ghost use Rattle.register_store.specs.Outcomes.{kept_as, style_at};
 ghost use Rattle.register_store.specs.Found.{IsFound, IsLookUp, IsPlaced, IsReading, found_row, finding_in, target_alone};
 
@@ -101,8 +101,7 @@ fn look_up<S: Alter>(
     filer: &str,
     key: &str,
 ) -> Result<Option<FoundRow>, StoreFault>
-    ensures found { HasCleanDisk (state S.Store conn.new) → (early : ℕ) (F : List Request)
-        → HasCommitted (IsRegisterOf early F) (state S.Store conn.old) → IfOk result (IsLookUp filer.now key.now F) }
+    ensures found { ForRegister S.Store conn.old conn.new (λ _ F. IfOk result (IsLookUp filer.now key.now F)) }
     ensures same { KeepsRegister (state S.Store conn.old) (state S.Store conn.new) }
     ensures open { AnswersOpen (state S.Store conn.old) (state S.Store conn.new) result }
     ensures mode { StaysAutocommit conn.old conn.new }
@@ -120,9 +119,9 @@ fn findings_at<S: Alter>(
     alloc: Global,
     seq: i64,
 ) -> Result<Findings, StoreFault>
-    ensures found { HasCleanDisk (state S.Store conn.new) → (early : ℕ) (F : List Request)
-        → HasCommitted (IsRegisterOf early F) (state S.Store conn.old) → (n : ℕ) (k : Kept) → seq ≡ pos n
-        → IsPlaced 1 n (kept F) k → IfOk result (λ findings. findings ≡ findings_of k.outcome) }
+    ensures found { ForRegister S.Store conn.old conn.new (λ _ F.
+        (n : ℕ) (k : Kept) → seq ≡ pos n → IsPlaced 1 n (kept F) k
+        → IfOk result (λ findings. findings ≡ findings_of k.outcome)) }
     ensures same { KeepsRegister (state S.Store conn.old) (state S.Store conn.new) }
     ensures open { AnswersOpen (state S.Store conn.old) (state S.Store conn.new) result }
     ensures mode { StaysAutocommit conn.old conn.new }
@@ -150,9 +149,9 @@ pub(crate) fn target_at<S: Alter>(
     conn: &mut Connection<S>,
     seq: i64,
 ) -> Result<Option<u64>, StoreFault>
-    ensures found { HasCleanDisk (state S.Store conn.new) → (early : ℕ) (F : List Request)
-        → HasCommitted (IsRegisterOf early F) (state S.Store conn.old) → (n : ℕ) (k : Kept) → seq ≡ pos n
-        → IsPlaced 1 n (kept F) k → IfOk result (λ target. target ≡ k.request.target) }
+    ensures found { ForRegister S.Store conn.old conn.new (λ _ F.
+        (n : ℕ) (k : Kept) → seq ≡ pos n → IsPlaced 1 n (kept F) k
+        → IfOk result (λ target. target ≡ k.request.target)) }
     ensures same { KeepsRegister (state S.Store conn.old) (state S.Store conn.new) }
     ensures open { AnswersOpen (state S.Store conn.old) (state S.Store conn.new) result }
     ensures mode { StaysAutocommit conn.old conn.new }
@@ -187,9 +186,8 @@ fn complete<S: Alter>(
         → target ≡ is.k.request.target → IfOk result (λ row. kept_as filer key row ≡ is.k) }
     ensures style { (place : ℕ) → found.seq ≡ pos place → IfOk result (λ row. row.style ≡ style_at early place) }
     ensures same { KeepsRegister (state S.Store conn.old) (state S.Store conn.new) }
-    ensures open { HasCleanDisk (state S.Store conn.new) → (n : ℕ) (F : List Request)
-        → HasCommitted (IsRegisterOf n F) (state S.Store conn.old) → IsTrue (state S.Store conn.old).is_open
-        → OnOk result (IsTrue (state S.Store conn.new).is_open) }
+    ensures open { ForRegister S.Store conn.old conn.new (λ _ _.
+        IsTrue (state S.Store conn.old).is_open → OnOk result (IsTrue (state S.Store conn.new).is_open)) }
     ensures mode { StaysAutocommit conn.old conn.new }
     ensures survives { CommitsNothing (state S.Store conn.old) (state S.Store conn.new) }
 {
@@ -226,9 +224,8 @@ fn complete_found<S: Alter>(
         → IfOk result (λ row. kept_as filer key row ≡ is.k) }
     ensures style { (place : ℕ) → found.seq ≡ pos place → IfOk result (λ row. row.style ≡ style_at early place) }
     ensures same { KeepsRegister (state S.Store conn.old) (state S.Store conn.new) }
-    ensures open { HasCleanDisk (state S.Store conn.new) → (n : ℕ) (F : List Request)
-        → HasCommitted (IsRegisterOf n F) (state S.Store conn.old) → IsTrue (state S.Store conn.old).is_open
-        → OnOk result (IsTrue (state S.Store conn.new).is_open) }
+    ensures open { ForRegister S.Store conn.old conn.new (λ _ _.
+        IsTrue (state S.Store conn.old).is_open → OnOk result (IsTrue (state S.Store conn.new).is_open)) }
     ensures mode { StaysAutocommit conn.old conn.new }
     ensures survives { CommitsNothing (state S.Store conn.old) (state S.Store conn.new) }
 {
@@ -246,11 +243,11 @@ pub fn find_kept<S: Alter>(
     filer: &str,
     key: &str,
 ) -> Result<Option<KeptRow>, StoreFault>
-    ensures found { HasCleanDisk (state S.Store conn.new) → (n : ℕ) (F : List Request)
-        → HasCommitted (IsRegisterOf n F) (state S.Store conn.old) → (target : Option ℕ) (body : List ℕ)
+    ensures found { ForRegister S.Store conn.old conn.new (λ _ F.
+        (target : Option ℕ) (body : List ℕ)
         → IfOk result (λ row.
         option_map (kept_as filer.now key.now) row ≡ kept_for (kept F)
-        (the_request filer.now key.now target body)) }
+        (the_request filer.now key.now target body))) }
     ensures style { HasCleanDisk (state S.Store conn.new) → (F : List Request)
         → HasCommitted (IsRegisterOf early F) (state S.Store conn.old) → (target : Option ℕ) (body : List ℕ)
         → IfOk result (λ row.

@@ -1,18 +1,16 @@
 //! What a store lists: the kept requests, the filings and their facts.
 
-ghost use Rattle.std.specs.Prelude.{◌≡◌, ℕ, List, IsTrue, IfOk, OnOk, None, map, option_map};
+ghost use Rattle.std.specs.Prelude.{◌≡◌, IsTrue, IfOk, OnOk, None, map, option_map};
 ghost use Rattle.filing_model.specs.Listing.{listings};
 ghost use Rattle.filing_model.specs.Views.{view_row};
-ghost use Rattle.filing_model.specs.Request.{Request, firsts};
+ghost use Rattle.filing_model.specs.Request.{firsts};
 ghost use Rattle.filing_model.specs.Register.{kept, register};
 ghost use Rattle.sqlite.specs.Held.{state};
 ghost use Rattle.table_rows.specs.Rows.{counted_from};
-ghost use Rattle.table_rows.specs.Standing.{HasCommitted, CommitsNothing, StaysAutocommit};
+ghost use Rattle.table_rows.specs.Standing.{CommitsNothing, StaysAutocommit};
 ghost use Rattle.register_store.specs.Register.{kept_row, amends_rows, joined_from};
-ghost use Rattle.sqlite.specs.State.{HasCleanDisk};
-ghost use Rattle.sqlite.specs.Tree.{Trees};
 ghost use Rattle.register_store.specs.Numbered.{facts_numbered};
-ghost use Rattle.register_store.specs.Store.{IsRegisterOf, shows, HasRequests, LeavesRegister, AnswersOpen, KeepsRegister};
+ghost use Rattle.register_store.specs.Store.{shows, HasRequests, AnswersOpen, KeepsRegister, ForRequests, IsDurableAs, LeavesOnly, ForRegister};
 
 use crate::decode::completed::{Completed, Registered, read_filings, read_requests};
 use crate::decode::facts::read_facts;
@@ -32,11 +30,10 @@ struct Both {
 }
 
 fn read_both<S: Alter>(conn: &mut Connection<S>) -> Result<Both, StoreFault>
-    ensures read { HasCleanDisk (state S.Store conn.new) → (early : ℕ) (F : List Request)
-        → HasCommitted (IsRegisterOf early F) (state S.Store conn.old)
-        → IfOk result (λ both.
+    ensures read { ForRegister S.Store conn.old conn.new (λ _ F.
+        IfOk result (λ both.
         (firsts F ≡ F) × (both.kept.items ≡ counted_from kept_row 1 (kept F))
-        × (both.amends.items ≡ joined_from amends_rows 1 (kept F))) }
+        × (both.amends.items ≡ joined_from amends_rows 1 (kept F)))) }
     ensures same { KeepsRegister (state S.Store conn.old) (state S.Store conn.new) }
     ensures open { AnswersOpen (state S.Store conn.old) (state S.Store conn.new) result }
     ensures mode { StaysAutocommit conn.old conn.new }
@@ -55,17 +52,13 @@ fn read_both<S: Alter>(conn: &mut Connection<S>) -> Result<Both, StoreFault>
 impl<S: Alter> Store<S> {
     /// The kept requests, in the order in which they were completed.
     pub fn requests(&mut self) -> Result<Vec<Completed>, StoreFault>
-        ensures rows { HasCleanDisk (shows S.Store self.new) → (F : List Request) → HasRequests S.Store self.old F
-            → IfOk result (λ rows. rows.items ≡ F) }
-        ensures same { HasCleanDisk (shows S.Store self.new) → (F : List Request) → HasRequests S.Store self.old F
-            → HasRequests S.Store self.new F }
+        ensures rows { ForRequests S.Store self.old self.new (λ F. IfOk result (λ rows. rows.items ≡ F)) }
+        ensures same { ForRequests S.Store self.old self.new (HasRequests S.Store self.new) }
         ensures counts { (self.new.kept ≡ self.old.kept) × (self.new.filings ≡ self.old.filings) }
         ensures early { self.new.early ≡ self.old.early }
         ensures crash { CommitsNothing (shows S.Store self.old) (shows S.Store self.new) }
-        ensures durable { HasCleanDisk (shows S.Store self.new) → (F : List Request) → HasRequests S.Store self.old F
-            → OnOk result (IsTrue (shows S.Store self.new).is_open
-            × ((trees : Trees) → (shows S.Store self.new).may_leave trees
-            → LeavesRegister self.old.early F trees)) }
+        ensures durable { ForRequests S.Store self.old self.new (λ F.
+            OnOk result (IsDurableAs S.Store self.new self.old.early F)) }
     {
         match read_both(&mut self.conn) {
             Ok(both) => read_requests(self.alloc, &both.kept, &both.amends),
@@ -75,17 +68,13 @@ impl<S: Alter> Store<S> {
 
     /// The registered requests under their numbers, ascending.
     pub fn all_filings(&mut self) -> Result<Vec<Registered>, StoreFault>
-        ensures rows { HasCleanDisk (shows S.Store self.new) → (F : List Request) → HasRequests S.Store self.old F
-            → IfOk result (λ rows. rows.items ≡ register F) }
-        ensures same { HasCleanDisk (shows S.Store self.new) → (F : List Request) → HasRequests S.Store self.old F
-            → HasRequests S.Store self.new F }
+        ensures rows { ForRequests S.Store self.old self.new (λ F. IfOk result (λ rows. rows.items ≡ register F)) }
+        ensures same { ForRequests S.Store self.old self.new (HasRequests S.Store self.new) }
         ensures counts { (self.new.kept ≡ self.old.kept) × (self.new.filings ≡ self.old.filings) }
         ensures early { self.new.early ≡ self.old.early }
         ensures crash { CommitsNothing (shows S.Store self.old) (shows S.Store self.new) }
-        ensures durable { HasCleanDisk (shows S.Store self.new) → (F : List Request) → HasRequests S.Store self.old F
-            → OnOk result (IsTrue (shows S.Store self.new).is_open
-            × ((trees : Trees) → (shows S.Store self.new).may_leave trees
-            → LeavesRegister self.old.early F trees)) }
+        ensures durable { ForRequests S.Store self.old self.new (λ F.
+            OnOk result (IsDurableAs S.Store self.new self.old.early F)) }
     {
         match read_both(&mut self.conn) {
             Ok(both) => read_filings(self.alloc, &both.kept, &both.amends),
@@ -96,17 +85,14 @@ impl<S: Alter> Store<S> {
     /// The filings of a filer, each with how many facts it has, which filing it replaces and which one replaces it, ascending by number.
     /// A filer that never came has none.
     pub fn filings(&mut self, filer: &str) -> Result<Vec<FilingRow>, StoreFault>
-        ensures rows { HasCleanDisk (shows S.Store self.new) → (F : List Request) → HasRequests S.Store self.old F
-            → IfOk result (λ rows. map view_row rows.items ≡ listings filer.now None (register F)) }
-        ensures same { HasCleanDisk (shows S.Store self.new) → (F : List Request) → HasRequests S.Store self.old F
-            → HasRequests S.Store self.new F }
+        ensures rows { ForRequests S.Store self.old self.new (λ F.
+            IfOk result (λ rows. map view_row rows.items ≡ listings filer.now None (register F))) }
+        ensures same { ForRequests S.Store self.old self.new (HasRequests S.Store self.new) }
         ensures counts { (self.new.kept ≡ self.old.kept) × (self.new.filings ≡ self.old.filings) }
         ensures early { self.new.early ≡ self.old.early }
         ensures crash { CommitsNothing (shows S.Store self.old) (shows S.Store self.new) }
-        ensures durable { HasCleanDisk (shows S.Store self.new) → (F : List Request) → HasRequests S.Store self.old F
-            → OnOk result (IsTrue (shows S.Store self.new).is_open
-            × ((trees : Trees) → (shows S.Store self.new).may_leave trees
-            → LeavesRegister self.old.early F trees)) }
+        ensures durable { ForRequests S.Store self.old self.new (λ F.
+            OnOk result (IsDurableAs S.Store self.new self.old.early F)) }
     {
         filings_of(&mut self.conn, self.alloc, filer)
     }
@@ -114,16 +100,14 @@ impl<S: Alter> Store<S> {
     /// The facts of the filing of this number, in the byte order of their identifiers, or `None` where there is no such
     /// filing.
     pub fn facts(&mut self, number: u64) -> Result<Option<Vec<Fact>>, StoreFault>
-        ensures facts { HasCleanDisk (shows S.Store self.new) → (F : List Request) → HasRequests S.Store self.old F
-            → IfOk result (λ facts. option_map (λ list. list.items) facts ≡ facts_numbered number (register F)) }
-        ensures same { HasCleanDisk (shows S.Store self.new) → (F : List Request) → HasRequests S.Store self.old F
-            → HasRequests S.Store self.new F }
+        ensures facts { ForRequests S.Store self.old self.new (λ F.
+            IfOk result (λ facts. option_map (λ list. list.items) facts ≡ facts_numbered number (register F))) }
+        ensures same { ForRequests S.Store self.old self.new (HasRequests S.Store self.new) }
         ensures counts { (self.new.kept ≡ self.old.kept) × (self.new.filings ≡ self.old.filings) }
         ensures early { self.new.early ≡ self.old.early }
         ensures crash { CommitsNothing (shows S.Store self.old) (shows S.Store self.new) }
-        ensures durable { HasCleanDisk (shows S.Store self.new) → (F : List Request) → HasRequests S.Store self.old F
-            → IsTrue (shows S.Store self.new).is_open → (trees : Trees) → (shows S.Store self.new).may_leave trees
-            → LeavesRegister self.old.early F trees }
+        ensures durable { ForRequests S.Store self.old self.new (λ F.
+            IsTrue (shows S.Store self.new).is_open → LeavesOnly (shows S.Store self.new) self.old.early F) }
     {
         if number == 0 || self.filings < number {
             return Ok(None);

@@ -2,18 +2,15 @@
 
 ghost use Rattle.std.specs.Prelude.{◌≡◌, ◌<◌, ◌^◌, ◌∷◌, [], ℕ, pos, false, List, Some, None, Option, map, filter, bytes_eq, IsTrue, IfOk, OnOk, is_some};
 ghost use Rattle.std.specs.List.{list_any};
-ghost use Rattle.filing_model.specs.Request.{Request};
 ghost use Rattle.filing_model.specs.Register.{Kept, is_amendment_of, is_filing_of, is_replaceable, kept, register};
 ghost use Rattle.sqlite.specs.Held.{state};
-ghost use Rattle.sqlite.specs.State.{HasCleanDisk};
-ghost use Rattle.sqlite.specs.Tree.{Trees};
-ghost use Rattle.table_rows.specs.Standing.{HasCommitted, CommitsNothing, StaysAutocommit};
+ghost use Rattle.table_rows.specs.Standing.{CommitsNothing, StaysAutocommit};
 ghost use Rattle.register_store.specs.Found.{IsPlaced, IsPlaceOf};
 ghost use Rattle.register_store.specs.Reads.{by_first, has_second};
 ghost use Rattle.register_store.specs.Register.{amends_rows, joined_from, number_of};
 ghost use Rattle.sqlite.specs.declared.types.Value.TheVariants.{Int, Text};
 ghost use Rattle.sqlite.specs.Values.{or_null};
-ghost use Rattle.register_store.specs.Store.{IsRegisterOf, shows, HasRequests, LeavesRegister, AnswersOpen, KeepsRegister};
+ghost use Rattle.register_store.specs.Store.{shows, HasRequests, AnswersOpen, KeepsRegister, ForRequests, IsDurableAs, ForRegister};
 
 use crate::fault::StoreFault;
 use crate::opening::audit::text_at;
@@ -68,9 +65,9 @@ fn is_numbered(rows: &[Row]) -> Result<bool, StoreFault>
 
 /// Whether the kept request at this place is the filer's.
 fn is_filers<S: Alter>(conn: &mut Connection<S>, filer: &str, seq: i64) -> Result<bool, StoreFault>
-    ensures found { HasCleanDisk (state S.Store conn.new) → (early : ℕ) (F : List Request)
-        → HasCommitted (IsRegisterOf early F) (state S.Store conn.old) → (n : ℕ) (k : Kept) → seq ≡ pos n
-        → IsPlaced 1 n (kept F) k → IfOk result (λ so. so ≡ bytes_eq k.request.filer filer.now) }
+    ensures found { ForRegister S.Store conn.old conn.new (λ _ F.
+        (n : ℕ) (k : Kept) → seq ≡ pos n → IsPlaced 1 n (kept F) k
+        → IfOk result (λ so. so ≡ bytes_eq k.request.filer filer.now)) }
     ensures same { KeepsRegister (state S.Store conn.old) (state S.Store conn.new) }
     ensures open { AnswersOpen (state S.Store conn.old) (state S.Store conn.new) result }
     ensures mode { StaysAutocommit conn.old conn.new }
@@ -84,9 +81,9 @@ fn is_filers<S: Alter>(conn: &mut Connection<S>, filer: &str, seq: i64) -> Resul
 
 /// Whether the kept request at this place is a filing.
 fn is_filing<S: Alter>(conn: &mut Connection<S>, seq: i64) -> Result<bool, StoreFault>
-    ensures found { HasCleanDisk (state S.Store conn.new) → (early : ℕ) (F : List Request)
-        → HasCommitted (IsRegisterOf early F) (state S.Store conn.old) → (n : ℕ) (k : Kept) → seq ≡ pos n
-        → IsPlaced 1 n (kept F) k → IfOk result (λ so. so ≡ is_some (number_of k.outcome)) }
+    ensures found { ForRegister S.Store conn.old conn.new (λ _ F.
+        (n : ℕ) (k : Kept) → seq ≡ pos n → IsPlaced 1 n (kept F) k
+        → IfOk result (λ so. so ≡ is_some (number_of k.outcome))) }
     ensures same { KeepsRegister (state S.Store conn.old) (state S.Store conn.new) }
     ensures open { AnswersOpen (state S.Store conn.old) (state S.Store conn.new) result }
     ensures mode { StaysAutocommit conn.old conn.new }
@@ -101,8 +98,7 @@ fn is_filing<S: Alter>(conn: &mut Connection<S>, seq: i64) -> Result<bool, Store
 /// The place of the filing of this number, if there is one.
 fn place_of<S: Alter>(conn: &mut Connection<S>, number: u64) -> Result<Option<i64>, StoreFault>
     requires { number < 2 ^ 63 }
-    ensures found { HasCleanDisk (state S.Store conn.new) → (early : ℕ) (F : List Request)
-        → HasCommitted (IsRegisterOf early F) (state S.Store conn.old) → IfOk result (IsPlaceOf number F) }
+    ensures found { ForRegister S.Store conn.old conn.new (λ _ F. IfOk result (IsPlaceOf number F)) }
     ensures same { KeepsRegister (state S.Store conn.old) (state S.Store conn.new) }
     ensures open { AnswersOpen (state S.Store conn.old) (state S.Store conn.new) result }
     ensures mode { StaysAutocommit conn.old conn.new }
@@ -121,9 +117,8 @@ fn has_filing<S: Alter>(
     number: u64,
 ) -> Result<bool, StoreFault>
     requires { number < 2 ^ 63 }
-    ensures found { HasCleanDisk (state S.Store conn.new) → (early : ℕ) (F : List Request)
-        → HasCommitted (IsRegisterOf early F) (state S.Store conn.old)
-        → IfOk result (λ so. so ≡ list_any (is_filing_of filer.now number) (register F)) }
+    ensures found { ForRegister S.Store conn.old conn.new (λ _ F.
+        IfOk result (λ so. so ≡ list_any (is_filing_of filer.now number) (register F))) }
     ensures same { KeepsRegister (state S.Store conn.old) (state S.Store conn.new) }
     ensures open { AnswersOpen (state S.Store conn.old) (state S.Store conn.new) result }
     ensures mode { StaysAutocommit conn.old conn.new }
@@ -138,14 +133,12 @@ fn has_filing<S: Alter>(
 
 /// Whether one of the kept requests at these places is a filing.
 fn is_any_filing<S: Alter>(conn: &mut Connection<S>, rows: &[Row]) -> Result<bool, StoreFault>
-    ensures found { HasCleanDisk (state S.Store conn.new) → (early : ℕ) (F : List Request)
-        → HasCommitted (IsRegisterOf early F) (state S.Store conn.old) → (number : ℕ)
-        → rows.now ≡ map by_first (filter (has_second number) (joined_from amends_rows 1 (kept F)))
-        → IfOk result (λ so. so ≡ list_any (is_amendment_of number) (register F)) }
+    ensures found { ForRegister S.Store conn.old conn.new (λ _ F.
+        (number : ℕ) → rows.now ≡ map by_first (filter (has_second number) (joined_from amends_rows 1 (kept F)))
+        → IfOk result (λ so. so ≡ list_any (is_amendment_of number) (register F))) }
     ensures same { KeepsRegister (state S.Store conn.old) (state S.Store conn.new) }
-    ensures open { HasCleanDisk (state S.Store conn.new) → (early : ℕ) (F : List Request)
-        → HasCommitted (IsRegisterOf early F) (state S.Store conn.old) → IsTrue (state S.Store conn.old).is_open
-        → OnOk result (IsTrue (state S.Store conn.new).is_open) }
+    ensures open { ForRegister S.Store conn.old conn.new (λ _ _.
+        IsTrue (state S.Store conn.old).is_open → OnOk result (IsTrue (state S.Store conn.new).is_open)) }
     ensures mode { StaysAutocommit conn.old conn.new }
     ensures survives { CommitsNothing (state S.Store conn.old) (state S.Store conn.new) }
 {
@@ -160,9 +153,8 @@ fn is_any_filing<S: Alter>(conn: &mut Connection<S>, rows: &[Row]) -> Result<boo
 /// Whether a filing replaces the one of this number. A refused request that was to replace it does not.
 fn is_replaced<S: Alter>(conn: &mut Connection<S>, number: u64) -> Result<bool, StoreFault>
     requires { number < 2 ^ 63 }
-    ensures found { HasCleanDisk (state S.Store conn.new) → (early : ℕ) (F : List Request)
-        → HasCommitted (IsRegisterOf early F) (state S.Store conn.old)
-        → IfOk result (λ so. so ≡ list_any (is_amendment_of number) (register F)) }
+    ensures found { ForRegister S.Store conn.old conn.new (λ _ F.
+        IfOk result (λ so. so ≡ list_any (is_amendment_of number) (register F))) }
     ensures same { KeepsRegister (state S.Store conn.old) (state S.Store conn.new) }
     ensures open { AnswersOpen (state S.Store conn.old) (state S.Store conn.new) result }
     ensures mode { StaysAutocommit conn.old conn.new }
@@ -181,9 +173,8 @@ fn may_replace<S: Alter>(
     number: u64,
 ) -> Result<bool, StoreFault>
     requires { number < 2 ^ 63 }
-    ensures found { HasCleanDisk (state S.Store conn.new) → (early : ℕ) (F : List Request)
-        → HasCommitted (IsRegisterOf early F) (state S.Store conn.old)
-        → IfOk result (λ free. free ≡ is_replaceable (register F) filer.now number) }
+    ensures found { ForRegister S.Store conn.old conn.new (λ _ F.
+        IfOk result (λ free. free ≡ is_replaceable (register F) filer.now number)) }
     ensures same { KeepsRegister (state S.Store conn.old) (state S.Store conn.new) }
     ensures open { AnswersOpen (state S.Store conn.old) (state S.Store conn.new) result }
     ensures mode { StaysAutocommit conn.old conn.new }
@@ -202,19 +193,16 @@ fn may_replace<S: Alter>(
 impl<S: Alter> Store<S> {
     /// Whether the filer may replace the filing of this number: it is the filer's, and none replaces it.
     pub fn replaceable(&mut self, filer: &str, number: u64) -> Result<bool, StoreFault>
-        ensures answer { HasCleanDisk (shows S.Store self.new) → (F : List Request) → HasRequests S.Store self.old F
-            → IfOk result (λ free. free ≡ is_replaceable (register F) filer.now number) }
+        ensures answer { ForRequests S.Store self.old self.new (λ F.
+            IfOk result (λ free. free ≡ is_replaceable (register F) filer.now number)) }
 
         // The rows are those of before, whatever the answer is, and a crash leaves what it could leave before.
-        ensures same { HasCleanDisk (shows S.Store self.new) → (F : List Request) → HasRequests S.Store self.old F
-            → HasRequests S.Store self.new F }
+        ensures same { ForRequests S.Store self.old self.new (HasRequests S.Store self.new) }
         ensures counts { (self.new.kept ≡ self.old.kept) × (self.new.filings ≡ self.old.filings) }
         ensures early { self.new.early ≡ self.old.early }
         ensures crash { CommitsNothing (shows S.Store self.old) (shows S.Store self.new) }
-        ensures durable { HasCleanDisk (shows S.Store self.new) → (F : List Request) → HasRequests S.Store self.old F
-            → OnOk result (IsTrue (shows S.Store self.new).is_open
-            × ((trees : Trees) → (shows S.Store self.new).may_leave trees
-            → LeavesRegister self.old.early F trees)) }
+        ensures durable { ForRequests S.Store self.old self.new (λ F.
+            OnOk result (IsDurableAs S.Store self.new self.old.early F)) }
     {
         // No filing has the number 0, and none a greater one than the number of filings.
         let number = if number > MAX_NUMBER { 0 } else { number };

@@ -1,0 +1,28 @@
+-- What calls on a connection promise.
+use Rattle.std.specs.Prelude.{◌≡◌, Result, IsTrue, OnOk, OnErr}
+use Rattle.sqlite.specs.Store.{Ghosts}
+use Rattle.sqlite.specs.Held.{Held, state}
+use Rattle.sqlite.specs.State.{State, HasCleanDisk}
+use Rattle.table_rows.specs.Standing.{HasCommitted}
+use Rattle.outbox_core.specs.Entries.{Contents}
+use Rattle.outbox_core.specs.Rows.{IsOutboxOf}
+
+-- Whatever outbox the rows were before: where the disk is clean at the end, this holds of it.
+abbrev pub ForOutbox : {S : Type 0} → Ghosts S → Held S → Held S → (Contents → Type 0) → Type 0
+ForOutbox g old new P = HasCleanDisk (state g new) → (it : Contents) → IsOutboxOf it (state g old).now → P it
+
+-- Whatever outbox stood in the rows before, and was committed: where the disk is clean at the end, this holds of it.
+abbrev pub ForContents : {S : Type 0} → Ghosts S → Held S → Held S → (Contents → Type 0) → Type 0
+ForContents g old new P = HasCleanDisk (state g new) → (it : Contents) → HasCommitted (IsOutboxOf it) (state g old) → P it
+
+-- Where the disk is clean at the end, the outbox that stood in the rows stands in them still, and is committed.
+abbrev pub KeepsOutbox : State → State → Type 0
+KeepsOutbox old new = HasCleanDisk new → (it : Contents) → HasCommitted (IsOutboxOf it) old → HasCommitted (IsOutboxOf it) new
+
+-- so it does where the call is refused
+abbrev pub KeepsOutboxOnRefusal : {X E : Type 0} → State → State → Result X E → Type 0
+KeepsOutboxOnRefusal old new result = HasCleanDisk new → (it : Contents) → HasCommitted (IsOutboxOf it) old → OnErr result (HasCommitted (IsOutboxOf it) new)
+
+-- so an answer leaves the store open
+abbrev pub AnswersOpen : {X E : Type 0} → State → State → Result X E → Type 0
+AnswersOpen old new result = HasCleanDisk new → (it : Contents) → HasCommitted (IsOutboxOf it) old → OnOk result (IsTrue new.is_open)
