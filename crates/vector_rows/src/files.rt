@@ -1,23 +1,21 @@
 //! Databases in files, on disks in memory.
 
 ghost use Rattle.std.specs.Prelude.{◌≡◌, false, None, IfOk, IsTrue};
+ghost use Rattle.sqlite_disk.specs.Memory.{memory_is_usable};
 
 use crate::stop::Stop;
 use sqlite::{Alter, Connection, FileStore, Files, Options};
 use sqlite_disk::{Disk, Memory};
 use std::alloc::Global;
 
-/// A connection to a database that is new.
-pub(crate) fn connect_new(alloc: Global) -> Result<Connection<FileStore<Memory>>, Stop>
-    ensures { IfOk result (λ conn. (conn.in_transaction ≡ false) × (conn.step_limit ≡ None)) }
+/// The files of a database that is new.
+pub(crate) fn new_files(alloc: Global) -> Files<Memory>
+    ensures { IsTrue (memory_is_usable result.log) × IsTrue (memory_is_usable result.db) }
 {
-    connect(
-        alloc,
-        Files {
-            log: Memory::new(alloc),
-            db: Memory::new(alloc),
-        },
-    )
+    Files {
+        log: Memory::new(alloc),
+        db: Memory::new(alloc),
+    }
 }
 
 /// A connection to the database that is in these files.

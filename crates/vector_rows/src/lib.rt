@@ -16,5 +16,6 @@ mod replies;
 mod reports;
 mod rows;
 mod stop;
+mod visits;
 
 pub use rows::{first_over, run};

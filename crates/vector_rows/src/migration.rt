@@ -1,17 +1,16 @@
 //! The vector of a register of an earlier version, which is migrated.
 
-ghost use Rattle.std.specs.Prelude.{◌≡◌, false, None, IfOk, IfSome, IsTrue};
-ghost use Rattle.sqlite_disk.specs.Memory.{memory_is_usable};
+ghost use Rattle.std.specs.Prelude.{◌≡◌, false, None};
 
 use crate::examples::{NOT_JSON, REQUEST, filing};
-use crate::files::{close, connect, connect_new, execute};
+use crate::files::execute;
 use crate::history::{self, served};
 use crate::stop::{Stop, refusal};
+use crate::visits::{Visit, visits};
 use gateway_server::{Ended, Mark};
 use intake_core::Intake;
 use register_store::{OpenFault, Store};
-use sqlite::{Alter, Connection, FileStore, Files, params};
-use sqlite_disk::{Disk, Memory};
+use sqlite::{Alter, Connection, params};
 use std::alloc::Global;
 
 /// What an empty body was told before there were problem details.
@@ -24,25 +23,21 @@ const KEY_REUSED_BEFORE: &str =
 
 /// Vector 25: a register of before keeps what it told, and tells new keys problem details.
 pub(crate) fn migrated(alloc: Global) -> Result<bool, Stop> {
-    let conn = connect(alloc, earlier_files(alloc)?)?;
-    let intake = intake_on(alloc, migrate(alloc, conn)?);
-    let Some(files) = files_after(alloc, intake)? else {
-        return Ok(false);
-    };
-    let conn = connect(alloc, files)?;
-    let intake = intake_on(alloc, open(alloc, conn)?);
-    let Some(files) = files_after(alloc, intake)? else {
-        return Ok(false);
-    };
-    let conn = connect(alloc, files)?;
-    Ok(migrate_fault(alloc, conn)? == Some(OpenFault::NotOurs))
+    visits(
+        alloc,
+        &[
+            Visit::MakeEarlierRegister,
+            Visit::MigrateRegister,
+            Visit::OpenMigrated,
+            Visit::MigrateAgain,
+        ],
+    )
 }
 
-/// The files of a register of the second form, in which `ACME` has an empty body under `k-1`.
-fn earlier_files(alloc: Global) -> Result<Files<Memory>, Stop>
-    ensures { IfOk result (λ files. IsTrue (memory_is_usable files.log) × IsTrue (memory_is_usable files.db)) }
-{
-    let mut conn = connect_new(alloc)?;
+/// Makes a register of the second form, in which `ACME` has an empty body under `k-1`.
+pub(crate) fn make_earlier<S: Alter + Drop>(
+    mut conn: Connection<S>,
+) -> Result<Option<Connection<S>>, Stop> {
     for text in [
         "CREATE TABLE intake_meta (id INTEGER PRIMARY KEY, kind TEXT NOT NULL, form INTEGER NOT NULL) STRICT",
         "CREATE TABLE kept (seq INTEGER PRIMARY KEY, filer TEXT NOT NULL, idem TEXT NOT NULL, body BLOB NOT NULL, number INTEGER, UNIQUE (filer, idem)) STRICT",
@@ -54,7 +49,7 @@ fn earlier_files(alloc: Global) -> Result<Files<Memory>, Stop>
         execute(&mut conn, text)?;
     }
     keep_empty_body(&mut conn)?;
-    close(conn)
+    Ok(Some(conn))
 }
 
 /// Puts in the rows of an empty body, which is no JSON text.
@@ -70,18 +65,45 @@ fn keep_empty_body<S: Alter>(conn: &mut Connection<S>) -> Result<(), Stop> {
     Ok(())
 }
 
-fn migrate<S: Alter + Drop>(alloc: Global, conn: Connection<S>) -> Result<Store<S>, Stop>
+/// Migrates the register, which tells the old key what it was told before, and a new one problem details.
+pub(crate) fn migrate<S: Alter + Drop>(
+    alloc: Global,
+    conn: Connection<S>,
+) -> Result<Option<Connection<S>>, Stop>
     requires autocommit { conn.in_transaction ≡ false }
     requires unlimited { conn.step_limit ≡ None }
 {
-    Ok(Store::migrate(alloc, conn)?)
+    asked(alloc, Store::migrate(alloc, conn)?)
 }
 
-fn open<S: Alter + Drop>(alloc: Global, conn: Connection<S>) -> Result<Store<S>, Stop>
+/// Opens the register, which tells the same.
+pub(crate) fn open<S: Alter + Drop>(
+    alloc: Global,
+    conn: Connection<S>,
+) -> Result<Option<Connection<S>>, Stop>
     requires autocommit { conn.in_transaction ≡ false }
     requires unlimited { conn.step_limit ≡ None }
 {
-    Ok(Store::open(alloc, conn)?)
+    asked(alloc, Store::open(alloc, conn)?)
+}
+
+/// The connection of a register that tells both as it is to.
+fn asked<S: Alter + Drop>(alloc: Global, store: Store<S>) -> Result<Option<Connection<S>>, Stop> {
+    let mut intake = Intake::new(alloc, store, 1_000_000);
+    Stop::unless(tells_both(alloc, &mut intake)?)?;
+    Ok(Some(intake.into_store().into_conn()))
+}
+
+/// Whether a migration is refused, since the register is none of an earlier form; it gives the database up.
+pub(crate) fn migrate_again<S: Alter + Drop>(
+    alloc: Global,
+    conn: Connection<S>,
+) -> Result<Option<Connection<S>>, Stop>
+    requires autocommit { conn.in_transaction ≡ false }
+    requires unlimited { conn.step_limit ≡ None }
+{
+    Stop::unless(migrate_fault(alloc, conn)? == Some(OpenFault::NotOurs))?;
+    Ok(None)
 }
 
 /// How a migration is refused, if it is.
@@ -93,24 +115,6 @@ fn migrate_fault<S: Alter + Drop>(
     requires unlimited { conn.step_limit ≡ None }
 {
     refusal(Store::migrate(alloc, conn))
-}
-
-fn intake_on<S: Alter + Drop>(alloc: Global, store: Store<S>) -> Intake<S> {
-    Intake::new(alloc, store, 1_000_000)
-}
-
-/// The files of the intake's register, where the old key is told what it was told before, and a new one problem details.
-fn files_after<D: Disk + Drop>(
-    alloc: Global,
-    mut intake: Intake<FileStore<D>>,
-) -> Result<Option<Files<D>>, Stop>
-    ensures { IfOk result (λ found.
-        IfSome found (λ files. IsTrue (D.Disk.is_usable files.log) × IsTrue (D.Disk.is_usable files.db))) }
-{
-    if !tells_both(alloc, &mut intake)? {
-        return Ok(None);
-    }
-    Ok(Some(intake.into_store().into_files()?))
 }
 
 /// Whether the old key is told what it was told before, and a new one problem details.

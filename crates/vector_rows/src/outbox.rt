@@ -1,16 +1,15 @@
 //! Vectors of an outbox.
 
-ghost use Rattle.std.specs.Prelude.{◌≡◌, false, None, IfOk, IsTrue};
+ghost use Rattle.std.specs.Prelude.{◌≡◌, false, None, IfOk};
 
 use crate::examples::{REGISTERED_CLOSED, REPORT, SMALLEST, front, repeated};
-use crate::files::{connect, connect_new};
 use crate::stop::{Stop, refusal};
+use crate::visits::{Visit, visits};
 use filer_client::{ExchangeFault, exchange};
 use http_wire::{Device, Kind, MAX_BODY_LEN, Reply, ReplyFault, append_request};
 use key_string::{KeyText, is_filer};
 use outbox_core::{Entry, Outbox, OutboxFault, PutFault, State, TakeFault, key_of};
-use sqlite::{Alter, Connection, FileStore, Files, MemStore};
-use sqlite_disk::Disk;
+use sqlite::{Alter, Connection, MemStore};
 use std::alloc::Global;
 use uuid::Uuid;
 
@@ -175,16 +174,30 @@ fn bad_filer(alloc: Global) -> Result<bool, Stop> {
 
 /// Whether a second outbox in a database is refused.
 fn taken(alloc: Global) -> Result<bool, Stop> {
-    let first = created(alloc, connect_new(alloc)?)?;
-    let conn = connect(alloc, files_of(first)?)?;
-    Ok(create_fault(alloc, conn, "ACME")? == Some(OutboxFault::Taken))
+    visits(alloc, &[Visit::MakeOutbox, Visit::MakeSecondOutbox])
 }
 
-/// The files of an outbox.
-fn files_of<D: Disk + Drop>(outbox: Outbox<FileStore<D>>) -> Result<Files<D>, Stop>
-    ensures { IfOk result (λ files. IsTrue (D.Disk.is_usable files.log) × IsTrue (D.Disk.is_usable files.db)) }
+/// Makes the outbox of `ACME`.
+pub(crate) fn make<S: Alter + Drop>(
+    alloc: Global,
+    conn: Connection<S>,
+) -> Result<Option<Connection<S>>, Stop>
+    requires autocommit { conn.in_transaction ≡ false }
+    requires unlimited { conn.step_limit ≡ None }
 {
-    Ok(outbox.into_files()?)
+    Ok(Some(created(alloc, conn)?.into_conn()))
+}
+
+/// Whether a second outbox in the database is refused; it gives the database up.
+pub(crate) fn make_second<S: Alter + Drop>(
+    alloc: Global,
+    conn: Connection<S>,
+) -> Result<Option<Connection<S>>, Stop>
+    requires autocommit { conn.in_transaction ≡ false }
+    requires unlimited { conn.step_limit ≡ None }
+{
+    Stop::unless(create_fault(alloc, conn, "ACME")? == Some(OutboxFault::Taken))?;
+    Ok(None)
 }
 
 fn is_key_of_nil(alloc: Global) -> Result<bool, Stop> {

@@ -1,31 +1,31 @@
 //! The vector of an outbox of an earlier version, which is migrated.
 
-ghost use Rattle.std.specs.Prelude.{◌≡◌, false, None, IfOk, IfSome, IsTrue};
-ghost use Rattle.sqlite_disk.specs.Memory.{memory_is_usable};
+ghost use Rattle.std.specs.Prelude.{◌≡◌, false, None};
 
 use crate::examples::REPORT;
-use crate::files::{close, connect, connect_new, execute};
+use crate::files::execute;
 use crate::stop::{Stop, refusal};
+use crate::visits::{Visit, visits};
 use outbox_core::{Entry, Outbox, OutboxFault, State};
-use sqlite::{Alter, Connection, FileStore, Files, params};
-use sqlite_disk::{Disk, Memory};
+use sqlite::{Alter, Connection, params};
 use std::alloc::Global;
 
 /// The end of vector 27: an outbox of before keeps its entry, which replaces nothing, and is no outbox of before then.
 pub(crate) fn migrated(alloc: Global) -> Result<bool, Stop> {
-    let conn = connect(alloc, earlier_files(alloc)?)?;
-    let Some(files) = files_after(migrate(alloc, conn)?)? else {
-        return Ok(false);
-    };
-    let conn = connect(alloc, files)?;
-    Ok(migrate_fault(alloc, conn)? == Some(OutboxFault::NotOurs))
+    visits(
+        alloc,
+        &[
+            Visit::MakeEarlierOutbox,
+            Visit::MigrateOutbox,
+            Visit::MigrateOutboxAgain,
+        ],
+    )
 }
 
-/// The files of `ACME`'s outbox of the first form, in which the report under `k-1` was confirmed as filing 1.
-fn earlier_files(alloc: Global) -> Result<Files<Memory>, Stop>
-    ensures { IfOk result (λ files. IsTrue (memory_is_usable files.log) × IsTrue (memory_is_usable files.db)) }
-{
-    let mut conn = connect_new(alloc)?;
+/// Makes `ACME`'s outbox of the first form, in which the report under `k-1` was confirmed as filing 1.
+pub(crate) fn make_earlier<S: Alter + Drop>(
+    mut conn: Connection<S>,
+) -> Result<Option<Connection<S>>, Stop> {
     for text in [
         "CREATE TABLE outbox_meta (id INTEGER PRIMARY KEY, kind TEXT NOT NULL, form INTEGER NOT NULL, filer TEXT NOT NULL) STRICT",
         "CREATE TABLE entry (id INTEGER PRIMARY KEY, idem TEXT NOT NULL UNIQUE, body BLOB NOT NULL, state INTEGER NOT NULL, number INTEGER) STRICT",
@@ -34,7 +34,7 @@ fn earlier_files(alloc: Global) -> Result<Files<Memory>, Stop>
         execute(&mut conn, text)?;
     }
     put_confirmed(&mut conn)?;
-    close(conn)
+    Ok(Some(conn))
 }
 
 /// Puts in the row of the entry.
@@ -46,11 +46,29 @@ fn put_confirmed<S: Alter>(conn: &mut Connection<S>) -> Result<(), Stop> {
     Ok(())
 }
 
-fn migrate<S: Alter + Drop>(alloc: Global, conn: Connection<S>) -> Result<Outbox<S>, Stop>
+/// Migrates the outbox, which has the entry as it was.
+pub(crate) fn migrate<S: Alter + Drop>(
+    alloc: Global,
+    conn: Connection<S>,
+) -> Result<Option<Connection<S>>, Stop>
     requires autocommit { conn.in_transaction ≡ false }
     requires unlimited { conn.step_limit ≡ None }
 {
-    Ok(Outbox::migrate(alloc, conn)?)
+    let mut outbox = Outbox::migrate(alloc, conn)?;
+    Stop::unless(is_kept(&mut outbox)?)?;
+    Ok(Some(outbox.into_conn()))
+}
+
+/// Whether a migration is refused, since the outbox is none of an earlier form; it gives the database up.
+pub(crate) fn migrate_again<S: Alter + Drop>(
+    alloc: Global,
+    conn: Connection<S>,
+) -> Result<Option<Connection<S>>, Stop>
+    requires autocommit { conn.in_transaction ≡ false }
+    requires unlimited { conn.step_limit ≡ None }
+{
+    Stop::unless(migrate_fault(alloc, conn)? == Some(OutboxFault::NotOurs))?;
+    Ok(None)
 }
 
 /// How a migration is refused, if it is.
@@ -62,17 +80,6 @@ fn migrate_fault<S: Alter + Drop>(
     requires unlimited { conn.step_limit ≡ None }
 {
     refusal(Outbox::migrate(alloc, conn))
-}
-
-/// The files of the outbox, where it has the entry as it was.
-fn files_after<D: Disk + Drop>(mut outbox: Outbox<FileStore<D>>) -> Result<Option<Files<D>>, Stop>
-    ensures { IfOk result (λ found.
-        IfSome found (λ files. IsTrue (D.Disk.is_usable files.log) × IsTrue (D.Disk.is_usable files.db))) }
-{
-    if !is_kept(&mut outbox)? {
-        return Ok(None);
-    }
-    Ok(Some(outbox.into_files()?))
 }
 
 /// Whether the outbox has the entry as it was, and no other.

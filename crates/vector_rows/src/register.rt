@@ -1,18 +1,16 @@
 //! The vector of a register that is opened again.
 
-ghost use Rattle.std.specs.Prelude.{◌≡◌, false, None, IfOk, IsTrue};
-ghost use Rattle.sqlite_disk.specs.Memory.{memory_is_usable};
+ghost use Rattle.std.specs.Prelude.{◌≡◌, false, None};
 
 use crate::examples::{REGISTERED, REPORT, REQUEST, SMALLEST};
-use crate::files::{close, connect, connect_new};
 use crate::history::{self, served};
 use crate::stop::{Stop, refusal};
+use crate::visits::{Visit, visits};
 use gateway_server::{Ended, Mark};
 use intake_core::Intake;
 use key_string::KeyText;
 use register_store::{CreateFault, KeptRow, OpenFault, Outcome, Store};
-use sqlite::{Alter, Connection, FileStore, Files, params};
-use sqlite_disk::{Disk, Memory};
+use sqlite::{Alter, Connection, params};
 use std::alloc::Global;
 
 /// Vector 23: a register is found as it was left, and damage to it is told.
@@ -20,13 +18,40 @@ pub(crate) fn reopened(alloc: Global) -> Result<bool, Stop> {
     Ok(found(alloc)? && damaged(alloc)? && not_ours(alloc)? && taken(alloc)?)
 }
 
-/// The files of the register after three times the same request.
-fn register_files(alloc: Global) -> Result<Files<Memory>, Stop>
-    ensures { IfOk result (λ files. IsTrue (memory_is_usable files.log) × IsTrue (memory_is_usable files.db)) }
+/// Whether an opening finds the one request, and no other.
+fn found(alloc: Global) -> Result<bool, Stop> {
+    visits(alloc, &[Visit::FillRegister, Visit::FindRequest])
+}
+
+/// Whether another body in the kept row is told.
+fn damaged(alloc: Global) -> Result<bool, Stop> {
+    visits(
+        alloc,
+        &[Visit::FillRegister, Visit::ChangeBody, Visit::OpenDamaged],
+    )
+}
+
+/// Whether a database without tables is told.
+fn not_ours(alloc: Global) -> Result<bool, Stop> {
+    visits(alloc, &[Visit::OpenNone])
+}
+
+/// Whether a second register in a database is refused.
+fn taken(alloc: Global) -> Result<bool, Stop> {
+    visits(alloc, &[Visit::FillRegister, Visit::MakeSecondRegister])
+}
+
+/// Makes a register in this database, and gives it three times the same request.
+pub(crate) fn fill<S: Alter + Drop>(
+    alloc: Global,
+    conn: Connection<S>,
+) -> Result<Option<Connection<S>>, Stop>
+    requires autocommit { conn.in_transaction ≡ false }
+    requires unlimited { conn.step_limit ≡ None }
 {
-    let mut intake = empty_intake(alloc, connect_new(alloc)?)?;
-    fill(alloc, &mut intake)?;
-    files_of(intake)
+    let mut intake = empty_intake(alloc, conn)?;
+    Stop::unless(takes_once(alloc, &mut intake)?)?;
+    Ok(Some(intake.into_store().into_conn()))
 }
 
 /// An intake over a new register in this database.
@@ -37,41 +62,34 @@ fn empty_intake<S: Alter + Drop>(alloc: Global, conn: Connection<S>) -> Result<I
     Ok(Intake::new(alloc, Store::create(alloc, conn)?, 1_000_000))
 }
 
-/// The files of an intake's register.
-fn files_of<D: Disk + Drop>(intake: Intake<FileStore<D>>) -> Result<Files<D>, Stop>
-    ensures { IfOk result (λ files. IsTrue (D.Disk.is_usable files.log) × IsTrue (D.Disk.is_usable files.db)) }
-{
-    Ok(intake.into_store().into_files()?)
-}
-
-/// Gives an intake three times the same request.
-fn fill<S: Alter>(alloc: Global, intake: &mut Intake<S>) -> Result<(), Stop> {
+/// Whether three times the same request is told three times that it is registered.
+fn takes_once<S: Alter>(alloc: Global, intake: &mut Intake<S>) -> Result<bool, Stop> {
     let given = format!(in alloc; "{REQUEST}{REQUEST}{REQUEST}")?;
     let written = format!(in alloc; "{REGISTERED}{REGISTERED}{REGISTERED}")?;
     let mut output = Vec::new(alloc);
     let served = served(alloc, intake, given.as_bytes(), &mut output);
-    let connection = history::Connection {
+    history::Connection {
         given: given.as_bytes(),
         written: &written,
         marks: &[Mark::Done; 3],
         ended: Ended::InputEnded,
-    };
-    if connection.is_so(&served, &output)? {
-        Ok(())
-    } else {
-        Err(Stop::Refused)
     }
+    .is_so(&served, &output)
 }
 
-/// Whether an opening finds the one request, and no other.
-fn found(alloc: Global) -> Result<bool, Stop> {
-    let conn = connect(alloc, register_files(alloc)?)?;
+/// Finds the one request in this database, and no other.
+pub(crate) fn find<S: Alter + Drop>(
+    alloc: Global,
+    conn: Connection<S>,
+) -> Result<Option<Connection<S>>, Stop>
+    requires autocommit { conn.in_transaction ≡ false }
+    requires unlimited { conn.step_limit ≡ None }
+{
     let mut store = opened(alloc, conn)?;
-    Ok(
-        has_first(alloc, &mut store)?
-            && has_no_second(alloc, &mut store)?
-            && has_one_request(&mut store)?,
-    )
+    Stop::unless(has_first(alloc, &mut store)?)?;
+    Stop::unless(has_no_second(alloc, &mut store)?)?;
+    Stop::unless(has_one_request(&mut store)?)?;
+    Ok(Some(store.into_conn()))
 }
 
 /// The register that is in this database.
@@ -113,11 +131,39 @@ fn has_one_request<S: Alter>(store: &mut Store<S>) -> Result<bool, Stop> {
     }
 }
 
-/// Whether another body in the kept row is told.
-fn damaged(alloc: Global) -> Result<bool, Stop> {
-    let files = changed(alloc, register_files(alloc)?)?;
-    let conn = connect(alloc, files)?;
-    Ok(open_fault(alloc, conn)? == Some(OpenFault::Damaged { row: 1 }))
+/// Puts another body into the kept row.
+pub(crate) fn change_body<S: Alter + Drop>(
+    mut conn: Connection<S>,
+) -> Result<Option<Connection<S>>, Stop> {
+    conn.execute(
+        "UPDATE kept SET body = ?1 WHERE seq = 1",
+        params![SMALLEST.as_bytes()],
+    )?;
+    Ok(Some(conn))
+}
+
+/// Whether the damage to the kept row is told; it gives the database up.
+pub(crate) fn open_damaged<S: Alter + Drop>(
+    alloc: Global,
+    conn: Connection<S>,
+) -> Result<Option<Connection<S>>, Stop>
+    requires autocommit { conn.in_transaction ≡ false }
+    requires unlimited { conn.step_limit ≡ None }
+{
+    Stop::unless(open_fault(alloc, conn)? == Some(OpenFault::Damaged { row: 1 }))?;
+    Ok(None)
+}
+
+/// Whether a database that has no register is told as such; it gives the database up.
+pub(crate) fn open_none<S: Alter + Drop>(
+    alloc: Global,
+    conn: Connection<S>,
+) -> Result<Option<Connection<S>>, Stop>
+    requires autocommit { conn.in_transaction ≡ false }
+    requires unlimited { conn.step_limit ≡ None }
+{
+    Stop::unless(open_fault(alloc, conn)? == Some(OpenFault::NotOurs))?;
+    Ok(None)
 }
 
 /// How a database is refused as a register, if it is.
@@ -131,36 +177,16 @@ fn open_fault<S: Alter + Drop>(
     refusal(Store::open(alloc, conn))
 }
 
-/// The files after the kept body was changed.
-fn changed<D: Disk + Drop>(alloc: Global, files: Files<D>) -> Result<Files<D>, Stop>
-    requires log { IsTrue (D.Disk.is_usable files.log) }
-    requires db { IsTrue (D.Disk.is_usable files.db) }
-    ensures { IfOk result (λ files. IsTrue (D.Disk.is_usable files.log) × IsTrue (D.Disk.is_usable files.db)) }
+/// Whether a second register in the database is refused; it gives the database up.
+pub(crate) fn make_second<S: Alter + Drop>(
+    alloc: Global,
+    conn: Connection<S>,
+) -> Result<Option<Connection<S>>, Stop>
+    requires autocommit { conn.in_transaction ≡ false }
+    requires unlimited { conn.step_limit ≡ None }
 {
-    let mut conn = connect(alloc, files)?;
-    change(&mut conn)?;
-    close(conn)
-}
-
-/// Puts another body into the kept row.
-fn change<S: Alter>(conn: &mut Connection<S>) -> Result<(), Stop> {
-    conn.execute(
-        "UPDATE kept SET body = ?1 WHERE seq = 1",
-        params![SMALLEST.as_bytes()],
-    )?;
-    Ok(())
-}
-
-/// Whether a database without tables is told.
-fn not_ours(alloc: Global) -> Result<bool, Stop> {
-    let conn = connect_new(alloc)?;
-    Ok(open_fault(alloc, conn)? == Some(OpenFault::NotOurs))
-}
-
-/// Whether a second register in a database is refused.
-fn taken(alloc: Global) -> Result<bool, Stop> {
-    let conn = connect(alloc, register_files(alloc)?)?;
-    Ok(create_fault(alloc, conn)? == Some(CreateFault::Taken))
+    Stop::unless(create_fault(alloc, conn)? == Some(CreateFault::Taken))?;
+    Ok(None)
 }
 
 /// How a new register is refused in this database, if it is.

@@ -11,11 +11,16 @@ use table_rows::Cause;
 pub(crate) enum Stop {
     /// Memory was refused.
     Memory,
-    /// A call was refused for another cause, so the vector has failed.
+    /// A call was refused for another cause, or its answer is another than it is to be, so the vector has failed.
     Refused,
 }
 
 impl Stop {
+    /// Ends a vector in which something is not as it is to be.
+    pub(crate) fn unless(is_so: bool) -> Result<(), Stop> {
+        if is_so { Ok(()) } else { Err(Stop::Refused) }
+    }
+
     /// What a vector comes to.
     pub(crate) fn settle(outcome: Result<bool, Stop>) -> Result<bool, AllocError> {
         match outcome {
