@@ -73,14 +73,6 @@ pub fn connect<D: Disk + Drop>(alloc: Global, files: Files<D>) -> Option<Connect
     }
 }
 
-/// The files of a connection, whatever its close answers.
-pub fn close_files<D: Disk + Drop>(conn: Connection<FileStore<D>>) -> Files<D> {
-    match conn.close_files() {
-        Ok(files) => files,
-        Err((_, store)) => store.close(),
-    }
-}
-
 /// A connection in no transaction and without a limit of steps.
 pub fn ready<S: Alter + Drop>(conn: Connection<S>) -> Result<Connection<S>, Fail>
     ensures { IfOk result (λ conn. (conn.in_transaction ≡ false) × (conn.step_limit ≡ None)) }

@@ -9,4 +9,6 @@ mod outbox;
 #[cfg(test)]
 mod register;
 #[cfg(test)]
+mod stops;
+#[cfg(test)]
 mod targets;

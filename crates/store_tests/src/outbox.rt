@@ -10,8 +10,8 @@ use std::test::Fail;
 
 mod calls;
 mod memory;
-mod migration;
-mod stops;
+pub mod migration;
+pub mod stops;
 
 const BODY: &[u8] = b"{\"facts\":{}}";
 

@@ -8,11 +8,11 @@ use std::alloc::Global;
 use std::test::Fail;
 
 mod amendments;
-mod calls;
+pub mod calls;
 mod damage;
 mod memory;
-mod migration;
-mod stops;
+pub mod migration;
+pub mod stops;
 
 /// The smallest report.
 const VALID: &[u8] =

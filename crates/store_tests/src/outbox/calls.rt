@@ -7,8 +7,7 @@ use key_string::KeyText;
 use outbox_core::{
     Entry, Outbox, OutboxFault, PutFault, State, StoreFault, TakeFault, migrate_outbox,
 };
-use sqlite::{Alter, Connection, FileStore};
-use sqlite_disk::{Disk, Files};
+use sqlite::{Alter, Connection};
 use std::alloc::Global;
 use std::test::Fail;
 
@@ -79,20 +78,4 @@ pub(super) fn next_open<S: Alter>(outbox: &mut Outbox<S>) -> Result<Option<Entry
 
 pub(super) fn states<S: Alter>(outbox: &mut Outbox<S>) -> Result<Vec<(u64, State)>, StoreFault> {
     outbox.states()
-}
-
-pub(super) fn into_files<D: Disk + Drop>(
-    outbox: Outbox<FileStore<D>>,
-) -> Result<Files<D>, StoreFault> {
-    outbox.into_files()
-}
-
-/// The files, whatever `close` answers, and why it was refused.
-pub(super) fn close<D: Disk + Drop>(
-    outbox: Outbox<FileStore<D>>,
-) -> (Files<D>, Option<StoreFault>) {
-    match outbox.close() {
-        Ok(files) => (files, None),
-        Err((fault, files)) => (files, Some(fault)),
-    }
 }

@@ -3,10 +3,10 @@
 use super::calls::{conn_of, entry, migrate, migrated, open, states};
 use super::memory::has_states;
 use super::{BODY, put};
-use crate::databases::{ENOUGH, Fresh, close_files, connect, crashed, fused, new_files, run};
+use crate::databases::{Fresh, run};
+use crate::stops::{Held, Trial, are_stopped};
 use outbox_core::{Outbox, OutboxFault, State};
 use sqlite::{Alter, Connection, MemStore};
-use sqlite_disk::{Crash, Disk, Files, Memory};
 use std::alloc::Global;
 use std::test::Fail;
 
@@ -207,68 +207,35 @@ fn refused_memory_changes_nothing(rt: HostRuntime) -> Result<(), Fail> {
     Ok(())
 }
 
-/// The files, with an outbox of form 1.
-fn with_earlier_in<D: Disk + Drop>(alloc: Global, files: Files<D>) -> Result<Files<D>, Fail> {
-    let conn = connect(alloc, files).ok_or("no database")?;
-    Ok(close_files(filled(conn)?))
+/// An outbox of form 1, in a database.
+pub fn with_earlier<S: Alter + Drop>(conn: Connection<S>) -> Result<Held<S>, Fail> {
+    Ok(Held::Nothing(filled(conn)?))
 }
 
-/// Whether the outbox is that of before, which is migrated then, or the new one, which it has to be where that was answered.
-fn is_before_or_after<S: Alter + Drop>(
+/// The database after a migration, and whether that was answered.
+pub fn tried<S: Alter + Drop>(
+    alloc: Global,
+    conn: Connection<S>,
+) -> Result<Option<(Held<S>, bool)>, Fail> {
+    let (conn, fault) = migrated(alloc, conn)?;
+    Ok(Some((Held::Nothing(conn), fault.is_none())))
+}
+
+/// The outbox, and whether it is that of before, which is migrated then, or the new one, which it has to be where that was answered.
+pub fn looked_at<S: Alter + Drop>(
     alloc: Global,
     conn: Connection<S>,
     answered: bool,
-) -> Result<bool, Fail> {
+) -> Result<(Held<S>, bool), Fail> {
     let (conn, fault) = migrated(alloc, conn)?;
     let is_new = fault == Some(OutboxFault::NotOurs);
     let mut outbox = open(alloc, conn)??;
-    Ok((is_new || !answered && fault.is_none()) && has_both(&mut outbox)?)
-}
-
-/// Migrates the outbox in these files, and looks at it after a crash; whether it was answered. `None` where it is not opened.
-fn stopped_in<D: Crash + Drop>(alloc: Global, files: Files<D>) -> Result<Option<bool>, Fail> {
-    let Some(conn) = connect(alloc, files) else {
-        return Ok(None);
-    };
-    let (conn, fault) = migrated(alloc, conn)?;
-    let answered = fault.is_none();
-    let files = crashed(close_files(conn));
-    let conn = connect(alloc, files).ok_or("no database after a stop")?;
-    if !is_before_or_after(alloc, conn, answered)? {
-        return Err(Fail::from("the rows are neither of before nor of after"));
-    }
-    Ok(Some(answered))
-}
-
-/// The same on a disk of which one file, the log or else the database, stops after so many calls.
-fn stopped_at(alloc: Global, stops_log: bool, calls: u64) -> Result<Option<bool>, Fail> {
-    let files: Files<Memory> = with_earlier_in(alloc, new_files(alloc))?;
-    let files = if stops_log {
-        fused(files, calls, u64::MAX)
-    } else {
-        fused(files, u64::MAX, calls)
-    };
-    stopped_in(alloc, files)
-}
-
-/// Stops the file after 0, 1, 2, .. calls, until the migration is answered; whether a stop came in it before, or, of the database
-/// file, in the opening.
-fn stops(alloc: Global, stops_log: bool) -> Result<bool, Fail> {
-    let mut is_stopped = false;
-    for calls in 0..ENOUGH {
-        match stopped_at(alloc, stops_log, calls)? {
-            None => is_stopped = is_stopped || !stops_log,
-            Some(false) => is_stopped = true,
-            Some(true) => return Ok(is_stopped),
-        }
-    }
-    Err(Fail::from("it never ends without a stop"))
+    let is_so = (is_new || !answered && fault.is_none()) && has_both(&mut outbox)?;
+    Ok((Held::Outbox(outbox), is_so))
 }
 
 #[test]
 fn a_stop_leaves_the_outbox_of_before_or_after(rt: HostRuntime) -> Result<(), Fail> {
-    for stops_log in [true, false] {
-        assert!(rt; stops(rt.alloc(), stops_log)?);
-    }
+    assert!(rt; are_stopped(rt.alloc(), Trial::Outbox)?);
     Ok(())
 }

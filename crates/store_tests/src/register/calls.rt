@@ -150,15 +150,10 @@ pub fn facts<S: Alter>(store: &mut Store<S>, number: u64) -> Result<Option<Vec<F
     store.facts(number)
 }
 
-/// What `into_files` answers.
-pub fn into_files<D: Disk + Drop>(store: Store<FileStore<D>>) -> Result<Files<D>, StoreFault> {
-    store.into_files()
-}
-
-/// The files, whatever `close` answers.
-pub fn close<D: Disk + Drop>(store: Store<FileStore<D>>) -> Files<D> {
+/// The files, whatever `close` answers, and why it was refused.
+pub fn close<D: Disk + Drop>(store: Store<FileStore<D>>) -> (Files<D>, Option<StoreFault>) {
     match store.close() {
-        Ok(files) => files,
-        Err((_, files)) => files,
+        Ok(files) => (files, None),
+        Err((fault, files)) => (files, Some(fault)),
     }
 }

@@ -2,17 +2,17 @@
 
 use super::add;
 use super::calls::{conn_of, counts, early_count, look_up, migrate, migrated, open};
-use crate::databases::{ENOUGH, Fresh, close_files, connect, crashed, fused, new_files, run};
+use crate::databases::{Fresh, run};
+use crate::stops::{Held, Trial, are_stopped};
 use filing_model::Style;
 use key_string::KeyText;
 use register_store::{OpenFault, Outcome, Store};
 use sqlite::{Alter, Connection, MemStore};
-use sqlite_disk::{Crash, Disk, Files, Memory};
 use std::alloc::Global;
 use std::test::Fail;
 
 /// The statements of a form, and how many of its two requests are of before.
-type Form = (&'static str, u64);
+pub type Form = (&'static str, u64);
 
 /// The tables of every form, with the smallest report and a refused empty body, which is no JSON text.
 const TABLES: &str =
@@ -228,84 +228,38 @@ fn refused_memory_changes_nothing(rt: HostRuntime) -> Result<(), Fail> {
     Ok(())
 }
 
-/// The files, with a register of the form.
-fn with_form_in<D: Disk + Drop>(
-    alloc: Global,
-    files: Files<D>,
-    form: Form,
-) -> Result<Files<D>, Fail> {
-    let conn = connect(alloc, files).ok_or("no database")?;
-    Ok(close_files(filled(conn, form)?))
+/// A register of the form, in a database.
+pub fn with_form<S: Alter + Drop>(conn: Connection<S>, form: Form) -> Result<Held<S>, Fail> {
+    Ok(Held::Nothing(filled(conn, form)?))
 }
 
-/// Whether the register is that of before, which is migrated then, or the new one, which it has to be where that was answered.
-fn is_before_or_after<S: Alter + Drop>(
+/// The database after a migration, and whether that was answered.
+pub fn tried<S: Alter + Drop>(
     alloc: Global,
     conn: Connection<S>,
-    early: u64,
+) -> Result<Option<(Held<S>, bool)>, Fail> {
+    let (conn, fault) = migrated(alloc, conn)?;
+    Ok(Some((Held::Nothing(conn), fault.is_none())))
+}
+
+/// The register, and whether it is that of before, which is migrated then, or the new one, which it has to be where that was answered.
+pub fn looked_at<S: Alter + Drop>(
+    alloc: Global,
+    conn: Connection<S>,
+    form: Form,
     answered: bool,
-) -> Result<bool, Fail> {
+) -> Result<(Held<S>, bool), Fail> {
     let (conn, fault) = migrated(alloc, conn)?;
     let is_new = fault == Some(OpenFault::NotOurs);
     let store = open(alloc, conn)??;
-    Ok((is_new || !answered && fault.is_none()) && has_both(&store, early)?)
-}
-
-/// Migrates the register in these files, and looks at it after a crash; whether it was answered. `None` where it is not opened.
-fn stopped_in<D: Crash + Drop>(
-    alloc: Global,
-    files: Files<D>,
-    early: u64,
-) -> Result<Option<bool>, Fail> {
-    let Some(conn) = connect(alloc, files) else {
-        return Ok(None);
-    };
-    let (conn, fault) = migrated(alloc, conn)?;
-    let answered = fault.is_none();
-    let files = crashed(close_files(conn));
-    let conn = connect(alloc, files).ok_or("no database after a stop")?;
-    if !is_before_or_after(alloc, conn, early, answered)? {
-        return Err(Fail::from("the rows are neither of before nor of after"));
-    }
-    Ok(Some(answered))
-}
-
-/// The same on a disk of which one file, the log or else the database, stops after so many calls.
-fn stopped_at(
-    alloc: Global,
-    form: Form,
-    stops_log: bool,
-    calls: u64,
-) -> Result<Option<bool>, Fail> {
-    let files: Files<Memory> = with_form_in(alloc, new_files(alloc), form)?;
-    let files = if stops_log {
-        fused(files, calls, u64::MAX)
-    } else {
-        fused(files, u64::MAX, calls)
-    };
-    stopped_in(alloc, files, form.1)
-}
-
-/// Stops the file after 0, 1, 2, .. calls, until the migration is answered; whether a stop came in it before, or, of the database
-/// file, in the opening.
-fn stops(alloc: Global, form: Form, stops_log: bool) -> Result<bool, Fail> {
-    let mut is_stopped = false;
-    for calls in 0..ENOUGH {
-        match stopped_at(alloc, form, stops_log, calls)? {
-            None => is_stopped = is_stopped || !stops_log,
-            Some(false) => is_stopped = true,
-            Some(true) => return Ok(is_stopped),
-        }
-    }
-    Err(Fail::from("it never ends without a stop"))
+    let is_so = (is_new || !answered && fault.is_none()) && has_both(&store, form.1)?;
+    Ok((Held::Register(store), is_so))
 }
 
 #[test]
 fn a_stop_leaves_the_register_of_before_or_after(rt: HostRuntime) -> Result<(), Fail> {
     for form in [SECOND, THIRD] {
-        for stops_log in [true, false] {
-            assert!(rt; stops(rt.alloc(), form, stops_log)?);
-        }
+        assert!(rt; are_stopped(rt.alloc(), Trial::Register(form))?);
     }
     Ok(())
 }
