@@ -34,9 +34,13 @@ pub record IsEarlierOf (it : Contents) (db : Database) : Type 0 where
   pub untargeted : AllByRecursion (λ e. e.target ≡ None) it.entries
   pub list : IsOutbox it
 
+-- Whatever outbox of that form stands alone in the database, this holds of it.
+abbrev pub ForEarlier : State → (Contents → Type 0) → Type 0
+ForEarlier old Holds = (it : Contents) → IsAlone old.now.schema → IsEarlierOf it old.now → Holds it
+
 -- the outbox of that form that stood alone in the database is left in this one
 abbrev pub LeavesMigrated : State → Trees → Type 0
-LeavesMigrated old trees = (it : Contents) → IsAlone old.now.schema → IsEarlierOf it old.now → LeavesOutbox it trees
+LeavesMigrated old trees = ForEarlier old (λ it. LeavesOutbox it trees)
 
 -- ---- what is read
 

@@ -1,5 +1,5 @@
 -- The database's refusals as an outbox names them.
-use Rattle.std.specs.Prelude.{◌≡◌, ◌⊎◌, ℕ}
+use Rattle.std.specs.Prelude.{◌≡◌, ◌≢◌, ◌⊎◌, ℕ}
 use Rattle.sqlite.specs.declared.error.Error.{Error}
 use Rattle.table_rows.specs.declared.cause.Cause.{Cause}
 use Rattle.table_rows.specs.declared.cause.Cause.TheVariants as cause
@@ -17,6 +17,14 @@ abbrev pub outbox_fault_by : Cause → OutboxFault
 outbox_fault_by cause.Memory = outbox.Memory
 outbox_fault_by cause.Disk = outbox.Disk
 outbox_fault_by cause.Other = outbox.Disk
+
+-- an outbox that is made is neither looked for nor damaged
+abbrev pub IsOfMaking : OutboxFault → Type 0
+IsOfMaking fault = (fault ≢ outbox.NotOurs) × ((row : ℕ) → fault ≢ outbox.Damaged row)
+
+-- an outbox that is opened has its filer, and takes no names
+abbrev pub IsOfOpening : OutboxFault → Type 0
+IsOfOpening fault = (fault ≢ outbox.BadFiler) × (fault ≢ outbox.Taken)
 
 -- where an outbox is made or opened
 abbrev pub outbox_fault : Error → OutboxFault

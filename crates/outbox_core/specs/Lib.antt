@@ -2,6 +2,7 @@ pub mod Schema
 pub mod Entries
 pub mod Rows
 pub mod Reading
+pub mod Refusals
 pub mod Faults
 pub mod OutboxParts
 pub mod Promises

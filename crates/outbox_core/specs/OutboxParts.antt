@@ -1,5 +1,5 @@
 -- What an outbox shows.
-use Rattle.std.specs.Prelude.{◌≡◌, ℕ, Bool, List, length, Result, Some, IsTrue, OnErr, refl}
+use Rattle.std.specs.Prelude.{◌≡◌, ℕ, Bool, List, length, Result, Some, IsTrue, IfOk, OnErr, refl}
 use Rattle.std.specs.Coded.{Coded, code_by, coded×, coded_ℕ, coded_bool, coded_list}
 use Rattle.sqlite.specs.Store.{Ghosts}
 use Rattle.sqlite.specs.Tree.{Trees}
@@ -40,6 +40,10 @@ pub record HasEntries {S : Type 0} (g : Ghosts S) (box : OutboxParts S) (entries
 -- Whatever entries it had before: where the disk is clean at the end, this holds of them.
 abbrev pub ForEntries : {S : Type 0} → Ghosts S → OutboxParts S → OutboxParts S → (List Entry → Type 0) → Type 0
 ForEntries g old new P = HasCleanDisk (shows g new) → (entries : List Entry) → HasEntries g old entries → P entries
+
+-- This holds of the outbox that a call hands out, where its disk is clean.
+abbrev pub HandsOut : {S E : Type 0} → Ghosts S → Result (OutboxParts S) E → (OutboxParts S → Type 0) → Type 0
+HandsOut g result Holds = IfOk result (λ outbox. HasCleanDisk (shows g outbox) → Holds outbox)
 
 -- a refusal changes no entry
 abbrev pub KeepsOnRefusal : {S X E : Type 0} → Ghosts S → OutboxParts S → OutboxParts S → Result X E → Type 0

@@ -1,5 +1,5 @@
 -- What calls on a connection promise.
-use Rattle.std.specs.Prelude.{◌≡◌, Result, IsTrue, OnOk, OnErr}
+use Rattle.std.specs.Prelude.{Result, IsTrue, OnOk, OnErr}
 use Rattle.sqlite.specs.Store.{Ghosts}
 use Rattle.sqlite.specs.Held.{Held, state}
 use Rattle.sqlite.specs.State.{State, HasCleanDisk}

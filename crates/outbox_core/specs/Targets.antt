@@ -1,8 +1,8 @@
 -- What the rows of `target` say of the entries.
 use Rattle.std.specs.Prelude.{if◌then◌else◌, List, [], ◌∷◌}
 use Rattle.sqlite.specs.Order.{Row, column}
-use Rattle.outbox_core.specs.declared.targets.Said.{Said}
-use Rattle.outbox_core.specs.declared.targets.Said.TheVariants.{Nothing, Number, Unsound}
+use Rattle.outbox_core.specs.declared.opening.targets.Said.{Said}
+use Rattle.outbox_core.specs.declared.opening.targets.Said.TheVariants.{Nothing, Number, Unsound}
 use Rattle.outbox_core.specs.Audit.{is_number}
 
 -- what the rows of its id say of an entry

@@ -17,8 +17,8 @@ ghost use Rattle.outbox_core.specs.Promises.{ForContents, KeepsOutbox, KeepsOutb
 
 use crate::entry::{Entry, read_states, state_in};
 use crate::fault::{PutFault, StoreFault, TakeFault};
+use crate::rows;
 use crate::state::State;
-use crate::tables;
 use crate::write::keep_entry;
 use http_wire::Reply;
 use sqlite::{Alter, Connection, Error, Row};
@@ -87,7 +87,7 @@ pub(crate) fn add_entry<S: Alter>(
         (Commits IsOutboxOf (state S.Store conn.old) (λ it trees.
         count ≡ length it.entries → LeavesOutbox (with_entry it (opened key.now target body.now)) trees)) }
 {
-    match tables::id_of_key(conn, key) {
+    match rows::id_of_key(conn, key) {
         Ok(None) => insert_next(conn, count, key, target, body),
         Ok(Some(id)) => Err(PutFault::KeyUsed { id }),
         Err(error) => Err(PutFault::from(StoreFault::from(error))),
@@ -112,7 +112,7 @@ fn read_entry<S: Alter>(
     if id >= ID_LIMIT {
         return Err(StoreFault::Store);
     }
-    let target = tables::target_of(conn, id)?;
+    let target = rows::target_of(conn, id)?;
     Entry::from_row(alloc, row, target)
 }
 
@@ -153,7 +153,7 @@ pub(crate) fn entry_of<S: Alter>(
     ensures open { AnswersOpen (state S.Store conn.old) (state S.Store conn.new) result }
     ensures crash { CommitsNothing (state S.Store conn.old) (state S.Store conn.new) }
 {
-    match tables::entry_with_id(conn, id) {
+    match rows::entry_with_id(conn, id) {
         Ok(row) => read_found(conn, alloc, row),
         Err(error) => Err(StoreFault::from(error)),
     }
@@ -169,7 +169,7 @@ pub(crate) fn open_entry<S: Alter>(
     ensures kept { KeepsOutbox (state S.Store conn.old) (state S.Store conn.new) }
     ensures crash { CommitsNothing (state S.Store conn.old) (state S.Store conn.new) }
 {
-    match tables::first_open_entry(conn) {
+    match rows::first_open_entry(conn) {
         Ok(row) => read_found(conn, alloc, row),
         Err(error) => Err(StoreFault::from(error)),
     }
@@ -184,7 +184,7 @@ fn state_of_entry<S: Alter>(conn: &mut Connection<S>, id: u64) -> Result<Option<
     ensures open { AnswersOpen (state S.Store conn.old) (state S.Store conn.new) result }
     ensures crash { CommitsNothing (state S.Store conn.old) (state S.Store conn.new) }
 {
-    let row = tables::state_with_id(conn, id)?;
+    let row = rows::state_with_id(conn, id)?;
     match row {
         Some(row) => Ok(Some(state_in(&row)?)),
         None => Ok(None),
@@ -201,7 +201,7 @@ pub(crate) fn states_of<S: Alter>(
     ensures kept { KeepsOutbox (state S.Store conn.old) (state S.Store conn.new) }
     ensures crash { CommitsNothing (state S.Store conn.old) (state S.Store conn.new) }
 {
-    match tables::state_rows(conn) {
+    match rows::state_rows(conn) {
         Ok(rows) => read_states(alloc, rows.as_slice()),
         Err(error) => Err(StoreFault::from(error)),
     }
@@ -234,7 +234,7 @@ fn move_entry<S: Alter>(
     if to == from {
         return Ok(to);
     }
-    match tables::set_state(conn, id, to) {
+    match rows::set_state(conn, id, to) {
         Ok(_) => Ok(to),
         Err(error) => Err(TakeFault::from(StoreFault::from(error))),
     }

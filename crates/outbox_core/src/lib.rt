@@ -1,30 +1,25 @@
 //! The outbox of a filer: the reports that are to be sent, and what is known of each. What may live here: the
 //! three tables of an outbox and the statements on them, how a reply moves an entry, and the calls on an outbox.
-//! SQL is known to `tables` and `picks`, and to `create` and `migrate`, which make them.
+//! SQL is known to `rows` and `opening::picks`, and to `schema` and `migrate`, which make the tables.
 #![tactic(auto)]
 
-mod audit;
-mod create;
 mod entries;
 mod entry;
 mod fault;
-mod finding;
 mod key;
 mod migrate;
+mod opening;
 mod outbox;
-mod picks;
+mod rows;
+mod schema;
 mod state;
-mod stop;
-mod tables;
-mod targets;
-mod walk;
 mod write;
 
-pub use create::make_outbox;
 pub use entry::Entry;
 pub use fault::{OutboxFault, PutFault, StoreFault, TakeFault};
-pub use finding::{FoundOutbox, read_outbox};
 pub use key::key_of;
 pub use migrate::migrate_outbox;
+pub use opening::{FoundOutbox, read_outbox};
 pub use outbox::Outbox;
+pub use schema::create::make_outbox;
 pub use state::State;

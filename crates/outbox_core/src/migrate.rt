@@ -1,21 +1,21 @@
 //! An outbox in the form before this one is brought into this one.
 
-ghost use Rattle.std.specs.Prelude.{◌≡◌, ◌≤◌, ◌^◌, List, [], length, true, false, None, Ok, IsTrue, IfOk, IfErr, OnOk, OnErr, string_bytes};
+ghost use Rattle.std.specs.Prelude.{◌≡◌, ◌≤◌, ◌^◌, List, [], length, true, false, None, Ok, IsTrue, IfOk, IfErr, OnOk, string_bytes};
 ghost use Rattle.key_string.specs.Filer.{is_filer};
 ghost use Rattle.filing_model.specs.Outbox.{Entry as Item};
 ghost use Rattle.sqlite.specs.Effect.{IsDatabase};
 ghost use Rattle.sqlite.specs.Held.{state};
-ghost use Rattle.sqlite.specs.State.{HasCleanDisk, IsUnchanged, KeepsCommit, Survives};
-ghost use Rattle.table_rows.specs.Standing.{HasCommitted, CommitsNothing, StaysAutocommit, StaysCommitted, IsCommitted, IsLasting};
+ghost use Rattle.sqlite.specs.State.{HasCleanDisk, IsUnchanged, Survives};
+ghost use Rattle.table_rows.specs.Standing.{HasCommitted, CommitsNothing, StaysAutocommit, StaysCommitted, IsCommitted, IsLasting, KeepsOnErr};
 ghost use Rattle.outbox_core.specs.Schema.{HasCommon};
 ghost use Rattle.outbox_core.specs.Entries.{Contents, contents_of};
 ghost use Rattle.outbox_core.specs.Rows.{IsOutboxOf};
 ghost use Rattle.outbox_core.specs.Earlier.{IsAlone, IsEarlierOf, IsFound, IsNotFound, Raises, IsNotMigrated, is_blocked, LeavesMigrated};
 ghost use Rattle.outbox_core.specs.Faults.{IsFailure};
 
-use crate::create::run;
 use crate::fault::OutboxFault;
-use crate::finding::{FoundOutbox, count_whole, filer_of, is_settled};
+use crate::opening::{FoundOutbox, count_whole, filer_of, is_settled};
+use crate::schema::create::run;
 use sqlite::{Alter, Connection, Error, Transaction};
 use sqlite_catalog::layout::is_used;
 use std::alloc::Global;
@@ -77,8 +77,7 @@ fn write<S: Alter>(conn: &mut Connection<S>) -> Result<(), Error>
         → OnOk result (IsOutboxOf it (state S.Store conn.new).now) }
     ensures committed { HasCleanDisk (state S.Store conn.new) → OnOk result (IsCommitted (state S.Store conn.new)) }
     ensures durable { HasCleanDisk (state S.Store conn.new) → OnOk result (IsLasting (state S.Store conn.new)) }
-    ensures undone { HasCleanDisk (state S.Store conn.new)
-        → OnErr result (KeepsCommit (state S.Store conn.old) (state S.Store conn.new)) }
+    ensures undone { KeepsOnErr (state S.Store conn.old) (state S.Store conn.new) result }
     ensures crash { Survives (state S.Store conn.old) (state S.Store conn.new)
         (LeavesMigrated (state S.Store conn.old)) }
 {
@@ -115,8 +114,7 @@ pub fn migrate_outbox<S: Alter>(
     ensures sound { HasCleanDisk (state S.Store conn.new) → IfErr result (λ fault.
         (it : Contents) → IsEarlierOf it (state S.Store conn.old).now
         → is_blocked (state S.Store conn.old).now.schema ≡ false → IsFailure fault) }
-    ensures undone { HasCleanDisk (state S.Store conn.new)
-        → OnErr result (KeepsCommit (state S.Store conn.old) (state S.Store conn.new)) }
+    ensures undone { KeepsOnErr (state S.Store conn.old) (state S.Store conn.new) result }
 
     // A crash leaves what it could leave before, or the migrated rows, and after the call these alone.
     ensures crash { Survives (state S.Store conn.old) (state S.Store conn.new)

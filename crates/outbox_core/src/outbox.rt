@@ -1,7 +1,7 @@
 //! The outbox of a filer.
 
-ghost use Rattle.std.specs.Prelude.{◌≡◌, ◌≢◌, List, ◌+◌, ◌^◌, ◌<◌, ◌≤◌, ◌↔◌, [], ◌∷◌, ◌++◌, length, find, map, option_map, false, None, Some, IsTrue, IfOk, IfErr, OnOk, OnErr, IfSome, IsSome, true, Err};
-ghost use Rattle.sqlite.specs.State.{HasCleanDisk, Survives};
+ghost use Rattle.std.specs.Prelude.{◌≡◌, List, ◌+◌, ◌^◌, ◌<◌, ◌≤◌, ◌↔◌, [], ◌∷◌, ◌++◌, length, find, map, option_map, false, None, Some, IsTrue, IfOk, IfErr, OnOk, OnErr, IfSome, IsSome, true, Err};
+ghost use Rattle.sqlite.specs.State.{Survives};
 ghost use Rattle.sqlite.specs.Held.{state};
 ghost use Rattle.key_string.specs.Filer.{is_filer};
 ghost use Rattle.http_wire.specs.Head.{max_body_len};
@@ -13,14 +13,16 @@ ghost use Rattle.outbox_core.specs.Schema.{is_taken};
 ghost use Rattle.outbox_core.specs.Entries.{empty, opened, numbered, has_text, entry_at, found_at, first_open, set_state};
 ghost use Rattle.outbox_core.specs.Rows.{LeavesOutbox};
 ghost use Rattle.outbox_core.specs.Reading.{Finds, view_state, view_pair, id_and_state};
-ghost use Rattle.table_rows.specs.Standing.{CommitsNothing, StaysCommitted};
+ghost use Rattle.table_rows.specs.Standing.{CommitsNothing};
 
-use crate::create::make_outbox;
+pub(crate) mod files;
+
 use crate::entries::{add_entry, entry_of, open_entry, states_of, take_entry};
 use crate::entry::Entry;
 use crate::fault::{OutboxFault, PutFault, StoreFault, TakeFault};
-use crate::finding::{FoundOutbox, read_outbox};
 use crate::migrate::migrate_outbox;
+use crate::opening::{FoundOutbox, read_outbox};
+use crate::schema::create::make_outbox;
 use crate::state::State;
 use http_wire::{MAX_BODY_LEN, Reply};
 use key_string::KeyText;
@@ -67,9 +69,10 @@ impl<S: Alter + Drop> Drop for Outbox<S> {
 }
 
 impl<S: Alter + Drop> Outbox<S> {
-    ghost use Rattle.sqlite.specs.Held.{Held};
+    ghost use Rattle.outbox_core.specs.Faults.{IsOfMaking};
     ghost use Rattle.outbox_core.specs.Making.{LeavesMade};
-    ghost use Rattle.outbox_core.specs.OutboxParts.{shows, HasEntries, IsDurableAs};
+    ghost use Rattle.outbox_core.specs.OutboxParts.{shows, HandsOut, HasEntries, IsDurableAs};
+    ghost use Rattle.outbox_core.specs.Refusals.{GivesUpMaking};
 
     /// Makes the tables of an outbox of this filer that has no entry, in one transaction. A refusal gives the connection
     /// up, and leaves the database as it was, as `make_outbox` says of one that is kept. The tables are those of an outbox
@@ -77,9 +80,8 @@ impl<S: Alter + Drop> Outbox<S> {
     pub fn create(alloc: Global, conn: Connection<S>, filer: &str) -> Result<Outbox<S>, OutboxFault>
         requires autocommit { conn.in_transaction ≡ false }
         requires unlimited { conn.step_limit ≡ None }
-        ensures made { IfOk result (λ outbox.
-            HasCleanDisk (shows S.Store outbox) → (state S.Store conn).now.schema ≡ no_schema
-            → HasEntries S.Store outbox []) }
+        ensures made { HandsOut S.Store result (λ outbox.
+            (state S.Store conn).now.schema ≡ no_schema → HasEntries S.Store outbox []) }
         ensures filer { IfOk result (λ outbox. (outbox.filer ≡ filer.now) × (outbox.has_failed ≡ false)) }
 
         // BadFiler comes where the text is no filer code, and always there; Taken where it is one and one of the names is
@@ -87,19 +89,16 @@ impl<S: Alter + Drop> Outbox<S> {
         ensures bad_filer { (result ≡ Err OutboxFault.BadFiler) ↔ (is_filer filer.now ≡ false) }
         ensures taken { (result ≡ Err OutboxFault.Taken) ↔ ((is_filer filer.now ≡ true)
             × IsTrue (is_taken (state S.Store conn).now.schema)) }
-        ensures no_other { IfErr result (λ fault.
-            (fault ≢ OutboxFault.NotOurs) × ((row : _) → fault ≢ OutboxFault.Damaged row)) }
+        ensures no_other { IfErr result IsOfMaking }
 
-        // A refusal commits nothing, of the connection as it was given up.
-        ensures refused { OnErr result ((last : Held S)
-            × Survives (state S.Store conn) (state S.Store last) (LeavesMade S.Store filer.now conn)
-            × StaysCommitted S.Store conn last) }
+        // Of the connection as it was given up; `make_outbox` says the same of one that is kept.
+        ensures refused { OnErr result (GivesUpMaking S.Store filer.now conn) }
 
         // A crash leaves what one before the call could leave, or the outbox with no entry, and after the call that alone.
         ensures crash { IfOk result (λ outbox.
             Survives (state S.Store conn) (shows S.Store outbox) (LeavesMade S.Store filer.now conn)) }
-        ensures durable { IfOk result (λ outbox. HasCleanDisk (shows S.Store outbox)
-            → (state S.Store conn).now.schema ≡ no_schema → IsDurableAs S.Store outbox (empty filer.now)) }
+        ensures durable { HandsOut S.Store result (λ outbox.
+            (state S.Store conn).now.schema ≡ no_schema → IsDurableAs S.Store outbox (empty filer.now)) }
     {
         let mut conn = conn;
         match make_outbox(alloc, &mut conn, filer) {
@@ -116,21 +115,20 @@ impl<S: Alter + Drop> Outbox<S> {
 }
 
 impl<S: Alter + Drop> Outbox<S> {
-    ghost use Rattle.sqlite.specs.Held.{Held};
     ghost use Rattle.outbox_core.specs.Schema.{IsDeclared};
     ghost use Rattle.outbox_core.specs.Rows.{IsOutboxOf};
-    ghost use Rattle.outbox_core.specs.Audit.{IsRefused};
-    ghost use Rattle.outbox_core.specs.Faults.{IsFailure};
-    ghost use Rattle.outbox_core.specs.OutboxParts.{shows, contents, HasEntries, IsDurableAs};
+    ghost use Rattle.outbox_core.specs.Faults.{IsOfOpening};
+    ghost use Rattle.outbox_core.specs.OutboxParts.{shows, contents, HandsOut, HasEntries, IsDurableAs};
     ghost use Rattle.outbox_core.specs.Promises.{ForOutbox};
+    ghost use Rattle.outbox_core.specs.Refusals.{GivesUpOpening};
 
     /// Opens the outbox that the database holds. A refusal gives the connection up, and leaves the database as it was. How
     /// the tables are declared is not tested.
     pub fn open(alloc: Global, conn: Connection<S>) -> Result<Outbox<S>, OutboxFault>
         requires autocommit { conn.in_transaction ≡ false }
         requires unlimited { conn.step_limit ≡ None }
-        ensures opened { IfOk result (λ outbox.
-            HasCleanDisk (shows S.Store outbox) → IsDeclared (state S.Store conn).now.schema
+        ensures opened { HandsOut S.Store result (λ outbox.
+            IsDeclared (state S.Store conn).now.schema
             → (entries : List Item) × IsOutboxOf (contents outbox entries) (state S.Store conn).now
             × HasEntries S.Store outbox entries) }
         ensures able { IfOk result (λ outbox. outbox.has_failed ≡ false) }
@@ -141,13 +139,9 @@ impl<S: Alter + Drop> Outbox<S> {
         ensures durable { IfOk result (λ outbox. ForOutbox S.Store conn outbox.conn (IsDurableAs S.Store outbox)) }
         ensures crash { IfOk result (λ outbox. CommitsNothing (state S.Store conn) (shows S.Store outbox)) }
 
-        // A refusal writes nothing and says why, of the connection as it was given up, as `read_outbox` says of one that is
-        // kept; an outbox is refused by memory or disk.
-        ensures refused { IfErr result (λ fault.
-            (last : Held S) × CommitsNothing (state S.Store conn) (state S.Store last)
-            × StaysCommitted S.Store conn last × (HasCleanDisk (state S.Store last) → IsRefused S.Store fault conn last)
-            × ForOutbox S.Store conn last (λ _. IsFailure fault)) }
-        ensures no_other { IfErr result (λ fault. (fault ≢ OutboxFault.BadFiler) × (fault ≢ OutboxFault.Taken)) }
+        // Of the connection as it was given up; `read_outbox` says the same of one that is kept.
+        ensures refused { IfErr result (GivesUpOpening S.Store conn) }
+        ensures no_other { IfErr result IsOfOpening }
     {
         let mut conn = conn;
         match read_outbox(alloc, &mut conn) {
@@ -164,11 +158,9 @@ impl<S: Alter + Drop> Outbox<S> {
 }
 
 impl<S: Alter + Drop> Outbox<S> {
-    ghost use Rattle.sqlite.specs.Held.{Held};
-    ghost use Rattle.outbox_core.specs.Entries.{Contents};
-    ghost use Rattle.outbox_core.specs.Earlier.{IsAlone, IsEarlierOf, IsNotMigrated, LeavesMigrated, is_blocked};
-    ghost use Rattle.outbox_core.specs.Faults.{IsFailure};
-    ghost use Rattle.outbox_core.specs.OutboxParts.{shows, contents, HasEntries, IsDurableAs};
+    ghost use Rattle.outbox_core.specs.Earlier.{ForEarlier, IsAlone, IsEarlierOf, LeavesMigrated};
+    ghost use Rattle.outbox_core.specs.OutboxParts.{shows, contents, HandsOut, HasEntries, IsDurableAs};
+    ghost use Rattle.outbox_core.specs.Refusals.{GivesUpMigrating};
 
     /// Brings the outbox that the database holds from the form before this one into this one, in one transaction, and opens
     /// it: no entry has a target. A refusal gives the connection up, and leaves the rows as they were. What is said of the new
@@ -176,29 +168,21 @@ impl<S: Alter + Drop> Outbox<S> {
     pub fn migrate(alloc: Global, conn: Connection<S>) -> Result<Outbox<S>, OutboxFault>
         requires autocommit { conn.in_transaction ≡ false }
         requires unlimited { conn.step_limit ≡ None }
-        ensures migrated { IfOk result (λ outbox.
-            HasCleanDisk (shows S.Store outbox) → IsAlone (state S.Store conn).now.schema
+        ensures migrated { HandsOut S.Store result (λ outbox.
+            IsAlone (state S.Store conn).now.schema
             → (entries : List Item) × IsEarlierOf (contents outbox entries) (state S.Store conn).now
             × HasEntries S.Store outbox entries) }
-        ensures only { IfOk result (λ outbox.
-            HasCleanDisk (shows S.Store outbox) → (it : Contents) → IsAlone (state S.Store conn).now.schema
-            → IsEarlierOf it (state S.Store conn).now
-            → (outbox.filer ≡ it.filer) × HasEntries S.Store outbox it.entries) }
+        ensures only { HandsOut S.Store result (λ outbox.
+            ForEarlier (state S.Store conn) (λ it. (outbox.filer ≡ it.filer) × HasEntries S.Store outbox it.entries)) }
         ensures able { IfOk result (λ outbox. outbox.has_failed ≡ false) }
 
-        // A refusal says why, of the connection as it was given up (`migrate_outbox` names it); where the rows hold an outbox in
-        // that form and the name is not in the way, it is by memory or disk.
-        ensures refused { IfErr result (λ fault.
-            (last : Held S) × Survives (state S.Store conn) (state S.Store last) (LeavesMigrated (state S.Store conn))
-            × StaysCommitted S.Store conn last
-            × (HasCleanDisk (state S.Store last) → IsNotMigrated S.Store fault conn last)
-            × (HasCleanDisk (state S.Store last) → (it : Contents) → IsEarlierOf it (state S.Store conn).now
-            → is_blocked (state S.Store conn).now.schema ≡ false → IsFailure fault)) }
+        // Of the connection as it was given up; `migrate_outbox` says the same of one that is kept.
+        ensures refused { IfErr result (GivesUpMigrating S.Store conn) }
 
         // A crash leaves what it could leave before, or the migrated rows, and after the call these alone.
         ensures crash { IfOk result (λ outbox.
             Survives (state S.Store conn) (shows S.Store outbox) (LeavesMigrated (state S.Store conn))) }
-        ensures durable { IfOk result (λ outbox. HasCleanDisk (shows S.Store outbox) → (entries : List Item)
+        ensures durable { HandsOut S.Store result (λ outbox. (entries : List Item)
             → HasEntries S.Store outbox entries → IsDurableAs S.Store outbox (contents outbox entries)) }
     {
         let mut conn = conn;

@@ -8,7 +8,7 @@ ghost use Rattle.outbox_core.specs.Entries.{opened};
 ghost use Rattle.outbox_core.specs.Changes.{Adds, AddsInside, AddsTo, AddsNothing};
 ghost use Rattle.table_rows.specs.Standing.{CommitsNothing, StaysCommitted};
 
-use crate::tables::{insert_entry, insert_target};
+use crate::rows::{insert_entry, insert_target};
 use sqlite::{Alter, Connection, Error, Transaction};
 
 /// Writes an open entry under the id after the last.

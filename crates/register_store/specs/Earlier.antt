@@ -3,7 +3,9 @@ use Rattle.std.specs.Prelude.{◌≡◌, ◌≤◌, ℕ, Bool, List, [], ◌∷�
 use Rattle.std.specs.List.{list_any}
 use Rattle.sqlite.specs.Change.{created}
 use Rattle.sqlite.specs.Effect.{Database, IsDatabase}
+use Rattle.sqlite.specs.Held.{Held, state}
 use Rattle.sqlite.specs.Schema.{Schema}
+use Rattle.sqlite.specs.Store.{Ghosts}
 use Rattle.sqlite.specs.Table.{Table}
 use Rattle.filing_model.specs.Request.{Request}
 use Rattle.table_rows.specs.Rows.{TableHas}
@@ -59,3 +61,8 @@ pub record StandsForEarlier (form : Earlier) (db : Database) (early : ℕ) (F : 
 pub record IsEarlierOf (form : Earlier) (early : ℕ) (F : List Request) (db : Database) : Type 0 where
   pub sound : IsDatabase db
   pub rows : StandsForEarlier form db early F
+
+-- Whatever form the tables alone have, and whatever requests the rows stand for in it, this holds of them.
+abbrev pub ForEarlier : {S : Type 0} → Ghosts S → Held S → (Earlier → ℕ → List Request → Type 0) → Type 0
+ForEarlier g conn Holds =
+    (form : Earlier) (early : ℕ) (F : List Request) → IsAlone form (state g conn).now.schema → IsEarlierOf form early F (state g conn).now → Holds form early F

@@ -1,4 +1,5 @@
 -- The database's refusals as a store names them.
+use Rattle.std.specs.Prelude.{◌≡◌, ◌⊎◌}
 use Rattle.sqlite.specs.declared.error.Error.{Error}
 use Rattle.table_rows.specs.declared.cause.Cause.{Cause}
 use Rattle.table_rows.specs.declared.cause.Cause.TheVariants as cause
@@ -45,3 +46,7 @@ table_fault_by cause.Other = fault.Damaged 0
 -- where another table cannot be read
 abbrev pub table_fault : Error → OpenFault
 table_fault error = table_fault_by (cause_of error)
+
+-- it says nothing of the rows
+abbrev pub IsFailure : OpenFault → Type 0
+IsFailure why = (why ≡ fault.Memory) ⊎ (why ≡ fault.Disk)

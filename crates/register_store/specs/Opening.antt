@@ -1,5 +1,5 @@
 -- What an opening reads, and why a database is not opened.
-use Rattle.std.specs.Prelude.{◌≡◌, ◌≢◌, ◌⊎◌, ◌≤◌, ℕ, List, [], ◌∷◌, ◌++◌, length, codes}
+use Rattle.std.specs.Prelude.{◌≡◌, ◌≢◌, ◌⊎◌, ◌≤◌, ◌^◌, ℕ, List, [], ◌∷◌, ◌++◌, length, codes}
 use Rattle.sqlite.specs.Order.{Row}
 use Rattle.sqlite.specs.Store.{Ghosts}
 use Rattle.sqlite.specs.Held.{Held, state}
@@ -8,11 +8,16 @@ use Rattle.sqlite.specs.declared.error.Error.{Error}
 use Rattle.table_rows.specs.Causes.{cause_of}
 use Rattle.table_rows.specs.declared.cause.Cause.{Cause}
 use Rattle.table_rows.specs.declared.cause.Cause.TheVariants as cause
+use Rattle.filing_model.specs.Request.{Request}
+use Rattle.filing_model.specs.Register.{register}
+use Rattle.table_rows.specs.Standing.{HasCommitted}
+use Rattle.register_store.specs.declared.opening.Counts.{Counts}
 use Rattle.register_store.specs.declared.opening.audit.Verdict.TheVariants as verdict
 use Rattle.register_store.specs.declared.fault.OpenFault.{OpenFault}
 use Rattle.register_store.specs.declared.fault.OpenFault.TheVariants as fault
 use Rattle.register_store.specs.Audit.{OtherRows, IsVerdict}
 use Rattle.register_store.specs.Register.{meta_row, migrated_row}
+use Rattle.register_store.specs.Store.{IsRegisterOf}
 
 -- ---- the rows of the tables, each in the order of its key
 
@@ -125,3 +130,13 @@ IsRefused g fault.NotOurs old new = IsNoRegister g old new
 IsRefused g (fault.Damaged row) old new = IsDamaged g row old new
 IsRefused g fault.Memory old new = StopsFor g cause.Memory (all_meta ∷ table_texts) old new ⊎ AreAllRead g old new
 IsRefused g fault.Disk old new = StopsFor g cause.Disk (all_meta ∷ table_texts) old new
+
+-- ---- what is told where it is one
+
+-- The rows stand for these requests, which are committed, and these are the counts.
+abbrev pub IsCounted : {S : Type 0} → Ghosts S → Held S → Counts → ℕ → List Request → Type 0
+IsCounted g conn counts early F =
+    (counts.early ≡ early) × HasCommitted (IsRegisterOf early F) (state g conn) × (counts.kept ≡ length F) × (counts.filings ≡ length (register F))
+
+abbrev pub AreWithin : Counts → Type 0
+AreWithin counts = (counts.kept ≤ 2 ^ 62) × (counts.filings ≤ counts.kept) × (counts.early ≤ counts.kept)

@@ -1,5 +1,5 @@
 -- What a refusal says of the connection that it gives up.
-use Rattle.std.specs.Prelude.{◌≡◌, ◌≢◌, ◌⊎◌, ℕ, false, List}
+use Rattle.std.specs.Prelude.{◌≡◌, ◌≢◌, ℕ, false, List}
 use Rattle.sqlite.specs.Store.{Ghosts}
 use Rattle.sqlite.specs.Held.{Held, state}
 use Rattle.sqlite.specs.State.{HasCleanDisk, KeepsCommit, Survives}
@@ -9,15 +9,14 @@ use Rattle.table_rows.specs.Standing.{CommitsNothing}
 use Rattle.register_store.specs.declared.fault.CreateFault.{CreateFault}
 use Rattle.register_store.specs.declared.fault.CreateFault.TheVariants as making
 use Rattle.register_store.specs.declared.fault.OpenFault.{OpenFault}
-use Rattle.register_store.specs.declared.fault.OpenFault.TheVariants as cause
 use Rattle.register_store.specs.Changes.{AddsNothing}
 use Rattle.register_store.specs.Earlier.{IsEarlierOf, is_blocked}
 use Rattle.register_store.specs.declared.migrate.earlier.Earlier.{Earlier}
-use Rattle.register_store.specs.Faults.{create_fault}
+use Rattle.register_store.specs.Faults.{create_fault, IsFailure}
 use Rattle.register_store.specs.Making.{Makes, FailsToMake}
 use Rattle.register_store.specs.Migrating.{IsNotMigrated, MigratesTo}
 use Rattle.register_store.specs.Opening.{IsRefused}
-use Rattle.register_store.specs.Store.{IsRegisterOf}
+use Rattle.register_store.specs.Store.{ForRows}
 
 -- No register was made: nothing was written, and another fault than Taken has its cause in a statement or in the commit.
 abbrev pub GivesUpMaking : {S : Type 0} → Ghosts S → Held S → CreateFault → Type 0
@@ -31,7 +30,7 @@ abbrev pub GivesUpOpening : {S : Type 0} → Ghosts S → Held S → OpenFault �
 GivesUpOpening {S} g conn fault =
     (last : Held S) × CommitsNothing (state g conn) (state g last)
     × (HasCleanDisk (state g last) → KeepsCommit (state g conn) (state g last) × IsRefused g fault conn last)
-    × (HasCleanDisk (state g last) → (early : ℕ) (F : List Request) → IsRegisterOf early F (state g conn).now → (fault ≡ cause.Memory) ⊎ (fault ≡ cause.Disk))
+    × (HasCleanDisk (state g last) → ForRows g conn (λ _ _. IsFailure fault))
 
 -- No register was migrated: nothing was written and the fault says why. Where the rows stand for requests in an earlier form, and no
 -- name is in the way, it is by memory, or by the disk or another failure of a statement that writes.
@@ -39,4 +38,4 @@ abbrev pub GivesUpMigrating : {S : Type 0} → Ghosts S → Held S → OpenFault
 GivesUpMigrating {S} g conn fault =
     (last : Held S) × Survives (state g conn) (state g last) (MigratesTo g conn)
     × (HasCleanDisk (state g last) → AddsNothing (state g conn) (state g last) × IsNotMigrated g fault conn last)
-    × (HasCleanDisk (state g last) → (form : Earlier) (early : ℕ) (F : List Request) → IsEarlierOf form early F (state g conn).now → is_blocked (state g conn).now.schema form ≡ false → (fault ≡ cause.Memory) ⊎ (fault ≡ cause.Disk))
+    × (HasCleanDisk (state g last) → (form : Earlier) (early : ℕ) (F : List Request) → IsEarlierOf form early F (state g conn).now → is_blocked (state g conn).now.schema form ≡ false → IsFailure fault)

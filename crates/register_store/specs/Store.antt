@@ -1,5 +1,5 @@
 -- What the store of a register holds and shows.
-use Rattle.std.specs.Prelude.{◌≡◌, ◌≤◌, ◌^◌, ℕ, false, List, length, None, Result, IsTrue, OnOk, refl}
+use Rattle.std.specs.Prelude.{◌≡◌, ◌≤◌, ◌^◌, ℕ, false, List, length, None, Result, IsTrue, IfOk, OnOk, refl}
 use Rattle.std.specs.Coded.{Coded, code_by, coded×, coded_ℕ}
 use Rattle.sqlite.specs.Store.{Ghosts}
 use Rattle.sqlite.specs.Held.{Held, held_code, state}
@@ -72,6 +72,14 @@ AnswersOpen old new result = HasCleanDisk new → (early : ℕ) (F : List Reques
 -- Whatever requests it had before: where the disk is clean at the end, this holds of them.
 abbrev pub ForRequests : {S : Type 0} → Ghosts S → StoreParts S → StoreParts S → (List Request → Type 0) → Type 0
 ForRequests g old new Holds = HasCleanDisk (shows g new) → (F : List Request) → HasRequests g old F → Holds F
+
+-- Whatever requests the rows stand for, this holds of them.
+abbrev pub ForRows : {S : Type 0} → Ghosts S → Held S → (ℕ → List Request → Type 0) → Type 0
+ForRows g conn Holds = (early : ℕ) (F : List Request) → IsRegisterOf early F (state g conn).now → Holds early F
+
+-- This holds of the store that a call hands out, where its disk is clean.
+abbrev pub HandsOut : {S E : Type 0} → Ghosts S → Result (StoreParts S) E → (StoreParts S → Type 0) → Type 0
+HandsOut g result Holds = IfOk result (λ store. HasCleanDisk (shows g store) → Holds store)
 
 -- Where the filer and key are new after these requests, and the report was judged by whether the filing that it is to replace, if any,
 -- is free after them, this holds of the request.

@@ -1,17 +1,19 @@
 //! A register in an earlier form is brought into the present one.
 
-ghost use Rattle.std.specs.Prelude.{◌≡◌, ◌⊎◌, ◌<◌, ◌≤◌, ◌^◌, ◌∷◌, ℕ, List, [], length, pos, false, None, Ok, Err, IsTrue, IfOk, IfErr, OnOk, OnErr};
+ghost use Rattle.std.specs.Prelude.{◌≡◌, ◌<◌, ◌^◌, ◌∷◌, ℕ, List, [], pos, false, None, Ok, Err, IsTrue, IfOk, IfErr, OnOk, OnErr};
 ghost use Rattle.filing_model.specs.Register.{register};
 ghost use Rattle.filing_model.specs.Request.{Request};
 ghost use Rattle.sqlite.specs.Held.{state};
 ghost use Rattle.sqlite.specs.declared.error.Error.{Error};
 ghost use Rattle.sqlite.specs.declared.types.Value.TheVariants.{Int};
 ghost use Rattle.sqlite.specs.State.{HasCleanDisk, Survives, ExecutesInside};
-ghost use Rattle.table_rows.specs.Standing.{HasCommitted, CommitsNothing, IsLasting, StaysCommitted};
+ghost use Rattle.table_rows.specs.Standing.{CommitsNothing, IsLasting, StaysCommitted};
 ghost use Rattle.register_store.specs.Changes.{AddsNothing};
-ghost use Rattle.register_store.specs.Earlier.{IsAlone, IsEarlierOf, is_blocked};
+ghost use Rattle.register_store.specs.Earlier.{ForEarlier, IsAlone, IsEarlierOf, is_blocked};
+ghost use Rattle.register_store.specs.Faults.{IsFailure};
 ghost use Rattle.register_store.specs.Migrating.{insert_early, write_fault, migrating, AreDone, StopsAt, AreCommitted, AreUndone, AreTreesOf, IsMigrated, IsNotMigrated, Migrates, MigratesTo};
-ghost use Rattle.register_store.specs.Store.{IsRegisterOf, LeavesOnly};
+ghost use Rattle.register_store.specs.Store.{LeavesOnly};
+ghost use Rattle.register_store.specs.Opening.{AreWithin, IsCounted};
 
 pub(crate) mod earlier;
 
@@ -148,13 +150,8 @@ pub fn migrate_register<S: Alter>(
         → IsAlone form (state S.Store conn.old).now.schema
         → IfOk result (λ counts. Migrates S.Store form counts conn.old conn.new) }
     ensures only { HasCleanDisk (state S.Store conn.new)
-        → IfOk result (λ counts.
-        (form : Earlier) (early : ℕ) (F : List Request) → IsAlone form (state S.Store conn.old).now.schema
-        → IsEarlierOf form early F (state S.Store conn.old).now
-        → (counts.early ≡ early) × HasCommitted (IsRegisterOf early F) (state S.Store conn.new)
-        × (counts.kept ≡ length F) × (counts.filings ≡ length (register F))) }
-    ensures few { IfOk result (λ counts.
-        (counts.kept ≤ 2 ^ 62) × (counts.filings ≤ counts.kept) × (counts.early ≤ counts.kept)) }
+        → IfOk result (λ counts. ForEarlier S.Store conn.old (λ _. IsCounted S.Store conn.new counts)) }
+    ensures few { IfOk result AreWithin }
 
     // The statements of the form that was read, and they alone, were run in one transaction and committed.
     ensures ran { HasCleanDisk (state S.Store conn.new)
@@ -167,17 +164,15 @@ pub fn migrate_register<S: Alter>(
     ensures sound { HasCleanDisk (state S.Store conn.new)
         → IfErr result (λ fault.
         (form : Earlier) (early : ℕ) (F : List Request) → IsEarlierOf form early F (state S.Store conn.old).now
-        → is_blocked (state S.Store conn.old).now.schema form ≡ false
-        → (fault ≡ OpenFault.Memory) ⊎ (fault ≡ OpenFault.Disk)) }
+        → is_blocked (state S.Store conn.old).now.schema form ≡ false → IsFailure fault) }
     ensures neither { HasCleanDisk (state S.Store conn.new)
         → OnErr result (AddsNothing (state S.Store conn.old) (state S.Store conn.new)) }
 
     // A crash leaves what it could leave before, or what all the statements make, and after the call the migrated rows alone.
     ensures crash { Survives (state S.Store conn.old) (state S.Store conn.new) (MigratesTo S.Store conn.old) }
     ensures durable { HasCleanDisk (state S.Store conn.new)
-        → OnOk result ((form : Earlier) (early : ℕ) (F : List Request)
-        → IsAlone form (state S.Store conn.old).now.schema → IsEarlierOf form early F (state S.Store conn.old).now
-        → IsTrue (state S.Store conn.new).is_open × (LeavesOnly (state S.Store conn.new) early F)) }
+        → OnOk result (ForEarlier S.Store conn.old (λ _ early F.
+        IsTrue (state S.Store conn.new).is_open × LeavesOnly (state S.Store conn.new) early F)) }
 {
     prove!(is_settled(conn));
     match read_earlier(alloc, conn) {

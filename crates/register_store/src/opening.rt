@@ -1,20 +1,20 @@
 //! What an opening finds in a database.
 
-ghost use Rattle.std.specs.Prelude.{◌≡◌, ◌≤◌, ◌<◌, ◌^◌, ◌⊎◌, ◌↔◌, ◌∷◌, [], ℕ, pos, List, length, false, not, Err, IsTrue, IfOk, IfErr, IfSome, OnOk, OnErr, None, Option};
+ghost use Rattle.std.specs.Prelude.{◌≡◌, ◌≤◌, ◌<◌, ◌^◌, ◌⊎◌, ◌↔◌, ◌∷◌, [], ℕ, pos, List, length, false, not, Err, IsTrue, IfOk, IfErr, IfSome, OnOk, None, Option};
 ghost use Rattle.filing_model.specs.Register.{register};
 ghost use Rattle.filing_model.specs.Request.{Request};
 ghost use Rattle.sqlite.specs.Held.{state};
 ghost use Rattle.sqlite.specs.Order.{column};
 ghost use Rattle.sqlite.specs.declared.types.Value.TheVariants.{Int};
-ghost use Rattle.sqlite.specs.State.{HasCleanDisk, IsLive, IsUnchanged, KeepsCommit};
+ghost use Rattle.sqlite.specs.State.{HasCleanDisk, IsLive, IsUnchanged};
 ghost use Rattle.table_rows.specs.Causes.{cause_of};
-ghost use Rattle.table_rows.specs.Standing.{HasCommitted, CommitsNothing, StaysAutocommit};
+ghost use Rattle.table_rows.specs.Standing.{HasCommitted, CommitsNothing, StaysAutocommit, KeepsOnErr, StaysOnOk};
 ghost use Rattle.register_store.specs.Audit.{IsVerdict};
-ghost use Rattle.register_store.specs.Faults.{meta_fault, table_fault};
-ghost use Rattle.register_store.specs.Opening.{all_meta, row_texts, new_texts, IsRead, AreRead, StopsFor, SaysEarly, SaysNothing, AreDamaged, IsRefused, IsRefusedAfter};
+ghost use Rattle.register_store.specs.Faults.{IsFailure, meta_fault, table_fault};
+ghost use Rattle.register_store.specs.Opening.{all_meta, row_texts, new_texts, IsRead, AreRead, StopsFor, SaysEarly, SaysNothing, AreDamaged, IsRefused, IsRefusedAfter, IsCounted, AreWithin};
 ghost use Rattle.register_store.specs.Register.{meta_row, migrated_row};
 ghost use Rattle.register_store.specs.Schema.{IsDeclared, HasCommon};
-ghost use Rattle.register_store.specs.Store.{IsRegisterOf};
+ghost use Rattle.register_store.specs.Store.{ForRows, IsRegisterOf};
 ghost use Rattle.register_store.specs.Walk.{AreCounted};
 
 pub(crate) mod audit;
@@ -221,8 +221,7 @@ fn count(
         × IsVerdict kept.now
         (record { finding = findings.now; filing = filings.now; fact = facts.now; amends = later.now.amends.items })
         (Verdict.Sound counts.filings)) }
-    ensures few { IfOk result (λ counts.
-        (counts.kept ≤ 2 ^ 62) × (counts.filings ≤ counts.kept) × (counts.early ≤ counts.kept)) }
+    ensures few { IfOk result AreWithin }
     ensures refused { IfErr result (λ fault.
         (fault ≡ OpenFault.Memory)
         ⊎ ((row : ℕ) × (fault ≡ OpenFault.Damaged row)
@@ -279,14 +278,12 @@ fn count_one_by_one<S: Alter, W: Watch>(
         AreCounted counts (record { migrated = later.now.migrated.items; amends = later.now.amends.items })
         (state S.Store conn.old).now)) }
     ensures few { IfOk result (λ found.
-        IfSome found (λ counts.
-        (counts.kept ≤ 2 ^ 62) × (counts.filings ≤ counts.kept) × (counts.early ≤ counts.kept))) }
+        IfSome found AreWithin) }
     ensures failed { HasCleanDisk (state S.Store conn.new)
         → IfErr result (λ fault.
         (error : Error) × (fault ≡ table_fault error)
         × StopsFor S.Store (cause_of error) row_texts conn.old conn.new) }
-    ensures same { HasCleanDisk (state S.Store conn.new)
-        → OnOk result (IsUnchanged (state S.Store conn.old) (state S.Store conn.new)) }
+    ensures same { StaysOnOk (state S.Store conn.old) (state S.Store conn.new) result }
     ensures mode { StaysAutocommit conn.old conn.new }
     ensures survives { CommitsNothing (state S.Store conn.old) (state S.Store conn.new) }
 {
@@ -325,8 +322,7 @@ fn count_all<S: Alter, W: Watch>(
         × (HasCommon (state S.Store conn.old).now.schema
         → AreCounted counts (record { migrated = later.now.migrated.items; amends = later.now.amends.items })
         (state S.Store conn.old).now)) }
-    ensures few { IfOk result (λ counts.
-        (counts.kept ≤ 2 ^ 62) × (counts.filings ≤ counts.kept) × (counts.early ≤ counts.kept)) }
+    ensures few { IfOk result AreWithin }
     ensures refused { HasCleanDisk (state S.Store conn.new)
         → IfErr result (λ fault.
         IsRefusedAfter S.Store (record {
@@ -370,26 +366,18 @@ pub fn read_register<S: Alter, W: Watch>(
         × HasCommitted (IsRegisterOf counts.early F) (state S.Store conn.new) × (counts.kept ≡ length F)
         × (counts.filings ≡ length (register F))) }
     ensures only { HasCleanDisk (state S.Store conn.new)
-        → IfOk result (λ counts.
-        (early : ℕ) (F : List Request) → IsRegisterOf early F (state S.Store conn.old).now
-        → (counts.early ≡ early) × HasCommitted (IsRegisterOf early F) (state S.Store conn.new)
-        × (counts.kept ≡ length F) × (counts.filings ≡ length (register F))) }
-    ensures few { IfOk result (λ counts.
-        (counts.kept ≤ 2 ^ 62) × (counts.filings ≤ counts.kept) × (counts.early ≤ counts.kept)) }
+        → IfOk result (λ counts. ForRows S.Store conn.old (IsCounted S.Store conn.new counts)) }
+    ensures few { IfOk result AreWithin }
 
     // A refusal says why; where the rows stand for requests, it is by memory or disk.
     ensures refused { HasCleanDisk (state S.Store conn.new)
         → IfErr result (λ fault. IsRefused S.Store fault conn.old conn.new) }
     ensures sound { HasCleanDisk (state S.Store conn.new)
-        → IfErr result (λ fault.
-        (early : ℕ) (F : List Request) → IsRegisterOf early F (state S.Store conn.old).now
-        → (fault ≡ OpenFault.Memory) ⊎ (fault ≡ OpenFault.Disk)) }
+        → IfErr result (λ fault. ForRows S.Store conn.old (λ _ _. IsFailure fault)) }
 
     // The connection is as it was, and after a refusal at least what is committed. A crash leaves what it could leave before.
-    ensures same { HasCleanDisk (state S.Store conn.new)
-        → OnOk result (IsUnchanged (state S.Store conn.old) (state S.Store conn.new)) }
-    ensures keeps { HasCleanDisk (state S.Store conn.new)
-        → OnErr result (KeepsCommit (state S.Store conn.old) (state S.Store conn.new)) }
+    ensures same { StaysOnOk (state S.Store conn.old) (state S.Store conn.new) result }
+    ensures keeps { KeepsOnErr (state S.Store conn.old) (state S.Store conn.new) result }
     ensures mode { conn.new.in_transaction ≡ false }
     ensures survives { CommitsNothing (state S.Store conn.old) (state S.Store conn.new) }
 {

@@ -11,11 +11,11 @@ ghost use Rattle.filing_model.specs.Answer.{kept_for};
 ghost use Rattle.filing_model.specs.Style.{style_of};
 ghost use Rattle.filing_model.specs.Views.{the_request};
 ghost use Rattle.sqlite.specs.Held.{state};
-ghost use Rattle.sqlite.specs.State.{HasCleanDisk, IsUnchanged, Survives};
+ghost use Rattle.sqlite.specs.State.{IsUnchanged, Survives};
 ghost use Rattle.table_rows.specs.Tables.{no_schema};
 ghost use Rattle.register_store.specs.Schema.{is_taken};
 ghost use Rattle.register_store.specs.Refusals.{GivesUpMaking, GivesUpMigrating, GivesUpOpening};
-ghost use Rattle.register_store.specs.Store.{ForNew, ForRequests, IsDurableAs, SurvivesAs};
+ghost use Rattle.register_store.specs.Store.{ForNew, ForRequests, ForRows, HandsOut, IsDurableAs, SurvivesAs};
 ghost use Rattle.table_rows.specs.Standing.{CommitsNothing};
 
 pub(crate) mod files;
@@ -77,10 +77,8 @@ impl<S: Alter + Drop> Store<S> {
     pub fn create(alloc: Global, mut conn: Connection<S>) -> Result<Store<S>, CreateFault>
         requires autocommit { conn.in_transaction ≡ false }
         requires unlimited { conn.step_limit ≡ None }
-        ensures made { IfOk result (λ store.
-            HasCleanDisk (shows S.Store store) → (state S.Store conn).now.schema ≡ no_schema
-            → HasRequests S.Store store []) }
-
+        ensures made { HandsOut S.Store result (λ store.
+            (state S.Store conn).now.schema ≡ no_schema → HasRequests S.Store store []) }
         ensures counts { IfOk result (λ store. (store.kept ≡ 0) × (store.filings ≡ 0) × (store.early ≡ 0)) }
 
         // Taken comes where one of the names is in use, and always there.
@@ -93,9 +91,8 @@ impl<S: Alter + Drop> Store<S> {
         ensures crash { IfOk result (λ store.
             Survives (state S.Store conn) (shows S.Store store) (λ trees.
             (state S.Store conn).now.schema ≡ no_schema → LeavesRegister 0 [] trees)) }
-        ensures durable { IfOk result (λ store.
-            HasCleanDisk (shows S.Store store) → (state S.Store conn).now.schema ≡ no_schema
-            → IsDurableAs S.Store store 0 []) }
+        ensures durable { HandsOut S.Store result (λ store.
+            (state S.Store conn).now.schema ≡ no_schema → IsDurableAs S.Store store 0 []) }
     {
         match make_register(&mut conn) {
             Ok(()) => Ok(Store {
@@ -121,24 +118,19 @@ impl<S: Alter + Drop> Store<S> {
         requires unlimited { conn.step_limit ≡ None }
 
         // The store has the requests that the rows stand for, and there is one such list at most.
-        ensures opened { IfOk result (λ store.
-            HasCleanDisk (shows S.Store store) → IsDeclared (state S.Store conn).now.schema
-            → (F : List Request) × IsRegisterOf store.early F (state S.Store conn).now
-            × HasRequests S.Store store F) }
-        ensures only { IfOk result (λ store.
-            HasCleanDisk (shows S.Store store) → (early : ℕ) (F : List Request)
-            → IsRegisterOf early F (state S.Store conn).now → (store.early ≡ early) × HasRequests S.Store store F) }
-        ensures same { IfOk result (λ store.
-            HasCleanDisk (shows S.Store store) → IsUnchanged (state S.Store conn) (shows S.Store store)) }
+        ensures opened { HandsOut S.Store result (λ store.
+            IsDeclared (state S.Store conn).now.schema
+            → (F : List Request) × IsRegisterOf store.early F (state S.Store conn).now × HasRequests S.Store store F) }
+        ensures only { HandsOut S.Store result (λ store.
+            ForRows S.Store conn (λ early F. (store.early ≡ early) × HasRequests S.Store store F)) }
+        ensures same { HandsOut S.Store result (λ store. IsUnchanged (state S.Store conn) (shows S.Store store)) }
 
         // Of the connection as it was given up; `read_register` says the same of one that is kept.
         ensures refused { IfErr result (GivesUpOpening S.Store conn) }
 
         // A crash leaves what it could leave before, and after the call these requests alone.
         ensures crash { IfOk result (λ store. CommitsNothing (state S.Store conn) (shows S.Store store)) }
-        ensures durable { IfOk result (λ store.
-            HasCleanDisk (shows S.Store store) → (early : ℕ) (F : List Request)
-            → IsRegisterOf early F (state S.Store conn).now → IsDurableAs S.Store store early F) }
+        ensures durable { HandsOut S.Store result (λ store. ForRows S.Store conn (IsDurableAs S.Store store)) }
     {
         let mut conn = conn;
         match read_register(alloc, &mut conn, &mut Unwatched) {
@@ -270,7 +262,7 @@ impl<S: Alter> Store<S> {
 
 impl<S: Alter + Drop> Store<S> {
     ghost use Rattle.register_store.specs.declared.migrate.earlier.Earlier.{Earlier};
-    ghost use Rattle.register_store.specs.Earlier.{IsAlone, IsEarlierOf};
+    ghost use Rattle.register_store.specs.Earlier.{IsAlone, IsEarlierOf, ForEarlier};
     ghost use Rattle.register_store.specs.Store.{shows, HasRequests, LeavesRegister};
 
     /// Brings the register that the database holds from an earlier form into the present one, in one transaction, and opens
@@ -281,14 +273,12 @@ impl<S: Alter + Drop> Store<S> {
         requires unlimited { conn.step_limit ≡ None }
 
         // The store has the requests that the rows stood for, and there is one such list at most.
-        ensures migrated { IfOk result (λ store.
-            HasCleanDisk (shows S.Store store) → (form : Earlier) → IsAlone form (state S.Store conn).now.schema
+        ensures migrated { HandsOut S.Store result (λ store.
+            (form : Earlier) → IsAlone form (state S.Store conn).now.schema
             → (F : List Request) × IsEarlierOf form store.early F (state S.Store conn).now
             × HasRequests S.Store store F) }
-        ensures only { IfOk result (λ store.
-            HasCleanDisk (shows S.Store store) → (form : Earlier) (early : ℕ) (F : List Request)
-            → IsAlone form (state S.Store conn).now.schema → IsEarlierOf form early F (state S.Store conn).now
-            → (store.early ≡ early) × HasRequests S.Store store F) }
+        ensures only { HandsOut S.Store result (λ store.
+            ForEarlier S.Store conn (λ _ early F. (store.early ≡ early) × HasRequests S.Store store F)) }
 
         // Of the connection as it was given up; `migrate_register` says the same of one that is kept.
         ensures refused { IfErr result (GivesUpMigrating S.Store conn) }
@@ -296,12 +286,8 @@ impl<S: Alter + Drop> Store<S> {
         // A crash leaves what it could leave before, or the migrated rows, and after the call these alone.
         ensures crash { IfOk result (λ store.
             Survives (state S.Store conn) (shows S.Store store) (λ trees.
-            (form : Earlier) (early : ℕ) (F : List Request) → IsAlone form (state S.Store conn).now.schema
-            → IsEarlierOf form early F (state S.Store conn).now → LeavesRegister early F trees)) }
-        ensures durable { IfOk result (λ store.
-            HasCleanDisk (shows S.Store store) → (form : Earlier) (early : ℕ) (F : List Request)
-            → IsAlone form (state S.Store conn).now.schema → IsEarlierOf form early F (state S.Store conn).now
-            → IsDurableAs S.Store store early F) }
+            ForEarlier S.Store conn (λ _ early F. LeavesRegister early F trees))) }
+        ensures durable { HandsOut S.Store result (λ store. ForEarlier S.Store conn (λ _. IsDurableAs S.Store store)) }
     {
         let mut conn = conn;
         match migrate_register(alloc, &mut conn) {

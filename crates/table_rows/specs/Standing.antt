@@ -1,5 +1,5 @@
 -- What a connection keeps between calls.
-use Rattle.std.specs.Prelude.{◌≡◌, ◌⊎◌, false, IsTrue}
+use Rattle.std.specs.Prelude.{◌≡◌, ◌⊎◌, false, Result, IsTrue, OnOk, OnErr}
 use Rattle.sqlite.specs.Store.{Ghosts}
 use Rattle.sqlite.specs.Tree.{Trees}
 use Rattle.sqlite.specs.Effect.{Database}
@@ -31,6 +31,14 @@ StaysAutocommit old new = old.in_transaction ≡ false → new.in_transaction �
 -- Where the disk is clean at the end, what was committed is committed still.
 abbrev pub StaysCommitted : {S : Type 0} → Ghosts S → Held S → Held S → Type 0
 StaysCommitted g old new = HasCleanDisk (state g new) → KeepsCommit (state g old) (state g new)
+
+-- Where the disk is clean at the end, an answer leaves the database as it was,
+abbrev pub StaysOnOk : {X E : Type 0} → State → State → Result X E → Type 0
+StaysOnOk old new result = HasCleanDisk new → OnOk result (IsUnchanged old new)
+
+-- and a refusal leaves what was committed.
+abbrev pub KeepsOnErr : {X E : Type 0} → State → State → Result X E → Type 0
+KeepsOnErr old new result = HasCleanDisk new → OnErr result (KeepsCommit old new)
 
 -- the store is open, and the database is committed as it is
 abbrev pub IsCommitted : State → Type 0

@@ -1,14 +1,14 @@
 //! What is read of a register in a form before this one.
 
-ghost use Rattle.std.specs.Prelude.{◌≡◌, ◌≢◌, ◌≤◌, ◌^◌, ◌⊎◌, ◌↔◌, ◌∷◌, [], ℕ, pos, length, IsTrue, IfOk, IfErr, IfSome, OnOk, None};
+ghost use Rattle.std.specs.Prelude.{◌≡◌, ◌≢◌, ◌≤◌, ◌^◌, ◌⊎◌, ◌↔◌, ◌∷◌, [], ℕ, pos, length, IsTrue, IfOk, IfErr, IfSome, None};
 ghost use Rattle.sqlite.specs.Held.{state};
-ghost use Rattle.sqlite.specs.State.{HasCleanDisk, IsUnchanged};
+ghost use Rattle.sqlite.specs.State.{HasCleanDisk};
 ghost use Rattle.register_store.specs.Audit.{IsVerdict};
 ghost use Rattle.register_store.specs.Earlier.{form_number};
 ghost use Rattle.register_store.specs.Migrating.{AreTotals, IsCounted, IsSurveyed, IsNotSurveyed, HasNoForm, HasNoTotals, HasNoCounts, SaysNone};
-ghost use Rattle.register_store.specs.Opening.{all_meta, IsRead};
+ghost use Rattle.register_store.specs.Opening.{AreWithin, all_meta, IsRead};
 ghost use Rattle.register_store.specs.Register.{form_row, migrated_row};
-ghost use Rattle.table_rows.specs.Standing.{CommitsNothing, StaysAutocommit};
+ghost use Rattle.table_rows.specs.Standing.{CommitsNothing, StaysAutocommit, StaysOnOk};
 
 use crate::decode::cells::{Cell, is_row};
 use crate::fault::OpenFault;
@@ -163,8 +163,7 @@ fn count_walked<S: Alter>(
         IfSome found (λ totals. (totals.kept ≤ 2 ^ 62) × (totals.filings ≤ totals.kept))) }
     ensures refused { HasCleanDisk (state S.Store conn.new)
         → IfErr result (λ fault. HasNoTotals S.Store fault conn.old conn.new) }
-    ensures same { HasCleanDisk (state S.Store conn.new)
-        → OnOk result (IsUnchanged (state S.Store conn.old) (state S.Store conn.new)) }
+    ensures same { StaysOnOk (state S.Store conn.old) (state S.Store conn.new) result }
     ensures mode { StaysAutocommit conn.old conn.new }
     ensures survives { CommitsNothing (state S.Store conn.old) (state S.Store conn.new) }
 {
@@ -210,8 +209,7 @@ fn early_of(rows: &[Row], kept: u64) -> Option<u64>
 fn count_second<S: Alter>(alloc: Global, conn: &mut Connection<S>) -> Result<Counts, OpenFault>
     ensures counted { HasCleanDisk (state S.Store conn.new)
         → IfOk result (λ counts. IsCounted S.Store Earlier.Second counts conn.old conn.new) }
-    ensures few { IfOk result (λ counts.
-        (counts.kept ≤ 2 ^ 62) × (counts.filings ≤ counts.kept) × (counts.early ≤ counts.kept)) }
+    ensures few { IfOk result AreWithin }
     ensures refused { HasCleanDisk (state S.Store conn.new)
         → IfErr result (λ fault. HasNoCounts S.Store Earlier.Second fault conn.old conn.new) }
     ensures mode { StaysAutocommit conn.old conn.new }
@@ -248,8 +246,7 @@ fn counts_with(totals: Totals, migrated: &[Row]) -> Result<Counts, OpenFault>
 fn count_third<S: Alter>(alloc: Global, conn: &mut Connection<S>) -> Result<Counts, OpenFault>
     ensures counted { HasCleanDisk (state S.Store conn.new)
         → IfOk result (λ counts. IsCounted S.Store Earlier.Third counts conn.old conn.new) }
-    ensures few { IfOk result (λ counts.
-        (counts.kept ≤ 2 ^ 62) × (counts.filings ≤ counts.kept) × (counts.early ≤ counts.kept)) }
+    ensures few { IfOk result AreWithin }
     ensures refused { HasCleanDisk (state S.Store conn.new)
         → IfErr result (λ fault. HasNoCounts S.Store Earlier.Third fault conn.old conn.new) }
     ensures mode { StaysAutocommit conn.old conn.new }
@@ -278,8 +275,7 @@ fn count_in<S: Alter>(
 ) -> Result<Counts, OpenFault>
     ensures counted { HasCleanDisk (state S.Store conn.new)
         → IfOk result (λ counts. IsCounted S.Store form counts conn.old conn.new) }
-    ensures few { IfOk result (λ counts.
-        (counts.kept ≤ 2 ^ 62) × (counts.filings ≤ counts.kept) × (counts.early ≤ counts.kept)) }
+    ensures few { IfOk result AreWithin }
     ensures refused { HasCleanDisk (state S.Store conn.new)
         → IfErr result (λ fault. HasNoCounts S.Store form fault conn.old conn.new) }
     ensures mode { StaysAutocommit conn.old conn.new }

@@ -14,11 +14,11 @@ ghost use Rattle.register_store.specs.Columns.{request_in};
 ghost use Rattle.register_store.specs.Filed.{AreFiled};
 ghost use Rattle.register_store.specs.Found.{has_texts};
 ghost use Rattle.register_store.specs.Outcomes.{outcome_of};
-ghost use Rattle.table_rows.specs.Picking.{has_number, IsStopped, Picks, rows_in};
+ghost use Rattle.table_rows.specs.Picking.{has_number, IsStopped, Picks, rows_in, StopsOnErr};
 ghost use Rattle.register_store.specs.Register.{IsCompleted, kept_row, finding_row, fact_row, amends_rows_by};
 ghost use Rattle.register_store.specs.Schema.{HasCommon, kept_table, finding_table, filing_table, fact_table};
 ghost use Rattle.register_store.specs.Walk.{Amounts, Beyond, Passes, Walked};
-ghost use Rattle.table_rows.specs.Standing.{CommitsNothing, StaysAutocommit};
+ghost use Rattle.table_rows.specs.Standing.{CommitsNothing, StaysAutocommit, StaysOnOk};
 
 use crate::opening::audit::{MAX_KEPT, bytes_at, filer_of, is_kept_row, is_target, text_at};
 use crate::opening::filed::Filed;
@@ -83,10 +83,8 @@ fn has_findings<S: Alter>(
         IsTrue found
         → Picks finding_table (has_number seq) (counted_from (finding_row seq) 1 findings.now)
         (state S.Store conn.old).now) }
-    ensures same { HasCleanDisk (state S.Store conn.new)
-        → OnOk result (IsUnchanged (state S.Store conn.old) (state S.Store conn.new)) }
-    ensures stopped { HasCleanDisk (state S.Store conn.new)
-        → IfErr result (IsStopped (state S.Store conn.old) (state S.Store conn.new)) }
+    ensures same { StaysOnOk (state S.Store conn.old) (state S.Store conn.new) result }
+    ensures stopped { StopsOnErr (state S.Store conn.old) (state S.Store conn.new) result }
     ensures mode { StaysAutocommit conn.old conn.new }
     ensures survives { CommitsNothing (state S.Store conn.old) (state S.Store conn.new) }
 {
@@ -105,10 +103,8 @@ fn has_filing<S: Alter>(conn: &mut Connection<S>, number: u64, seq: u64) -> Resu
         IsTrue found
         → Picks filing_table (has_number number) ((Int (pos number) ∷ Int (pos seq) ∷ []) ∷ [])
         (state S.Store conn.old).now) }
-    ensures same { HasCleanDisk (state S.Store conn.new)
-        → OnOk result (IsUnchanged (state S.Store conn.old) (state S.Store conn.new)) }
-    ensures stopped { HasCleanDisk (state S.Store conn.new)
-        → IfErr result (IsStopped (state S.Store conn.old) (state S.Store conn.new)) }
+    ensures same { StaysOnOk (state S.Store conn.old) (state S.Store conn.new) result }
+    ensures stopped { StopsOnErr (state S.Store conn.old) (state S.Store conn.new) result }
     ensures mode { StaysAutocommit conn.old conn.new }
     ensures survives { CommitsNothing (state S.Store conn.old) (state S.Store conn.new) }
 {
@@ -126,10 +122,8 @@ fn has_facts<S: Alter>(conn: &mut Connection<S>, number: u64, facts: &[Fact]) ->
         IsTrue found
         → Picks fact_table (has_number number) (counted_from (fact_row number) 1 facts.now)
         (state S.Store conn.old).now) }
-    ensures same { HasCleanDisk (state S.Store conn.new)
-        → OnOk result (IsUnchanged (state S.Store conn.old) (state S.Store conn.new)) }
-    ensures stopped { HasCleanDisk (state S.Store conn.new)
-        → IfErr result (IsStopped (state S.Store conn.old) (state S.Store conn.new)) }
+    ensures same { StaysOnOk (state S.Store conn.old) (state S.Store conn.new) result }
+    ensures stopped { StopsOnErr (state S.Store conn.old) (state S.Store conn.new) result }
     ensures mode { StaysAutocommit conn.old conn.new }
     ensures survives { CommitsNothing (state S.Store conn.old) (state S.Store conn.new) }
 {
@@ -147,10 +141,8 @@ fn is_alone<S: Alter>(conn: &mut Connection<S>, row: &Row) -> Result<bool, Error
         → length (filter (has_texts (request_in None row.now).filer (request_in None row.now).key)
         (rows_in (state S.Store conn.old).now kept_table))
         ≡ 1) }
-    ensures same { HasCleanDisk (state S.Store conn.new)
-        → OnOk result (IsUnchanged (state S.Store conn.old) (state S.Store conn.new)) }
-    ensures stopped { HasCleanDisk (state S.Store conn.new)
-        → IfErr result (IsStopped (state S.Store conn.old) (state S.Store conn.new)) }
+    ensures same { StaysOnOk (state S.Store conn.old) (state S.Store conn.new) result }
+    ensures stopped { StopsOnErr (state S.Store conn.old) (state S.Store conn.new) result }
     ensures mode { StaysAutocommit conn.old conn.new }
     ensures survives { CommitsNothing (state S.Store conn.old) (state S.Store conn.new) }
 {
@@ -204,10 +196,8 @@ fn pass_refused<'a, S: Alter>(
         → Beyond seq k left.entry tail (state S.Store conn.old).now)) }
     ensures rest { IfOk result (λ passed.
         IfSome passed (λ tail. (tail.number ≤ left.entry.number + 1) × (tail.amends.now ≡ left.entry.amends.now))) }
-    ensures same { HasCleanDisk (state S.Store conn.new)
-        → OnOk result (IsUnchanged (state S.Store conn.old) (state S.Store conn.new)) }
-    ensures stopped { HasCleanDisk (state S.Store conn.new)
-        → IfErr result (IsStopped (state S.Store conn.old) (state S.Store conn.new)) }
+    ensures same { StaysOnOk (state S.Store conn.old) (state S.Store conn.new) result }
+    ensures stopped { StopsOnErr (state S.Store conn.old) (state S.Store conn.new) result }
     ensures mode { StaysAutocommit conn.old conn.new }
     ensures survives { CommitsNothing (state S.Store conn.old) (state S.Store conn.new) }
 {
@@ -234,10 +224,8 @@ fn pass_registered<'a, S: Alter>(
         → Beyond seq k left.entry tail (state S.Store conn.old).now)) }
     ensures rest { IfOk result (λ passed.
         IfSome passed (λ tail. (tail.number ≤ left.entry.number + 1) × (tail.amends.now ≡ left.entry.amends.now))) }
-    ensures same { HasCleanDisk (state S.Store conn.new)
-        → OnOk result (IsUnchanged (state S.Store conn.old) (state S.Store conn.new)) }
-    ensures stopped { HasCleanDisk (state S.Store conn.new)
-        → IfErr result (IsStopped (state S.Store conn.old) (state S.Store conn.new)) }
+    ensures same { StaysOnOk (state S.Store conn.old) (state S.Store conn.new) result }
+    ensures stopped { StopsOnErr (state S.Store conn.old) (state S.Store conn.new) result }
     ensures mode { StaysAutocommit conn.old conn.new }
     ensures survives { CommitsNothing (state S.Store conn.old) (state S.Store conn.new) }
 {
@@ -278,8 +266,7 @@ fn pass_as<'a, S: Alter>(
         IfSome passed (λ tail. (tail.number ≤ left.entry.number + 1) × (tail.amends.now ≡ left.entry.amends.now))) }
     ensures same { HasCleanDisk (state S.Store conn.new) → IsTrue (state S.Store conn.old).is_open
         → OnOk result (IsUnchanged (state S.Store conn.old) (state S.Store conn.new)) }
-    ensures stopped { HasCleanDisk (state S.Store conn.new)
-        → IfErr result (IsStopped (state S.Store conn.old) (state S.Store conn.new)) }
+    ensures stopped { StopsOnErr (state S.Store conn.old) (state S.Store conn.new) result }
     ensures mode { StaysAutocommit conn.old conn.new }
     ensures survives { CommitsNothing (state S.Store conn.old) (state S.Store conn.new) }
 {
@@ -331,8 +318,7 @@ fn pass_filed<'a, S: Alter>(
         IfSome passed (λ tail. (tail.number ≤ left.entry.number + 1) × (tail.amends.now ≡ left.entry.amends.now))) }
     ensures same { HasCleanDisk (state S.Store conn.new) → IsTrue (state S.Store conn.old).is_open
         → OnOk result (IsUnchanged (state S.Store conn.old) (state S.Store conn.new)) }
-    ensures stopped { HasCleanDisk (state S.Store conn.new)
-        → IfErr result (IsStopped (state S.Store conn.old) (state S.Store conn.new)) }
+    ensures stopped { StopsOnErr (state S.Store conn.old) (state S.Store conn.new) result }
     ensures mode { StaysAutocommit conn.old conn.new }
     ensures survives { CommitsNothing (state S.Store conn.old) (state S.Store conn.new) }
 {
@@ -373,8 +359,7 @@ fn pass_judged<'a, S: Alter>(
     ensures number { IfOk result (λ passed. IfSome passed (λ tail. tail.number ≤ left.entry.number + 1)) }
     ensures same { HasCleanDisk (state S.Store conn.new) → IsTrue (state S.Store conn.old).is_open
         → OnOk result (IsUnchanged (state S.Store conn.old) (state S.Store conn.new)) }
-    ensures stopped { HasCleanDisk (state S.Store conn.new)
-        → IfErr result (IsStopped (state S.Store conn.old) (state S.Store conn.new)) }
+    ensures stopped { StopsOnErr (state S.Store conn.old) (state S.Store conn.new) result }
     ensures mode { StaysAutocommit conn.old conn.new }
     ensures survives { CommitsNothing (state S.Store conn.old) (state S.Store conn.new) }
 {
@@ -406,10 +391,8 @@ fn pass<'a, S: Alter>(
         (r : Request) × Passes F seq left.entry tail (state S.Store conn.old).now r
         × AreFiled (filings (kept F ++ judged (kept F) r ∷ [])) filed.new)) }
     ensures number { IfOk result (λ passed. IfSome passed (λ tail. tail.number ≤ left.entry.number + 1)) }
-    ensures same { HasCleanDisk (state S.Store conn.new)
-        → OnOk result (IsUnchanged (state S.Store conn.old) (state S.Store conn.new)) }
-    ensures stopped { HasCleanDisk (state S.Store conn.new)
-        → IfErr result (IsStopped (state S.Store conn.old) (state S.Store conn.new)) }
+    ensures same { StaysOnOk (state S.Store conn.old) (state S.Store conn.new) result }
+    ensures stopped { StopsOnErr (state S.Store conn.old) (state S.Store conn.new) result }
     ensures mode { StaysAutocommit conn.old conn.new }
     ensures survives { CommitsNothing (state S.Store conn.old) (state S.Store conn.new) }
 {
@@ -481,10 +464,8 @@ fn count_tables<'a, S: Alter>(
         IfSome sizes (λ s. Walked amends.now s.kept 0 s.others (state S.Store conn.old).now [])) }
     ensures first { IfOk result (λ sizes.
         IfSome sizes (λ s. (s.others.number ≡ 1) × (s.others.amends.now ≡ amends.now))) }
-    ensures same { HasCleanDisk (state S.Store conn.new)
-        → OnOk result (IsUnchanged (state S.Store conn.old) (state S.Store conn.new)) }
-    ensures stopped { HasCleanDisk (state S.Store conn.new)
-        → IfErr result (IsStopped (state S.Store conn.old) (state S.Store conn.new)) }
+    ensures same { StaysOnOk (state S.Store conn.old) (state S.Store conn.new) result }
+    ensures stopped { StopsOnErr (state S.Store conn.old) (state S.Store conn.new) result }
     ensures mode { StaysAutocommit conn.old conn.new }
     ensures survives { CommitsNothing (state S.Store conn.old) (state S.Store conn.new) }
 {
@@ -565,10 +546,8 @@ pub(crate) fn count_by_walk<S: Alter, W: Watch>(
         → IfOk result (λ found. IfSome found (λ counts. Amounts counts amends.now (state S.Store conn.old).now)) }
     ensures few { IfOk result (λ found.
         IfSome found (λ counts. (counts.kept ≤ 2 ^ 62) × (counts.filings ≤ counts.kept))) }
-    ensures same { HasCleanDisk (state S.Store conn.new)
-        → OnOk result (IsUnchanged (state S.Store conn.old) (state S.Store conn.new)) }
-    ensures stopped { HasCleanDisk (state S.Store conn.new)
-        → IfErr result (IsStopped (state S.Store conn.old) (state S.Store conn.new)) }
+    ensures same { StaysOnOk (state S.Store conn.old) (state S.Store conn.new) result }
+    ensures stopped { StopsOnErr (state S.Store conn.old) (state S.Store conn.new) result }
     ensures mode { StaysAutocommit conn.old conn.new }
     ensures survives { CommitsNothing (state S.Store conn.old) (state S.Store conn.new) }
 {

@@ -1,12 +1,12 @@
 //! The SELECTs of a walk over a register's tables: the rows of one table with a key, by what is left of its key, or how many rows it has.
 
-ghost use Rattle.std.specs.Prelude.{◌≡◌, ◌<◌, ◌^◌, ◌-◌, pos, length, filter, [], IfOk, IfErr, IfSome, OnOk};
+ghost use Rattle.std.specs.Prelude.{◌≡◌, ◌<◌, ◌^◌, ◌-◌, pos, length, filter, [], IfOk, IfSome};
 ghost use Rattle.sqlite.specs.Held.{state};
-ghost use Rattle.sqlite.specs.State.{HasCleanDisk, IsUnchanged};
+ghost use Rattle.sqlite.specs.State.{HasCleanDisk};
 ghost use Rattle.register_store.specs.Found.{has_texts};
-ghost use Rattle.table_rows.specs.Picking.{has_number, CountsTo, IsStopped, Picks, rows_in};
+ghost use Rattle.table_rows.specs.Picking.{has_number, CountsTo, Picks, rows_in, StopsOnErr};
 ghost use Rattle.register_store.specs.Schema.{HasCommon, kept_table, finding_table, filing_table, fact_table};
-ghost use Rattle.table_rows.specs.Standing.{CommitsNothing, StaysAutocommit};
+ghost use Rattle.table_rows.specs.Standing.{CommitsNothing, StaysAutocommit, StaysOnOk};
 
 use sqlite::types::ValueRef;
 use sqlite::{Alter, Connection, Error, Row, params};
@@ -17,10 +17,8 @@ pub(crate) fn kept_at<S: Alter>(conn: &mut Connection<S>, seq: u64) -> Result<Ve
     requires { seq < 2 ^ 63 }
     ensures picks { HasCleanDisk (state S.Store conn.new) → HasCommon (state S.Store conn.old).now.schema
         → IfOk result (λ rows. Picks kept_table (has_number seq) rows.items (state S.Store conn.old).now) }
-    ensures same { HasCleanDisk (state S.Store conn.new)
-        → OnOk result (IsUnchanged (state S.Store conn.old) (state S.Store conn.new)) }
-    ensures stopped { HasCleanDisk (state S.Store conn.new)
-        → IfErr result (IsStopped (state S.Store conn.old) (state S.Store conn.new)) }
+    ensures same { StaysOnOk (state S.Store conn.old) (state S.Store conn.new) result }
+    ensures stopped { StopsOnErr (state S.Store conn.old) (state S.Store conn.new) result }
     ensures mode { StaysAutocommit conn.old conn.new }
     ensures survives { CommitsNothing (state S.Store conn.old) (state S.Store conn.new) }
 {
@@ -35,10 +33,8 @@ pub(crate) fn findings_at<S: Alter>(conn: &mut Connection<S>, seq: u64) -> Resul
     requires { seq < 2 ^ 63 }
     ensures picks { HasCleanDisk (state S.Store conn.new) → HasCommon (state S.Store conn.old).now.schema
         → IfOk result (λ rows. Picks finding_table (has_number seq) rows.items (state S.Store conn.old).now) }
-    ensures same { HasCleanDisk (state S.Store conn.new)
-        → OnOk result (IsUnchanged (state S.Store conn.old) (state S.Store conn.new)) }
-    ensures stopped { HasCleanDisk (state S.Store conn.new)
-        → IfErr result (IsStopped (state S.Store conn.old) (state S.Store conn.new)) }
+    ensures same { StaysOnOk (state S.Store conn.old) (state S.Store conn.new) result }
+    ensures stopped { StopsOnErr (state S.Store conn.old) (state S.Store conn.new) result }
     ensures mode { StaysAutocommit conn.old conn.new }
     ensures survives { CommitsNothing (state S.Store conn.old) (state S.Store conn.new) }
 {
@@ -56,10 +52,8 @@ pub(crate) fn filings_numbered<S: Alter>(
     requires { number < 2 ^ 63 }
     ensures picks { HasCleanDisk (state S.Store conn.new) → HasCommon (state S.Store conn.old).now.schema
         → IfOk result (λ rows. Picks filing_table (has_number number) rows.items (state S.Store conn.old).now) }
-    ensures same { HasCleanDisk (state S.Store conn.new)
-        → OnOk result (IsUnchanged (state S.Store conn.old) (state S.Store conn.new)) }
-    ensures stopped { HasCleanDisk (state S.Store conn.new)
-        → IfErr result (IsStopped (state S.Store conn.old) (state S.Store conn.new)) }
+    ensures same { StaysOnOk (state S.Store conn.old) (state S.Store conn.new) result }
+    ensures stopped { StopsOnErr (state S.Store conn.old) (state S.Store conn.new) result }
     ensures mode { StaysAutocommit conn.old conn.new }
     ensures survives { CommitsNothing (state S.Store conn.old) (state S.Store conn.new) }
 {
@@ -77,10 +71,8 @@ pub(crate) fn facts_numbered<S: Alter>(
     requires { number < 2 ^ 63 }
     ensures picks { HasCleanDisk (state S.Store conn.new) → HasCommon (state S.Store conn.old).now.schema
         → IfOk result (λ rows. Picks fact_table (has_number number) rows.items (state S.Store conn.old).now) }
-    ensures same { HasCleanDisk (state S.Store conn.new)
-        → OnOk result (IsUnchanged (state S.Store conn.old) (state S.Store conn.new)) }
-    ensures stopped { HasCleanDisk (state S.Store conn.new)
-        → IfErr result (IsStopped (state S.Store conn.old) (state S.Store conn.new)) }
+    ensures same { StaysOnOk (state S.Store conn.old) (state S.Store conn.new) result }
+    ensures stopped { StopsOnErr (state S.Store conn.old) (state S.Store conn.new) result }
     ensures mode { StaysAutocommit conn.old conn.new }
     ensures survives { CommitsNothing (state S.Store conn.old) (state S.Store conn.new) }
 {
@@ -99,10 +91,8 @@ pub(crate) fn count_with_key<S: Alter>(
     ensures counted { HasCleanDisk (state S.Store conn.new) → HasCommon (state S.Store conn.old).now.schema
         → IfOk result (λ count.
         count ≡ length (filter (has_texts filer.now key.now) (rows_in (state S.Store conn.old).now kept_table))) }
-    ensures same { HasCleanDisk (state S.Store conn.new)
-        → OnOk result (IsUnchanged (state S.Store conn.old) (state S.Store conn.new)) }
-    ensures stopped { HasCleanDisk (state S.Store conn.new)
-        → IfErr result (IsStopped (state S.Store conn.old) (state S.Store conn.new)) }
+    ensures same { StaysOnOk (state S.Store conn.old) (state S.Store conn.new) result }
+    ensures stopped { StopsOnErr (state S.Store conn.old) (state S.Store conn.new) result }
     ensures mode { StaysAutocommit conn.old conn.new }
     ensures survives { CommitsNothing (state S.Store conn.old) (state S.Store conn.new) }
 {
@@ -119,10 +109,8 @@ pub(crate) fn count_with_key<S: Alter>(
 pub(crate) fn count_kept<S: Alter>(conn: &mut Connection<S>) -> Result<Option<u64>, Error>
     ensures counted { HasCleanDisk (state S.Store conn.new) → HasCommon (state S.Store conn.old).now.schema
         → IfOk result (λ found. IfSome found (λ count. CountsTo kept_table count (state S.Store conn.old).now)) }
-    ensures same { HasCleanDisk (state S.Store conn.new)
-        → OnOk result (IsUnchanged (state S.Store conn.old) (state S.Store conn.new)) }
-    ensures stopped { HasCleanDisk (state S.Store conn.new)
-        → IfErr result (IsStopped (state S.Store conn.old) (state S.Store conn.new)) }
+    ensures same { StaysOnOk (state S.Store conn.old) (state S.Store conn.new) result }
+    ensures stopped { StopsOnErr (state S.Store conn.old) (state S.Store conn.new) result }
     ensures mode { StaysAutocommit conn.old conn.new }
     ensures survives { CommitsNothing (state S.Store conn.old) (state S.Store conn.new) }
 {
@@ -136,10 +124,8 @@ pub(crate) fn count_kept<S: Alter>(conn: &mut Connection<S>) -> Result<Option<u6
 pub(crate) fn count_findings<S: Alter>(conn: &mut Connection<S>) -> Result<Option<u64>, Error>
     ensures counted { HasCleanDisk (state S.Store conn.new) → HasCommon (state S.Store conn.old).now.schema
         → IfOk result (λ found. IfSome found (λ count. CountsTo finding_table count (state S.Store conn.old).now)) }
-    ensures same { HasCleanDisk (state S.Store conn.new)
-        → OnOk result (IsUnchanged (state S.Store conn.old) (state S.Store conn.new)) }
-    ensures stopped { HasCleanDisk (state S.Store conn.new)
-        → IfErr result (IsStopped (state S.Store conn.old) (state S.Store conn.new)) }
+    ensures same { StaysOnOk (state S.Store conn.old) (state S.Store conn.new) result }
+    ensures stopped { StopsOnErr (state S.Store conn.old) (state S.Store conn.new) result }
     ensures mode { StaysAutocommit conn.old conn.new }
     ensures survives { CommitsNothing (state S.Store conn.old) (state S.Store conn.new) }
 {
@@ -153,10 +139,8 @@ pub(crate) fn count_findings<S: Alter>(conn: &mut Connection<S>) -> Result<Optio
 pub(crate) fn count_filings<S: Alter>(conn: &mut Connection<S>) -> Result<Option<u64>, Error>
     ensures counted { HasCleanDisk (state S.Store conn.new) → HasCommon (state S.Store conn.old).now.schema
         → IfOk result (λ found. IfSome found (λ count. CountsTo filing_table count (state S.Store conn.old).now)) }
-    ensures same { HasCleanDisk (state S.Store conn.new)
-        → OnOk result (IsUnchanged (state S.Store conn.old) (state S.Store conn.new)) }
-    ensures stopped { HasCleanDisk (state S.Store conn.new)
-        → IfErr result (IsStopped (state S.Store conn.old) (state S.Store conn.new)) }
+    ensures same { StaysOnOk (state S.Store conn.old) (state S.Store conn.new) result }
+    ensures stopped { StopsOnErr (state S.Store conn.old) (state S.Store conn.new) result }
     ensures mode { StaysAutocommit conn.old conn.new }
     ensures survives { CommitsNothing (state S.Store conn.old) (state S.Store conn.new) }
 {
@@ -170,10 +154,8 @@ pub(crate) fn count_filings<S: Alter>(conn: &mut Connection<S>) -> Result<Option
 pub(crate) fn count_facts<S: Alter>(conn: &mut Connection<S>) -> Result<Option<u64>, Error>
     ensures counted { HasCleanDisk (state S.Store conn.new) → HasCommon (state S.Store conn.old).now.schema
         → IfOk result (λ found. IfSome found (λ count. CountsTo fact_table count (state S.Store conn.old).now)) }
-    ensures same { HasCleanDisk (state S.Store conn.new)
-        → OnOk result (IsUnchanged (state S.Store conn.old) (state S.Store conn.new)) }
-    ensures stopped { HasCleanDisk (state S.Store conn.new)
-        → IfErr result (IsStopped (state S.Store conn.old) (state S.Store conn.new)) }
+    ensures same { StaysOnOk (state S.Store conn.old) (state S.Store conn.new) result }
+    ensures stopped { StopsOnErr (state S.Store conn.old) (state S.Store conn.new) result }
     ensures mode { StaysAutocommit conn.old conn.new }
     ensures survives { CommitsNothing (state S.Store conn.old) (state S.Store conn.new) }
 {

@@ -1,0 +1,11 @@
+use Rattle.std.proofs.Common.{rules, w64, pos, arith}
+use Rattle.std.proofs.lemmas.Int.{to_z-of_z}
+use Rattle.sqlite.specs.Held.{state}
+use Rattle.outbox_core.proofs.InsertLemmas.{entry_gains}
+use Rattle.outbox_core.proofs.rows.insert_entry.Goals as goal
+
+pub returns-clause-gains : goal.returns-clause-gains
+returns-clause-gains g c clean =
+    let ran = c.in_ok-execute.ensures.runs clean (search rules) in
+    entry_gains (state g.S.Store c.args.tx.now.conn.now) (state g.S.Store c.execute.new.self.conn.now) (pos c.args.id) c.args.key.now c.args.body.now c.in_ok-execute.field-0
+    (rw (c.params-to_sql.ensures, c.params-to_sql-2.ensures, c.params-to_sql-3.ensures, to_z-of_z w64 (pos c.args.id) (record { sfits = omega (arith, c.requires) })) at ran)

@@ -1,0 +1,3 @@
+//! The tables of an outbox: how they are made.
+
+pub(crate) mod create;
