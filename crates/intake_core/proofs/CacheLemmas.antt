@@ -10,8 +10,8 @@ use Rattle.filing_model.specs.declared.answer.Answer.{Answer as Given}
 use Rattle.filing_model.specs.Views.{the_request, view_answer}
 use Rattle.filing_model.proofs.Answers.{answer_kept, kept_for_grows}
 use Rattle.filing_model.proofs.Keeping.{kept_has_key}
-use Rattle.lru.specs.LruCache.{LruCache, lru_cache, put_entries}
-use Rattle.lru.proofs.CallerLemmas.{Contains-put_entries}
+use Rattle.lru.specs.LruCache.{LruCache, lru_cache, promoted, put_entries}
+use Rattle.lru.proofs.CallerLemmas.{Contains-promoted, Contains-put_entries}
 use Rattle.intake_core.specs.declared.cache.Remembered.{Remembered}
 use Rattle.intake_core.specs.Answered.{IsAnswerTo}
 use Rattle.intake_core.specs.Cache.{IsKeptIn, IsKnownIn, AreKnownIn}
@@ -55,3 +55,8 @@ AreKnownIn-put {K} eq early requests s t k v (Ok x) put same h new = λ e within
   | inr is ↦ subst (λ (w : Remembered). IsKnownIn early requests w) (sym is.0) new
 ]
 AreKnownIn-put {K} eq early requests s t k v (Err x) put same h new = λ e within. h e (subst (λ (c : LruCache K Remembered). Contains c.entries e) same within)
+
+-- the same, once one was used last
+pub AreKnownIn-promoted : {K : Type 0} (test : K → Bool) (early requests : List Request) (s t : LruCache K Remembered)
+    → t ≡ lru_cache (promoted test s.entries) s.cap → AreKnownIn early requests s.entries → AreKnownIn early requests t.entries
+AreKnownIn-promoted {K} test early requests s t is h = λ e within. h e (Contains-promoted test s.entries e (subst (λ (c : LruCache K Remembered). Contains c.entries e) is within))

@@ -4,13 +4,14 @@ use Rattle.filing_model.specs.Request.{Request}
 use Rattle.filing_model.specs.Register.{Kept, kept}
 use Rattle.filing_model.specs.Answer.{kept_for}
 use Rattle.filing_model.specs.Style.{style_of}
-use Rattle.register_store.specs.Outcomes.{kept_as}
+use Rattle.filing_model.specs.Views.{the_request}
+use Rattle.register_store.specs.Outcomes.{view_outcome}
 use Rattle.intake_core.specs.declared.cache.Cache.{Cache}
 use Rattle.intake_core.specs.declared.cache.Remembered.{Remembered}
 
 -- a request with its outcome
 abbrev pub kept_of : Remembered → Kept
-kept_of r = kept_as (string_bytes r.filer) (string_bytes r.key) r.row
+kept_of r = record { request = the_request (string_bytes r.filer) (string_bytes r.key) r.target r.body.items; outcome = view_outcome r.outcome }
 
 -- after these requests it is what is kept for its filer and key
 abbrev pub IsKeptIn : List Request → Kept → Type 0
@@ -19,7 +20,7 @@ IsKeptIn requests k = kept_for (kept requests) k.request ≡ Some k
 -- It is what is kept after these requests, with the style of its filer and key; the early requests were kept before there were
 -- problem details.
 abbrev pub IsKnownIn : List Request → List Request → Remembered → Type 0
-IsKnownIn early requests r = IsKeptIn requests (kept_of r) × (r.row.style ≡ style_of early (kept_of r).request)
+IsKnownIn early requests r = IsKeptIn requests (kept_of r) × (r.style ≡ style_of early (kept_of r).request)
 
 -- each of the entries is, whatever it is found under
 abbrev pub AreKnownIn : {K : Type 0} → List Request → List Request → List (K × Remembered) → Type 0

@@ -6,14 +6,14 @@ ghost use Rattle.filing_model.specs.Request.{Request, has_key};
 ghost use Rattle.filing_model.specs.Answer.{answer_by, answer_from};
 ghost use Rattle.filing_model.specs.Style.{style_of, HasStyle};
 ghost use Rattle.filing_model.specs.Views.{view_answer, the_request};
-ghost use Rattle.register_store.specs.Outcomes.{view_outcome, kept_as};
+ghost use Rattle.register_store.specs.Outcomes.{view_outcome};
 ghost use Rattle.intake_core.specs.Answered.{IsAnswerTo};
-ghost use Rattle.intake_core.specs.Cache.{kept_of, IsKeptIn, Remembers};
+ghost use Rattle.intake_core.specs.Cache.{kept_of, IsKeptIn, IsKnownIn, Remembers};
 
 use filing_model::{Answer, Style};
 use key_string::KeyText;
 use lru::LruCache;
-use register_store::{KeptRow, Outcome};
+use register_store::Outcome;
 use std::alloc::{AllocError, Global};
 use std::num::NonZeroUsize;
 
@@ -28,7 +28,10 @@ const MAX_CACHED_LEN: usize = 65_536;
 pub(crate) struct Remembered {
     filer: String,
     key: String,
-    row: KeptRow,
+    target: Option<u64>,
+    body: Vec<u8>,
+    outcome: Outcome,
+    style: Style,
 }
 
 impl Remembered {
@@ -46,18 +49,54 @@ impl Remembered {
               request = the_request filer.now key.now target body.now;
               outcome = view_outcome outcome.now;
             })
-            × (r.row.style ≡ style)) }
+            × (r.style ≡ style)) }
     {
         Ok(Remembered {
             filer: String::from_str(alloc, filer)?,
             key: String::from_str(alloc, key)?,
-            row: KeptRow {
-                target,
-                body: Vec::from_slice(alloc, body)?,
-                outcome: copied(alloc, outcome)?,
-                style,
-            },
+            target,
+            body: Vec::from_slice(alloc, body)?,
+            outcome: copied(alloc, outcome)?,
+            style,
         })
+    }
+
+    /// The answer to a request with its filer and key: what the first got, or that the key was used for another body, in its style.
+    fn answer_again(
+        &self,
+        alloc: Global,
+        target: Option<u64>,
+        body: &[u8],
+    ) -> Result<Answer, AllocError>
+        ensures { (filer key : List ℕ)
+            → IfOk result (λ a.
+            (view_answer a ≡ answer_from (Some (kept_of self.now)) (the_request filer key target body.now) true)
+            × HasStyle self.now.style a) }
+    {
+        if self.target != target || self.body.as_slice() != body {
+            return Ok(Answer::KeyReused { style: self.style });
+        }
+        Ok(answer_by(copied(alloc, &self.outcome)?, true, self.style))
+    }
+
+    /// The answer to a request, if it has this filer and key.
+    fn answer_to(
+        &self,
+        alloc: Global,
+        filer: &str,
+        target: Option<u64>,
+        key: &KeyText,
+        body: &[u8],
+    ) -> Option<Answer>
+        ensures { (early requests : List Request) → IsKnownIn early requests self.now
+            → IfSome result (λ a.
+            IsAnswerTo early requests (the_request filer.now key.now target body.now) a
+            × (has_key requests (the_request filer.now key.now target body.now) ≡ true)) }
+    {
+        if self.filer.as_str() != filer || self.key.as_str() != key.as_str() {
+            return None;
+        }
+        self.answer_again(alloc, target, body).ok()
     }
 }
 
@@ -95,31 +134,10 @@ impl Cache {
             → Remembers early requests self.new }
     {
         let name = name_of(alloc, filer, key.as_str()).ok()?;
-        let answer = self.look_up(alloc, name.as_str(), filer, target, key, body);
-        self.answers.promote(name.as_str());
-        answer
-    }
-
-    /// The answer that stands under this name, if it is one to this filer and key.
-    fn look_up(
-        &self,
-        alloc: Global,
-        name: &str,
-        filer: &str,
-        target: Option<u64>,
-        key: &KeyText,
-        body: &[u8],
-    ) -> Option<Answer>
-        ensures { (early requests : List Request) → Remembers early requests self.now
-            → IfSome result (λ a.
-            IsAnswerTo early requests (the_request filer.now key.now target body.now) a
-            × (has_key requests (the_request filer.now key.now target body.now) ≡ true)) }
-    {
-        let found = self.answers.peek(name)?;
-        if found.filer.as_str() != filer || found.key.as_str() != key.as_str() {
-            return None;
+        match self.answers.get(name.as_str()) {
+            Some(found) => found.answer_to(alloc, filer, target, key, body),
+            None => None,
         }
-        answer_again(alloc, &found.row, target, body).ok()
     }
 
     /// Remembers a kept request with its outcome and its style, where the body is short and there is memory for it.
@@ -158,7 +176,12 @@ impl Cache {
 
 /// The name of a filer's key. No filer code has a solidus.
 fn name_of(alloc: Global, filer: &str, key: &str) -> Result<String, AllocError> {
-    format!(in alloc; "{filer}/{key}")
+    let length = filer.len().saturating_add(key.len()).saturating_add(1);
+    let mut name = String::with_capacity(alloc, length)?;
+    name.push_str(filer)?;
+    name.push('/')?;
+    name.push_str(key)?;
+    Ok(name)
 }
 
 /// A copy of an outcome.
@@ -169,26 +192,6 @@ fn copied(alloc: Global, outcome: &Outcome) -> Result<Outcome, AllocError>
         Outcome::Registered(number) => Outcome::Registered(*number),
         Outcome::Refused(findings) => Outcome::Refused(findings.copied(alloc)?),
     })
-}
-
-/// The answer to a request whose filer and key are kept with this row: what the first got, or that
-/// the key was used for another body, in the style of the row.
-fn answer_again(
-    alloc: Global,
-    row: &KeptRow,
-    target: Option<u64>,
-    body: &[u8],
-) -> Result<Answer, AllocError>
-    ensures { (filer key : List ℕ)
-        → IfOk result (λ a.
-        (view_answer a ≡ answer_from (Some (kept_as filer key row.now)) (the_request filer key target body.now)
-        true)
-        × HasStyle row.now.style a) }
-{
-    if row.target != target || row.body.as_slice() != body {
-        return Ok(Answer::KeyReused { style: row.style });
-    }
-    Ok(answer_by(copied(alloc, &row.outcome)?, true, row.style))
 }
 
 /// The answer that an outcome gives, to its own request or to a repeat, in this style.

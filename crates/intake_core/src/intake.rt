@@ -378,7 +378,14 @@ impl<S: Alter> Intake<S> {
         ensures rest { (store_of self.new ≡ store_of self.old) × (limit_of self.new ≡ limit_of self.old)
             × (has_stopped self.new ≡ has_stopped self.old) }
     {
-        self.remember(filer, row.target, key, &row.body, &row.outcome, row.style);
+        self.remember(
+            filer,
+            row.target,
+            key,
+            row.body.as_slice(),
+            &row.outcome,
+            row.style,
+        );
         if row.target == target && row.body.as_slice() == body {
             answer_by(row.outcome, true, row.style)
         } else {

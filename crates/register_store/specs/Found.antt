@@ -76,7 +76,7 @@ pub record IsFound (filer key : List ℕ) (F : List Request) (found : FoundRow) 
   pub seq : ℕ
   pub placed : IsPlaced 1 seq (kept F) k
   pub is : (target : Option ℕ) (body : List ℕ) → kept_for (kept F) (the_request filer key target body) ≡ Some k
-  pub request : k.request ≡ the_request filer key k.request.target found.body.items
+  pub request : k.request ≡ the_request filer key k.request.target found.body
   pub seq_is : found.seq ≡ pos seq
   pub number_is : found.number ≡ number_of k.outcome
 
@@ -89,7 +89,7 @@ IsLookUp filer key F (Some found) = IsFound filer key F found
 abbrev pub IsReading : List Row → Option FoundRow → Type 0
 IsReading rows None = rows ≡ []
 IsReading rows (Some found) = (rows ≢ []) × ((seq : ℕ) (k : Kept) → rows ≡ found_row seq k ∷ []
-    → (found.seq ≡ pos seq) × (found.body.items ≡ k.request.body) × (found.number ≡ number_of k.outcome))
+    → (found.seq ≡ pos seq) × (found.body ≡ k.request.body) × (found.number ≡ number_of k.outcome))
 
 -- the place of the filing of this number, or none where there is none
 abbrev pub IsPlaceOf : ℕ → List Request → Option ℤ → Type 0

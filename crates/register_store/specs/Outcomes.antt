@@ -16,7 +16,7 @@ view_outcome (Stored.Refused findings) = Outcome.Refused findings
 
 -- what is kept of this filer and key
 abbrev pub kept_as : List ℕ → List ℕ → KeptRow → Kept
-kept_as filer key row = record { request = the_request filer key row.target row.body.items; outcome = view_outcome row.outcome }
+kept_as filer key row = record { request = the_request filer key row.target row.body; outcome = view_outcome row.outcome }
 
 -- what becomes of a report that was judged so, where the next filing has this number
 abbrev pub outcome_of : ℕ → Judged → Outcome

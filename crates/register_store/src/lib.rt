@@ -6,6 +6,7 @@
 mod content;
 mod decode;
 mod fault;
+mod kept_body;
 mod migrate;
 mod opening;
 mod outcome;
@@ -20,6 +21,7 @@ pub use content::{
 };
 pub use decode::completed::{Completed, Registered};
 pub use fault::{CreateFault, OpenFault, StoreFault};
+pub use kept_body::KeptBody;
 pub use migrate::earlier::Earlier;
 pub use migrate::migrate_register;
 pub use opening::watch::{Unwatched, Watch};

@@ -3,6 +3,7 @@
 ghost use Rattle.std.specs.Prelude.{◌≡◌, IfOk};
 ghost use Rattle.register_store.specs.Outcomes.{view_outcome, outcome_of, filings_by};
 
+use crate::kept_body::KeptBody;
 use filing_model::Style;
 use key_string::KeyText;
 use std::alloc::{AllocError, Global};
@@ -21,7 +22,7 @@ pub enum Outcome {
 #[derive(Drop)]
 pub struct KeptRow {
     pub target: Option<u64>,
-    pub body: Vec<u8>,
+    pub body: KeptBody,
     pub outcome: Outcome,
     pub style: Style,
 }

@@ -17,6 +17,7 @@ ghost use Rattle.register_store.specs.Found.{IsFound, IsLookUp, IsPlaced, IsRead
 
 use crate::decode::facts::read_text;
 use crate::fault::StoreFault;
+use crate::kept_body::KeptBody;
 use crate::outcome::{KeptRow, Outcome};
 use crate::rows::{rows_of_findings, rows_of_target, rows_with_key};
 use filing_model::Style;
@@ -28,19 +29,19 @@ use xbrl_report::{Code, Finding, Findings};
 #[derive(Drop)]
 pub struct FoundRow {
     pub seq: i64,
-    pub body: Vec<u8>,
+    pub body: KeptBody,
     pub number: Option<u64>,
 }
 
 /// What a row with the columns `seq`, `body` and `number` says.
-fn read_found(row: &Row) -> Result<FoundRow, StoreFault>
+fn read_found(row: Row) -> Result<FoundRow, StoreFault>
     ensures { IfOk result (λ found.
-        (seq : ℕ) (k : Kept) → row.now ≡ found_row seq k
-        → (found.seq ≡ pos seq) × (found.body.items ≡ k.request.body) × (found.number ≡ number_of k.outcome)) }
+        (seq : ℕ) (k : Kept) → row ≡ found_row seq k
+        → (found.seq ≡ pos seq) × (found.body ≡ k.request.body) × (found.number ≡ number_of k.outcome)) }
 {
     let seq = row.get(0)?;
-    let body = row.get(1)?;
     let number = row.get(2)?;
+    let body = KeptBody::of_row(row)?;
     Ok(FoundRow { seq, body, number })
 }
 
@@ -86,10 +87,10 @@ fn read_findings(alloc: Global, rows: &[Row]) -> Result<Findings, StoreFault>
 }
 
 /// What the first row says, if there is one.
-fn read_first(rows: &[Row]) -> Result<Option<FoundRow>, StoreFault>
-    ensures { IfOk result (IsReading rows.now) }
+fn read_first(rows: Vec<Row>) -> Result<Option<FoundRow>, StoreFault>
+    ensures { IfOk result (IsReading rows.items) }
 {
-    match rows.first() {
+    match rows.into_iter().next() {
         None => Ok(None),
         Some(row) => Ok(Some(read_found(row)?)),
     }
@@ -108,7 +109,7 @@ fn look_up<S: Alter>(
     ensures survives { CommitsNothing (state S.Store conn.old) (state S.Store conn.new) }
 {
     match rows_with_key(conn, filer, key) {
-        Ok(rows) => read_first(&rows),
+        Ok(rows) => read_first(rows),
         Err(error) => Err(StoreFault::from(error)),
     }
 }

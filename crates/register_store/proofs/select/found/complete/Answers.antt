@@ -18,7 +18,7 @@ pub returns-in-Ok-clause-found : goal.returns-in-Ok-clause-found
 returns-in-Ok-clause-found g c clean filer key n F was is target_is =
     let none : number_of is.k.outcome ≡ None = sym is.number_is ∙ c.in-None.is in
     let findings_are = c.in-Ok.ensures.found clean n F was is.seq is.k (search (rules, is.seq_is)) is.placed in
-    kept_is is.k (the_request filer key c.args.target c.args.found.body.items) _ (is.request ∙ ap (λ t. the_request filer key t c.args.found.body.items) (sym target_is)) (refused_for is.k.outcome c.in-Ok.findings none findings_are)
+    kept_is is.k (the_request filer key c.args.target c.args.found.body) _ (is.request ∙ ap (λ t. the_request filer key t c.args.found.body) (sym target_is)) (refused_for is.k.outcome c.in-Ok.findings none findings_are)
 
 pub returns-in-Ok-clause-open : goal.returns-in-Ok-clause-open
 returns-in-Ok-clause-open g c clean n F was alive = c.in-Ok.ensures.open clean n F was

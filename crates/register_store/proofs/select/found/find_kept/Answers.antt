@@ -21,7 +21,7 @@ returns-in-Ok-clause-style g c clean F was target body =
     let is : IsFound c.args.filer.now c.args.key.now F c.in-Ok-Some.found = rw c.in-Ok-Some.field-0-is at (c.in-Ok-Some.ensures.found before early F was) in
     let stands = c.look_up.ensures.same before early F was in
     let distinct = (stands.now (c.in-Ok-Some.ensures.open before early F was)).rows.distinct in
-    c.in-Ok.ensures.style is.seq is.seq_is ∙ styled c.args.filer.now c.args.key.now target body early F distinct is.seq is.k is.placed (has_same_key is.k.request c.args.filer.now c.args.key.now is.k.request.target target c.in-Ok-Some.found.body.items body is.request)
+    c.in-Ok.ensures.style is.seq is.seq_is ∙ styled c.args.filer.now c.args.key.now target body early F distinct is.seq is.k is.placed (has_same_key is.k.request c.args.filer.now c.args.key.now is.k.request.target target c.in-Ok-Some.found.body body is.request)
 
 pub returns-in-Ok-clause-same : goal.returns-in-Ok-clause-same
 returns-in-Ok-clause-same g c clean e F was =

@@ -1,7 +1,5 @@
-use Rattle.std.proofs.Common.{subst}
 use Rattle.std.proofs.lemmas.Result.{IfOk-weaker}
 use Rattle.sqlite.specs.Held.{state}
-use Rattle.register_store.specs.Found.{IsReading}
 use Rattle.register_store.proofs.ListLemmas.{knows}
 use Rattle.register_store.proofs.FindLemmas.{key_found}
 use Rattle.register_store.proofs.select.found.look_up.Goals as goal
@@ -11,4 +9,4 @@ returns-in-Ok-clause-found g c clean e F was =
     let old = state g.S.Store c.args.conn.now in
     let new = state g.S.Store c.rows_with_key.new.conn in
     let read = c.in-Ok.ensures.read clean (knows F old was) in
-    IfOk-weaker c.read_first.result _ _ (λ found h. key_found c.args.filer.now c.args.key.now F old new c.in-Ok.rows.items was read found (subst (λ rows. IsReading rows found) c.deref.ensures.value h)) c.read_first.ensures
+    IfOk-weaker c.read_first.result _ _ (λ found h. key_found c.args.filer.now c.args.key.now F old new c.in-Ok.rows.items was read found h) c.read_first.ensures
