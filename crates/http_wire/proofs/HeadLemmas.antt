@@ -1,6 +1,6 @@
 -- The parts of a head and the spans that cover them.
 use Rattle.std.proofs.Common.{◌≡◌, ℕ, ◌+◌, ◌-◌, ◌≤◌, Bool, true, false, List, [], length, take, drop, map, sym, ap, ◌∙◌, subst, arith}
-use Rattle.std.specs.Prelude.{nat_eq, nat_lt, not, slice_range, All, Some, None, if◌then◌else◌}
+use Rattle.std.specs.Prelude.{nat_eq, nat_lt, not, slice_range, Some, None, if◌then◌else◌}
 use Rattle.std.specs.List.{ends_with}
 use Rattle.std.proofs.lemmas.Grind.{common_steps}
 use Rattle.std.proofs.lemmas.List.{drop-take}
@@ -9,7 +9,7 @@ use Rattle.httparse.specs.declared.spans.HeaderSpan.{HeaderSpan}
 use Rattle.httparse.specs.declared.spans.RequestSpans.{RequestSpans}
 use Rattle.httparse.specs.declared.spans.Span.{Span}
 use Rattle.httparse.specs.Grammar.{Field}
-use Rattle.httparse.specs.Spans.{span_bytes, header_bytes, name_and_value, IsWithin, IsHeaderWithin, IsRequestWithin, IsRequestOf}
+use Rattle.httparse.specs.Spans.{span_bytes, header_bytes, name_and_value, IsWithin, IsRequestWithin, IsRequestOf}
 use Rattle.http_wire.specs.Head.{RequestParts, HasPlainLines, ReadsHead, IsHeadFault, before_query, written_path, framing_fault, has_host_fault, has_coding, agree, lengths, lacks_length, body_length, max_body_len}
 use Rattle.http_wire.specs.declared.head.HeadSpans.{HeadSpans}
 use Rattle.http_wire.specs.Spans.{parts_at, IsHeadWithin}
@@ -48,42 +48,48 @@ written_path-at target shown path false len s e l =
     let test : ends_with nat_eq (before_query target) path ≡ false = ap (λ t. ends_with nat_eq t path) (sym s) ∙ sym e in
     rw (l, test) (grind (arith, common_steps))
 
--- the fields that the spans cover are no more than the spans
-pub fields-few : (block : List ℕ) (headers : List HeaderSpan) (count : ℕ) (fields : List Field) → count ≤ 64
-    → map (header_bytes block) (take count headers) ≡ map name_and_value fields → length fields ≤ 64
-fields-few block headers count fields few same = grind (arith, common_steps, ap length same)
+-- fields that no more spans cover than there may be are no more either
+pub fields-few : (block : List ℕ) (spans : List HeaderSpan) (fields : List Field) → length spans ≤ 64 → map (header_bytes block) spans ≡ map name_and_value fields → length fields ≤ 64
+fields-few block spans fields few same = grind (arith, common_steps, ap length same)
 
--- the spans of a parsed head, with that of its path
-abbrev pub head_spans : RequestSpans → List HeaderSpan → Span → HeadSpans
-head_spans r headers path = record { method = r.method; path = path; minor = r.version; fields = headers; count = r.headers }
+-- the spans are those of a parsed head, with that of its path
+pub record AreSpansOf (r : RequestSpans) (headers : List HeaderSpan) (path : Span) (spans : HeadSpans) : Type 0 where
+  pub method : spans.method ≡ r.method
+  pub path_is : spans.path ≡ path
+  pub minor : spans.minor ≡ r.version
+  pub fields : spans.fields.items ≡ take r.headers headers
 
-module _ (block : List ℕ) (headers : List HeaderSpan) (r : RequestSpans) (path : Span) (room : length headers ≡ 64) (whole : r.len ≡ length block) where
+module _ (block : List ℕ) (headers : List HeaderSpan) (r : RequestSpans) (path : Span) (spans : HeadSpans) (room : length headers ≡ 64) (whole : r.len ≡ length block) (are : AreSpansOf r headers path spans) where
+  few : IsRequestWithin block headers r → length spans.fields.items ≤ 64
+  few within = grind (arith, common_steps, ap length are.fields, within.section.count_fits)
+
   -- they lie in the block
-  pub IsHeadWithin-parsed : IsRequestWithin block headers r → IsWithin (length block) path → IsHeadWithin block (head_spans r headers path)
+  pub IsHeadWithin-parsed : IsRequestWithin block headers r → IsWithin (length block) path → IsHeadWithin block spans
   IsHeadWithin-parsed within place = record {
-    method = rw whole at within.method;
-    path = place;
-    count = omega (arith, within.section.count_fits);
-    fields = subst (λ n. All (IsHeaderWithin n) (take r.headers headers)) whole within.section.headers_fit;
+    method = rw (are.method, ← whole) within.method;
+    path = rw are.path_is place;
+    few = few within;
+    fields = rw (are.fields, ← whole) within.section.headers_fit;
   }
 
   -- and cover a head that the block is
   pub ReadsHead-parsed : HasPlainLines block → IsRequestWithin block headers r → IsRequestOf block headers r → IsPathOf (span_bytes block r.path) (span_bytes block path)
-      → ReadsHead block (parts_at block (head_spans r headers path))
+      → ReadsHead block (parts_at block spans)
   ReadsHead-parsed lines within read target =
       let at = read.1 in
       let rest : drop r.len block ≡ [] = grind (arith, common_steps) in
+      let covered : map (header_bytes block) spans.fields.items ≡ map name_and_value read.0.fields = rw are.fields at.fields in
       record {
         lines = lines;
         head = read.0;
         reads = rw rest at at.reads;
-        few = fields-few block headers r.headers read.0.fields (omega (arith, within.section.count_fits)) at.fields;
+        few = fields-few block spans.fields.items read.0.fields (few within) covered;
         target = target.0;
         spells = subst (λ text. Spells text target.0) at.path target.1;
-        method = at.method;
-        path = subst (λ text. span_bytes block path ≡ written_path text (uri_path target.0)) at.path target.2;
-        minor = at.version;
-        fields = at.fields;
+        method = rw are.method at.method;
+        path = rw are.path_is (subst (λ text. span_bytes block path ≡ written_path text (uri_path target.0)) at.path target.2);
+        minor = are.minor ∙ at.version;
+        fields = covered;
       }
 
 -- no head that is read has the fault of one that isn't

@@ -3,6 +3,7 @@ pub mod BlockLemmas
 pub mod BufferLemmas
 pub mod DeviceLemmas
 pub mod DigitLemmas
+pub mod FeedLemmas
 pub mod NextPlaceLemmas
 pub mod HeadLemmas
 pub mod InboxLemmas

@@ -1,5 +1,5 @@
 -- The head of a response and the spans that cover it.
-use Rattle.std.proofs.Common.{◌≡◌, ℕ, List, [], length, take, drop, map, arith}
+use Rattle.std.proofs.Common.{◌≡◌, ◌≤◌, ℕ, List, [], length, take, drop, map, arith}
 use Rattle.std.proofs.lemmas.Grind.{common_steps}
 use Rattle.httparse.specs.declared.spans.HeaderSpan.{HeaderSpan}
 use Rattle.httparse.specs.declared.spans.ResponseSpans.{ResponseSpans}
@@ -18,11 +18,12 @@ pub ReadsResponseHead-parsed : (block : List ℕ) (headers : List HeaderSpan) (r
 ReadsResponseHead-parsed block headers r room whole lines within read =
     let at = read.1 in
     let rest : drop r.len block ≡ [] = grind (arith, common_steps) in
+    let short : length (take r.headers headers) ≤ 64 = grind (arith, common_steps, room, within.section.count_fits) in
     record {
       lines = lines;
       head = read.0;
       reads = rw rest at at.reads;
-      few = fields-few block headers r.headers read.0.fields (omega (arith, within.section.count_fits)) at.fields;
+      few = fields-few block (take r.headers headers) read.0.fields short at.fields;
       status = at.code;
       fields = at.fields;
     }

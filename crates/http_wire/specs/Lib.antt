@@ -5,6 +5,7 @@ pub mod Coding
 pub mod Conn
 pub mod Device
 pub mod Devices
+pub mod Feeds
 pub mod FieldsNamed
 pub mod Fill
 pub mod NextPlace
@@ -15,6 +16,7 @@ pub mod Message
 pub mod Parsed
 pub mod Parts
 pub mod PartsLeft
+pub mod Places
 pub mod Posting
 pub mod Received
 pub mod Replies

@@ -1,5 +1,5 @@
 -- What the offsets of a head say of its block.
-use Rattle.std.specs.Prelude.{◌≡◌, ℕ, ◌≤◌, None, List, length, take, map, All}
+use Rattle.std.specs.Prelude.{◌≡◌, ℕ, ◌≤◌, None, List, length, map, All}
 use Rattle.httparse.specs.Spans.{span_bytes, header_bytes, IsWithin, IsHeaderWithin}
 use Rattle.http_wire.specs.declared.head.HeadSpans.{HeadSpans}
 use Rattle.http_wire.specs.declared.head.Framing.{Framing}
@@ -11,15 +11,15 @@ parts_at block spans = record {
   method = span_bytes block spans.method;
   path = span_bytes block spans.path;
   minor = spans.minor;
-  fields = map (header_bytes block) (take spans.count spans.fields);
+  fields = map (header_bytes block) spans.fields.items;
 }
 
 -- the spans lie in the block
 pub record IsHeadWithin (block : List ℕ) (spans : HeadSpans) : Type 0 where
   pub method : IsWithin (length block) spans.method
   pub path : IsWithin (length block) spans.path
-  pub count : spans.count ≤ 64
-  pub fields : All (IsHeaderWithin (length block)) (take spans.count spans.fields)
+  pub few : length spans.fields.items ≤ 64
+  pub fields : All (IsHeaderWithin (length block)) spans.fields.items
 
 -- what the head says of the rest of its message
 pub record IsFramingOf (parts : RequestParts) (framing : Framing) : Type 0 where

@@ -1,6 +1,9 @@
 //! Where the head of a message ends (RFC 9112, sections 2.1 and 2.2).
 ghost use Rattle.std.specs.Prelude.{◌≡◌, ◌≤◌, ℕ, length, MatchOption};
 ghost use Rattle.http_wire.specs.Block.{max_block_len, skipped_len, from_block, HasNoEndUpTo, BeginsBlock, IsBlock};
+ghost use Rattle.http_wire.specs.Feeds.{HasNoFeedFrom, IsNextFeed};
+
+use memchr::memchr;
 
 /// The most bytes of a block, a skipped CRLF not counted. An own rule.
 const MAX_BLOCK_LEN: usize = 16_384;
@@ -60,11 +63,28 @@ fn find_end(text: &[u8], searched: usize) -> Option<usize>
     requires { HasNoEndUpTo text.now searched }
     ensures { MatchOption result (HasNoEndUpTo text.now max_block_len) (BeginsBlock text.now) }
 {
-    let first = searched.saturating_add(1).max(BLOCK_END.len());
-    for end in first..=text.len().min(MAX_BLOCK_LEN) {
-        if &text[end - BLOCK_END.len()..end] == BLOCK_END {
-            return Some(end);
+    let mut from = searched.max(BLOCK_END.len() - 1);
+    'feeds: while let Some(at) = next_feed(text, from) {
+        if at >= MAX_BLOCK_LEN {
+            return None;
         }
+        if &text[at + 1 - BLOCK_END.len()..at + 1] == BLOCK_END {
+            return Some(at + 1);
+        }
+        from = at + 1;
     }
     None
+}
+
+/// Where the first LF stands, from this index on.
+pub(crate) fn next_feed(text: &[u8], from: usize) -> Option<usize>
+    ensures { MatchOption result (HasNoFeedFrom text.now from) (IsNextFeed text.now from) }
+{
+    if from >= text.len() {
+        return None;
+    }
+    match memchr(b'\n', &text[from..]) {
+        Some(at) => Some(from + at),
+        None => None,
+    }
 }

@@ -25,7 +25,7 @@ impl<'h> FieldsNamed<'h> {
         ensures values { values_left result ≡ values_named name.now (parts_at block.now spans.now).fields }
         ensures few { length (values_left result) ≤ 64 }
     {
-        FieldsNamed::of(block, &spans.fields[..spans.count], name)
+        FieldsNamed::of(block, &spans.fields, name)
     }
 
     /// The same of fields of which no head is known.

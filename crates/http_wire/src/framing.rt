@@ -1,7 +1,8 @@
 //! What a head says of the rest of its message (RFC 9112, sections 3.2, 6 and 9), and the faults in
 //! that.
 ghost use Rattle.std.specs.Prelude.{◌≡◌, IfOk, IfErr, nat_lt, length, Some};
-ghost use Rattle.http_wire.specs.Head.{values_named, lists_word, has_host_fault, framing_fault};
+ghost use Rattle.http_wire.specs.Head.{values_named, lists_word, lengths, lacks_length, has_host_fault, framing_fault};
+ghost use Rattle.http_wire.specs.Lists.{IsAgreed};
 ghost use Rattle.http_wire.specs.Spans.{parts_at, IsHeadWithin, IsFramingOf};
 
 use crate::fields::FieldsNamed;
@@ -25,8 +26,7 @@ pub(crate) fn read_framing(block: &[u8], spans: &HeadSpans) -> Result<Framing, H
     let Some(body_len) = lists::agreed_length(lengths) else {
         return Err(HeadFault::Length);
     };
-    let is_post = spans.method.of(block) == b"POST".as_slice();
-    if is_post && !has_field(block, spans, b"content-length") {
+    if lacks_length(block, spans, body_len) {
         return Err(HeadFault::NoLength);
     }
     if body_len > MAX_BODY_LEN {
@@ -37,6 +37,17 @@ pub(crate) fn read_framing(block: &[u8], spans: &HeadSpans) -> Result<Framing, H
         expects: spans.minor == 1 && lists_word(block, spans, b"expect", b"100-continue"),
         closes: spans.minor == 0 || lists_word(block, spans, b"connection", b"close"),
     })
+}
+
+/// Whether it is a POST without Content-Length, of which the length is known that the head declares.
+fn lacks_length(block: &[u8], spans: &HeadSpans, body_len: usize) -> bool
+    requires within { IsHeadWithin block.now spans.now }
+    requires agreed { IsAgreed (lengths (parts_at block.now spans.now)) (Some body_len) }
+    ensures { result ≡ lacks_length (parts_at block.now spans.now) }
+{
+    body_len == 0
+        && spans.method.of(block) == b"POST".as_slice()
+        && !has_field(block, spans, b"content-length")
 }
 
 fn has_host_fault(block: &[u8], spans: &HeadSpans) -> bool

@@ -1,12 +1,12 @@
 //! The head of a request: its parts, as offsets into its block, and its faults (RFC 9112, sections 3
 //! and 5).
-ghost use Rattle.std.specs.Prelude.{◌≡◌, ◌↔◌, ◌≤◌, length, Err, IsTrue, IfOk, IfErr};
+ghost use Rattle.std.specs.Prelude.{◌≡◌, ◌↔◌, ◌<◌, ◌≤◌, length, Err, IsTrue, IfOk, IfErr};
 ghost use Rattle.http_wire.specs.Block.{from_block, IsWholeBlock};
-ghost use Rattle.http_wire.specs.Head.{values_named, closes, expects, body_length, HasPlainLines, ReadsHead, IsHead, IsHeadFault, IsParseFault};
+ghost use Rattle.http_wire.specs.Head.{values_named, closes, expects, body_length, FollowsCr, HasPlainLines, ReadsHead, IsHead, IsHeadFault, IsParseFault};
 ghost use Rattle.http_wire.specs.FieldsNamed.{values_left};
 ghost use Rattle.http_wire.specs.Spans.{parts_at, IsHeadWithin, IsHeadAt};
 
-use crate::block::{Block, find_block, skipped_len};
+use crate::block::{Block, find_block, next_feed, skipped_len};
 use crate::fields::FieldsNamed;
 use crate::framing::read_framing;
 use crate::target::path_span;
@@ -48,14 +48,33 @@ pub enum HeadFault {
     Memory,
 }
 
-/// Where the parts of a head are in its block. The first `count` of `fields` are those of the head.
-#[derive(Clone, Copy)]
+/// Where the parts of a head are in its block.
+#[derive(Drop)]
 pub(crate) struct HeadSpans {
     pub(crate) method: Span,
     pub(crate) path: Span,
     pub(crate) minor: u8,
-    pub(crate) fields: [HeaderSpan; MAX_FIELDS],
-    pub(crate) count: usize,
+    pub(crate) fields: Vec<HeaderSpan>,
+}
+
+/// The places of a head's parts: its own, or those that are kept with the bytes that it lends.
+#[derive(Drop)]
+pub(crate) enum Places<'a> {
+    Own(HeadSpans),
+    Kept(&'a HeadSpans),
+}
+
+impl<'a> Places<'a> {
+    ghost use Rattle.http_wire.specs.Places.{spans_of};
+
+    fn spans(&self) -> &HeadSpans
+        ensures { result.now ≡ spans_of self.now }
+    {
+        match self {
+            Places::Own(spans) => spans,
+            Places::Kept(spans) => spans,
+        }
+    }
 }
 
 /// What a head says of the rest of its message.
@@ -71,7 +90,7 @@ pub(crate) struct Framing {
 #[derive(Drop)]
 pub struct Head<'a> {
     block: &'a [u8],
-    spans: HeadSpans,
+    places: Places<'a>,
     framing: Framing,
 }
 
@@ -81,22 +100,25 @@ impl<'a> Model for Head<'a> {
     ghost Value = { RequestParts };
 
     ghost use Rattle.http_wire.specs.FieldsNamed.{values_left};
+    ghost use Rattle.http_wire.specs.Places.{spans_of};
     ghost use Rattle.http_wire.specs.Spans.{parts_at, IsHeadAt};
 
-    ghost view = { λ head. parts_at head.block.now head.spans };
+    ghost view = { λ head. parts_at head.block.now (spans_of head.places) };
 
-    ghost invariant = { λ head. IsHeadAt head.block.now head.spans head.framing };
+    ghost invariant = { λ head. IsHeadAt head.block.now (spans_of head.places) head.framing };
 }
 
 impl<'a> Head<'a> {
-    /// The head in a block whose offsets and framing are known.
-    pub(crate) fn at(block: &'a [u8], spans: HeadSpans, framing: Framing) -> Head<'a>
-        requires { IsHeadAt block.now spans framing }
-        ensures { result ≡ parts_at block.now spans }
+    ghost use Rattle.http_wire.specs.Places.{spans_of};
+
+    /// The head in a block whose places and framing are known.
+    pub(crate) fn at(block: &'a [u8], places: Places<'a>, framing: Framing) -> Head<'a>
+        requires { IsHeadAt block.now (spans_of places) framing }
+        ensures { result ≡ parts_at block.now (spans_of places.entry) }
     {
         Head {
             block,
-            spans,
+            places,
             framing,
         }
     }
@@ -105,7 +127,7 @@ impl<'a> Head<'a> {
     pub fn method(&self) -> &'a [u8]
         ensures { result.now ≡ self.now.method }
     {
-        self.spans.method.of(self.block)
+        self.places.spans().method.of(self.block)
     }
 
     /// The path of the target, as it was written, without its query. It is empty where the target
@@ -113,7 +135,7 @@ impl<'a> Head<'a> {
     pub fn path(&self) -> &'a [u8]
         ensures { result.now ≡ self.now.path }
     {
-        self.spans.path.of(self.block)
+        self.places.spans().path.of(self.block)
     }
 
     /// The values of the fields of this name, in order. Names are compared without case.
@@ -121,7 +143,7 @@ impl<'a> Head<'a> {
         ensures values { values_left result ≡ values_named name.now self.now.fields }
         ensures few { length (values_left result) ≤ 64 }
     {
-        FieldsNamed::new(self.block, &self.spans, name)
+        FieldsNamed::new(self.block, self.places.spans(), name)
     }
 
     /// The declared length of the body in bytes, 0 without Content-Length (RFC 9112, section 6.3).
@@ -160,7 +182,7 @@ pub fn read_head(alloc: Global, bytes: &[u8]) -> Result<Head<'_>, HeadFault>
         Block::End(end) if end == bytes.len() => {
             let block = &bytes[skipped_len(bytes)..];
             let (spans, framing) = read_parts(alloc, block)?;
-            Ok(Head::at(block, spans, framing))
+            Ok(Head::at(block, Places::Own(spans), framing))
         }
         Block::End(_) | Block::TooLong | Block::More => Err(HeadFault::Malformed),
     }
@@ -186,28 +208,42 @@ fn parse_head(alloc: Global, block: &[u8]) -> Result<HeadSpans, HeadFault>
     if !has_plain_lines(block) {
         return Err(HeadFault::Malformed);
     }
-    let mut fields = [EMPTY_HEADER_SPAN; MAX_FIELDS];
-    match parse_request(block, &mut fields) {
+    let mut room = [EMPTY_HEADER_SPAN; MAX_FIELDS];
+    match parse_request(block, &mut room) {
         Ok(Status::Complete(head)) if head.len == block.len() => Ok(HeadSpans {
             method: head.method,
             path: path_span(alloc, block, head.path)?,
             minor: head.version,
-            fields,
-            count: head.headers,
+            fields: copied(alloc, &room[..head.headers])?,
         }),
         _ => Err(HeadFault::Malformed),
     }
+}
+
+fn copied(alloc: Global, fields: &[HeaderSpan]) -> Result<Vec<HeaderSpan>, HeadFault>
+    ensures ok { IfOk result (λ copy. copy.items ≡ fields.now) }
+    ensures fault { IfErr result (λ fault. fault ≡ HeadFault.Memory) }
+{
+    Vec::from_slice(alloc, fields).map_err(|_| HeadFault::Memory)
 }
 
 /// Whether the block begins with no line end, and each LF directly follows a CR.
 pub(crate) fn has_plain_lines(block: &[u8]) -> bool
     ensures { IsTrue result ↔ HasPlainLines block.now }
 {
-    for (i, byte) in block.iter().enumerate() {
-        let follows_cr = i > 0 && block[i - 1] == b'\r';
-        if (*byte == b'\n' && !follows_cr) || (*byte == b'\r' && i == 0) {
+    let mut from = 0;
+    'feeds: while let Some(at) = next_feed(block, from) {
+        if !follows_cr(block, at) {
             return false;
         }
+        from = at + 1;
     }
-    true
+    block.is_empty() || block[0] != b'\r'
+}
+
+fn follows_cr(block: &[u8], at: usize) -> bool
+    requires { at < length block.now }
+    ensures { IsTrue result ↔ FollowsCr block.now at }
+{
+    at > 0 && block[at - 1] == b'\r'
 }

@@ -6,7 +6,7 @@ ghost use Rattle.http_wire.specs.Parsed.{IsParsed};
 ghost use Rattle.http_wire.specs.Received.{held_bytes};
 
 use crate::device::{Sink, Source};
-use crate::head::Head;
+use crate::head::{Head, Places};
 use crate::place::{NextPlace, Parsed, find_place};
 use crate::received::Received;
 use crate::refusal::{ConnFault, Next};
@@ -126,7 +126,7 @@ impl Inbox {
         Message {
             head: Head::at(
                 &bytes[parsed.start..parsed.end],
-                parsed.spans,
+                Places::Kept(&parsed.spans),
                 parsed.framing,
             ),
             body: &bytes[parsed.end..body_end],
@@ -166,10 +166,9 @@ impl Inbox {
         ensures over { is_over self.new ≡ is_over self.old }
         ensures failed { is_failed self.new ≡ is_failed self.old }
     {
-        let Some(parsed) = self.lent else {
+        let Some(parsed) = self.lent.take() else {
             return;
         };
-        self.lent = None;
         self.received
             .drop_front(parsed.end + parsed.framing.body_len);
         if parsed.framing.closes && self.phase == Phase::Open {

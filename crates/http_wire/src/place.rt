@@ -21,7 +21,7 @@ const INTERIM: &[u8] = b"HTTP/1.1 100 Continue\r\n\r\n";
 
 /// A request, by its place in the bytes that are held: its block is `start..end`, and the body
 /// follows.
-#[derive(Clone, Copy)]
+#[derive(Drop)]
 pub(crate) struct Parsed {
     pub(crate) start: usize,
     pub(crate) end: usize,
@@ -30,7 +30,7 @@ pub(crate) struct Parsed {
 }
 
 /// What stands first in the bytes that are held.
-#[derive(Clone, Copy)]
+#[derive(Drop)]
 pub(crate) enum NextPlace {
     Request(Parsed),
     Refused(Refusal),

@@ -4,10 +4,11 @@ ghost use Rattle.std.specs.Fmt.{decimal};
 ghost use Rattle.http_wire.specs.Reply.{phrase, render, render_head, status_line, length_line, line, media_type, only_if};
 ghost use Rattle.http_wire.specs.Replies.{reply_parts};
 
+use itoa::Buffer;
 use std::alloc::{AllocError, Global};
 
 /// The room that the head of a reply gets at once: each of the intake's is shorter.
-pub(crate) const HEAD_ROOM: usize = 192;
+const HEAD_ROOM: usize = 192;
 
 /// What the content of a reply is.
 #[derive(Clone, Copy, Debug, PartialEq, Eq)]
@@ -64,7 +65,6 @@ pub fn phrase(status: u16) -> Option<&'static str>
 
 /// Appends the bytes of a reply: with `close` the last one on its connection. An `Err` changes
 /// nothing.
-#[tactic(auto, unfolding(crate::specs::Reply::render))]
 pub fn append_reply(
     alloc: Global,
     reply: &Reply,
@@ -75,30 +75,25 @@ pub fn append_reply(
     ensures ok { OnOk result (out.new.items ≡ out.old.items ++ render (reply_parts reply.now) close) }
     ensures err { OnErr result (out.new.items ≡ out.old.items) }
 {
-    let head = reply_head(alloc, reply, close)?;
-    let start = out.len();
-    out.extend_from_slice(&head)?;
-    let written = out.extend_from_slice(&reply.content);
-    if written.is_err() {
-        out.truncate(start);
-    }
-    written
+    let text = reply_text(alloc, reply, close)?;
+    out.extend_from_slice(&text)
 }
 
-/// The head of a reply, with the empty line that ends it.
-#[tactic(auto, unfolding(crate::specs::Reply::render_head))]
-fn reply_head(alloc: Global, reply: &Reply, close: bool) -> Result<Vec<u8>, AllocError>
+/// The bytes of a reply, in room that is made at once.
+#[tactic(auto, unfolding(crate::specs::Reply::render, crate::specs::Reply::render_head))]
+pub(crate) fn reply_text(alloc: Global, reply: &Reply, close: bool) -> Result<Vec<u8>, AllocError>
     requires { IsSome (phrase reply.now.status) }
-    ensures { IfOk result (λ head. head.items ≡ render_head (reply_parts reply.now) close) }
+    ensures { IfOk result (λ text. text.items ≡ render (reply_parts reply.now) close) }
 {
-    let mut head = Vec::with_capacity(alloc, HEAD_ROOM)?;
-    push_status(reply.status, &mut head)?;
-    push_type(reply.kind, &mut head)?;
-    push_content_length(reply.content.len(), &mut head)?;
-    push_if(reply.status == 405, b"Allow: GET, POST\r\n", &mut head)?;
-    push_if(close, b"Connection: close\r\n", &mut head)?;
-    head.extend_from_slice(b"\r\n")?;
-    Ok(head)
+    let mut text = Vec::with_capacity(alloc, HEAD_ROOM + reply.content.len())?;
+    push_status(reply.status, &mut text)?;
+    push_type(reply.kind, &mut text)?;
+    push_content_length(reply.content.len(), &mut text)?;
+    push_if(reply.status == 405, b"Allow: GET, POST\r\n", &mut text)?;
+    push_if(close, b"Connection: close\r\n", &mut text)?;
+    text.extend_from_slice(b"\r\n")?;
+    text.extend_from_slice(&reply.content)?;
+    Ok(text)
 }
 
 #[tactic(auto, unfolding(crate::specs::Reply::status_line))]
@@ -153,6 +148,5 @@ fn push_if(test: bool, line: &[u8], out: &mut Vec<u8>) -> Result<(), AllocError>
 fn push_number(number: usize, out: &mut Vec<u8>) -> Result<(), AllocError>
     ensures { OnOk result (out.new.items ≡ out.old.items ++ decimal number) }
 {
-    let text = format!(in *out.allocator(); "{number}")?;
-    out.extend_from_slice(text.as_bytes())
+    out.extend_from_slice(Buffer::new().format(number).as_bytes())
 }

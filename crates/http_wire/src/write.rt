@@ -8,7 +8,7 @@ ghost use Rattle.http_wire.specs.Write.{IsWriteFault};
 
 use crate::device::Sink;
 use crate::refusal::ConnFault;
-use crate::reply::{HEAD_ROOM, Reply, append_reply};
+use crate::reply::{Reply, reply_text};
 use crate::send::send;
 use std::alloc::Global;
 
@@ -39,7 +39,6 @@ pub fn write_reply<W: Sink>(
         (IsWriteFault (W.written writer.old) (W.written writer.new) (W.write_failures writer.old)
         (W.write_failures writer.new) (render (reply_parts reply.now) close)) }
 {
-    let mut text = Vec::with_capacity(alloc, HEAD_ROOM + reply.content.len())?;
-    append_reply(alloc, reply, close, &mut text)?;
+    let text = reply_text(alloc, reply, close)?;
     send(writer, &text).map_err(|sent| ConnFault::Write { sent })
 }

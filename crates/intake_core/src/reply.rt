@@ -14,7 +14,7 @@ ghost use Rattle.intake_core.specs.Answered.{told_style};
 use filing_model::{Answer, FilingRow, Style};
 use http_wire::{Kind, Reply};
 use register_store::{
-    problem_value, refusal_value, refused_status, refused_value, registered_value,
+    problem_value, refusal_value, refused_status, refused_text, registered_text,
 };
 use serde_json::{Value, json};
 use std::alloc::{AllocError, Global};
@@ -22,13 +22,16 @@ use std::alloc::{AllocError, Global};
 /// The reply to an answer, as compact JSON: 201 with the number, 400 with the finding that the body is
 /// no JSON text, 422 with other findings, or 422 where the key was reused, in the style of the answer. A repeat gets
 /// the same.
-#[tactic(auto, using(register_store::proofs::Floats::answer_data_no_float), unfolding(filing_model::specs::Reply::reply_as))]
+#[tactic(auto, unfolding(filing_model::specs::Reply::reply_as))]
 pub fn reply_of(alloc: Global, answer: &Answer) -> Result<Reply, AllocError>
     ensures { (style : Style) → HasStyle style answer.now
         → IfOk result (λ r. reply_parts r ≡ reply_as style (view_answer answer.now)) }
 {
-    let content = answer_value(alloc, answer)?;
-    reply_with(alloc, answer_status(answer), &content, answer_kind(answer))
+    Ok(Reply {
+        status: answer_status(answer),
+        content: answer_text(alloc, answer)?,
+        kind: answer_kind(answer),
+    })
 }
 
 /// The reply that lists filings: 200, with the number of each, how many facts it has, and which filing it replaces and which
@@ -58,9 +61,17 @@ fn reply_with(alloc: Global, status: u16, content: &Value, kind: Kind) -> Result
 {
     Ok(Reply {
         status,
-        content: content.to_string(alloc)?.into_bytes(),
+        content: text_of(alloc, content)?,
         kind,
     })
+}
+
+/// The compact text of a value.
+fn text_of(alloc: Global, value: &Value) -> Result<Vec<u8>, AllocError>
+    requires { has_float (view value.now) ≡ false }
+    ensures { IfOk result (λ text. text.items ≡ compact_text (view value.now)) }
+{
+    Ok(value.to_string(alloc)?.into_bytes())
 }
 
 fn answer_status(answer: &Answer) -> u16
@@ -85,17 +96,22 @@ fn answer_kind(answer: &Answer) -> Kind
     }
 }
 
-fn answer_value(alloc: Global, answer: &Answer) -> Result<Value, AllocError>
-    ensures { IfOk result (λ v. view v ≡ answer_data (told_style answer.now) (view_answer answer.now)) }
+/// The content of the reply to an answer.
+#[tactic(auto, using(register_store::proofs::Floats::answer_data_no_float))]
+fn answer_text(alloc: Global, answer: &Answer) -> Result<Vec<u8>, AllocError>
+    ensures { IfOk result (λ text.
+        text.items ≡ compact_text (answer_data (told_style answer.now) (view_answer answer.now))) }
 {
     match answer {
-        Answer::Registered { number, .. } => registered_value(alloc, *number),
+        Answer::Registered { number, .. } => registered_text(alloc, *number),
         Answer::Refused {
             findings,
             style,
             ..
-        } => refused_value(alloc, *style, findings),
-        Answer::KeyReused { style } => refusal_value(alloc, *style, 422, "key-reused"),
+        } => refused_text(alloc, *style, findings),
+        Answer::KeyReused { style } => {
+            text_of(alloc, &refusal_value(alloc, *style, 422, "key-reused")?)
+        }
     }
 }
 

@@ -4,6 +4,7 @@ pub mod AuditRefutes
 pub mod AuditSteps
 pub mod CellLemmas
 pub mod CommonLemmas
+pub mod ContentTexts
 pub mod CreateTexts
 pub mod DamageLemmas
 pub mod FactLemmas

@@ -4,6 +4,7 @@
 ghost use Rattle.std.specs.Prelude.{◌≡◌, Bool, false, IfOk};
 ghost use Rattle.serde_json.specs.Data.{object};
 ghost use Rattle.serde_json.specs.View.{view};
+ghost use Rattle.serde_json.specs.Written.{compact_text};
 ghost use Rattle.filing_model.specs.declared.served.Style.TheVariants.{Problem};
 ghost use Rattle.filing_model.specs.Answer.{Answer, answer_by};
 ghost use Rattle.filing_model.specs.Reply.{reply_as, answer_data, refused_status, problem_members, refusal_members, finding_data, findings_data};
@@ -12,41 +13,51 @@ ghost use Rattle.register_store.specs.Outcomes.{view_outcome};
 use crate::outcome::Outcome;
 use filing_model::Style;
 use http_wire::phrase;
+use itoa::Buffer;
 use serde_json::{Value, json};
 use std::alloc::{AllocError, Global};
 use xbrl_report::{Code, Finding, Findings};
 
+/// The room that the text of a registration takes: 33 bytes beside the number's digits, of which there are 20 at most.
+const REGISTERED_ROOM: usize = 53;
+
 impl Outcome {
     /// The content of the reply to the request in this style, as compact JSON: the number, or the findings. A repeat gets the same.
-    #[tactic(auto, using(crate::proofs::Floats::answer_data_no_float), unfolding(filing_model::specs::Reply::reply_as))]
+    #[tactic(auto, unfolding(filing_model::specs::Reply::reply_as))]
     pub fn content(&self, alloc: Global, style: Style) -> Result<Vec<u8>, AllocError>
         ensures { (repeat : Bool)
             → IfOk result (λ text. text.items ≡ (reply_as style (answer_by (view_outcome self.now) repeat)).content) }
     {
-        let value = outcome_value(alloc, style, self)?;
-        Ok(value.to_string(alloc)?.into_bytes())
+        match self {
+            Outcome::Registered(number) => registered_text(alloc, *number),
+            Outcome::Refused(findings) => refused_text(alloc, style, findings),
+        }
     }
 }
 
-fn outcome_value(alloc: Global, style: Style, outcome: &Outcome) -> Result<Value, AllocError>
-    ensures { (repeat : Bool)
-        → IfOk result (λ v. view v ≡ answer_data style (answer_by (view_outcome outcome.now) repeat)) }
+/// The compact JSON that says that a report is registered under this number: the same in every style, and to a repeat. As it is
+/// what most requests get, it is written at once, and no value is made of it.
+#[tactic(auto, using(crate::proofs::ContentTexts::registered_pieces))]
+pub fn registered_text(alloc: Global, number: u64) -> Result<Vec<u8>, AllocError>
+    ensures { IfOk result (λ text. text.items ≡ compact_text (answer_data Problem (Answer.Registered number false))) }
 {
-    match outcome {
-        Outcome::Registered(number) => registered_value(alloc, *number),
-        Outcome::Refused(findings) => refused_value(alloc, style, findings),
-    }
+    let mut text = Vec::with_capacity(alloc, REGISTERED_ROOM)?;
+    text.extend_from_slice(b"{\"number\":")?;
+    text.extend_from_slice(Buffer::new().format(number).as_bytes())?;
+    text.extend_from_slice(b",\"status\":\"registered\"}")?;
+    Ok(text)
 }
 
-/// What says that a report is registered under this number: the same in every style, and to a repeat.
-pub fn registered_value(alloc: Global, number: u64) -> Result<Value, AllocError>
-    ensures { IfOk result (λ v. view v ≡ answer_data Problem (Answer.Registered number false)) }
+/// The compact JSON that says that a report is refused, and lists its findings: the same to a repeat.
+pub fn refused_text(alloc: Global, style: Style, findings: &Findings) -> Result<Vec<u8>, AllocError>
+    ensures { IfOk result (λ text. text.items ≡ compact_text (answer_data style (Answer.Refused findings.now false))) }
 {
-    json!(in alloc; {"number": number, "status": "registered"})
+    let value = refused_value(alloc, style, findings)?;
+    Ok(value.to_string(alloc)?.into_bytes())
 }
 
-/// What says that a report is refused, and lists its findings: the same to a repeat.
-pub fn refused_value(alloc: Global, style: Style, findings: &Findings) -> Result<Value, AllocError>
+/// What says that a report is refused, and lists its findings.
+fn refused_value(alloc: Global, style: Style, findings: &Findings) -> Result<Value, AllocError>
     ensures { IfOk result (λ v. view v ≡ answer_data style (Answer.Refused findings.now false)) }
 {
     let listed = findings_value(alloc, findings.list())?;

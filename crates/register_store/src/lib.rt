@@ -17,7 +17,7 @@ mod store;
 mod write;
 
 pub use content::{
-    findings_value, problem_value, refusal_value, refused_status, refused_value, registered_value,
+    findings_value, problem_value, refusal_value, refused_status, refused_text, registered_text,
 };
 pub use decode::completed::{Completed, Registered};
 pub use fault::{CreateFault, OpenFault, StoreFault};
