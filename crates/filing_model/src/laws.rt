@@ -22,7 +22,7 @@ ghost use Rattle.filing_model.specs.Answer.Answer.{Registered, KeyReused};
 ghost use Rattle.filing_model.specs.Outbox.{Open, Confirmed, Clashed, moved};
 ghost use Rattle.filing_model.specs.Style.{style_of};
 ghost use Rattle.filing_model.specs.Reply.{reply_as, unavailable};
-ghost use Rattle.filing_model.specs.Serving.{Serves};
+ghost use Rattle.filing_model.specs.Serving.{keeping, Serves};
 ghost use Rattle.filing_model.specs.Stopping.{Crash, No, IsEndOf, IsEndOrStopOf, ServesUntil, StopsOrServes};
 ghost use Rattle.filing_model.specs.Text.{MarkFits, completed, reply_with, reply_text_with};
 ghost use Rattle.filing_model.specs.Laws.{IsAnswered, IsRegisterOf, RepeatChangesNothing, RegisterGrows, RepeatGetsTheFirst, StaysRegistered};
@@ -95,7 +95,7 @@ pub fn early_keys_are_answered_in_the_old_style()
 pub fn serves_as_the_model_says()
     ensures { (limit : ℕ) (done before after : List Request) (read more : List ℕ) (marks : List Mark) (ended : Ended)
         (out : List ℕ)
-        → before ≡ firsts done → IsEndOf read more ended → Serves limit [] before after read marks ended out
+        → before ≡ firsts done → IsEndOf read more ended → Serves (keeping limit [] before after) read marks ended out
         → (places : List Place)
         × ServesUntil limit done (read ++ more) No places marks
         (Some ended) out × (after ≡ firsts (done ++ completed places marks)) }
@@ -107,7 +107,7 @@ pub fn serves_until_as_the_model_says()
     ensures { (limit : ℕ) (done before after : List Request) (read more : List ℕ) (crash : Crash) (marks : List Mark)
         (ended : Option Ended) (out : List ℕ)
         → before ≡ firsts done → IsEndOrStopOf read more ended
-        → StopsOrServes limit [] before after read crash marks ended out
+        → StopsOrServes (keeping limit [] before after) read crash marks ended out
         → (places : List Place) × ServesUntil limit done (read ++ more) crash places marks ended out
         × (after ≡ firsts (done ++ completed places marks)) }
 {}

@@ -19,7 +19,8 @@ use Rattle.filing_model.specs.Request.{Request, firsts}
 use Rattle.filing_model.specs.Answer.{Answer, answer, IsRegistered}
 use Rattle.filing_model.specs.Reply.{reply_as, reply_of, unavailable, refused_status}
 use Rattle.filing_model.specs.Outbox.{Open, Confirmed, Refused, Clashed, moved, state_told, IsSendable, bytes_of}
-use Rattle.filing_model.specs.Stopping.{Crash, No, Before, After, BeginsPlaces}
+use Rattle.filing_model.specs.Serving.{BeginsPlaces}
+use Rattle.filing_model.specs.Stopping.{Crash, No, Before, After}
 use Rattle.filing_model.specs.Text.{FileReport, RouteFits, MarksFit, completed, completed_at, requests_of_route, reply, reply_on, reply_text_with, text, text_with, interim_of, next_interim}
 use Rattle.filing_model.proofs.Answers.{answer_registered, registered_grows}
 use Rattle.filing_model.proofs.Lists.{append_nil, prefix_nil, take_prefix, take_within, take_all, prefix_trans}

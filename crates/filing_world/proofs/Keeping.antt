@@ -13,7 +13,8 @@ use Rattle.http_wire.specs.Posting.{IsTarget}
 use Rattle.filing_model.specs.Request.{Request, firsts}
 use Rattle.filing_model.specs.Answer.{IsRegistered}
 use Rattle.filing_model.specs.Outbox.{State, Open, Confirmed, Refused, Clashed, moved, Entry, request_of, bytes_of}
-use Rattle.filing_model.specs.Stopping.{Crash, BeginsPlaces}
+use Rattle.filing_model.specs.Serving.{BeginsPlaces}
+use Rattle.filing_model.specs.Stopping.{Crash}
 use Rattle.filing_model.specs.Text.{completed}
 use Rattle.filing_model.proofs.Lists.{append_nil, take_take}
 use Rattle.filing_model.proofs.Firsts.{firsts_none}

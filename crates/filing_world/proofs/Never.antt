@@ -19,7 +19,8 @@ use Rattle.filing_model.specs.Register.{Filing, register, numbers_of}
 use Rattle.filing_model.specs.Answer.{Answer, answer}
 use Rattle.filing_model.specs.Reply.{reply_as, reply_of, unavailable}
 use Rattle.filing_model.specs.Outbox.{State, bytes_of, IsSendable}
-use Rattle.filing_model.specs.Stopping.{Crash, BeginsPlaces}
+use Rattle.filing_model.specs.Serving.{BeginsPlaces}
+use Rattle.filing_model.specs.Stopping.{Crash}
 use Rattle.filing_model.specs.Text.{FileReport, MarksFit, completed, requests_of_route, interim_of, reply_text_with, text, text_with}
 use Rattle.filing_model.proofs.Firsts.{same_target-is}
 use Rattle.filing_model.proofs.Finals.{answer-readable, unavailable-readable}

@@ -13,7 +13,7 @@ use Rattle.http_wire.proofs.PostLaws.{post-spells, post_parts-silent, post_parts
 use Rattle.http_wire.proofs.Unique.{BeginsHead-unique, BeginsRequest-unique, IsRefused-excludes}
 use Rattle.filing_model.specs.Request.{Request}
 use Rattle.filing_model.specs.Outbox.{bytes_of, IsSendable}
-use Rattle.filing_model.specs.Stopping.{BeginsPlaces}
+use Rattle.filing_model.specs.Serving.{BeginsPlaces}
 use Rattle.filing_model.proofs.Posted.{route-post}
 use Rattle.filing_model.specs.Text.{FileReport, route}
 

@@ -22,7 +22,8 @@ use Rattle.filing_model.specs.declared.served.Mark.TheVariants.{Done, Unavailabl
 use Rattle.filing_model.specs.declared.served.Ended.{Ended}
 use Rattle.filing_model.specs.Request.{Request}
 use Rattle.filing_model.specs.Outbox.{State, Open, moved, Entry, IsSendable, request_of, bytes_of}
-use Rattle.filing_model.specs.Stopping.{Crash, No, Before, After, marked, BeginsPlaces, IsWhole, IsCut, ServesUntil}
+use Rattle.filing_model.specs.Serving.{BeginsPlaces}
+use Rattle.filing_model.specs.Stopping.{Crash, No, Before, After, marked, IsWhole, IsCut, ServesUntil}
 use Rattle.filing_model.specs.Text.{Route, Reject, ListFilings, FileReport, route, requests_of_route, completed, completed_at}
 use Rattle.filing_model.proofs.Lists.{append_nil, take_take}
 use Rattle.filing_model.proofs.Stopping.{serves_begin}

@@ -15,7 +15,7 @@ use Rattle.http_wire.proofs.MoreBytes.{EndsAt-more, EndsAt-front, IsBlockEnd-wit
 use Rattle.http_wire.proofs.Unique.{BeginsHead-unique, BeginsRequest-unique, IsRefused-excludes}
 use Rattle.filing_model.specs.declared.served.Mark.{Mark}
 use Rattle.filing_model.specs.Request.{Request}
-use Rattle.filing_model.specs.Stopping.{BeginsPlaces}
+use Rattle.filing_model.specs.Serving.{BeginsPlaces}
 use Rattle.filing_model.specs.Text.{completed, completed_at}
 use Rattle.filing_model.proofs.Lists.{append_nil}
 

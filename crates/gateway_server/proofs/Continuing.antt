@@ -18,11 +18,11 @@ use Rattle.http_wire.proofs.DeviceLemmas.{Appends-join, Appends-nil, Consumes-jo
 use Rattle.filing_model.specs.declared.served.Ended.TheVariants.{Closed, InputEnded, Fault}
 use Rattle.filing_model.specs.declared.served.Mark.{Mark}
 use Rattle.filing_model.specs.Request.{Request}
-use Rattle.filing_model.specs.Serving.{IsServed, IsCutShort}
+use Rattle.filing_model.specs.Serving.{Keeping, keeping, IsServed, IsCutShort}
 use Rattle.filing_model.specs.Text.{interim_of, reply_text_with, next_interim}
 use Rattle.filing_model.proofs.Lists.{append_nil}
 use Rattle.gateway_server.specs.Answered.{IsReplyFault}
-use Rattle.gateway_server.specs.Progress.{HasServed, GoesOn, HasMessage, HasRefusal, ServesConnection}
+use Rattle.gateway_server.specs.Progress.{Streams, streams, HasServed, GoesOn, HasMessage, HasRefusal, ServesConnection}
 use Rattle.gateway_server.proofs.Answering.{IsAnswered, IsPartly, IsUntouched}
 use Rattle.gateway_server.proofs.Progress.{HasServed-none, HasServed-more, HasServed-end}
 use Rattle.gateway_server.proofs.Places.{served_last, served_push, served_part, served_read, served_asked, served_nothing, served_rest}
@@ -45,38 +45,38 @@ is_no_limit w w' Memory why e = absurd (cc)
 
 -- ---- what was read
 
-module _ (limit : ℕ) (early before now : List Request) (left left' left'' written written' : Option (List ℕ)) (old new : Inbox) (marks : List Mark) (h : GoesOn limit early before now left left' written written' old marks) (r : ReadsOn left' left'' old new) where
+module _ (requests : Keeping) (first from to : Streams) (old new : Inbox) (marks : List Mark) (h : GoesOn requests first from old marks) (r : ReadsOn from.left to.left old new) where
   abbrev read_since : List ℕ
   read_since = h.got ++ got old new
 
-  consumed : Consumes left left'' read_since
-  consumed = Consumes-join left left' left'' h.got (got old new) h.read r.given
+  consumed : Consumes first.left to.left read_since
+  consumed = Consumes-join first.left from.left to.left h.got (got old new) h.read r.given
 
-  served_held : HasServed limit early before now read_since (held new) marks h.sent
-  served_held = subst (λ (rest : List ℕ). HasServed limit early before now read_since rest marks h.sent) (sym r.held_is) (HasServed-more limit early before now h.got (unread old) (got old new) marks h.sent h.served)
+  served_held : HasServed requests read_since (held new) marks h.sent
+  served_held = subst (λ (rest : List ℕ). HasServed requests read_since rest marks h.sent) (sym r.held_is) (HasServed-more requests h.got (unread old) (got old new) marks h.sent h.served)
 
   counted_since : reads new ≤ length read_since
   counted_since = subst (λ (n : ℕ). reads new ≤ n) (sym (length-append h.got (got old new))) (omega (arith, h.counted, r.each))
 
-  wrote_more : (written'' : Option (List ℕ)) (text : List ℕ) → Appends written' written'' text → Appends written written'' (h.sent ++ text)
-  wrote_more written'' text w = Appends-join written written' written'' h.sent text h.wrote w
+  wrote_more : (text : List ℕ) → Appends from.written to.written text → Appends first.written to.written (h.sent ++ text)
+  wrote_more text w = Appends-join first.written from.written to.written h.sent text h.wrote w
 
   -- a message came
-  pub HasMessage-next : (written'' : Option (List ℕ)) → LendsFirst new → Appends written' written'' (interim_if (lent_awaits new)) → HasMessage limit early before now left left'' written written'' new marks
-  HasMessage-next written'' lends w = record { got = read_since; sent = h.sent; read = consumed; counted = counted_since; wrote = wrote_more written'' (interim_if (lent_awaits new)) w; served = served_held; lends = lends }
+  pub HasMessage-next : LendsFirst new → Appends from.written to.written (interim_if (lent_awaits new)) → HasMessage requests first to new marks
+  HasMessage-next lends w = record { got = read_since; sent = h.sent; read = consumed; counted = counted_since; wrote = wrote_more (interim_if (lent_awaits new)) w; served = served_held; lends = lends }
 
   -- what is refused came
-  pub HasRefusal-next : (written'' : Option (List ℕ)) (refusal : Refusal) → IsRefused (held new) refusal → Appends written' written'' [] → HasRefusal limit early before now left left'' written written'' new refusal marks
-  HasRefusal-next written'' refusal refused w = record { got = read_since; sent = h.sent; read = consumed; wrote = subst (Appends written written'') (append_nil h.sent) (wrote_more written'' [] w); served = served_held; refused = refused }
+  pub HasRefusal-next : (refusal : Refusal) → IsRefused (held new) refusal → Appends from.written to.written [] → HasRefusal requests first to new refusal marks
+  HasRefusal-next refusal refused w = record { got = read_since; sent = h.sent; read = consumed; wrote = subst (Appends first.written to.written) (append_nil h.sent) (wrote_more [] w); served = served_held; refused = refused }
 
   -- the input ended
-  pub Serves-end : (written'' : Option (List ℕ)) → IsAtEnd left'' → IsRest (held new) → WritesAsked written' written'' (held new) → ServesConnection limit early before now left left'' written written'' marks InputEnded
-  Serves-end written'' ended rest (text, (asks, asked, e), w) = record {
+  pub Serves-end : IsAtEnd to.left → IsRest (held new) → WritesAsked from.written to.written (held new) → ServesConnection requests first to marks InputEnded
+  Serves-end ended rest (text, (asks, asked, e), w) = record {
     got = read_since;
     sent = h.sent ++ text;
     read = consumed;
-    wrote = wrote_more written'' text w;
-    serves = subst (λ (t : List ℕ). IsServed limit early before now read_since marks InputEnded (h.sent ++ t)) (by_asks asks ∙ sym e) (HasServed-end limit early before now read_since (held new) marks h.sent served_held asks rest asked);
+    wrote = wrote_more text w;
+    serves = subst (λ (t : List ℕ). IsServed requests read_since marks InputEnded (h.sent ++ t)) (by_asks asks ∙ sym e) (HasServed-end requests read_since (held new) marks h.sent served_held asks rest asked);
     at_end = λ _. ended;
     limited = λ e. absurd (cc);
   }
@@ -89,123 +89,123 @@ module _ (limit : ℕ) (early before now : List Request) (left left' left'' writ
   abbrev Limited : ConnFault → Type 0
   Limited f = f ≡ ReadLimit → max_reads ≤ length read_since
 
-  cut : (written'' : Option (List ℕ)) (text : List ℕ) (f : ConnFault) → Limited f → Appends written' written'' text → IsCutShort limit early before now read_since marks (h.sent ++ text) → ServesConnection limit early before now left left'' written written'' marks (Fault f)
-  cut written'' text f limited w c = record { got = read_since; sent = h.sent ++ text; read = consumed; wrote = wrote_more written'' text w; serves = c; at_end = λ e. absurd (cc); limited = λ e. limited (cc) }
+  cut : (text : List ℕ) (f : ConnFault) → Limited f → Appends from.written to.written text → IsCutShort requests read_since marks (h.sent ++ text) → ServesConnection requests first to marks (Fault f)
+  cut text f limited w c = record { got = read_since; sent = h.sent ++ text; read = consumed; wrote = wrote_more text w; serves = c; at_end = λ e. absurd (cc); limited = λ e. limited (cc) }
 
-  cut_asked : (written'' : Option (List ℕ)) (f : ConnFault) → Limited f → WritesAsked written' written'' (held new) → ServesConnection limit early before now left left'' written written'' marks (Fault f)
-  cut_asked written'' f limited (text, (asks, asked, e), w) = cut written'' text f limited w (subst (λ (t : List ℕ). IsCutShort limit early before now read_since marks (h.sent ++ t)) (sym e) (served_asked limit early before now read_since (held new) marks h.sent served_held asks asked))
+  cut_asked : (f : ConnFault) → Limited f → WritesAsked from.written to.written (held new) → ServesConnection requests first to marks (Fault f)
+  cut_asked f limited (text, (asks, asked, e), w) = cut text f limited w (subst (λ (t : List ℕ). IsCutShort requests read_since marks (h.sent ++ t)) (sym e) (served_asked requests read_since (held new) marks h.sent served_held asks asked))
 
   -- a fault came
-  pub Serves-fault : (written'' : Option (List ℕ)) (f : ConnFault) → (f ≡ ReadLimit → reads new ≡ max_reads) → WritesUpTo written' written'' (held new) f → ServesConnection limit early before now left left'' written written'' marks (Fault f)
-  Serves-fault written'' fault.Read all w = cut_asked written'' fault.Read (λ e. absurd (cc)) w
-  Serves-fault written'' (Write sent) all w = cut written'' (take sent interim) (Write sent) (λ e. absurd (cc)) w.2 (served_rest limit early before now read_since (held new) marks h.sent served_held sent (λ _. w.0))
-  Serves-fault written'' ReadLimit all w = cut_asked written'' ReadLimit (λ e. subst (λ (n : ℕ). n ≤ length read_since) (all refl) counted_since) w
-  Serves-fault written'' Memory all (inl w) = cut_asked written'' Memory (λ e. absurd (cc)) w
-  Serves-fault written'' Memory all (inr w) = cut written'' [] Memory (λ e. absurd (cc)) w (served_nothing limit early before now read_since (held new) marks h.sent served_held)
+  pub Serves-fault : (f : ConnFault) → (f ≡ ReadLimit → reads new ≡ max_reads) → WritesUpTo from.written to.written (held new) f → ServesConnection requests first to marks (Fault f)
+  Serves-fault fault.Read all w = cut_asked fault.Read (λ e. absurd (cc)) w
+  Serves-fault (Write sent) all w = cut (take sent interim) (Write sent) (λ e. absurd (cc)) w.2 (served_rest requests read_since (held new) marks h.sent served_held sent (λ _. w.0))
+  Serves-fault ReadLimit all w = cut_asked ReadLimit (λ e. subst (λ (n : ℕ). n ≤ length read_since) (all refl) counted_since) w
+  Serves-fault Memory all (inl w) = cut_asked Memory (λ e. absurd (cc)) w
+  Serves-fault Memory all (inr w) = cut [] Memory (λ e. absurd (cc)) w (served_nothing requests read_since (held new) marks h.sent served_held)
 
 -- ---- what was answered
 
 -- a place that was answered, after an interim response
-module _ (limit : ℕ) (early before now : List Request) (left left' written written' : Option (List ℕ)) (inbox : Inbox) (marks : List Mark) (h : HasMessage limit early before now left left' written written' inbox marks) where
+module _ (requests : Keeping) (first : Streams) (left written : Option (List ℕ)) (inbox : Inbox) (marks : List Mark) (h : HasMessage requests first (streams left written) inbox marks) where
   abbrev lent : Message
   lent = h.lends.request
 
   same_interim : interim_if (lent_awaits inbox) ≡ interim_of (Read lent)
   same_interim = rw h.lends.lent refl
 
-  wrote_after : (written'' : Option (List ℕ)) (text : List ℕ) → Appends written' written'' text → Appends written written'' (h.sent ++ (interim_of (Read lent) ++ text))
-  wrote_after written'' text w =
-      subst (Appends written written'') (append_assoc h.sent (interim_if (lent_awaits inbox)) text ∙ ap (λ i. h.sent ++ (i ++ text)) same_interim)
-      (Appends-join written written' written'' (h.sent ++ interim_if (lent_awaits inbox)) text h.wrote w)
+  wrote_after : (written' : Option (List ℕ)) (text : List ℕ) → Appends written written' text → Appends first.written written' (h.sent ++ (interim_of (Read lent) ++ text))
+  wrote_after written' text w =
+      subst (Appends first.written written') (append_assoc h.sent (interim_if (lent_awaits inbox)) text ∙ ap (λ i. h.sent ++ (i ++ text)) same_interim)
+      (Appends-join first.written written written' (h.sent ++ interim_if (lent_awaits inbox)) text h.wrote w)
 
   -- the message was answered, and the connection closes
-  pub Serves-closed : (after : List Request) (new : List Mark) (written'' : Option (List ℕ)) → closes lent.head ≡ true → IsAnswered limit early now after (Read lent) marks new written' written'' → ServesConnection limit early before after left left' written written'' new Closed
-  Serves-closed after new written'' closed a = record {
+  pub Serves-closed : (after : List Request) (new : List Mark) (written' : Option (List ℕ)) → closes lent.head ≡ true → IsAnswered requests.limit requests.early requests.after after (Read lent) marks new written written' → ServesConnection (record requests { after = after }) first (streams left written') new Closed
+  Serves-closed after new written' closed a = record {
     got = h.got;
-    sent = h.sent ++ (interim_of (Read lent) ++ reply_text_with early now (Read lent) a.marked.mark);
+    sent = h.sent ++ (interim_of (Read lent) ++ reply_text_with requests.early requests.after (Read lent) a.marked.mark);
     read = h.read;
-    wrote = wrote_after written'' (reply_text_with early now (Read lent) a.marked.mark) a.written;
-    serves = subst (λ (ms : List Mark). IsServed limit early before after h.got ms Closed (h.sent ++ (interim_of (Read lent) ++ reply_text_with early now (Read lent) a.marked.mark))) (sym a.marked.marks)
-        (served_last limit early before now h.got (held inbox) marks h.sent h.served (Read lent) ((lent_len inbox, h.lends.begins), refl) a.marked.mark after closed a.marked.fit a.marked.kept);
+    wrote = wrote_after written' (reply_text_with requests.early requests.after (Read lent) a.marked.mark) a.written;
+    serves = subst (λ (ms : List Mark). IsServed (record requests { after = after }) h.got ms Closed (h.sent ++ (interim_of (Read lent) ++ reply_text_with requests.early requests.after (Read lent) a.marked.mark))) (sym a.marked.marks)
+        (served_last requests h.got (held inbox) marks h.sent h.served (Read lent) ((lent_len inbox, h.lends.begins), refl) a.marked.mark after closed a.marked.fit a.marked.kept);
     at_end = λ e. absurd (cc);
     limited = λ e. absurd (cc);
   }
 
   -- the message was answered, and more may come
-  pub GoesOn-answered : (after : List Request) (new : List Mark) (written'' : Option (List ℕ)) → closes lent.head ≡ false → IsAnswered limit early now after (Read lent) marks new written' written'' → GoesOn limit early before after left left' written written'' inbox new
-  GoesOn-answered after new written'' open' a = record {
+  pub GoesOn-answered : (after : List Request) (new : List Mark) (written' : Option (List ℕ)) → closes lent.head ≡ false → IsAnswered requests.limit requests.early requests.after after (Read lent) marks new written written' → GoesOn (record requests { after = after }) first (streams left written') inbox new
+  GoesOn-answered after new written' open' a = record {
     got = h.got;
-    sent = h.sent ++ (interim_of (Read lent) ++ reply_text_with early now (Read lent) a.marked.mark);
+    sent = h.sent ++ (interim_of (Read lent) ++ reply_text_with requests.early requests.after (Read lent) a.marked.mark);
     read = h.read;
     counted = h.counted;
-    wrote = wrote_after written'' (reply_text_with early now (Read lent) a.marked.mark) a.written;
-    served = subst (λ (ms : List Mark). HasServed limit early before after h.got (unread inbox) ms (h.sent ++ (interim_of (Read lent) ++ reply_text_with early now (Read lent) a.marked.mark))) (sym a.marked.marks)
-        (served_push limit early before now h.got (held inbox) marks h.sent h.served lent (lent_len inbox) a.marked.mark after h.lends.begins open' a.marked.fit a.marked.kept);
+    wrote = wrote_after written' (reply_text_with requests.early requests.after (Read lent) a.marked.mark) a.written;
+    served = subst (λ (ms : List Mark). HasServed (record requests { after = after }) h.got (unread inbox) ms (h.sent ++ (interim_of (Read lent) ++ reply_text_with requests.early requests.after (Read lent) a.marked.mark))) (sym a.marked.marks)
+        (served_push requests h.got (held inbox) marks h.sent h.served lent (lent_len inbox) a.marked.mark after h.lends.begins open' a.marked.fit a.marked.kept);
     more = h.lends.last ∙ open';
   }
 
   -- a fault came
-  pub Serves-unanswered : (after : List Request) (new : List Mark) (written'' : Option (List ℕ)) (f : ConnFault) → f ≢ ReadLimit → IsUntouched now after marks new written' written'' ⊎ IsPartly limit early now after (Read lent) marks new written' written'' → ServesConnection limit early before after left left' written written'' new (Fault f)
-  Serves-unanswered after new written'' f other (inl u) = record {
+  pub Serves-unanswered : (after : List Request) (new : List Mark) (written' : Option (List ℕ)) (f : ConnFault) → f ≢ ReadLimit → IsUntouched requests.after after marks new written written' ⊎ IsPartly requests.limit requests.early requests.after after (Read lent) marks new written written' → ServesConnection (record requests { after = after }) first (streams left written') new (Fault f)
+  Serves-unanswered after new written' f other (inl u) = record {
     got = h.got;
     sent = h.sent ++ (interim_of (Read lent) ++ []);
     read = h.read;
-    wrote = wrote_after written'' [] u.written;
-    serves = subst (λ (ms : List Mark). IsCutShort limit early before after h.got ms (h.sent ++ (interim_of (Read lent) ++ []))) (sym u.marks)
-        (subst (λ (rs : List Request). IsCutShort limit early before rs h.got marks (h.sent ++ (interim_of (Read lent) ++ []))) (sym u.kept)
-        (subst (λ (t : List ℕ). IsCutShort limit early before now h.got marks (h.sent ++ t)) (sym (append_nil (interim_of (Read lent))))
-        (served_read limit early before now h.got (held inbox) marks h.sent h.served lent (lent_len inbox) h.lends.begins)));
+    wrote = wrote_after written' [] u.written;
+    serves = subst (λ (ms : List Mark). IsCutShort (record requests { after = after }) h.got ms (h.sent ++ (interim_of (Read lent) ++ []))) (sym u.marks)
+        (subst (λ (rs : List Request). IsCutShort (record requests { after = rs }) h.got marks (h.sent ++ (interim_of (Read lent) ++ []))) (sym u.kept)
+        (subst (λ (t : List ℕ). IsCutShort requests h.got marks (h.sent ++ t)) (sym (append_nil (interim_of (Read lent))))
+        (served_read requests h.got (held inbox) marks h.sent h.served lent (lent_len inbox) h.lends.begins)));
     at_end = λ e. absurd (cc);
     limited = λ e. absurd (other (cc));
   }
-  Serves-unanswered after new written'' f other (inr p) = record {
+  Serves-unanswered after new written' f other (inr p) = record {
     got = h.got;
-    sent = h.sent ++ (interim_of (Read lent) ++ take p.sent (reply_text_with early now (Read lent) p.marked.mark));
+    sent = h.sent ++ (interim_of (Read lent) ++ take p.sent (reply_text_with requests.early requests.after (Read lent) p.marked.mark));
     read = h.read;
-    wrote = wrote_after written'' (take p.sent (reply_text_with early now (Read lent) p.marked.mark)) p.written;
-    serves = subst (λ (ms : List Mark). IsCutShort limit early before after h.got ms (h.sent ++ (interim_of (Read lent) ++ take p.sent (reply_text_with early now (Read lent) p.marked.mark)))) (sym p.marked.marks)
-        (served_part limit early before now h.got (held inbox) marks h.sent h.served (Read lent) ((lent_len inbox, h.lends.begins), refl) p.marked.mark after p.sent p.marked.fit p.marked.kept);
+    wrote = wrote_after written' (take p.sent (reply_text_with requests.early requests.after (Read lent) p.marked.mark)) p.written;
+    serves = subst (λ (ms : List Mark). IsCutShort (record requests { after = after }) h.got ms (h.sent ++ (interim_of (Read lent) ++ take p.sent (reply_text_with requests.early requests.after (Read lent) p.marked.mark)))) (sym p.marked.marks)
+        (served_part requests h.got (held inbox) marks h.sent h.served (Read lent) ((lent_len inbox, h.lends.begins), refl) p.marked.mark after p.sent p.marked.fit p.marked.kept);
     at_end = λ e. absurd (cc);
     limited = λ e. absurd (other (cc));
   }
 
 -- ---- what was refused
 
-module _ (limit : ℕ) (early before now : List Request) (left left' written written' : Option (List ℕ)) (inbox : Inbox) (refusal : Refusal) (marks : List Mark) (h : HasRefusal limit early before now left left' written written' inbox refusal marks) where
-  wrote_refusal : (written'' : Option (List ℕ)) (text : List ℕ) → Appends written' written'' text → Appends written written'' (h.sent ++ text)
-  wrote_refusal written'' text w = Appends-join written written' written'' h.sent text h.wrote w
+module _ (requests : Keeping) (first : Streams) (left written : Option (List ℕ)) (inbox : Inbox) (refusal : Refusal) (marks : List Mark) (h : HasRefusal requests first (streams left written) inbox refusal marks) where
+  wrote_refusal : (written' : Option (List ℕ)) (text : List ℕ) → Appends written written' text → Appends first.written written' (h.sent ++ text)
+  wrote_refusal written' text w = Appends-join first.written written written' h.sent text h.wrote w
 
   -- it was answered
-  pub Serves-refused : (new : List Mark) (written'' : Option (List ℕ)) → IsAnswered limit early now now (Refused refusal) marks new written' written'' → ServesConnection limit early before now left left' written written'' new Closed
-  Serves-refused new written'' a = record {
+  pub Serves-refused : (new : List Mark) (written' : Option (List ℕ)) → IsAnswered requests.limit requests.early requests.after requests.after (Refused refusal) marks new written written' → ServesConnection requests first (streams left written') new Closed
+  Serves-refused new written' a = record {
     got = h.got;
-    sent = h.sent ++ reply_text_with early now (Refused refusal) a.marked.mark;
+    sent = h.sent ++ reply_text_with requests.early requests.after (Refused refusal) a.marked.mark;
     read = h.read;
-    wrote = wrote_refusal written'' (reply_text_with early now (Refused refusal) a.marked.mark) a.written;
-    serves = subst (λ (ms : List Mark). IsServed limit early before now h.got ms Closed (h.sent ++ reply_text_with early now (Refused refusal) a.marked.mark)) (sym a.marked.marks)
-        (served_last limit early before now h.got (held inbox) marks h.sent h.served (Refused refusal) (h.refused, refl) a.marked.mark now tt a.marked.fit a.marked.kept);
+    wrote = wrote_refusal written' (reply_text_with requests.early requests.after (Refused refusal) a.marked.mark) a.written;
+    serves = subst (λ (ms : List Mark). IsServed requests h.got ms Closed (h.sent ++ reply_text_with requests.early requests.after (Refused refusal) a.marked.mark)) (sym a.marked.marks)
+        (served_last requests h.got (held inbox) marks h.sent h.served (Refused refusal) (h.refused, refl) a.marked.mark requests.after tt a.marked.fit a.marked.kept);
     at_end = λ e. absurd (cc);
     limited = λ e. absurd (cc);
   }
 
   -- a fault came
-  pub Serves-unrefused : (new : List Mark) (written'' : Option (List ℕ)) (f : ConnFault) → f ≢ ReadLimit → IsUntouched now now marks new written' written'' ⊎ IsPartly limit early now now (Refused refusal) marks new written' written'' → ServesConnection limit early before now left left' written written'' new (Fault f)
-  Serves-unrefused new written'' f other (inl u) = record {
+  pub Serves-unrefused : (new : List Mark) (written' : Option (List ℕ)) (f : ConnFault) → f ≢ ReadLimit → IsUntouched requests.after requests.after marks new written written' ⊎ IsPartly requests.limit requests.early requests.after requests.after (Refused refusal) marks new written written' → ServesConnection requests first (streams left written') new (Fault f)
+  Serves-unrefused new written' f other (inl u) = record {
     got = h.got;
     sent = h.sent ++ [];
     read = h.read;
-    wrote = wrote_refusal written'' [] u.written;
-    serves = subst (λ (ms : List Mark). IsCutShort limit early before now h.got ms (h.sent ++ [])) (sym u.marks) (served_nothing limit early before now h.got (held inbox) marks h.sent h.served);
+    wrote = wrote_refusal written' [] u.written;
+    serves = subst (λ (ms : List Mark). IsCutShort requests h.got ms (h.sent ++ [])) (sym u.marks) (served_nothing requests h.got (held inbox) marks h.sent h.served);
     at_end = λ e. absurd (cc);
     limited = λ e. absurd (other (cc));
   }
-  Serves-unrefused new written'' f other (inr p) = record {
+  Serves-unrefused new written' f other (inr p) = record {
     got = h.got;
-    sent = h.sent ++ take p.sent (reply_text_with early now (Refused refusal) p.marked.mark);
+    sent = h.sent ++ take p.sent (reply_text_with requests.early requests.after (Refused refusal) p.marked.mark);
     read = h.read;
-    wrote = wrote_refusal written'' (take p.sent (reply_text_with early now (Refused refusal) p.marked.mark)) p.written;
-    serves = subst (λ (ms : List Mark). IsCutShort limit early before now h.got ms (h.sent ++ take p.sent (reply_text_with early now (Refused refusal) p.marked.mark))) (sym p.marked.marks)
-        (served_part limit early before now h.got (held inbox) marks h.sent h.served (Refused refusal) (h.refused, refl) p.marked.mark now p.sent p.marked.fit p.marked.kept);
+    wrote = wrote_refusal written' (take p.sent (reply_text_with requests.early requests.after (Refused refusal) p.marked.mark)) p.written;
+    serves = subst (λ (ms : List Mark). IsCutShort requests h.got ms (h.sent ++ take p.sent (reply_text_with requests.early requests.after (Refused refusal) p.marked.mark))) (sym p.marked.marks)
+        (served_part requests h.got (held inbox) marks h.sent h.served (Refused refusal) (h.refused, refl) p.marked.mark requests.after p.sent p.marked.fit p.marked.kept);
     at_end = λ e. absurd (cc);
     limited = λ e. absurd (other (cc));
   }
@@ -216,26 +216,26 @@ unread-new : (inbox : Inbox) → IsNew inbox → unread inbox ≡ []
 unread-new inbox is = ap (drop (lent_len inbox)) is.empty ∙ drop-nil (lent_len inbox)
 
 -- a new inbox, and nothing marked
-pub GoesOn-new : (limit : ℕ) (early before : List Request) (left written : Option (List ℕ)) (inbox : Inbox) (marks : List Mark) → IsNew inbox → marks ≡ [] → GoesOn limit early before before left left written written inbox marks
-GoesOn-new limit early before left written inbox marks is none = record {
+pub GoesOn-new : (limit : ℕ) (early before : List Request) (first : Streams) (inbox : Inbox) (marks : List Mark) → IsNew inbox → marks ≡ [] → GoesOn (keeping limit early before before) first first inbox marks
+GoesOn-new limit early before first inbox marks is none = record {
   got = [];
   sent = [];
-  read = Consumes-nil left;
+  read = Consumes-nil first.left;
   counted = omega (arith, is.count);
-  wrote = Appends-nil written;
-  served = subst (λ (ms : List Mark). HasServed limit early before before [] (unread inbox) ms []) (sym none)
-      (subst (λ (rest : List ℕ). HasServed limit early before before [] rest [] []) (sym (unread-new inbox is)) (HasServed-none limit early before));
+  wrote = Appends-nil first.written;
+  served = subst (λ (ms : List Mark). HasServed (keeping limit early before before) [] (unread inbox) ms []) (sym none)
+      (subst (λ (rest : List ℕ). HasServed (keeping limit early before before) [] rest [] []) (sym (unread-new inbox is)) (HasServed-none limit early before));
   more = is.more;
 }
 
 -- no memory for an inbox
-pub Serves-none : (limit : ℕ) (early before : List Request) (left written : Option (List ℕ)) (marks : List Mark) → marks ≡ [] → ServesConnection limit early before before left left written written marks (Fault Memory)
-Serves-none limit early before left written marks none = record {
+pub Serves-none : (limit : ℕ) (early before : List Request) (first : Streams) (marks : List Mark) → marks ≡ [] → ServesConnection (keeping limit early before before) first first marks (Fault Memory)
+Serves-none limit early before first marks none = record {
   got = [];
   sent = [];
-  read = Consumes-nil left;
-  wrote = Appends-nil written;
-  serves = subst (λ (ms : List Mark). IsCutShort limit early before before [] ms []) (sym none) (served_nothing limit early before before [] [] [] [] (HasServed-none limit early before));
+  read = Consumes-nil first.left;
+  wrote = Appends-nil first.written;
+  serves = subst (λ (ms : List Mark). IsCutShort (keeping limit early before before) [] ms []) (sym none) (served_nothing (keeping limit early before before) [] [] [] [] (HasServed-none limit early before));
   at_end = λ e. absurd (cc);
   limited = λ e. absurd (cc);
 }

@@ -1,21 +1,22 @@
 -- What one more place does to a connection that was served so far.
 use Rattle.std.proofs.Common.{◌≡◌, ℕ, Bool, true, false, List, [], ◌∷◌, ◌++◌, drop, map, refl, sym, ap, ◌∙◌, subst, append_assoc, true≢false}
 use Rattle.std.specs.Prelude.{if◌then◌else◌}
+use Rattle.std.proofs.lemmas.Bool.{both_ways}
 use Rattle.std.proofs.lemmas.List.{map-append}
 use Rattle.http_wire.specs.Head.{closes}
-use Rattle.http_wire.specs.Message.{Place, Read, Refused, Ending, Rest, BeginsRequest, IsRest, Asks, HasPlaces}
+use Rattle.http_wire.specs.Message.{Place, Read, Refused, Ending, Rest, BeginsRequest, IsRefused, IsRest, Asks, HasPlaces}
 use Rattle.http_wire.specs.Request.{Request as Message}
 use Rattle.http_wire.proofs.MoreBytes.{BeginsRequest-more}
 use Rattle.filing_model.specs.declared.served.Mark.{Mark}
 use Rattle.filing_model.specs.declared.served.Ended.TheVariants.{Closed, InputEnded}
 use Rattle.filing_model.specs.Prefix.{IsPrefixOf}
 use Rattle.filing_model.specs.Request.{Request}
-use Rattle.filing_model.specs.Serving.{kept_by, AreMarked, GoesThrough, MayBegin, IsServed, IsCutShort}
+use Rattle.filing_model.specs.Serving.{Keeping, keeping, kept_by, AreMarked, BeginsPlaces, IsServed, IsCutShort}
 use Rattle.filing_model.specs.Text.{text_with, MarksFit, completed, next_interim}
 use Rattle.filing_model.proofs.Lists.{append_nil}
 use Rattle.filing_model.proofs.Serving.{drop-more}
 use Rattle.filing_model.proofs.Appending.{completed-append, text-append, text_now, are_marked_now, kept_by-append, AreMarked-append}
-use Rattle.gateway_server.specs.Progress.{HasServed}
+use Rattle.gateway_server.specs.Progress.{GoesThrough, HasServed}
 
 -- ---- the bytes
 
@@ -35,6 +36,31 @@ has_places-after bytes [] rest places ending e has = subst (λ (bs : List ℕ). 
 has_places-after bytes (message ∷ messages) rest places ending (n, begins, open', goes) has =
     (n, begins, (λ closed. absurd (true≢false (sym closed ∙ open'))), (λ _. has_places-after (drop n bytes) messages rest places ending goes has))
 
+-- no place, or the one that stands first
+abbrev pub MayBegin : List ℕ → List Place → Type 0
+MayBegin bytes [] = Unit {0}
+MayBegin bytes (Read message ∷ places) = ((n : ℕ) × BeginsRequest bytes message n) × (places ≡ [])
+MayBegin bytes (Refused refusal ∷ places) = IsRefused bytes refusal × (places ≡ [])
+
+-- the places after these messages
+pub begins-after : (bytes : List ℕ) (messages : List Message) (rest : List ℕ) (last : List Place) (ending : Ending) → GoesThrough bytes messages rest → BeginsPlaces rest last ending → BeginsPlaces bytes (map Read messages ++ last) ending
+begins-after bytes [] rest last ending goes begins = subst (λ bs. BeginsPlaces bs last ending) goes begins
+begins-after bytes (message ∷ messages) rest last ending (n, here, open', goes) begins =
+    (n, here, (λ (closed : closes message.head ≡ true). absurd (both_ways _ open' closed)), λ _. begins-after (drop n bytes) messages rest last ending goes begins)
+
+-- what ends the places that a fault cut short
+abbrev pub cut_end : Bool → Ending
+cut_end asks = if asks then Rest true else Ending.Closed
+
+pub begins-last : (rest : List ℕ) (last : List Place) (asks : Bool) → MayBegin rest last → (asks ≡ true → (last ≡ []) × Asks rest true) → BeginsPlaces rest last (cut_end asks)
+begins-last rest [] true may asked = (asked refl).1
+begins-last rest [] false may asked = tt
+begins-last rest (Read message ∷ places) true may asked = absurd (let e = (asked refl).0 in cc)
+begins-last rest (Read message ∷ places) false may asked =
+    (may.0.0, may.0.1, (λ _. (may.1, refl)), λ _. subst (λ ps. BeginsPlaces (drop may.0.0 rest) ps Ending.Closed) (sym may.1) tt)
+begins-last rest (Refused refusal ∷ places) true may asked = absurd (let e = (asked refl).0 in cc)
+begins-last rest (Refused refusal ∷ places) false may asked = (may.0, may.1, refl)
+
 -- a place after which the connection closes is the last
 abbrev pub closing : (rest : List ℕ) (place : Place) → MayBegin rest (place ∷ []) → Type 0
 closing rest (Read message) b = closes message.head ≡ true
@@ -47,7 +73,7 @@ has_places-closing rest (Refused refusal) b closed = (b.0, refl, refl)
 -- ---- one more place
 
 -- at first nothing was served
-pub HasServed-none : (limit : ℕ) (early before : List Request) → HasServed limit early before before [] [] [] []
+pub HasServed-none : (limit : ℕ) (early before : List Request) → HasServed (keeping limit early before before) [] [] [] []
 unfolding completed MarksFit text_with
 HasServed-none limit early before = record {
   messages = [];
@@ -58,8 +84,8 @@ HasServed-none limit early before = record {
 }
 
 -- more was read
-pub HasServed-more : (limit : ℕ) (early before now : List Request) (bytes rest more : List ℕ) (marks : List Mark) (out : List ℕ) → HasServed limit early before now bytes rest marks out → HasServed limit early before now (bytes ++ more) (rest ++ more) marks out
-HasServed-more limit early before now bytes rest more marks out h = record {
+pub HasServed-more : (requests : Keeping) (bytes rest more : List ℕ) (marks : List Mark) (out : List ℕ) → HasServed requests bytes rest marks out → HasServed requests (bytes ++ more) (rest ++ more) marks out
+HasServed-more requests bytes rest more marks out h = record {
   messages = h.messages;
   goes = goes-more bytes h.messages rest more h.goes;
   marked = h.marked;
@@ -67,29 +93,29 @@ HasServed-more limit early before now bytes rest more marks out h = record {
   kept = h.kept;
 }
 
-module _ (limit : ℕ) (early before now : List Request) (bytes rest : List ℕ) (marks : List Mark) (out : List ℕ) (h : HasServed limit early before now bytes rest marks out) where
+module _ (requests : Keeping) (bytes rest : List ℕ) (marks : List Mark) (out : List ℕ) (h : HasServed requests bytes rest marks out) where
   abbrev pub done : List Request
   done = completed (map Read h.messages) marks
 
   -- marks, text and kept requests of further places
-  pub marked_on : (places : List Place) (ms : List Mark) → AreMarked limit now places ms → AreMarked limit before (map Read h.messages ++ places) (marks ++ ms)
-  marked_on places ms m = AreMarked-append limit before (map Read h.messages) marks places ms h.marked (are_marked_now now before done h.kept limit places ms m)
+  pub marked_on : (places : List Place) (ms : List Mark) → AreMarked requests.limit requests.after places ms → AreMarked requests.limit requests.before (map Read h.messages ++ places) (marks ++ ms)
+  marked_on places ms m = AreMarked-append requests.limit requests.before (map Read h.messages) marks places ms h.marked (are_marked_now requests.after requests.before done h.kept requests.limit places ms m)
 
-  pub written_on : (places : List Place) (ending : Ending) (ms : List Mark) → out ++ text_with early now places ending ms ≡ text_with early before (map Read h.messages ++ places) ending (marks ++ ms)
+  pub written_on : (places : List Place) (ending : Ending) (ms : List Mark) → out ++ text_with requests.early requests.after places ending ms ≡ text_with requests.early requests.before (map Read h.messages ++ places) ending (marks ++ ms)
   written_on places ending ms =
-      ap (λ o. o ++ text_with early now places ending ms) h.written
-      ∙ ap (λ t. text_with early before (map Read h.messages) Ending.Closed marks ++ t) (text_now now before done h.kept early places ending ms)
-      ∙ sym (text-append early before (map Read h.messages) marks places ending ms h.marked.all)
+      ap (λ o. o ++ text_with requests.early requests.after places ending ms) h.written
+      ∙ ap (λ t. text_with requests.early requests.before (map Read h.messages) Ending.Closed marks ++ t) (text_now requests.after requests.before done h.kept requests.early places ending ms)
+      ∙ sym (text-append requests.early requests.before (map Read h.messages) marks places ending ms h.marked.all)
 
-  pub kept_on : (places : List Place) (ms : List Mark) → kept_by now (completed places ms) ≡ kept_by before (completed (map Read h.messages ++ places) (marks ++ ms))
+  pub kept_on : (places : List Place) (ms : List Mark) → kept_by requests.after (completed places ms) ≡ kept_by requests.before (completed (map Read h.messages ++ places) (marks ++ ms))
   kept_on places ms =
       ap (λ rs. kept_by rs (completed places ms)) h.kept
-      ∙ kept_by-append before done (completed places ms)
-      ∙ ap (kept_by before) (sym (completed-append (map Read h.messages) marks places ms h.marked.all))
+      ∙ kept_by-append requests.before done (completed places ms)
+      ∙ ap (kept_by requests.before) (sym (completed-append (map Read h.messages) marks places ms h.marked.all))
 
   -- the last place was marked and answered
-  pub HasServed-last : (place : Place) (b : MayBegin rest (place ∷ [])) (mark : Mark) (after : List Request) → closing rest place b → AreMarked limit now (place ∷ []) (mark ∷ []) → after ≡ kept_by now (completed (place ∷ []) (mark ∷ []))
-      → IsServed limit early before after bytes (marks ++ mark ∷ []) Closed (out ++ text_with early now (place ∷ []) Ending.Closed (mark ∷ []))
+  pub HasServed-last : (place : Place) (b : MayBegin rest (place ∷ [])) (mark : Mark) (after : List Request) → closing rest place b → AreMarked requests.limit requests.after (place ∷ []) (mark ∷ []) → after ≡ kept_by requests.after (completed (place ∷ []) (mark ∷ []))
+      → IsServed (record requests { after = after }) bytes (marks ++ mark ∷ []) Closed (out ++ text_with requests.early requests.after (place ∷ []) Ending.Closed (mark ∷ []))
   HasServed-last place b mark after closed m kept = record {
     places = map Read h.messages ++ place ∷ [];
     ending = Ending.Closed;
@@ -101,10 +127,10 @@ module _ (limit : ℕ) (early before now : List Request) (bytes rest : List ℕ)
   }
 
   -- the input ended
-  pub HasServed-end : (asks : Bool) → IsRest rest → Asks rest asks → IsServed limit early before now bytes marks InputEnded (out ++ next_interim [] (Rest asks))
+  pub HasServed-end : (asks : Bool) → IsRest rest → Asks rest asks → IsServed requests bytes marks InputEnded (out ++ next_interim [] (Rest asks))
   unfolding text_with completed MarksFit
   HasServed-end asks is asked =
-      subst (λ (ms : List Mark). IsServed limit early before now bytes ms InputEnded (out ++ next_interim [] (Rest asks))) (append_nil marks) (record {
+      subst (λ (ms : List Mark). IsServed requests bytes ms InputEnded (out ++ next_interim [] (Rest asks))) (append_nil marks) (record {
         places = map Read h.messages ++ [];
         ending = Rest asks;
         splits = has_places-after bytes h.messages rest [] (Rest asks) h.goes (asks, is, asked, refl);
@@ -115,8 +141,8 @@ module _ (limit : ℕ) (early before now : List Request) (bytes rest : List ℕ)
       })
 
   -- a message was marked and answered, and more may come
-  pub HasServed-push : (message : Message) (n : ℕ) (mark : Mark) (after : List Request) → BeginsRequest rest message n → closes message.head ≡ false → AreMarked limit now (Read message ∷ []) (mark ∷ []) → after ≡ kept_by now (completed (Read message ∷ []) (mark ∷ []))
-      → HasServed limit early before after bytes (drop n rest) (marks ++ mark ∷ []) (out ++ text_with early now (Read message ∷ []) Ending.Closed (mark ∷ []))
+  pub HasServed-push : (message : Message) (n : ℕ) (mark : Mark) (after : List Request) → BeginsRequest rest message n → closes message.head ≡ false → AreMarked requests.limit requests.after (Read message ∷ []) (mark ∷ []) → after ≡ kept_by requests.after (completed (Read message ∷ []) (mark ∷ []))
+      → HasServed (record requests { after = after }) bytes (drop n rest) (marks ++ mark ∷ []) (out ++ text_with requests.early requests.after (Read message ∷ []) Ending.Closed (mark ∷ []))
   HasServed-push message n mark after begins open' m kept =
       let places : map Read (h.messages ++ message ∷ []) ≡ map Read h.messages ++ Read message ∷ [] = map-append Read h.messages (message ∷ []) in
       record {
@@ -128,17 +154,13 @@ module _ (limit : ℕ) (early before now : List Request) (bytes rest : List ℕ)
       }
 
   -- a fault ended it, with these marks of the place that stands next, and this part of its text
-  pub HasServed-cut : (last : List Place) (asks : Bool) (ms : List Mark) (after : List Request) (part : List ℕ) → MayBegin rest last → (asks ≡ true → (last ≡ []) × Asks rest true) → AreMarked limit now last ms → after ≡ kept_by now (completed last ms)
-      → IsPrefixOf part (text_with early now last (if asks then Rest true else Ending.Closed) ms) → IsCutShort limit early before after bytes (marks ++ ms) (out ++ part)
+  pub HasServed-cut : (last : List Place) (asks : Bool) (ms : List Mark) (after : List Request) (part : List ℕ) → MayBegin rest last → (asks ≡ true → (last ≡ []) × Asks rest true) → AreMarked requests.limit requests.after last ms → after ≡ kept_by requests.after (completed last ms)
+      → IsPrefixOf part (text_with requests.early requests.after last (cut_end asks) ms) → IsCutShort (record requests { after = after }) bytes (marks ++ ms) (out ++ part)
   HasServed-cut last asks ms after part begins asked m kept prefix = record {
-    messages = h.messages;
-    rest = rest;
-    goes = h.goes;
-    last = last;
-    begins = begins;
-    asks = asks;
-    asked = asked;
+    places = map Read h.messages ++ last;
+    ending = cut_end asks;
+    begins = begins-after bytes h.messages rest last (cut_end asks) h.goes (begins-last rest last asks begins asked);
     marked = marked_on last ms m;
-    written = (prefix.0, sym (written_on last (if asks then Rest true else Ending.Closed) ms) ∙ ap (λ t. out ++ t) prefix.1 ∙ sym (append_assoc out part prefix.0));
+    written = (prefix.0, sym (written_on last (cut_end asks) ms) ∙ ap (λ t. out ++ t) prefix.1 ∙ sym (append_assoc out part prefix.0));
     kept = kept ∙ kept_on last ms;
   }

@@ -1,24 +1,25 @@
 -- A connection that is stopped at a place.
-use Rattle.std.proofs.Common.{◌≡◌, ℕ, suc, ◌+◌, List, [], ◌∷◌, ◌++◌, length, take, map, Option, Some, None, sym, ap, ◌∙◌, subst, arith}
+use Rattle.std.proofs.Common.{◌≡◌, ℕ, suc, ◌+◌, false, List, [], ◌∷◌, ◌++◌, length, take, map, Option, Some, None, refl, sym, ap, ◌∙◌, subst, arith}
 use Rattle.std.proofs.lemmas.Bool.Decides.{nat_tests}
 use Rattle.std.proofs.lemmas.Grind.{common_steps}
 use Rattle.std.proofs.lemmas.List.{length-append, length-map}
 use Rattle.std.specs.Io.KnownBytes.{Consumes, Appends}
 use Rattle.http_wire.specs.Message.{Place, Read, Ending}
+use Rattle.http_wire.specs.Request.{Request as Message}
 use Rattle.filing_model.specs.declared.served.Ended.{Ended}
 use Rattle.filing_model.specs.declared.served.Mark.{Mark}
 use Rattle.filing_model.specs.Request.{Request}
-use Rattle.filing_model.specs.Serving.{kept_by, MayBegin}
-use Rattle.filing_model.specs.Stopping.{Crash, No, Before, After, ComeBefore, IsStopAt, marked}
+use Rattle.filing_model.specs.Serving.{Keeping, kept_by, BeginsPlaces}
+use Rattle.filing_model.specs.Stopping.{Crash, No, Before, After, ComeBefore, IsStopAt, marked, answered}
 use Rattle.filing_model.specs.Text.{text_with, MarksFit, completed, completed_at, interim_of}
 use Rattle.filing_model.proofs.Lists.{append_nil}
 use Rattle.gateway_server.specs.declared.serving.Turn.{Turn}
 use Rattle.gateway_server.specs.declared.serving.Turn.TheVariants.{On, Stopped, Ended as Ends}
 use Rattle.gateway_server.specs.Answered.{IsMarked}
-use Rattle.gateway_server.specs.Progress.{HasServed, ServesConnection}
+use Rattle.gateway_server.specs.Progress.{Streams, HasServed, ServesConnection}
 use Rattle.gateway_server.specs.Stopping.{IsBefore, IsAfter, IsStoppedAfter, IsCountAtStop, IsCountAt, StopsConnection, StopsOrEnds, ServesConnectionUntil, IsCountUntil}
 use Rattle.gateway_server.proofs.Places.{marked-one, completed-one}
-use Rattle.gateway_server.proofs.Progress.{marked_on, written_on, kept_on}
+use Rattle.gateway_server.proofs.Progress.{MayBegin, begins-after, begins-last, marked_on, written_on, kept_on}
 
 -- ---- how many marks there are
 
@@ -57,6 +58,16 @@ at-after No count here = absurd here
 at-after (Before j) count here = absurd here
 at-after (After j) count here = (omega (arith, here), omega (arith, here))
 
+length-places : (messages : List Message) (place : Place) → length (map Read messages ++ place ∷ []) ≡ suc (length messages)
+length-places [] place = refl
+length-places (message ∷ messages) place = ap suc (length-places messages place)
+
+-- a stop lets the places before it be answered
+answered-at : (crash : Crash) (n : ℕ) → IsStopAt crash (suc n) → answered crash (suc n) ≡ n
+answered-at No n here = absurd here
+answered-at (Before j) n here = grind (arith, nat_tests, here)
+answered-at (After j) n here = grind (arith, nat_tests, here)
+
 -- marks fit the first of more places
 fit-more : (limit : ℕ) (requests : List Request) (places more : List Place) (marks : List Mark) → MarksFit limit requests places marks → MarksFit limit requests (places ++ more) marks
 unfolding MarksFit
@@ -70,20 +81,33 @@ take-first marks mark n all = grind (arith, common_steps, all)
 take-whole : (marks : List Mark) (n : ℕ) → length marks ≡ n → take n marks ≡ marks
 take-whole marks n all = grind (arith, common_steps, all)
 
-module _ (limit : ℕ) (early before now : List Request) (left left' written written' : Option (List ℕ)) (got sent rest : List ℕ) (marks : List Mark) (place : Place) (read : Consumes left left' got) (wrote : Appends written written' (sent ++ interim_of place)) (h : HasServed limit early before now got rest marks sent) (begins : MayBegin rest (place ∷ [])) (crash : Crash) where
+module _ (requests : Keeping) (first last : Streams) (got sent rest : List ℕ) (marks : List Mark) (place : Place) (read : Consumes first.left last.left got) (wrote : Appends first.written last.written (sent ++ interim_of place)) (h : HasServed requests got rest marks sent) (begins : MayBegin rest (place ∷ [])) (crash : Crash) where
   count : length marks ≡ length h.messages
   count = h.marked.all ∙ length-map h.messages (λ m. Read m)
 
-  written_up : sent ++ interim_of place ≡ text_with early before (map Read h.messages ++ place ∷ []) Ending.Closed marks
-  unfolding text_with
-  written_up = subst (λ (ms : List Mark). sent ++ interim_of place ≡ text_with early before (map Read h.messages ++ place ∷ []) Ending.Closed ms) (append_nil marks) (written_on limit early before now got rest marks sent h (place ∷ []) Ending.Closed [])
+  -- the places up to it
+  abbrev up_to : List Place
+  up_to = map Read h.messages ++ place ∷ []
 
-  kept_up : now ≡ kept_by before (completed (map Read h.messages ++ place ∷ []) marks)
+  up_to-begins : BeginsPlaces got up_to Ending.Closed
+  up_to-begins = begins-after got h.messages rest (place ∷ []) Ending.Closed h.goes (begins-last rest (place ∷ []) false begins (λ no'. absurd (cc)))
+
+  up_to-length : length up_to ≡ suc (length h.messages)
+  up_to-length = length-places h.messages place
+
+  answered_up : IsStopAt crash (suc (length h.messages)) → answered crash (length up_to) ≡ length h.messages
+  answered_up here = ap (answered crash) up_to-length ∙ answered-at crash (length h.messages) here
+
+  written_up : sent ++ interim_of place ≡ text_with requests.early requests.before up_to Ending.Closed marks
+  unfolding text_with
+  written_up = subst (λ (ms : List Mark). sent ++ interim_of place ≡ text_with requests.early requests.before up_to Ending.Closed ms) (append_nil marks) (written_on requests got rest marks sent h (place ∷ []) Ending.Closed [])
+
+  kept_up : requests.after ≡ kept_by requests.before (completed up_to marks)
   unfolding completed
-  kept_up = subst (λ (ms : List Mark). now ≡ kept_by before (completed (map Read h.messages ++ place ∷ []) ms)) (append_nil marks) (kept_on limit early before now got rest marks sent h (place ∷ []) [])
+  kept_up = subst (λ (ms : List Mark). requests.after ≡ kept_by requests.before (completed up_to ms)) (append_nil marks) (kept_on requests got rest marks sent h (place ∷ []) [])
 
   -- the place is known, and nothing was decided of it
-  pub StopsConnection-before : IsBefore crash (length marks + 1) → StopsConnection limit early before now left left' written written' crash marks
+  pub StopsConnection-before : IsBefore crash (length marks + 1) → StopsConnection requests first last crash marks
   StopsConnection-before stop =
       let at = at-before crash (length h.messages) (subst (λ n. IsBefore crash (n + 1)) count stop) in
       record {
@@ -92,49 +116,43 @@ module _ (limit : ℕ) (early before now : List Request) (left left' written wri
         read = read;
         wrote = wrote;
         stopped = record {
-          messages = h.messages;
-          rest = rest;
-          goes = h.goes;
-          place = place;
-          begins = begins;
-          here = at.0;
-          all = count ∙ at.1;
-          fit = fit-more limit before (map Read h.messages) (place ∷ []) marks h.marked.fit;
-          written = written_up ∙ ap (text_with early before (map Read h.messages ++ place ∷ []) Ending.Closed) (sym (take-whole marks (length h.messages) count));
+          places = up_to;
+          begins = up_to-begins;
+          here = subst (IsStopAt crash) (sym up_to-length) at.0;
+          all = count ∙ at.1 ∙ ap (marked crash) (sym up_to-length);
+          fit = fit-more requests.limit requests.before (map Read h.messages) (place ∷ []) marks h.marked.fit;
+          written = written_up ∙ ap (text_with requests.early requests.before up_to Ending.Closed) (sym (ap (λ n. take n marks) (answered_up at.0) ∙ take-whole marks (length h.messages) count));
           kept = kept_up;
         };
       }
 
   -- it is marked, and nothing of its reply was written
-  pub StopsConnection-after : (after : List Request) (new : List Mark) → IsAfter crash (length marks + 1) → IsMarked limit now after place marks new → StopsConnection limit early before after left left' written written' crash new
+  pub StopsConnection-after : (after : List Request) (new : List Mark) → IsAfter crash (length marks + 1) → IsMarked requests.limit requests.after after place marks new → StopsConnection (record requests { after = after }) first last crash new
   StopsConnection-after after new stop m =
       let more : length new ≡ suc (length h.messages) = omega (arith, ap length m.marks, length-append marks (m.mark ∷ []), count) in
       let at = at-after crash (length h.messages) (subst (λ n. IsAfter crash (n + 1)) count stop) in
-      let fit = (marked_on limit early before now got rest marks sent h (place ∷ []) (m.mark ∷ []) (marked-one limit now place m.mark m.fit)).fit in
+      let fit = (marked_on requests got rest marks sent h (place ∷ []) (m.mark ∷ []) (marked-one requests.limit requests.after place m.mark m.fit)).fit in
       record {
         got = got;
         sent = sent ++ interim_of place;
         read = read;
         wrote = wrote;
         stopped = record {
-          messages = h.messages;
-          rest = rest;
-          goes = h.goes;
-          place = place;
-          begins = begins;
-          here = at.0;
-          all = more ∙ at.1;
-          fit = subst (MarksFit limit before (map Read h.messages ++ place ∷ [])) (sym m.marks) fit;
-          written = written_up ∙ ap (text_with early before (map Read h.messages ++ place ∷ []) Ending.Closed) (sym (ap (take (length h.messages)) m.marks ∙ take-first marks m.mark (length h.messages) count));
-          kept = m.kept ∙ ap (kept_by now) (sym (completed-one place m.mark)) ∙ kept_on limit early before now got rest marks sent h (place ∷ []) (m.mark ∷ []) ∙ ap (λ ms. kept_by before (completed (map Read h.messages ++ place ∷ []) ms)) (sym m.marks);
+          places = up_to;
+          begins = up_to-begins;
+          here = subst (IsStopAt crash) (sym up_to-length) at.0;
+          all = more ∙ at.1 ∙ ap (marked crash) (sym up_to-length);
+          fit = subst (MarksFit requests.limit requests.before up_to) (sym m.marks) fit;
+          written = written_up ∙ ap (text_with requests.early requests.before up_to Ending.Closed) (sym (ap (λ n. take n new) (answered_up at.0) ∙ ap (take (length h.messages)) m.marks ∙ take-first marks m.mark (length h.messages) count));
+          kept = m.kept ∙ ap (kept_by requests.after) (sym (completed-one place m.mark)) ∙ kept_on requests got rest marks sent h (place ∷ []) (m.mark ∷ []) ∙ ap (λ ms. kept_by requests.before (completed up_to ms)) (sym m.marks);
         };
       }
 
 -- ---- the whole connection
 
 -- it was stopped, or has ended before the place to stop at
-pub ServesConnectionUntil-either : (limit : ℕ) (early before after : List Request) (left left' written written' : Option (List ℕ)) (crash : Crash) (marks : List Mark) (ended : Option Ended) → IsCountUntil crash (length marks) ended → StopsOrEnds limit early before after left left' written written' crash marks ended → ServesConnectionUntil limit early before after left left' written written' crash marks ended
-ServesConnectionUntil-either limit early before after left left' written written' crash marks None count s = record {
+pub ServesConnectionUntil-either : (requests : Keeping) (old new : Streams) (crash : Crash) (marks : List Mark) (ended : Option Ended) → IsCountUntil crash (length marks) ended → StopsOrEnds requests old new crash marks ended → ServesConnectionUntil requests old new crash marks ended
+ServesConnectionUntil-either requests old new crash marks None count s = record {
   got = s.got;
   sent = s.sent;
   read = s.read;
@@ -143,7 +161,7 @@ ServesConnectionUntil-either limit early before after left left' written written
   at_end = λ e. absurd (cc);
   limited = λ e. absurd (cc);
 }
-ServesConnectionUntil-either limit early before after left left' written written' crash marks (Some ended) count s = record {
+ServesConnectionUntil-either requests old new crash marks (Some ended) count s = record {
   got = s.got;
   sent = s.sent;
   read = s.read;
@@ -154,8 +172,8 @@ ServesConnectionUntil-either limit early before after left left' written written
 }
 
 -- where it ended, it was served to its end
-pub ServesConnection-ended : (limit : ℕ) (early before after : List Request) (left left' written written' : Option (List ℕ)) (crash : Crash) (marks : List Mark) (ended : Ended) → ServesConnectionUntil limit early before after left left' written written' crash marks (Some ended) → ServesConnection limit early before after left left' written written' marks ended
-ServesConnection-ended limit early before after left left' written written' crash marks ended s = record {
+pub ServesConnection-ended : (requests : Keeping) (old new : Streams) (crash : Crash) (marks : List Mark) (ended : Ended) → ServesConnectionUntil requests old new crash marks (Some ended) → ServesConnection requests old new marks ended
+ServesConnection-ended requests old new crash marks ended s = record {
   got = s.got;
   sent = s.sent;
   read = s.read;

@@ -11,67 +11,68 @@ use Rattle.http_wire.proofs.DeviceLemmas.{Appends-nil}
 use Rattle.filing_model.specs.declared.served.Ended.TheVariants.{Closed, InputEnded, Fault}
 use Rattle.filing_model.specs.declared.served.Mark.{Mark}
 use Rattle.filing_model.specs.Request.{Request}
+use Rattle.filing_model.specs.Serving.{Keeping}
 use Rattle.filing_model.specs.Stopping.{Crash}
 use Rattle.filing_model.specs.Text.{interim_of, reply_text_with}
 use Rattle.filing_model.proofs.Lists.{append_nil}
 use Rattle.gateway_server.specs.declared.serving.Turn.{Turn}
 use Rattle.gateway_server.specs.declared.serving.Turn.TheVariants.{On, Stopped, Ended as Ends}
 use Rattle.gateway_server.specs.Answered.{IsMarked}
-use Rattle.gateway_server.specs.Progress.{HasMessage, HasRefusal}
+use Rattle.gateway_server.specs.Progress.{Streams, streams, HasMessage, HasRefusal}
 use Rattle.gateway_server.specs.Stopping.{IsBefore, IsAfter, IsStoppedAfter, Continues, IsTurnByReply, Replies, StopsConnection}
 use Rattle.gateway_server.proofs.Continuing.{Serves-closed, GoesOn-answered, Serves-unanswered, Serves-refused, Serves-unrefused, is_no_limit}
 use Rattle.gateway_server.proofs.Stopping.{StopsConnection-before, StopsConnection-after}
 
 -- ---- a message
 
-module _ (limit : ℕ) (early before now : List Request) (left left' written written' : Option (List ℕ)) (inbox : Inbox) (marks : List Mark) (h : HasMessage limit early before now left left' written written' inbox marks) (crash : Crash) where
-  wrote_interim : Appends written written' (h.sent ++ interim_of (Read h.lends.request))
-  wrote_interim = subst (λ (t : List ℕ). Appends written written' (h.sent ++ t)) (rw h.lends.lent refl) h.wrote
+module _ (requests : Keeping) (first : Streams) (left written : Option (List ℕ)) (inbox : Inbox) (marks : List Mark) (h : HasMessage requests first (streams left written) inbox marks) (crash : Crash) where
+  wrote_interim : Appends first.written written (h.sent ++ interim_of (Read h.lends.request))
+  wrote_interim = subst (λ (t : List ℕ). Appends first.written written (h.sent ++ t)) (rw h.lends.lent refl) h.wrote
 
   -- nothing was decided of it
-  pub message_before : IsBefore crash (length marks + 1) → Continues limit early before now left left' written written' inbox crash marks Stopped
-  message_before stop = StopsConnection-before limit early before now left left' written written' h.got h.sent _ marks (Read h.lends.request) h.read wrote_interim h.served ((lent_len inbox, h.lends.begins), refl) crash stop
+  pub message_before : IsBefore crash (length marks + 1) → Continues requests first (streams left written) inbox crash marks Stopped
+  message_before stop = StopsConnection-before requests first (streams left written) h.got h.sent _ marks (Read h.lends.request) h.read wrote_interim h.served ((lent_len inbox, h.lends.begins), refl) crash stop
 
   -- it was marked
-  message_after : (after : List Request) (new : List Mark) → IsAfter crash (length marks + 1) → IsMarked limit now after (Read h.lends.request) marks new → Continues limit early before after left left' written written' inbox crash new Stopped
-  message_after after new stop m = StopsConnection-after limit early before now left left' written written' h.got h.sent _ marks (Read h.lends.request) h.read wrote_interim h.served ((lent_len inbox, h.lends.begins), refl) crash after new stop m
+  message_after : (after : List Request) (new : List Mark) → IsAfter crash (length marks + 1) → IsMarked requests.limit requests.after after (Read h.lends.request) marks new → Continues (record requests { after = after }) first (streams left written) inbox crash new Stopped
+  message_after after new stop m = StopsConnection-after requests first (streams left written) h.got h.sent _ marks (Read h.lends.request) h.read wrote_interim h.served ((lent_len inbox, h.lends.begins), refl) crash after new stop m
 
   -- memory ran out before it was marked
-  pub message_unmarked : (after : List Request) (new : List Mark) → after ≡ now → new ≡ marks → Continues limit early before after left left' written written' inbox crash new (Ends (Fault Memory))
-  message_unmarked after new kept same = Serves-unanswered limit early before now left left' written written' inbox marks h after new written' Memory (λ e. absurd (cc)) (inl (record { kept = kept; marks = same; written = Appends-nil written' }))
+  pub message_unmarked : (after : List Request) (new : List Mark) → after ≡ requests.after → new ≡ marks → Continues (record requests { after = after }) first (streams left written) inbox crash new (Ends (Fault Memory))
+  message_unmarked after new kept same = Serves-unanswered requests first left written inbox marks h after new written Memory (λ e. absurd (cc)) (inl (record { kept = kept; marks = same; written = Appends-nil written }))
 
   -- its reply was written, or a part of it, or it was stopped before that
-  pub message_replied : (after : List Request) (new : List Mark) (written'' : Option (List ℕ)) (close : Bool) (turn : Turn) (w w' : ℕ) → close ≡ closes h.lends.request.head → (m : IsMarked limit now after (Read h.lends.request) marks new)
-      → Replies written' written'' (reply_text_with early now (Read h.lends.request) m.mark) close turn → IsStoppedAfter crash (length marks + 1) turn → IsTurnByReply w w' turn → Continues limit early before after left left' written written'' inbox crash new turn
-  message_replied after new written'' close On w w' is m r stops fine = GoesOn-answered limit early before now left left' written written' inbox marks h after new written'' (sym is ∙ r.1) (record { marked = m; written = r.0 })
-  message_replied after new written'' close Stopped w w' is m r stops fine = subst (λ w. StopsConnection limit early before after left left' written w crash new) (sym r) (message_after after new stops m)
-  message_replied after new written'' close (Ends Closed) w w' is m r stops fine = Serves-closed limit early before now left left' written written' inbox marks h after new written'' (sym is ∙ r.1) (record { marked = m; written = r.0 })
-  message_replied after new written'' close (Ends InputEnded) w w' is m r stops fine = absurd r
-  message_replied after new written'' close (Ends (Fault fault)) w w' is m r stops fine = Serves-unanswered limit early before now left left' written written' inbox marks h after new written'' fault (is_no_limit w w' fault fine) (inr (record { marked = m; sent = r.0; written = r.1 }))
+  pub message_replied : (after : List Request) (new : List Mark) (written' : Option (List ℕ)) (close : Bool) (turn : Turn) (w w' : ℕ) → close ≡ closes h.lends.request.head → (m : IsMarked requests.limit requests.after after (Read h.lends.request) marks new)
+      → Replies written written' (reply_text_with requests.early requests.after (Read h.lends.request) m.mark) close turn → IsStoppedAfter crash (length marks + 1) turn → IsTurnByReply w w' turn → Continues (record requests { after = after }) first (streams left written') inbox crash new turn
+  message_replied after new written' close On w w' is m r stops fine = GoesOn-answered requests first left written inbox marks h after new written' (sym is ∙ r.1) (record { marked = m; written = r.0 })
+  message_replied after new written' close Stopped w w' is m r stops fine = subst (λ w. StopsConnection (record requests { after = after }) first (streams left w) crash new) (sym r) (message_after after new stops m)
+  message_replied after new written' close (Ends Closed) w w' is m r stops fine = Serves-closed requests first left written inbox marks h after new written' (sym is ∙ r.1) (record { marked = m; written = r.0 })
+  message_replied after new written' close (Ends InputEnded) w w' is m r stops fine = absurd r
+  message_replied after new written' close (Ends (Fault fault)) w w' is m r stops fine = Serves-unanswered requests first left written inbox marks h after new written' fault (is_no_limit w w' fault fine) (inr (record { marked = m; sent = r.0; written = r.1 }))
 
 -- ---- what is refused
 
-module _ (limit : ℕ) (early before now : List Request) (left left' written written' : Option (List ℕ)) (inbox : Inbox) (refusal : Refusal) (marks : List Mark) (h : HasRefusal limit early before now left left' written written' inbox refusal marks) (crash : Crash) where
-  wrote_nothing : Appends written written' (h.sent ++ [])
-  wrote_nothing = subst (Appends written written') (sym (append_nil h.sent)) h.wrote
+module _ (requests : Keeping) (first : Streams) (left written : Option (List ℕ)) (inbox : Inbox) (refusal : Refusal) (marks : List Mark) (h : HasRefusal requests first (streams left written) inbox refusal marks) (crash : Crash) where
+  wrote_nothing : Appends first.written written (h.sent ++ [])
+  wrote_nothing = subst (Appends first.written written) (sym (append_nil h.sent)) h.wrote
 
   -- nothing was decided of it
-  pub refusal_before : IsBefore crash (length marks + 1) → Continues limit early before now left left' written written' inbox crash marks Stopped
-  refusal_before stop = StopsConnection-before limit early before now left left' written written' h.got h.sent _ marks (Refused refusal) h.read wrote_nothing h.served (h.refused, refl) crash stop
+  pub refusal_before : IsBefore crash (length marks + 1) → Continues requests first (streams left written) inbox crash marks Stopped
+  refusal_before stop = StopsConnection-before requests first (streams left written) h.got h.sent _ marks (Refused refusal) h.read wrote_nothing h.served (h.refused, refl) crash stop
 
   -- it was marked
-  refusal_after : (new : List Mark) → IsAfter crash (length marks + 1) → IsMarked limit now now (Refused refusal) marks new → Continues limit early before now left left' written written' inbox crash new Stopped
-  refusal_after new stop m = StopsConnection-after limit early before now left left' written written' h.got h.sent _ marks (Refused refusal) h.read wrote_nothing h.served (h.refused, refl) crash now new stop m
+  refusal_after : (new : List Mark) → IsAfter crash (length marks + 1) → IsMarked requests.limit requests.after requests.after (Refused refusal) marks new → Continues requests first (streams left written) inbox crash new Stopped
+  refusal_after new stop m = StopsConnection-after requests first (streams left written) h.got h.sent _ marks (Refused refusal) h.read wrote_nothing h.served (h.refused, refl) crash requests.after new stop m
 
   -- memory ran out before it was marked
-  pub refusal_unmarked : (new : List Mark) → new ≡ marks → Continues limit early before now left left' written written' inbox crash new (Ends (Fault Memory))
-  refusal_unmarked new same = Serves-unrefused limit early before now left left' written written' inbox refusal marks h new written' Memory (λ e. absurd (cc)) (inl (record { kept = refl; marks = same; written = Appends-nil written' }))
+  pub refusal_unmarked : (new : List Mark) → new ≡ marks → Continues requests first (streams left written) inbox crash new (Ends (Fault Memory))
+  refusal_unmarked new same = Serves-unrefused requests first left written inbox refusal marks h new written Memory (λ e. absurd (cc)) (inl (record { kept = refl; marks = same; written = Appends-nil written }))
 
   -- its reply was written, or a part of it, or it was stopped before that
-  pub refusal_replied : (new : List Mark) (written'' : Option (List ℕ)) (turn : Turn) (w w' : ℕ) (m : IsMarked limit now now (Refused refusal) marks new)
-      → Replies written' written'' (reply_text_with early now (Refused refusal) m.mark) true turn → IsStoppedAfter crash (length marks + 1) turn → IsTurnByReply w w' turn → Continues limit early before now left left' written written'' inbox crash new turn
-  refusal_replied new written'' On w w' m r stops fine = absurd (let e = r.1 in cc)
-  refusal_replied new written'' Stopped w w' m r stops fine = subst (λ w. StopsConnection limit early before now left left' written w crash new) (sym r) (refusal_after new stops m)
-  refusal_replied new written'' (Ends Closed) w w' m r stops fine = Serves-refused limit early before now left left' written written' inbox refusal marks h new written'' (record { marked = m; written = r.0 })
-  refusal_replied new written'' (Ends InputEnded) w w' m r stops fine = absurd r
-  refusal_replied new written'' (Ends (Fault fault)) w w' m r stops fine = Serves-unrefused limit early before now left left' written written' inbox refusal marks h new written'' fault (is_no_limit w w' fault fine) (inr (record { marked = m; sent = r.0; written = r.1 }))
+  pub refusal_replied : (new : List Mark) (written' : Option (List ℕ)) (turn : Turn) (w w' : ℕ) (m : IsMarked requests.limit requests.after requests.after (Refused refusal) marks new)
+      → Replies written written' (reply_text_with requests.early requests.after (Refused refusal) m.mark) true turn → IsStoppedAfter crash (length marks + 1) turn → IsTurnByReply w w' turn → Continues requests first (streams left written') inbox crash new turn
+  refusal_replied new written' On w w' m r stops fine = absurd (let e = r.1 in cc)
+  refusal_replied new written' Stopped w w' m r stops fine = subst (λ w. StopsConnection requests first (streams left w) crash new) (sym r) (refusal_after new stops m)
+  refusal_replied new written' (Ends Closed) w w' m r stops fine = Serves-refused requests first left written inbox refusal marks h new written' (record { marked = m; written = r.0 })
+  refusal_replied new written' (Ends InputEnded) w w' m r stops fine = absurd r
+  refusal_replied new written' (Ends (Fault fault)) w w' m r stops fine = Serves-unrefused requests first left written inbox refusal marks h new written' fault (is_no_limit w w' fault fine) (inr (record { marked = m; sent = r.0; written = r.1 }))

@@ -9,10 +9,12 @@ use Rattle.filing_model.specs.declared.served.Ended.{Ended}
 use Rattle.filing_model.specs.declared.served.Ended.TheVariants.{Closed, InputEnded, Fault}
 use Rattle.filing_model.specs.declared.served.Mark.{Mark}
 use Rattle.filing_model.specs.Request.{Request, firsts}
-use Rattle.filing_model.specs.Stopping.{Crash, No, Before, After, BeginsPlaces, IsEndOrStopOf, ServesUntil, marked}
+use Rattle.filing_model.specs.Serving.{keeping, BeginsPlaces}
+use Rattle.filing_model.specs.Stopping.{Crash, No, Before, After, IsEndOrStopOf, ServesUntil, marked}
 use Rattle.filing_model.specs.Text.{completed}
 use Rattle.filing_model.proofs.Serving.{carried_until}
 use Rattle.filing_model.proofs.Stopping.{serves_begin}
+use Rattle.gateway_server.specs.Progress.{streams}
 use Rattle.gateway_server.specs.Stopping.{ServesConnectionUntil, IsEndedOrStoppedBy}
 
 -- a count that stands tells no failure, as long as it counts
@@ -31,7 +33,7 @@ end_until r w w' got left (Some (Fault Memory)) low written at_end limited fine 
 
 -- after any requests whose firsts were kept, where no read failed and it didn't end by a write
 pub serves_until_whole : (limit r w w' : ℕ) (done before after : List Request) (bytes left out : List ℕ) (crash : Crash) (marks : List Mark) (ended : Option Ended) → before ≡ firsts done
-    → ServesConnectionUntil limit [] before after (Some bytes) (Some left) (Some []) (Some out) crash marks ended
+    → ServesConnectionUntil (keeping limit [] before after) (streams (Some bytes) (Some [])) (streams (Some left) (Some out)) crash marks ended
     → r < 2 ^ 64 - 1 → ((sent : ℕ) → ended ≢ Some (Fault (Write sent))) → IsEndedOrStoppedBy r r w w' ended
     → (places : List Place) × ServesUntil limit done bytes crash places marks ended out × (after ≡ firsts (done ++ completed places marks))
 serves_until_whole limit r w w' done before after bytes left out crash marks ended kept served low written fine =

@@ -1,5 +1,5 @@
 -- How far a connection was served, and what serving it to its end does.
-use Rattle.std.specs.Prelude.{◌≡◌, ℕ, ◌+◌, ◌≤◌, false, List, ◌++◌, length, map, Option}
+use Rattle.std.specs.Prelude.{◌≡◌, ℕ, ◌+◌, ◌≤◌, false, List, [], ◌∷◌, ◌++◌, length, drop, map, Option}
 use Rattle.std.specs.Io.KnownBytes.{Consumes, Appends, IsAtEnd}
 use Rattle.http_wire.specs.declared.inbox.Inbox.{Inbox}
 use Rattle.http_wire.specs.declared.refusal.ConnFault.{ConnFault}
@@ -9,63 +9,34 @@ use Rattle.http_wire.specs.Block.{IsUnended}
 use Rattle.http_wire.specs.Calls.{HoldsPlace, interim_if}
 use Rattle.http_wire.specs.Device.{ReaderFailed, WriterFailed, NoneFailed}
 use Rattle.http_wire.specs.Inbox.{held, unread, reads, is_over, lent_awaits, LendsFirst}
-use Rattle.http_wire.specs.Message.{Read, Ending, IsRefused}
+use Rattle.http_wire.specs.Head.{closes}
+use Rattle.http_wire.specs.Message.{Read, Ending, BeginsRequest, IsRefused}
 use Rattle.http_wire.specs.Received.{max_reads}
 use Rattle.http_wire.specs.Request.{Request as Message}
 use Rattle.filing_model.specs.declared.served.Ended.{Ended}
 use Rattle.filing_model.specs.declared.served.Ended.TheVariants.{InputEnded, Closed, Fault}
 use Rattle.filing_model.specs.declared.served.Mark.{Mark}
-use Rattle.filing_model.specs.Request.{Request}
-use Rattle.filing_model.specs.Serving.{AreMarked, GoesThrough, Serves, kept_by}
+use Rattle.filing_model.specs.Serving.{Keeping, AreMarked, Serves, kept_by}
 use Rattle.filing_model.specs.Text.{completed, text_with}
 use Rattle.gateway_server.specs.Answered.{IsReplyFault}
 
--- The bytes begin with messages that are marked and answered, none of which closes; the rest follows. The early requests were kept
--- before there were problem details.
-pub record HasServed (limit : ℕ) (early before now : List Request) (bytes rest : List ℕ) (marks : List Mark) (out : List ℕ) : Type 0 where
-  pub messages : List Message
-  pub goes : GoesThrough bytes messages rest
-  pub marked : AreMarked limit before (map Read messages) marks
-  pub written : out ≡ text_with early before (map Read messages) Ending.Closed marks
-  pub kept : now ≡ kept_by before (completed (map Read messages) marks)
+-- The two streams of a connection, where they are known: what the reader has left, and what the writer has written.
+pub record Streams : Type 0 where
+  pub left : Option (List ℕ)
+  pub written : Option (List ℕ)
 
--- Since the connection began, so much was read and written, and so far that is served. Each read that is counted gave a byte.
-pub record GoesOn (limit : ℕ) (early before now : List Request) (left left' written written' : Option (List ℕ)) (inbox : Inbox) (marks : List Mark) : Type 0 where
+abbrev pub streams : Option (List ℕ) → Option (List ℕ) → Streams
+streams left written = record { left = left; written = written }
+
+-- What a connection came to: some bytes were read and some text was written, and that is what serving these bytes may mark, write,
+-- keep and end with.
+pub record ServesConnection (requests : Keeping) (old new : Streams) (marks : List Mark) (ended : Ended) : Type 0 where
   pub got : List ℕ
   pub sent : List ℕ
-  pub read : Consumes left left' got
-  pub counted : reads inbox ≤ length got
-  pub wrote : Appends written written' sent
-  pub served : HasServed limit early before now got (unread inbox) marks sent
-  pub more : is_over inbox ≡ false
-
--- The same, where a message is lent that is neither answered nor marked. Its interim response was written.
-pub record HasMessage (limit : ℕ) (early before now : List Request) (left left' written written' : Option (List ℕ)) (inbox : Inbox) (marks : List Mark) : Type 0 where
-  pub got : List ℕ
-  pub sent : List ℕ
-  pub read : Consumes left left' got
-  pub counted : reads inbox ≤ length got
-  pub wrote : Appends written written' (sent ++ interim_if (lent_awaits inbox))
-  pub served : HasServed limit early before now got (held inbox) marks sent
-  pub lends : LendsFirst inbox
-
--- the same, where the bytes that are held begin with what is refused
-pub record HasRefusal (limit : ℕ) (early before now : List Request) (left left' written written' : Option (List ℕ)) (inbox : Inbox) (refusal : Refusal) (marks : List Mark) : Type 0 where
-  pub got : List ℕ
-  pub sent : List ℕ
-  pub read : Consumes left left' got
-  pub wrote : Appends written written' sent
-  pub served : HasServed limit early before now got (held inbox) marks sent
-  pub refused : IsRefused (held inbox) refusal
-
--- what the whole connection came to
-pub record ServesConnection (limit : ℕ) (early before after : List Request) (left left' written written' : Option (List ℕ)) (marks : List Mark) (ended : Ended) : Type 0 where
-  pub got : List ℕ
-  pub sent : List ℕ
-  pub read : Consumes left left' got
-  pub wrote : Appends written written' sent
-  pub serves : Serves limit early before after got marks ended sent
-  pub at_end : ended ≡ InputEnded → IsAtEnd left'
+  pub read : Consumes old.left new.left got
+  pub wrote : Appends old.written new.written sent
+  pub serves : Serves requests got marks ended sent
+  pub at_end : ended ≡ InputEnded → IsAtEnd new.left
   pub limited : ended ≡ Fault fault.ReadLimit → max_reads ≤ length got
 
 -- why a connection ended by a fault, by the failures of the reader and of the writer before and after: the one failed, and the other
@@ -87,6 +58,48 @@ abbrev pub IsLimited : Option (List ℕ) → Option (List ℕ) → Ended → Typ
 IsLimited left left' ended = ended ≡ Fault fault.ReadLimit → (bytes : List ℕ) × Consumes left left' bytes × (max_reads ≤ length bytes)
 
 -- ---- of a part of a connection, with its inbox; no public clause cites what follows
+
+-- the bytes begin with these messages, none of which closes, and the rest follows
+abbrev pub GoesThrough : List ℕ → List Message → List ℕ → Type 0
+GoesThrough bytes [] rest = rest ≡ bytes
+GoesThrough bytes (message ∷ messages) rest = (n : ℕ) × BeginsRequest bytes message n × (closes message.head ≡ false) × GoesThrough (drop n bytes) messages rest
+
+-- The bytes begin with messages that are marked and answered, none of which closes; the rest follows.
+pub record HasServed (requests : Keeping) (bytes rest : List ℕ) (marks : List Mark) (out : List ℕ) : Type 0 where
+  pub messages : List Message
+  pub goes : GoesThrough bytes messages rest
+  pub marked : AreMarked requests.limit requests.before (map Read messages) marks
+  pub written : out ≡ text_with requests.early requests.before (map Read messages) Ending.Closed marks
+  pub kept : requests.after ≡ kept_by requests.before (completed (map Read messages) marks)
+
+-- Since the connection began, so much was read and written, and so far that is served. Each read that is counted gave a byte.
+pub record GoesOn (requests : Keeping) (old new : Streams) (inbox : Inbox) (marks : List Mark) : Type 0 where
+  pub got : List ℕ
+  pub sent : List ℕ
+  pub read : Consumes old.left new.left got
+  pub counted : reads inbox ≤ length got
+  pub wrote : Appends old.written new.written sent
+  pub served : HasServed requests got (unread inbox) marks sent
+  pub more : is_over inbox ≡ false
+
+-- The same, where a message is lent that is neither answered nor marked. Its interim response was written.
+pub record HasMessage (requests : Keeping) (old new : Streams) (inbox : Inbox) (marks : List Mark) : Type 0 where
+  pub got : List ℕ
+  pub sent : List ℕ
+  pub read : Consumes old.left new.left got
+  pub counted : reads inbox ≤ length got
+  pub wrote : Appends old.written new.written (sent ++ interim_if (lent_awaits inbox))
+  pub served : HasServed requests got (held inbox) marks sent
+  pub lends : LendsFirst inbox
+
+-- the same, where the bytes that are held begin with what is refused
+pub record HasRefusal (requests : Keeping) (old new : Streams) (inbox : Inbox) (refusal : Refusal) (marks : List Mark) : Type 0 where
+  pub got : List ℕ
+  pub sent : List ℕ
+  pub read : Consumes old.left new.left got
+  pub wrote : Appends old.written new.written sent
+  pub served : HasServed requests got (held inbox) marks sent
+  pub refused : IsRefused (held inbox) refusal
 
 -- how an answer ends it: the writer's failures before and after
 abbrev pub IsEndedByReply : ℕ → ℕ → Ended → Type 0

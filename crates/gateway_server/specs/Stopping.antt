@@ -8,13 +8,13 @@ use Rattle.http_wire.specs.Received.{max_reads}
 use Rattle.filing_model.specs.declared.served.Ended.{Ended}
 use Rattle.filing_model.specs.declared.served.Ended.TheVariants as how
 use Rattle.filing_model.specs.declared.served.Mark.{Mark}
-use Rattle.filing_model.specs.Request.{Request}
+use Rattle.filing_model.specs.Serving.{Keeping}
 use Rattle.filing_model.specs.Stopping.{Crash, No, Before, After, ComeBefore, IsStopped, StopsOrServes}
 use Rattle.gateway_server.specs.declared.serving.Turn.{Turn}
 use Rattle.gateway_server.specs.declared.serving.Turn.TheVariants.{On, Stopped, Ended as Ends}
 use Rattle.gateway_server.specs.declared.stop.Stop.{Stop}
 use Rattle.gateway_server.specs.declared.stop.Stop.TheVariants as stop
-use Rattle.gateway_server.specs.Progress.{GoesOn, ServesConnection, IsEndedBy, IsEndedByReply, TellsLimit}
+use Rattle.gateway_server.specs.Progress.{Streams, GoesOn, ServesConnection, IsEndedBy, IsEndedByReply, TellsLimit}
 
 -- the stop as the model has it
 abbrev pub view_stop : Stop → Crash
@@ -23,13 +23,13 @@ view_stop (stop.Before number) = Before number
 view_stop (stop.After number) = After number
 
 -- what the connection came to, up to its end or to the stop
-pub record ServesConnectionUntil (limit : ℕ) (early before after : List Request) (left left' written written' : Option (List ℕ)) (crash : Crash) (marks : List Mark) (ended : Option Ended) : Type 0 where
+pub record ServesConnectionUntil (requests : Keeping) (old new : Streams) (crash : Crash) (marks : List Mark) (ended : Option Ended) : Type 0 where
   pub got : List ℕ
   pub sent : List ℕ
-  pub read : Consumes left left' got
-  pub wrote : Appends written written' sent
-  pub serves : StopsOrServes limit early before after got crash marks ended sent
-  pub at_end : ended ≡ Some how.InputEnded → IsAtEnd left'
+  pub read : Consumes old.left new.left got
+  pub wrote : Appends old.written new.written sent
+  pub serves : StopsOrServes requests got crash marks ended sent
+  pub at_end : ended ≡ Some how.InputEnded → IsAtEnd new.left
   pub limited : ended ≡ Some (how.Fault fault.ReadLimit) → max_reads ≤ length got
 
 -- So many marks there are where it was stopped: those of the requests before the one to stop at, and where it stopped after that, its mark too.
@@ -63,23 +63,23 @@ IsAfter (Before j) number = ⊥
 IsAfter (After j) number = number ≡ max 1 j
 
 -- what a connection came to that was stopped
-pub record StopsConnection (limit : ℕ) (early before after : List Request) (left left' written written' : Option (List ℕ)) (crash : Crash) (marks : List Mark) : Type 0 where
+pub record StopsConnection (requests : Keeping) (old new : Streams) (crash : Crash) (marks : List Mark) : Type 0 where
   pub got : List ℕ
   pub sent : List ℕ
-  pub read : Consumes left left' got
-  pub wrote : Appends written written' sent
-  pub stopped : IsStopped limit early before after got crash marks sent
+  pub read : Consumes old.left new.left got
+  pub wrote : Appends old.written new.written sent
+  pub stopped : IsStopped requests got crash marks sent
 
 -- it goes on, or was stopped, or has ended so
-abbrev pub Continues : ℕ → List Request → List Request → List Request → Option (List ℕ) → Option (List ℕ) → Option (List ℕ) → Option (List ℕ) → Inbox → Crash → List Mark → Turn → Type 0
-Continues limit early before now left left' written written' inbox crash marks On = GoesOn limit early before now left left' written written' inbox marks
-Continues limit early before now left left' written written' inbox crash marks Stopped = StopsConnection limit early before now left left' written written' crash marks
-Continues limit early before now left left' written written' inbox crash marks (Ends ended) = ServesConnection limit early before now left left' written written' marks ended
+abbrev pub Continues : Keeping → Streams → Streams → Inbox → Crash → List Mark → Turn → Type 0
+Continues requests old new inbox crash marks On = GoesOn requests old new inbox marks
+Continues requests old new inbox crash marks Stopped = StopsConnection requests old new crash marks
+Continues requests old new inbox crash marks (Ends ended) = ServesConnection requests old new marks ended
 
 -- it was stopped, or has ended so
-abbrev pub StopsOrEnds : ℕ → List Request → List Request → List Request → Option (List ℕ) → Option (List ℕ) → Option (List ℕ) → Option (List ℕ) → Crash → List Mark → Option Ended → Type 0
-StopsOrEnds limit early before now left left' written written' crash marks None = StopsConnection limit early before now left left' written written' crash marks
-StopsOrEnds limit early before now left left' written written' crash marks (Some ended) = ServesConnection limit early before now left left' written written' marks ended
+abbrev pub StopsOrEnds : Keeping → Streams → Streams → Crash → List Mark → Option Ended → Type 0
+StopsOrEnds requests old new crash marks None = StopsConnection requests old new crash marks
+StopsOrEnds requests old new crash marks (Some ended) = ServesConnection requests old new marks ended
 
 -- so many marks there are after it
 abbrev pub IsCountAt : Crash → ℕ → Turn → Type 0

@@ -3,7 +3,7 @@
 ghost use Rattle.std.specs.Prelude.{◌≡◌, ◌≤◌, ◌++◌, ℕ, List, length, drop, None, IfOk, IfSome, OnOk};
 ghost use Rattle.http_wire.specs.Message.{Place, Ending, Read, BeginsRequest};
 ghost use Rattle.http_wire.specs.Request.{Request as Spelled};
-ghost use Rattle.filing_model.specs.Stopping.{BeginsPlaces};
+ghost use Rattle.filing_model.specs.Serving.{BeginsPlaces};
 ghost use Rattle.filing_model.specs.Text.{completed, completed_at};
 ghost use Rattle.gateway_server.specs.Route.{view_message};
 

@@ -6,10 +6,11 @@ ghost use Rattle.http_wire.specs.Replies.{reply_parts};
 ghost use Rattle.http_wire.specs.Reply.{render};
 ghost use Rattle.http_wire.specs.declared.inbox.Inbox.{Inbox};
 ghost use Rattle.filing_model.specs.Request.{Request};
+ghost use Rattle.filing_model.specs.Serving.{Keeping, keeping};
 ghost use Rattle.filing_model.specs.Stopping.{ComeBefore};
 ghost use Rattle.intake_core.specs.Held.{limit_of, IsClean, IsTransition};
 ghost use Rattle.gateway_server.specs.Decided.{IsPhrased};
-ghost use Rattle.gateway_server.specs.Progress.{GoesOn, HasMessage, HasRefusal, ServesConnection, IsEndedBy, IsLimited, ReadsSome, TellsLimit};
+ghost use Rattle.gateway_server.specs.Progress.{Streams, streams, GoesOn, HasMessage, HasRefusal, ServesConnection, IsEndedBy, IsLimited, ReadsSome, TellsLimit};
 ghost use Rattle.gateway_server.specs.Stopping.{view_stop, ServesConnectionUntil, IsCountUntil, IsEndedOrStoppedBy, Continues, StopsOrEnds, IsCountAt, IsTurnBy, IsTurnByReply, TellsTurn, Replies, IsStoppedAfter};
 
 use crate::answer::{mark, mark_refusal, write_decided};
@@ -57,8 +58,9 @@ pub fn serve<R: Source, W: Sink, S: Alter>(
     intake: &mut Intake<S>,
 ) -> Served
     ensures serves { IsTransition S.Store intake.old intake.new (λ early before after.
-        ServesConnection (limit_of intake.old) early before after (R.left reader.old) (R.left reader.new)
-        (W.written writer.old) (W.written writer.new) result.marks.items result.ended) }
+        ServesConnection (keeping (limit_of intake.old) early before after)
+        (streams (R.left reader.old) (W.written writer.old)) (streams (R.left reader.new) (W.written writer.new))
+        result.marks.items result.ended) }
     ensures clean { IsClean S.Store intake.new → IsClean S.Store intake.old }
     ensures limit { limit_of intake.new ≡ limit_of intake.old }
     ensures fault { IsEndedBy (R.read_failures reader.old) (R.read_failures reader.new) (W.write_failures writer.old)
@@ -84,8 +86,9 @@ pub fn serve_until<R: Source, W: Sink, S: Alter>(
     stop: Stop,
 ) -> Partly
     ensures serves { IsTransition S.Store intake.old intake.new (λ early before after.
-        ServesConnectionUntil (limit_of intake.old) early before after (R.left reader.old) (R.left reader.new)
-        (W.written writer.old) (W.written writer.new) (view_stop stop) result.marks.items result.ended) }
+        ServesConnectionUntil (keeping (limit_of intake.old) early before after)
+        (streams (R.left reader.old) (W.written writer.old)) (streams (R.left reader.new) (W.written writer.new))
+        (view_stop stop) result.marks.items result.ended) }
     ensures clean { IsClean S.Store intake.new → IsClean S.Store intake.old }
     ensures limit { limit_of intake.new ≡ limit_of intake.old }
     ensures fault { IsEndedOrStoppedBy (R.read_failures reader.old) (R.read_failures reader.new)
@@ -120,11 +123,11 @@ fn serve_places<R: Source, W: Sink, S: Alter>(
     requires over { is_over inbox.old ≡ false }
     requires count { ComeBefore (view_stop stop) (vec_len marks.old) }
     ensures serves { IsTransition S.Store intake.old intake.new (λ early now after.
-        (before : List Request) (left written : Option (List ℕ))
-        → GoesOn (limit_of intake.old) early before now left (R.left reader.old) written (W.written writer.old)
-        inbox.old marks.old.items
-        → StopsOrEnds (limit_of intake.old) early before after left (R.left reader.new) written
-        (W.written writer.new) (view_stop stop) marks.new.items result) }
+        (before : List Request) (first : Streams)
+        → GoesOn (keeping (limit_of intake.old) early before now) first
+        (streams (R.left reader.old) (W.written writer.old)) inbox.old marks.old.items
+        → StopsOrEnds (keeping (limit_of intake.old) early before after) first
+        (streams (R.left reader.new) (W.written writer.new)) (view_stop stop) marks.new.items result) }
     ensures counted { IsCountUntil (view_stop stop) (vec_len marks.new) result }
     ensures clean { IsClean S.Store intake.new → IsClean S.Store intake.old }
     ensures limit { limit_of intake.new ≡ limit_of intake.old }
@@ -155,11 +158,11 @@ fn serve_place<R: Source, W: Sink, S: Alter>(
     requires over { is_over inbox.old ≡ false }
     requires count { ComeBefore (view_stop stop) (vec_len marks.old) }
     ensures serves { IsTransition S.Store intake.old intake.new (λ early now after.
-        (before : List Request) (left written : Option (List ℕ))
-        → GoesOn (limit_of intake.old) early before now left (R.left reader.old) written (W.written writer.old)
-        inbox.old marks.old.items
-        → Continues (limit_of intake.old) early before after left (R.left reader.new) written (W.written writer.new)
-        inbox.new (view_stop stop) marks.new.items result) }
+        (before : List Request) (first : Streams)
+        → GoesOn (keeping (limit_of intake.old) early before now) first
+        (streams (R.left reader.old) (W.written writer.old)) inbox.old marks.old.items
+        → Continues (keeping (limit_of intake.old) early before after) first
+        (streams (R.left reader.new) (W.written writer.new)) inbox.new (view_stop stop) marks.new.items result) }
     ensures more { result ≡ Turn.On → is_over inbox.new ≡ false }
     ensures one { result ≡ Turn.On → vec_len marks.new ≡ vec_len marks.old + 1 }
     ensures counted { IsCountAt (view_stop stop) (vec_len marks.new) result }
@@ -190,11 +193,11 @@ fn serve_message<W: Sink, S: Alter>(
     requires lends { LendsFirst inbox.now }
     requires count { ComeBefore (view_stop stop) (vec_len marks.old) }
     ensures serves { IsTransition S.Store intake.old intake.new (λ early now after.
-        (before : List Request) (left left' written : Option (List ℕ))
-        → HasMessage (limit_of intake.old) early before now left left' written (W.written writer.old) inbox.now
-        marks.old.items
-        → Continues (limit_of intake.old) early before after left left' written (W.written writer.new) inbox.now
-        (view_stop stop) marks.new.items result) }
+        (before : List Request) (first : Streams) (left : Option (List ℕ))
+        → HasMessage (keeping (limit_of intake.old) early before now) first
+        (streams left (W.written writer.old)) inbox.now marks.old.items
+        → Continues (keeping (limit_of intake.old) early before after) first
+        (streams left (W.written writer.new)) inbox.now (view_stop stop) marks.new.items result) }
     ensures more { result ≡ Turn.On → is_over inbox.now ≡ false }
     ensures one { result ≡ Turn.On → vec_len marks.new ≡ vec_len marks.old + 1 }
     ensures counted { IsCountAt (view_stop stop) (vec_len marks.new) result }
@@ -223,11 +226,10 @@ fn serve_refusal<W: Sink>(
     marks: &mut Vec<Mark>,
 ) -> Turn
     requires { ComeBefore (view_stop stop) (vec_len marks.old) }
-    ensures serves { (limit : ℕ) (early before now : List Request) (left left' written : Option (List ℕ))
-        (inbox : Inbox)
-        → HasRefusal limit early before now left left' written (W.written writer.old) inbox refusal marks.old.items
-        → Continues limit early before now left left' written (W.written writer.new) inbox (view_stop stop)
-        marks.new.items result }
+    ensures serves { (requests : Keeping) (first : Streams) (left : Option (List ℕ)) (inbox : Inbox)
+        → HasRefusal requests first (streams left (W.written writer.old)) inbox refusal marks.old.items
+        → Continues requests first (streams left (W.written writer.new)) inbox (view_stop stop) marks.new.items
+        result }
     ensures closes { result ≢ Turn.On }
     ensures counted { IsCountAt (view_stop stop) (vec_len marks.new) result }
     ensures fault { IsTurnByReply (W.write_failures writer.old) (W.write_failures writer.new) result }

@@ -1,6 +1,6 @@
 use Rattle.std.proofs.Common.{◌≤◌, List, length, drop}
 use Rattle.http_wire.specs.Message.{Place, Ending}
-use Rattle.filing_model.specs.Stopping.{BeginsPlaces}
+use Rattle.filing_model.specs.Serving.{BeginsPlaces}
 use Rattle.filing_model.specs.Text.{completed}
 use Rattle.gateway_server.proofs.Completing.{IsAhead}
 use Rattle.gateway_server.proofs.completion.completed.Given as goal

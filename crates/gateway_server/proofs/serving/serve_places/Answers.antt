@@ -7,7 +7,7 @@ pub returns-in-Stopped-clause-serves : goal.returns-in-Stopped-clause-serves
 returns-in-Stopped-clause-serves g c = λ clean first h.
     let goes = c.places.invariant.goes (c.serve_place.ensures.clean clean) first h in
     let served = rw (c.places.invariant.limit, goes.2) at (c.in-Stopped.ensures.serves clean goes.0 goes.1) in
-    (served.0, served.1, served.2, λ before left written on. served.3 before left written (goes.3 before left written on))
+    (served.0, served.1, served.2, λ before first' on. served.3 before first' (goes.3 before first' on))
 
 pub returns-in-Stopped-clause-read : goal.returns-in-Stopped-clause-read
 returns-in-Stopped-clause-read g c = ReadsSome-join _ _ _ c.args.inbox.now c.places.inbox c.serve_place.new.inbox c.places.invariant.read c.serve_place.ensures.read
@@ -17,7 +17,7 @@ pub returns-in-Ended-clause-serves : goal.returns-in-Ended-clause-serves
 returns-in-Ended-clause-serves g c = λ clean first h.
     let goes = c.places.invariant.goes (c.serve_place.ensures.clean clean) first h in
     let served = rw (c.places.invariant.limit, goes.2) at (c.in-Ended.ensures.serves clean goes.0 goes.1) in
-    (served.0, served.1, served.2, λ before left written on. served.3 before left written (goes.3 before left written on))
+    (served.0, served.1, served.2, λ before first' on. served.3 before first' (goes.3 before first' on))
 
 pub returns-in-Ended-clause-read : goal.returns-in-Ended-clause-read
 returns-in-Ended-clause-read g c = ReadsSome-join _ _ _ c.args.inbox.now c.places.inbox c.serve_place.new.inbox c.places.invariant.read c.serve_place.ensures.read
@@ -34,5 +34,5 @@ places-preserved g c = record {
   goes = λ clean first h.
       let goes = c.places.invariant.goes (c.serve_place.ensures.clean clean) first h in
       let served = rw (c.places.invariant.limit, goes.2) at (c.in-On.ensures.serves clean goes.0 goes.1) in
-      (served.0, served.1, served.2, λ before left written on. served.3 before left written (goes.3 before left written on));
+      (served.0, served.1, served.2, λ before first' on. served.3 before first' (goes.3 before first' on));
 }

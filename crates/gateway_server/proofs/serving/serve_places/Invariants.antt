@@ -1,9 +1,10 @@
-use Rattle.std.proofs.Common.{◌≡◌, ℕ, ◌-◌, ◌^◌, false, List, Option, vec_len}
+use Rattle.std.proofs.Common.{◌≡◌, ◌-◌, ◌^◌, false, List, vec_len}
 use Rattle.http_wire.specs.Inbox.{is_over}
 use Rattle.filing_model.specs.Request.{Request}
+use Rattle.filing_model.specs.Serving.{keeping}
 use Rattle.filing_model.specs.Stopping.{ComeBefore}
 use Rattle.intake_core.specs.Held.{limit_of, IsClean, IsTransition}
-use Rattle.gateway_server.specs.Progress.{GoesOn, ReadsSome}
+use Rattle.gateway_server.specs.Progress.{Streams, streams, GoesOn, ReadsSome}
 use Rattle.gateway_server.specs.Stopping.{view_stop}
 use Rattle.gateway_server.proofs.serving.serve_places.Given as goal
 
@@ -16,7 +17,7 @@ invariant-places g l = record {
   read : ReadsSome (g.R.Source.left l.fn.reader) (g.R.Source.left l.reader) l.fn.inbox l.inbox;
   limit : limit_of l.intake ≡ limit_of l.fn.intake;
   clean : IsClean g.S.Store l.intake → IsClean g.S.Store l.fn.intake;
-  goes : IsTransition g.S.Store l.fn.intake l.intake (λ early now after. (before : List Request) (left written : Option (List ℕ)) → GoesOn (limit_of l.fn.intake) early before now left (g.R.Source.left l.fn.reader) written (g.W.Sink.written l.fn.writer) l.fn.inbox l.fn.marks.items → GoesOn (limit_of l.fn.intake) early before after left (g.R.Source.left l.reader) written (g.W.Sink.written l.writer) l.inbox l.marks.items);
+  goes : IsTransition g.S.Store l.fn.intake l.intake (λ early now after. (before : List Request) (first : Streams) → GoesOn (keeping (limit_of l.fn.intake) early before now) first (streams (g.R.Source.left l.fn.reader) (g.W.Sink.written l.fn.writer)) l.fn.inbox l.fn.marks.items → GoesOn (keeping (limit_of l.fn.intake) early before after) first (streams (g.R.Source.left l.reader) (g.W.Sink.written l.writer)) l.inbox l.marks.items);
 }
 
 abbrev pub decreases-places : goal.decreases-places

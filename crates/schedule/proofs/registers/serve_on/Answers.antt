@@ -2,9 +2,11 @@ use Rattle.std.proofs.Common.{◌≢◌, ℕ, [], Some, refl, sym, ◌∙◌, su
 use Rattle.http_wire.specs.declared.refusal.ConnFault.TheVariants.{Write}
 use Rattle.filing_model.specs.declared.served.Ended.TheVariants.{Fault}
 use Rattle.filing_model.specs.Request.{firsts}
+use Rattle.filing_model.specs.Serving.{keeping}
 use Rattle.filing_model.specs.Stopping.{ServesUntil}
 use Rattle.intake_core.specs.Held.{limit_of}
 use Rattle.schedule.specs.Server.{HoldsNew}
+use Rattle.gateway_server.specs.Progress.{streams}
 use Rattle.gateway_server.specs.Stopping.{ServesConnectionUntil, view_stop}
 use Rattle.gateway_server.proofs.Whole.{serves_until_whole}
 use Rattle.schedule.specs.Bytes.{bytes_left, bytes_kept, refusals}
@@ -19,11 +21,12 @@ returns-clause-serves g c = λ done holds.
     let ended = c.serve_until-marks.result.ended in
     let limit = limit_of c.args.intake.now in
     let crash = view_stop c.args.stop in
+    let new = streams (Some (bytes_left reader)) (Some (bytes_kept writer)) in
     let turned = c.serve_until-marks.ensures.serves (g.met.S.Faithful.faithful intake.store.conn) (firsts done) holds.0 in
     let not_written : (sent : ℕ) → ended ≢ Some (Fault (Write sent)) = λ sent e. true≢false (sym (c.is_refused.ensures sent e) ∙ c.if-is_refused.false) in
-    let problem = subst (λ es. ServesConnectionUntil limit es (firsts done) turned.0 (Some (bytes_left c.new-reader.result)) (Some (bytes_left reader)) (Some (bytes_kept c.new-writer.result)) (Some (bytes_kept writer)) crash marks ended) holds.1 turned.3 in
-    let left = subst (λ bs. ServesConnectionUntil limit [] (firsts done) turned.0 (Some bs) (Some (bytes_left reader)) (Some (bytes_kept c.new-writer.result)) (Some (bytes_kept writer)) crash marks ended) c.new-reader.ensures problem in
-    let served = subst (λ text. ServesConnectionUntil limit [] (firsts done) turned.0 (Some c.args.bytes.now) (Some (bytes_left reader)) (Some text) (Some (bytes_kept writer)) crash marks ended) c.new-writer.ensures.text left in
+    let problem = subst (λ es. ServesConnectionUntil (keeping limit es (firsts done) turned.0) (streams (Some (bytes_left c.new-reader.result)) (Some (bytes_kept c.new-writer.result))) new crash marks ended) holds.1 turned.3 in
+    let left = subst (λ bs. ServesConnectionUntil (keeping limit [] (firsts done) turned.0) (streams (Some bs) (Some (bytes_kept c.new-writer.result))) new crash marks ended) c.new-reader.ensures problem in
+    let served = subst (λ text. ServesConnectionUntil (keeping limit [] (firsts done) turned.0) (streams (Some c.args.bytes.now) (Some text)) new crash marks ended) c.new-writer.ensures.text left in
     let whole = serves_until_whole limit 0 (refusals c.new-writer.result) (refusals writer) done (firsts done) turned.0 c.args.bytes.now (bytes_left reader) (bytes_kept writer) crash marks ended refl served (omega arith) not_written c.serve_until-marks.ensures.fault in (
       whole.0,
       subst (λ text. ServesUntil limit done c.args.bytes.now crash whole.0 marks ended text) (sym c.into_text.ensures) whole.1,

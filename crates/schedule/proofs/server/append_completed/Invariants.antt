@@ -1,6 +1,6 @@
 use Rattle.std.proofs.Common.{◌≡◌, ◌++◌, ◌≤◌, List, length}
 use Rattle.http_wire.specs.Message.{Place, Ending}
-use Rattle.filing_model.specs.Stopping.{BeginsPlaces}
+use Rattle.filing_model.specs.Serving.{BeginsPlaces}
 use Rattle.filing_model.specs.Text.{completed}
 use Rattle.schedule.proofs.server.append_completed.Given as goal
 
