@@ -1,10 +1,14 @@
-//! Opening the files of a database.
+//! What a command does with the database in a file: the file is opened, one call does all that is done with the database, and
+//! the file is closed.
+//!
+//! That call is generic over the store, and `on_database` is the one function that names a store in files where it calls such code, since each
+//! such call costs much to prove.
 
 ghost use Rattle.std.specs.Prelude.{◌≡◌, ◌≢◌, None, false, Err, IfOk, IfErr, IsTrue};
 ghost use Rattle.commands.specs.Faults.{database_fault};
 
 use command_line::DatabaseFault;
-use sqlite::{Connection, Error, ErrorCode, File, FileStore, Files, Options, Unknown};
+use sqlite::{Alter, Connection, Error, ErrorCode, File, FileStore, Files, Options, Unknown};
 use sqlite_disk::Disk;
 use sqlite_std_file::OpenError;
 use std::alloc::AllocError;
@@ -37,6 +41,46 @@ pub(crate) enum Cache {
     OfTheFile,
     /// The most: for a file that grows while it is served.
     Largest,
+}
+
+/// How the database of a file comes to be open.
+#[derive(Clone, Copy, Debug, PartialEq, Eq)]
+pub(crate) enum Opening {
+    /// It is there.
+    Found(Cache),
+    /// It is there, or is made where the file is missing or empty.
+    Made(Cache),
+}
+
+/// What a command leaves of a database.
+pub(crate) enum Left<S: Alter> {
+    /// Its connection, which is to be closed.
+    Open(Connection<S>),
+    /// The same where the database refused a call. That it refuses the close too is then no news.
+    Failed(Connection<S>),
+    /// Nothing: the connection was given up.
+    GivenUp,
+    /// Nothing, and the file is none of ours: nothing is to lie beside it that was not there.
+    NotOurs,
+}
+
+/// What a command does with a database that is open.
+pub(crate) trait Work: Drop {
+    /// What comes of it.
+    type Answer;
+
+    /// Does it, and says what is left of the database.
+    fn on<S: Alter + Drop>(self, rt: &HostRuntime, conn: Connection<S>) -> (Left<S>, Self::Answer)
+        requires autocommit { conn.in_transaction ≡ false }
+        requires unlimited { conn.step_limit ≡ None };
+}
+
+/// How a visit to a database went.
+#[derive(Drop)]
+pub(crate) struct Visited<A> {
+    pub answer: A,
+    /// Whether what was left of it is closed. Where it is not, what was committed stays, in the log beside the file.
+    pub closed: Result<(), Error>,
 }
 
 /// Where the files of databases lie. The commands are written over any such place, so that what they do is proved once,
@@ -128,8 +172,58 @@ fn fault_of_name(rt: &HostRuntime, name: &str) -> DatabaseFault
     }
 }
 
+/// Opens the database of the file with this name, does this work on it, and closes what that leaves. Beside a file that is none of
+/// ours nothing is left.
+pub(crate) fn on_database<D: Disk + Drop, P: Place<D>, W: Work>(
+    rt: &HostRuntime,
+    place: &P,
+    name: &str,
+    opening: Opening,
+    work: W,
+) -> Result<Visited<W::Answer>, DatabaseFault> {
+    let had_log = place.has_log(rt, name);
+    let conn = open(rt, place, name, opening)?;
+    let (left, answer) = work.on(rt, conn);
+    let closed = close(rt, place, name, had_log, left);
+    Ok(Visited { answer, closed })
+}
+
+/// Closes what is left of a database.
+fn close<D: Disk + Drop, P: Place<D>>(
+    rt: &HostRuntime,
+    place: &P,
+    name: &str,
+    had_log: bool,
+    left: Left<FileStore<D>>,
+) -> Result<(), Error> {
+    match left {
+        Left::Open(conn) => return conn.close(),
+        // What the database refused once it may refuse again.
+        Left::Failed(conn) => drop(conn.close()),
+        Left::GivenUp => {}
+        Left::NotOurs => remove_new_log(rt, place, name, had_log),
+    }
+    Ok(())
+}
+
+/// Opens the database of the file with this name.
+fn open<D: Disk + Drop, P: Place<D>>(
+    rt: &HostRuntime,
+    place: &P,
+    name: &str,
+    opening: Opening,
+) -> Result<Connection<FileStore<D>>, DatabaseFault>
+    ensures autocommit { IfOk result (λ conn. conn.in_transaction ≡ false) }
+    ensures unlimited { IfOk result (λ conn. conn.step_limit ≡ None) }
+{
+    match opening {
+        Opening::Found(cache) => find_database(rt, place, name, cache),
+        Opening::Made(cache) => make_database(rt, place, name, cache),
+    }
+}
+
 /// Opens the database of the file with this name. A file that is not there is not made.
-pub(crate) fn open_database<D: Disk + Drop, P: Place<D>>(
+fn find_database<D: Disk + Drop, P: Place<D>>(
     rt: &HostRuntime,
     place: &P,
     name: &str,
@@ -145,7 +239,7 @@ pub(crate) fn open_database<D: Disk + Drop, P: Place<D>>(
 }
 
 /// The same, and a file that is not there or is empty gets a database without tables.
-pub(crate) fn make_database<D: Disk + Drop, P: Place<D>>(
+fn make_database<D: Disk + Drop, P: Place<D>>(
     rt: &HostRuntime,
     place: &P,
     name: &str,
@@ -169,7 +263,7 @@ pub(crate) fn make_database<D: Disk + Drop, P: Place<D>>(
 
 /// Removes the log that an opening made, in which nothing is, so that nothing lies beside a file that is not ours. The files are
 /// taken for that, so that no other program has them.
-pub(crate) fn remove_new_log<D: Disk + Drop, P: Place<D>>(
+fn remove_new_log<D: Disk + Drop, P: Place<D>>(
     rt: &HostRuntime,
     place: &P,
     name: &str,

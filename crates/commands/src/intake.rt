@@ -4,6 +4,7 @@
 mod calls;
 mod fault;
 mod finding;
+mod limit;
 mod log;
 mod note;
 mod options;

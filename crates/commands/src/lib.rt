@@ -6,5 +6,6 @@ mod database;
 pub mod intake;
 pub mod outbox;
 mod report;
+mod verdict;
 
 pub use database::{Place, SystemFiles};

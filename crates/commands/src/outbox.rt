@@ -1,8 +1,8 @@
 //! The commands of `outbox`: it keeps the reports that a filer is to send, and sends them.
 
 mod calls;
+mod errand;
 mod fault;
-mod files;
 mod line;
 mod options;
 mod tasks;

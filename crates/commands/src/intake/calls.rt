@@ -9,8 +9,7 @@ use intake_core::{FilingRow, Intake, Unavailable, word_reply};
 use register_store::{
     Completed, Counts, CreateFault, OpenFault, Store, StoreFault, Watch, read_register,
 };
-use sqlite::{Alter, Connection, FileStore, MemStore};
-use sqlite_disk::Disk;
+use sqlite::{Alter, Connection, MemStore};
 use std::alloc::{AllocError, Global};
 use xbrl_report::{Fact, Findings, Judged, judge};
 
@@ -48,22 +47,6 @@ pub fn migrate<S: Alter + Drop>(alloc: Global, conn: Connection<S>) -> Result<St
     requires unlimited { conn.step_limit ≡ None }
 {
     Store::migrate(alloc, conn)
-}
-
-/// Gives up the files of a register, with all that was committed in the database file.
-pub fn close<D: Disk + Drop>(register: Store<FileStore<D>>) -> Result<(), StoreFault> {
-    match register.into_files() {
-        Ok(_) => Ok(()),
-        Err(fault) => Err(fault),
-    }
-}
-
-/// Gives up the files of a database, with all that was committed in the database file.
-pub fn close_files<D: Disk + Drop>(conn: Connection<FileStore<D>>) -> Result<(), StoreFault> {
-    match conn.close_files() {
-        Ok(_) => Ok(()),
-        Err((error, _)) => Err(StoreFault::from(error)),
-    }
 }
 
 /// The facts of a filing.

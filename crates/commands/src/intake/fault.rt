@@ -1,6 +1,7 @@
 //! Why a task is not done, in words and as a status.
 
 use crate::report::ReportFault;
+use crate::verdict::Verdict;
 use command_line::{CommandFault, DatabaseFault};
 use http_wire::ConnFault;
 use intake_core::Unavailable;
@@ -95,12 +96,12 @@ impl Fault<'_> {
         }
     }
 
-    /// What the fault says of the register, where it says something: that it is none, or damaged.
-    pub fn verdict(&self) -> Option<OpenFault> {
+    /// What the fault says of the register, where it says something.
+    pub fn verdict(&self) -> Option<Verdict> {
         match self {
             Fault::Open { fault, .. } | Fault::NotMigrated { fault, .. } => match fault {
-                OpenFault::NotOurs => Some(OpenFault::NotOurs),
-                OpenFault::Damaged { row } => Some(OpenFault::Damaged { row: *row }),
+                OpenFault::NotOurs => Some(Verdict::NotOurs),
+                OpenFault::Damaged { row } => Some(Verdict::Damaged(*row)),
                 OpenFault::Memory | OpenFault::Disk => None,
             },
             Fault::Command(
@@ -108,7 +109,7 @@ impl Fault<'_> {
                     fault: DatabaseFault::Missing | DatabaseFault::NotADatabase,
                     ..
                 },
-            ) => Some(OpenFault::NotOurs),
+            ) => Some(Verdict::NotOurs),
             _ => None,
         }
     }

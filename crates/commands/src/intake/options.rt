@@ -1,5 +1,6 @@
 //! The tasks of `intake` and their values, as `clap` reads them.
 
+use crate::intake::register::Errand;
 use crate::intake::serving::Serving;
 use clap::{Arg, ArgAction, ArgMatches, Command, Error, value_parser};
 use command_line::{VERSION, database_option, filer_option, option, port_option};
@@ -14,19 +15,21 @@ const MOST_CONNECTIONS: i64 = (1 << 32) - 1;
 #[derive(Drop)]
 pub enum Task<'a> {
     /// Serve standard input on a register in memory.
-    Run { limit: u64 },
+    Run {
+        limit: u64,
+    },
     /// Serve so many connections of a port on the register of a file, which is made where it is new.
     Serve(Serving<'a>),
-    /// Show the filings of a filer.
-    List { database: &'a str, filer: &'a str },
-    /// Show the facts of a filing.
-    Show { database: &'a str, number: u64 },
-    /// Say whether the register is sound.
-    Check { database: &'a str },
-    /// Make a register of an earlier version one of this version.
-    Migrate { database: &'a str },
+    /// Do this with the register of a file.
+    Visit {
+        database: &'a str,
+        errand: Errand<'a>,
+    },
     /// Show the findings of a filer's reports.
-    Lint { filer: &'a str, files: Vec<&'a str> },
+    Lint {
+        filer: &'a str,
+        files: Vec<&'a str>,
+    },
 }
 
 fn database<'a>(alloc: Global) -> Arg<'a> {
@@ -188,33 +191,40 @@ fn lint_of<'a>(alloc: Global, values: &ArgMatches<'a>) -> Result<Option<Task<'a>
     Ok(Some(Task::Lint { filer, files }))
 }
 
+fn errand_of<'a>(name: &str, values: &ArgMatches<'a>) -> Option<Errand<'a>> {
+    match name {
+        "list" => Some(Errand::List {
+            filer: values.get_str("filer")?,
+        }),
+        "show" => Some(Errand::Show {
+            number: values.get_one("number")?,
+        }),
+        "check" => Some(Errand::Check),
+        "migrate" => Some(Errand::Migrate),
+        _ => None,
+    }
+}
+
 fn task_of<'a>(name: &str, values: &ArgMatches<'a>) -> Option<Task<'a>> {
     let limit = limit_of(values);
     if name == "run" {
         return Some(Task::Run { limit });
     }
     let database = values.get_str("db")?;
-    match name {
-        "serve" => Some(Task::Serve(Serving {
+    if name == "serve" {
+        return Some(Task::Serve(Serving {
             database,
             port: values.get_one("port")?,
             connections: values.get_one("connections")?,
             limit,
             new: values.get_flag("new"),
             log: values.get_flag("log"),
-        })),
-        "list" => Some(Task::List {
-            database,
-            filer: values.get_str("filer")?,
-        }),
-        "show" => Some(Task::Show {
-            database,
-            number: values.get_one("number")?,
-        }),
-        "check" => Some(Task::Check { database }),
-        "migrate" => Some(Task::Migrate { database }),
-        _ => None,
+        }));
     }
+    Some(Task::Visit {
+        database,
+        errand: errand_of(name, values)?,
+    })
 }
 
 /// The task that these words spell, the program's name first; no other word stands for `run`. `None`

@@ -1,121 +1,274 @@
-//! The register of a file: made, opened, migrated, closed.
+//! What is done with the register of a file, apart from serving it.
 
-use crate::database::{Cache, Place, make_database, open_database, remove_new_log};
+ghost use Rattle.std.specs.Prelude.{◌≡◌, None, false};
+
+use crate::database::{Cache, Left, Opening, Place, Work, on_database};
 use crate::intake::calls;
 use crate::intake::fault::Fault;
-use command_line::CommandFault;
-use register_store::{Counts, OpenFault, Store, Watch};
-use sqlite::{Connection, FileStore};
+use crate::intake::options::DEFAULT_LIMIT;
+use crate::intake::progress::Progress;
+use crate::verdict::Verdict;
+use command_line::{CommandFault, show};
+use gateway_server::fact_line;
+use intake_core::{FilingRow, Intake, list_reply};
+use register_store::{Counts, Store};
+use sqlite::{Alter, Connection, Error};
 use sqlite_disk::Disk;
+use std::alloc::{AllocError, Global};
 use std::io::Write;
+use xbrl_report::Fact;
 
-/// Makes the tables of a register in the file, which is then served.
-pub fn create<'a, D: Disk + Drop, P: Place<D>>(
+/// What is done with a register that is there.
+#[derive(Clone, Copy)]
+pub enum Errand<'a> {
+    /// Show the filings of a filer.
+    List { filer: &'a str },
+    /// Show the facts of a filing.
+    Show { number: u64 },
+    /// Say whether the register is sound.
+    Check,
+    /// Make a register of an earlier version one of this version.
+    Migrate,
+}
+
+/// An errand to the register of the file with this name.
+#[derive(Drop)]
+struct Visit<'a, 'o, O> {
+    name: &'a str,
+    errand: Errand<'a>,
+    output: &'o mut O,
+}
+
+impl<'a, O: Write> Work for Visit<'a, '_, O> {
+    type Answer = Result<(), Fault<'a>>;
+
+    fn on<S: Alter + Drop>(
+        self,
+        rt: &HostRuntime,
+        conn: Connection<S>,
+    ) -> (Left<S>, Result<(), Fault<'a>>) {
+        let Visit {
+            name,
+            errand,
+            output,
+        } = self;
+        match errand {
+            Errand::List { filer } => list(rt.alloc(), name, conn, filer, output),
+            Errand::Show { number } => show_filing(rt.alloc(), name, conn, number, output),
+            Errand::Check => check(rt, name, conn, output),
+            Errand::Migrate => migrate(rt.alloc(), name, conn, output),
+        }
+    }
+}
+
+/// Does an errand to the register of the file with this name. What came of it stays whether or not the files are then closed: where they
+/// are not, this is told.
+pub fn run_errand<'a, D: Disk + Drop, P: Place<D>, O: Write, E: Write>(
     rt: &HostRuntime,
     place: &P,
     name: &'a str,
-) -> Result<Store<FileStore<D>>, Fault<'a>> {
-    let conn = match make_database(rt, place, name, Cache::Largest) {
-        Ok(conn) => conn,
-        Err(fault) => return Err(CommandFault::Database { name, fault }.into()),
+    errand: Errand<'a>,
+    output: &mut O,
+    errors: &mut E,
+) -> Result<(), Fault<'a>> {
+    let work = Visit {
+        name,
+        errand,
+        output,
     };
-    match calls::create(rt.alloc(), conn) {
+    match on_database(rt, place, name, Opening::Found(Cache::OfTheFile), work) {
+        Ok(visited) => {
+            tell_close(visited.closed, name, errors);
+            visited.answer
+        }
+        Err(fault) => Err(CommandFault::Database { name, fault }.into()),
+    }
+}
+
+/// Says where the files of a register are not closed. What was answered is kept then, in the log beside the file.
+pub fn tell_close<E: Write>(closed: Result<(), Error>, name: &str, errors: &mut E) {
+    if let Err(error) = closed {
+        let fault = error.into();
+        Fault::NotClosed { name, fault }.tell(errors);
+    }
+}
+
+/// Makes the tables of a register.
+pub fn create<'a, S: Alter + Drop>(
+    alloc: Global,
+    name: &'a str,
+    conn: Connection<S>,
+) -> Result<Store<S>, Fault<'a>>
+    requires autocommit { conn.in_transaction ≡ false }
+    requires unlimited { conn.step_limit ≡ None }
+{
+    match calls::create(alloc, conn) {
         Ok(register) => Ok(register),
         Err(fault) => Err(Fault::Create { name, fault }),
     }
 }
 
-/// Beside a file that is none of ours nothing is left.
-fn leave<D: Disk + Drop, P: Place<D>>(
-    rt: &HostRuntime,
-    place: &P,
-    name: &str,
-    had_log: bool,
-    fault: OpenFault,
-) {
-    if fault == OpenFault::NotOurs {
-        remove_new_log(rt, place, name, had_log);
-    }
-}
-
-/// Makes the register of the file, which is one of an earlier version, one of this version.
-pub fn migrate<'a, D: Disk + Drop, P: Place<D>>(
-    rt: &HostRuntime,
-    place: &P,
+/// The register of a database that is there.
+pub fn open<'a, S: Alter + Drop>(
+    alloc: Global,
     name: &'a str,
-) -> Result<Store<FileStore<D>>, Fault<'a>> {
-    let had_log = place.has_log(rt, name);
-    let conn = match open_database(rt, place, name, Cache::OfTheFile) {
-        Ok(conn) => conn,
-        Err(fault) => return Err(CommandFault::Database { name, fault }.into()),
-    };
-    match calls::migrate(rt.alloc(), conn) {
+    conn: Connection<S>,
+) -> Result<Store<S>, Fault<'a>>
+    requires autocommit { conn.in_transaction ≡ false }
+    requires unlimited { conn.step_limit ≡ None }
+{
+    match calls::open(alloc, conn) {
         Ok(register) => Ok(register),
-        Err(fault) => {
-            leave(rt, place, name, had_log, fault);
-            Err(Fault::NotMigrated { name, fault })
-        }
+        Err(fault) => Err(Fault::Open { name, fault }),
     }
 }
 
-/// Opens the register of the file. Beside a file that is none of ours nothing is left.
-pub fn open<'a, D: Disk + Drop, P: Place<D>>(
-    rt: &HostRuntime,
-    place: &P,
+/// What is left of a database that gave no register.
+pub fn left_by<S: Alter>(fault: &Fault<'_>) -> Left<S> {
+    match fault.verdict() {
+        Some(Verdict::NotOurs) => Left::NotOurs,
+        Some(Verdict::Damaged(_)) | None => Left::GivenUp,
+    }
+}
+
+/// The content of the reply that lists these filings, as a line.
+fn list_line(alloc: Global, rows: &[FilingRow]) -> Result<Vec<u8>, AllocError> {
+    let mut text = list_reply(alloc, rows)?.content;
+    text.push(b'\n')?;
+    Ok(text)
+}
+
+fn show_rows<'a, O: Write>(
+    alloc: Global,
+    rows: &[FilingRow],
+    output: &mut O,
+) -> Result<(), Fault<'a>> {
+    let text = list_line(alloc, rows)?;
+    Ok(show(output, text.as_slice())?)
+}
+
+/// Prints the filings of a filer, as the reply to a GET lists them.
+fn list<'a, S: Alter + Drop, O: Write>(
+    alloc: Global,
     name: &'a str,
-    cache: Cache,
-) -> Result<Store<FileStore<D>>, Fault<'a>> {
-    let had_log = place.has_log(rt, name);
-    let conn = match open_database(rt, place, name, cache) {
-        Ok(conn) => conn,
-        Err(fault) => return Err(CommandFault::Database { name, fault }.into()),
+    conn: Connection<S>,
+    filer: &str,
+    output: &mut O,
+) -> (Left<S>, Result<(), Fault<'a>>)
+    requires autocommit { conn.in_transaction ≡ false }
+    requires unlimited { conn.step_limit ≡ None }
+{
+    let register = match open(alloc, name, conn) {
+        Ok(register) => register,
+        Err(fault) => return (left_by(&fault), Err(fault)),
     };
-    match calls::open(rt.alloc(), conn) {
-        Ok(register) => Ok(register),
-        Err(fault) => {
-            leave(rt, place, name, had_log, fault);
-            Err(Fault::Open { name, fault })
-        }
-    }
+    let mut intake = Intake::new(alloc, register, DEFAULT_LIMIT);
+    let shown = match calls::list(&mut intake, filer) {
+        Ok(rows) => show_rows(alloc, rows.as_slice(), output),
+        Err(fault) => Err(Fault::List { name, fault }),
+    };
+    (Left::Open(intake.into_store().into_conn()), shown)
 }
 
-/// Counts what the register of the file holds, and tells `watch` how far that is. Beside a file that is none of ours nothing is left.
-pub fn check<'a, D: Disk + Drop, P: Place<D>, W: Watch>(
-    rt: &HostRuntime,
-    place: &P,
+/// A line for each fact.
+fn fact_lines(alloc: Global, facts: &[Fact]) -> Result<String, AllocError> {
+    let mut text = String::new(alloc);
+    for fact in facts {
+        text.push_str(fact_line(alloc, fact)?.as_str())?;
+        text.push('\n')?;
+    }
+    Ok(text)
+}
+
+fn show_facts<'a, O: Write>(
+    alloc: Global,
+    facts: &[Fact],
+    output: &mut O,
+) -> Result<(), Fault<'a>> {
+    let text = fact_lines(alloc, facts)?;
+    Ok(show(output, text.as_bytes())?)
+}
+
+/// Prints the facts of a filing.
+fn show_filing<'a, S: Alter + Drop, O: Write>(
+    alloc: Global,
     name: &'a str,
-    watch: &mut W,
-) -> Result<(Counts, Connection<FileStore<D>>), Fault<'a>> {
-    let had_log = place.has_log(rt, name);
-    let mut conn = match open_database(rt, place, name, Cache::OfTheFile) {
-        Ok(conn) => conn,
-        Err(fault) => return Err(CommandFault::Database { name, fault }.into()),
+    conn: Connection<S>,
+    number: u64,
+    output: &mut O,
+) -> (Left<S>, Result<(), Fault<'a>>)
+    requires autocommit { conn.in_transaction ≡ false }
+    requires unlimited { conn.step_limit ≡ None }
+{
+    let mut register = match open(alloc, name, conn) {
+        Ok(register) => register,
+        Err(fault) => return (left_by(&fault), Err(fault)),
     };
-    match calls::check(rt.alloc(), &mut conn, watch) {
-        Ok(counts) => Ok((counts, conn)),
+    let shown = match calls::facts(&mut register, number) {
+        Ok(Some(facts)) => show_facts(alloc, facts.as_slice(), output),
+        Ok(None) => Err(Fault::NoFiling { name, number }),
+        Err(fault) => Err(Fault::Store { name, fault }),
+    };
+    (Left::Open(register.into_conn()), shown)
+}
+
+fn show_sound<'a, O: Write>(
+    alloc: Global,
+    counts: Counts,
+    output: &mut O,
+) -> Result<(), Fault<'a>> {
+    let Counts { kept, filings, .. } = counts;
+    let text = format!(in alloc; "sound: {kept} kept, {filings} filings\n")?;
+    Ok(show(output, text.as_bytes())?)
+}
+
+/// Counts what the register holds, tells how far that is, and prints that it is sound, where it is.
+fn check<'a, S: Alter + Drop, O: Write>(
+    rt: &HostRuntime,
+    name: &'a str,
+    mut conn: Connection<S>,
+    output: &mut O,
+) -> (Left<S>, Result<(), Fault<'a>>)
+    requires autocommit { conn.in_transaction ≡ false }
+    requires unlimited { conn.step_limit ≡ None }
+{
+    let mut progress = Progress::new(rt);
+    let checked = calls::check(rt.alloc(), &mut conn, &mut progress);
+    progress.end();
+    match checked {
+        Ok(counts) => {
+            let shown = show_sound(rt.alloc(), counts, output);
+            (Left::Open(conn), shown)
+        }
         Err(fault) => {
-            drop(conn);
-            leave(rt, place, name, had_log, fault);
-            Err(Fault::Open { name, fault })
+            let fault = Fault::Open { name, fault };
+            (left_by(&fault), Err(fault))
         }
     }
 }
 
-/// Closes the files of a database, as `close` does those of a register.
-pub fn close_files<D: Disk + Drop, E: Write>(
-    conn: Connection<FileStore<D>>,
-    name: &str,
-    errors: &mut E,
-) {
-    if let Err(fault) = calls::close_files(conn) {
-        Fault::NotClosed { name, fault }.tell(errors);
-    }
+fn show_migrated<'a, O: Write>(output: &mut O) -> Result<(), Fault<'a>> {
+    Ok(show(output, b"migrated\n")?)
 }
 
-/// Closes the files, so that the database file alone is the register. What was answered is kept whether or not that is done: where it
-/// is not, the log stays beside the file, and this is told.
-pub fn close<D: Disk + Drop, E: Write>(register: Store<FileStore<D>>, name: &str, errors: &mut E) {
-    if let Err(fault) = calls::close(register) {
-        Fault::NotClosed { name, fault }.tell(errors);
+/// Makes a register of an earlier version one of this version, and prints that it is.
+fn migrate<'a, S: Alter + Drop, O: Write>(
+    alloc: Global,
+    name: &'a str,
+    conn: Connection<S>,
+    output: &mut O,
+) -> (Left<S>, Result<(), Fault<'a>>)
+    requires autocommit { conn.in_transaction ≡ false }
+    requires unlimited { conn.step_limit ≡ None }
+{
+    match calls::migrate(alloc, conn) {
+        Ok(register) => {
+            let shown = show_migrated(output);
+            (Left::Open(register.into_conn()), shown)
+        }
+        Err(fault) => {
+            let fault = Fault::NotMigrated { name, fault };
+            (left_by(&fault), Err(fault))
+        }
     }
 }

@@ -1,27 +1,25 @@
 //! Serves the connections of a port on the register of a file, one after the other.
 
-ghost use Rattle.std.specs.Prelude.{◌≤◌, ◌^◌, IfOk};
+ghost use Rattle.std.specs.Prelude.{◌≡◌, None, false};
 
-use crate::database::{Cache, Place};
+use crate::database::{Cache, Left, Opening, Place, Work, on_database};
 use crate::intake::calls;
 use crate::intake::fault::Fault;
+use crate::intake::limit::Limit;
 use crate::intake::log::{ConnectionLine, Noted, Statuses};
 use crate::intake::note::Note;
-use crate::intake::register::{close, create, open};
-use command_line::show;
+use crate::intake::register::{create, left_by, open, tell_close};
+use command_line::{CommandFault, show};
 use gateway_server::{Ended, Served};
 use http_wire::{Device, Sink, Source};
 use intake_core::Intake;
 use register_store::Store;
-use sqlite::FileStore;
+use sqlite::{Alter, Connection};
 use sqlite_disk::Disk;
 use std::alloc::{AllocError, Global};
 use std::io::{self, Write};
 use std::net::{TcpListener, TcpStream};
 use std::time::Instant;
-
-/// The greatest limit.
-const MOST_KEPT: u64 = 1 << 62;
 
 /// What is served, and how.
 #[derive(Clone, Copy)]
@@ -38,114 +36,93 @@ pub struct Serving<'a> {
     pub log: bool,
 }
 
-/// A register that is served, or none where its database refused a call, until it is opened again.
-struct Service<'a, D: Disk + Drop> {
-    serving: Serving<'a>,
-    intake: Option<Intake<FileStore<D>>>,
+/// What answers the requests of a connection.
+trait Answers {
+    /// Serves one connection.
+    fn serve<R: Source, W: Sink>(
+        &mut self,
+        alloc: Global,
+        reader: &mut R,
+        writer: &mut W,
+    ) -> Result<Served, AllocError>;
 }
 
-impl<'a, D: Disk + Drop> Drop for Service<'a, D> {
-    fn drop(self) {
-        let Service {
-            serving: _,
-            intake: _,
-        } = self;
-    }
-}
-
-/// The limit, where it is no greater than the greatest.
-pub fn limit_within<'a>(limit: u64) -> Result<u64, Fault<'a>>
-    ensures { IfOk result (λ limit. limit ≤ 2 ^ 62) }
-{
-    if limit <= MOST_KEPT {
-        Ok(limit)
-    } else {
-        Err(Fault::Limit)
-    }
-}
-
-/// An intake over the register.
-fn intake_over<'a, D: Disk + Drop>(
-    alloc: Global,
-    register: Store<FileStore<D>>,
-    limit: u64,
-) -> Result<Intake<FileStore<D>>, Fault<'a>> {
-    let limit = limit_within(limit)?;
-    Ok(Intake::new(alloc, register, limit))
-}
-
-/// An intake over the register that is in the file.
-fn open_intake<'a, D: Disk + Drop, P: Place<D>>(
-    rt: &HostRuntime,
-    place: &P,
-    serving: Serving<'a>,
-) -> Result<Intake<FileStore<D>>, Fault<'a>> {
-    intake_over(
-        rt.alloc(),
-        open(rt, place, serving.database, Cache::Largest)?,
-        serving.limit,
-    )
-}
-
-impl<'a, D: Disk + Drop> Service<'a, D> {
-    /// Opens the register again where it was closed, and says so.
-    fn open_again<P: Place<D>, E: Write>(&mut self, rt: &HostRuntime, place: &P, errors: &mut E) {
-        if self.intake.is_some() {
-            return;
-        }
-        if let Ok(intake) = open_intake(rt, place, self.serving) {
-            self.intake = Some(intake);
-            Note::OpenAgain.tell(errors);
-        }
-    }
-
-    /// Whether the database refused a call.
-    fn is_down(&self) -> bool {
-        match &self.intake {
-            Some(intake) => intake.is_down(),
-            None => false,
-        }
-    }
-
-    /// Closes the register where its database refused a call, and says so.
-    fn close_where_down<E: Write>(&mut self, errors: &mut E) {
-        if !self.is_down() {
-            return;
-        }
-        Note::Down.tell(errors);
-        if let Some(intake) = self.intake.take() {
-            // What the database refused once it may refuse again; what was answered is kept.
-            let _ = calls::close(intake.into_store());
-        }
-    }
-
-    /// Serves one connection: by the register, or by 503 where there is none.
+impl<S: Alter> Answers for Intake<S> {
     fn serve<R: Source, W: Sink>(
         &mut self,
         alloc: Global,
         reader: &mut R,
         writer: &mut W,
     ) -> Result<Served, AllocError> {
-        match &mut self.intake {
-            Some(intake) => Ok(calls::serve(alloc, reader, writer, intake)),
-            None => calls::turn_away(alloc, reader, writer),
+        Ok(calls::serve(alloc, reader, writer, self))
+    }
+}
+
+/// There is no register: each request gets 503.
+#[derive(Drop)]
+struct NoRegister;
+
+impl Answers for NoRegister {
+    fn serve<R: Source, W: Sink>(
+        &mut self,
+        alloc: Global,
+        reader: &mut R,
+        writer: &mut W,
+    ) -> Result<Served, AllocError> {
+        calls::turn_away(alloc, reader, writer)
+    }
+}
+
+/// A port that is listened on, and how many of its connections were taken.
+#[derive(Drop)]
+struct Port<'a> {
+    serving: Serving<'a>,
+    limit: Limit,
+    listener: TcpListener,
+    taken: u32,
+}
+
+impl<'a> Port<'a> {
+    /// Listens on the port.
+    fn listen(rt: &HostRuntime, serving: Serving<'a>, limit: Limit) -> Result<Port<'a>, Fault<'a>> {
+        let port = serving.port;
+        match TcpListener::bind(rt, ("127.0.0.1", port)) {
+            Ok(listener) => Ok(Port {
+                serving,
+                limit,
+                listener,
+                taken: 0,
+            }),
+            Err(error) => Err(Fault::Network { port, error }),
         }
     }
 
-    /// Serves one connection, and prints its line.
-    fn serve_logged<O: Write>(
-        &mut self,
+    /// Waits for the next connection. None is one that its peer gave up before.
+    fn accept(&self) -> Result<Option<TcpStream>, Fault<'a>> {
+        match self.listener.accept() {
+            Ok((stream, _)) => Ok(Some(stream)),
+            Err(error) if error.kind() == io::ErrorKind::ConnectionAborted => Ok(None),
+            Err(error) => Err(Fault::Network {
+                port: self.serving.port,
+                error,
+            }),
+        }
+    }
+
+    /// Serves a connection, and prints its line.
+    fn serve_logged<A: Answers, O: Write>(
+        &self,
         alloc: Global,
+        answers: &mut A,
         stream: &TcpStream,
-        connection: u32,
         output: &mut O,
     ) -> Result<Ended, Fault<'a>> {
         let mut reader = Noted::new(alloc, Device::new(stream));
         let mut writer = Statuses::new(alloc, Device::new(stream));
-        let served = self.serve(alloc, &mut reader, &mut writer)?;
+        let served = answers.serve(alloc, &mut reader, &mut writer)?;
         let completed = calls::completed(alloc, reader.bytes(), &served.marks)?;
         let line = ConnectionLine {
-            connection,
+            connection: self.taken,
             served: &served,
             completed: &completed,
             statuses: writer.statuses(),
@@ -154,69 +131,150 @@ impl<'a, D: Disk + Drop> Service<'a, D> {
         Ok(served.ended)
     }
 
-    /// Serves one connection, and says how it ended.
-    fn serve_plain(&mut self, alloc: Global, stream: &TcpStream) -> Result<Ended, Fault<'a>> {
-        let mut reader = Device::new(stream);
-        let mut writer = Device::new(stream);
-        Ok(self.serve(alloc, &mut reader, &mut writer)?.ended)
-    }
-
-    /// Serves one connection of the port.
-    fn serve_stream<O: Write>(
-        &mut self,
+    /// Serves a connection, and says how it ended.
+    fn serve_stream<A: Answers, O: Write>(
+        &self,
         alloc: Global,
+        answers: &mut A,
         stream: &TcpStream,
-        connection: u32,
         output: &mut O,
     ) -> Result<Ended, Fault<'a>> {
         // Replies are written whole, and without this each may wait for the peer to tell of the one before.
         let _ = stream.set_nodelay(true);
         if self.serving.log {
-            self.serve_logged(alloc, stream, connection, output)
+            self.serve_logged(alloc, answers, stream, output)
         } else {
-            self.serve_plain(alloc, stream)
+            serve_plain(alloc, answers, stream)
         }
     }
 
-    /// Serves so many connections, one after the other. One that ends in a fault, or that its peer gave up
-    /// before, counts as served.
-    fn serve_connections<P: Place<D>, O: Write, E: Write>(
-        &mut self,
-        rt: &HostRuntime,
-        place: &P,
-        listener: &TcpListener,
+    /// Serves the connection that was taken last. A fault in which it ends is told.
+    fn serve<A: Answers, O: Write, E: Write>(
+        &self,
+        alloc: Global,
+        answers: &mut A,
+        stream: &TcpStream,
         output: &mut O,
         errors: &mut E,
-    ) -> io::Result<()> {
-        for served in 0..self.serving.connections {
-            match listener.accept() {
-                Ok((stream, _)) => {
-                    let connection = served + 1;
-                    self.open_again(rt, place, errors);
-                    match self.serve_stream(rt.alloc(), &stream, connection, output) {
-                        Ok(Ended::Fault(fault)) => {
-                            Fault::Served { connection, fault }.tell(errors);
-                        }
-                        Ok(_) => {}
-                        Err(fault) => {
-                            fault.tell(errors);
-                        }
-                    }
-                    self.close_where_down(errors);
-                }
-                Err(error) if error.kind() == io::ErrorKind::ConnectionAborted => {}
-                Err(error) => return Err(error),
+    ) {
+        let connection = self.taken;
+        match self.serve_stream(alloc, answers, stream, output) {
+            Ok(Ended::Fault(fault)) => {
+                Fault::Served { connection, fault }.tell(errors);
+            }
+            Ok(_) => {}
+            Err(fault) => {
+                fault.tell(errors);
+            }
+        }
+    }
+
+    /// Serves the connection that was taken last by this register. That its database refused a call is told.
+    fn serve_by<S: Alter, O: Write, E: Write>(
+        &self,
+        alloc: Global,
+        intake: &mut Intake<S>,
+        stream: &TcpStream,
+        output: &mut O,
+        errors: &mut E,
+    ) {
+        self.serve(alloc, intake, stream, output, errors);
+        if intake.is_down() {
+            Note::Down.tell(errors);
+        }
+    }
+
+    /// Serves the connections that are left by this register, one after the other, until its database refuses a call. One that
+    /// ends in a fault, or that its peer gave up before, counts as served.
+    fn serve_left<S: Alter, O: Write, E: Write>(
+        &mut self,
+        alloc: Global,
+        intake: &mut Intake<S>,
+        output: &mut O,
+        errors: &mut E,
+    ) -> Result<(), Fault<'a>> {
+        for taken in self.taken..self.serving.connections {
+            if intake.is_down() {
+                return Ok(());
+            }
+            self.taken = taken + 1;
+            if let Some(stream) = self.accept()? {
+                self.serve_by(alloc, intake, &stream, output, errors);
             }
         }
         Ok(())
     }
 
-    /// Closes the register.
-    fn close<E: Write>(mut self, errors: &mut E) {
-        if let Some(intake) = self.intake.take() {
-            close(intake.into_store(), self.serving.database, errors);
+    /// Serves the connections that are left while there is no register. For each the register is opened again, and then serves more.
+    fn serve_down<D: Disk + Drop, P: Place<D>, O: Write, E: Write>(
+        &mut self,
+        rt: &HostRuntime,
+        place: &P,
+        output: &mut O,
+        errors: &mut E,
+    ) -> Result<(), Fault<'a>> {
+        for _ in self.taken..self.serving.connections {
+            if self.taken >= self.serving.connections {
+                return Ok(());
+            }
+            self.taken += 1;
+            if let Some(stream) = self.accept()? {
+                self.serve_again(rt, place, stream, output, errors)?;
+            }
+        }
+        Ok(())
+    }
+
+    /// Opens the register again, which serves this connection and those that are left. Where it is not opened the connection is
+    /// turned away.
+    fn serve_again<D: Disk + Drop, P: Place<D>, O: Write, E: Write>(
+        &mut self,
+        rt: &HostRuntime,
+        place: &P,
+        stream: TcpStream,
+        output: &mut O,
+        errors: &mut E,
+    ) -> Result<(), Fault<'a>> {
+        let name = self.serving.database;
+        let mut waiting = Some(stream);
+        let work = Resumed {
+            port: &mut *self,
+            waiting: &mut waiting,
+            output: &mut *output,
+            errors: &mut *errors,
+        };
+        let served = match on_database(rt, place, name, Opening::Found(Cache::Largest), work) {
+            Ok(visited) => {
+                tell_close(visited.closed, name, errors);
+                visited.answer
+            }
+            Err(_) => Ok(()),
+        };
+        if let Some(stream) = waiting {
+            self.serve(rt.alloc(), &mut NoRegister, &stream, output, errors);
+        }
+        served
+    }
+
+    /// The port, where connections are left.
+    fn if_left(self) -> Option<Port<'a>> {
+        if self.taken < self.serving.connections {
+            Some(self)
+        } else {
+            None
         }
     }
+}
+
+/// Serves a connection, of which nothing is printed, and says how it ended.
+fn serve_plain<'a, A: Answers>(
+    alloc: Global,
+    answers: &mut A,
+    stream: &TcpStream,
+) -> Result<Ended, Fault<'a>> {
+    let mut reader = Device::new(stream);
+    let mut writer = Device::new(stream);
+    Ok(answers.serve(alloc, &mut reader, &mut writer)?.ended)
 }
 
 /// Prints the line of a connection.
@@ -240,60 +298,138 @@ fn milliseconds_since(rt: &HostRuntime, start: io::Result<Instant>) -> u128 {
     }
 }
 
-/// Listens on the port, and serves so many connections.
-fn serve_port<'a, D: Disk + Drop, P: Place<D>, O: Write, E: Write>(
-    rt: &HostRuntime,
-    place: &P,
-    service: &mut Service<'a, D>,
-    ready: Note,
-    output: &mut O,
-    errors: &mut E,
-) -> Result<(), Fault<'a>> {
-    let port = service.serving.port;
-    let served = match TcpListener::bind(rt, ("127.0.0.1", port)) {
-        Ok(listener) => {
-            ready.tell(errors);
-            service.serve_connections(rt, place, &listener, output, errors)
-        }
-        Err(error) => Err(error),
-    };
-    match served {
-        Ok(()) => Ok(()),
-        Err(error) => Err(Fault::Network { port, error }),
-    }
-}
-
-/// The register opened or made.
-fn register_of<'a, D: Disk + Drop, P: Place<D>>(
-    rt: &HostRuntime,
-    place: &P,
-    serving: Serving<'a>,
-) -> Result<Store<FileStore<D>>, Fault<'a>> {
-    if serving.new {
-        create(rt, place, serving.database)
+/// What is left of the database of an intake.
+fn left_of<S: Alter>(intake: Intake<S>) -> Left<S> {
+    let is_down = intake.is_down();
+    let conn = intake.into_store().into_conn();
+    if is_down {
+        Left::Failed(conn)
     } else {
-        open(rt, place, serving.database, Cache::Largest)
+        Left::Open(conn)
     }
 }
 
-/// Serves the register, and closes it.
-fn serve_register<'a, D: Disk + Drop, P: Place<D>, O: Write, E: Write>(
-    rt: &HostRuntime,
-    place: &P,
+/// Makes the register or opens it, listens on the port, and serves its connections.
+#[derive(Drop)]
+struct Begun<'a, 'o, O, E> {
     serving: Serving<'a>,
-    register: Store<FileStore<D>>,
+    limit: Limit,
+    start: io::Result<Instant>,
+    output: &'o mut O,
+    errors: &'o mut E,
+}
+
+impl<'a, O: Write, E: Write> Work for Begun<'a, '_, O, E> {
+    /// The port, where connections are left since the database refused a call.
+    type Answer = Result<Option<Port<'a>>, Fault<'a>>;
+
+    fn on<S: Alter + Drop>(
+        self,
+        rt: &HostRuntime,
+        conn: Connection<S>,
+    ) -> (Left<S>, Result<Option<Port<'a>>, Fault<'a>>) {
+        let Begun {
+            serving,
+            limit,
+            start,
+            output,
+            errors,
+        } = self;
+        let register = match register_of(rt.alloc(), serving, conn) {
+            Ok(register) => register,
+            Err(fault) => return (left_by(&fault), Err(fault)),
+        };
+        let ready = ready(rt, serving.port, &register, start);
+        let mut intake = Intake::new(rt.alloc(), register, limit.keys);
+        let served = serve_port(rt, serving, limit, &mut intake, ready, output, errors);
+        (left_of(intake), served)
+    }
+}
+
+/// The register made or opened.
+fn register_of<'a, S: Alter + Drop>(
+    alloc: Global,
+    serving: Serving<'a>,
+    conn: Connection<S>,
+) -> Result<Store<S>, Fault<'a>>
+    requires autocommit { conn.in_transaction ≡ false }
+    requires unlimited { conn.step_limit ≡ None }
+{
+    if serving.new {
+        create(alloc, serving.database, conn)
+    } else {
+        open(alloc, serving.database, conn)
+    }
+}
+
+/// What is told once connections of the port are taken.
+fn ready<S: Alter>(
+    rt: &HostRuntime,
+    port: u16,
+    register: &Store<S>,
+    start: io::Result<Instant>,
+) -> Note {
+    let (kept, filings) = calls::counts(register).unwrap_or((0, 0));
+    Note::Ready {
+        port,
+        kept,
+        filings,
+        milliseconds: milliseconds_since(rt, start),
+    }
+}
+
+/// Listens on the port, and serves its connections by this register.
+fn serve_port<'a, S: Alter, O: Write, E: Write>(
+    rt: &HostRuntime,
+    serving: Serving<'a>,
+    limit: Limit,
+    intake: &mut Intake<S>,
     ready: Note,
     output: &mut O,
     errors: &mut E,
-) -> Result<(), Fault<'a>> {
-    let intake = intake_over(rt.alloc(), register, serving.limit)?;
-    let mut service = Service {
-        serving,
-        intake: Some(intake),
-    };
-    let served = serve_port(rt, place, &mut service, ready, output, errors);
-    service.close(errors);
-    served
+) -> Result<Option<Port<'a>>, Fault<'a>> {
+    let mut port = Port::listen(rt, serving, limit)?;
+    ready.tell(errors);
+    port.serve_left(rt.alloc(), intake, output, errors)?;
+    Ok(port.if_left())
+}
+
+/// Opens the register again, and serves by it the connection that waits for that, and those that are left.
+#[derive(Drop)]
+struct Resumed<'a, 'o, O, E> {
+    port: &'o mut Port<'a>,
+    /// None once it is served.
+    waiting: &'o mut Option<TcpStream>,
+    output: &'o mut O,
+    errors: &'o mut E,
+}
+
+impl<'a, O: Write, E: Write> Work for Resumed<'a, '_, O, E> {
+    type Answer = Result<(), Fault<'a>>;
+
+    fn on<S: Alter + Drop>(
+        self,
+        rt: &HostRuntime,
+        conn: Connection<S>,
+    ) -> (Left<S>, Result<(), Fault<'a>>) {
+        let Resumed {
+            port,
+            waiting,
+            output,
+            errors,
+        } = self;
+        let register = match open(rt.alloc(), port.serving.database, conn) {
+            Ok(register) => register,
+            Err(fault) => return (left_by(&fault), Ok(())),
+        };
+        Note::OpenAgain.tell(errors);
+        let mut intake = Intake::new(rt.alloc(), register, port.limit.keys);
+        if let Some(stream) = waiting.take() {
+            port.serve_by(rt.alloc(), &mut intake, &stream, output, errors);
+        }
+        let served = port.serve_left(rt.alloc(), &mut intake, output, errors);
+        (left_of(intake), served)
+    }
 }
 
 /// Serves connections of a port on the register of a file. It says when it is ready and when it ends.
@@ -304,18 +440,42 @@ pub fn serve_file<'a, D: Disk + Drop, P: Place<D>, O: Write, E: Write>(
     output: &mut O,
     errors: &mut E,
 ) -> Result<(), Fault<'a>> {
-    limit_within(serving.limit)?;
-    let start = Instant::now(rt);
-    let register = register_of(rt, place, serving)?;
-    let (kept, filings) = calls::counts(&register).unwrap_or((0, 0));
-    let ready = Note::Ready {
-        port: serving.port,
-        kept,
-        filings,
-        milliseconds: milliseconds_since(rt, start),
-    };
-    serve_register(rt, place, serving, register, ready, output, errors)?;
+    let limit = Limit::new(serving.limit)?;
+    if let Some(mut port) = begin(rt, place, serving, limit, output, errors)? {
+        port.serve_down(rt, place, output, errors)?;
+    }
     let connections = serving.connections;
     Note::Served { connections }.tell(errors);
     Ok(())
+}
+
+/// Makes the register of the file or opens it, and serves by it.
+fn begin<'a, D: Disk + Drop, P: Place<D>, O: Write, E: Write>(
+    rt: &HostRuntime,
+    place: &P,
+    serving: Serving<'a>,
+    limit: Limit,
+    output: &mut O,
+    errors: &mut E,
+) -> Result<Option<Port<'a>>, Fault<'a>> {
+    let name = serving.database;
+    let opening = if serving.new {
+        Opening::Made(Cache::Largest)
+    } else {
+        Opening::Found(Cache::Largest)
+    };
+    let work = Begun {
+        serving,
+        limit,
+        start: Instant::now(rt),
+        output: &mut *output,
+        errors: &mut *errors,
+    };
+    match on_database(rt, place, name, opening, work) {
+        Ok(visited) => {
+            tell_close(visited.closed, name, errors);
+            visited.answer
+        }
+        Err(fault) => Err(CommandFault::Database { name, fault }.into()),
+    }
 }

@@ -8,8 +8,7 @@ use filer_client::{ExchangeFault, exchange as exchange_entry};
 use http_wire::{Sink, Source};
 use key_string::KeyText;
 use outbox_core::{Entry, Outbox, OutboxFault, PutFault, State, StoreFault};
-use sqlite::{Alter, Connection, FileStore};
-use sqlite_disk::Disk;
+use sqlite::{Alter, Connection};
 use std::alloc::Global;
 
 /// Makes the tables of an outbox.
@@ -30,14 +29,6 @@ pub fn open<S: Alter + Drop>(alloc: Global, conn: Connection<S>) -> Result<Outbo
     requires unlimited { conn.step_limit ≡ None }
 {
     Outbox::open(alloc, conn)
-}
-
-/// Gives up the files of an outbox, with all that was committed in the database file.
-pub fn close<D: Disk + Drop>(outbox: Outbox<FileStore<D>>) -> Result<(), StoreFault> {
-    match outbox.into_files() {
-        Ok(_) => Ok(()),
-        Err(fault) => Err(fault),
-    }
 }
 
 /// Makes an outbox of an earlier version one of this version.

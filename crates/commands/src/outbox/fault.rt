@@ -1,6 +1,7 @@
 //! Why a task is not done, in words and as a status.
 
 use crate::report::ReportFault;
+use crate::verdict::Verdict;
 use command_line::{CommandFault, DatabaseFault};
 use filer_client::ExchangeFault;
 use key_string::KeyFault;
@@ -9,15 +10,6 @@ use std::alloc::AllocError;
 use std::io;
 use std::io::Write;
 use thiserror::Error;
-
-/// What is wrong with a database that is to be an outbox.
-#[derive(Clone, Copy)]
-pub enum Verdict {
-    /// It is none.
-    NotOurs,
-    /// It is damaged at this row.
-    Damaged(u64),
-}
 
 /// Why a task was not done. Its text is one line.
 #[derive(Debug, Drop, Error)]
@@ -109,7 +101,7 @@ impl Fault<'_> {
         }
     }
 
-    /// What an opening or a migration finds wrong with the rows, where it is that.
+    /// What the fault says of the outbox, where it says something.
     pub fn verdict(&self) -> Option<Verdict> {
         match self {
             Fault::Outbox { fault, .. } | Fault::Open { fault, .. } => match fault {

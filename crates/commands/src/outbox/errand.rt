@@ -1,0 +1,475 @@
+//! What is done with the outbox of a file.
+
+ghost use Rattle.std.specs.Prelude.{◌≡◌, None, false};
+
+use crate::database::{Cache, Left, Opening, Place, Work, on_database};
+use crate::outbox::calls;
+use crate::outbox::fault::Fault;
+use crate::outbox::line::{EntryLine, LongLine};
+use crate::outbox::options::{Target, Which};
+use crate::verdict::Verdict;
+use command_line::{CommandFault, show};
+use filer_client::ExchangeFault;
+use http_wire::Device;
+use key_string::KeyText;
+use outbox_core::{Entry, Outbox, State};
+use sqlite::{Alter, Connection, Error};
+use sqlite_disk::Disk;
+use std::alloc::{AllocError, Global};
+use std::io::{self, Write};
+use std::net::TcpStream;
+
+/// What is done with an outbox.
+#[derive(Drop)]
+pub enum Errand<'a> {
+    /// Make an outbox of this filer.
+    Init {
+        filer: &'a str,
+    },
+    /// Put a report in under this key, to replace the filing of this number, if there is one.
+    Put {
+        key: KeyText,
+        target: Target,
+        body: Vec<u8>,
+    },
+    /// Make an outbox of an earlier version one of this version.
+    Migrate,
+    /// Send entries.
+    Send {
+        port: u16,
+        which: Which,
+    },
+    /// Show the state of each entry.
+    Status,
+    /// Show the state, the length and the key of this entry, or of each.
+    Show {
+        entry: Option<u64>,
+    },
+}
+
+impl Errand<'_> {
+    /// How the database is opened for it.
+    fn opening(&self) -> Opening {
+        match self {
+            Errand::Init { .. } => Opening::Made(Cache::OfTheFile),
+            _ => Opening::Found(Cache::OfTheFile),
+        }
+    }
+}
+
+/// An errand to the outbox of the file with this name.
+#[derive(Drop)]
+struct Visit<'a, 'o, O> {
+    name: &'a str,
+    errand: Errand<'a>,
+    output: &'o mut O,
+}
+
+impl<'a, O: Write> Work for Visit<'a, '_, O> {
+    type Answer = Result<(), Fault<'a>>;
+
+    fn on<S: Alter + Drop>(
+        self,
+        rt: &HostRuntime,
+        conn: Connection<S>,
+    ) -> (Left<S>, Result<(), Fault<'a>>) {
+        let Visit {
+            name,
+            errand,
+            output,
+        } = self;
+        match outbox_of(rt.alloc(), name, conn, &errand) {
+            Ok(mut outbox) => {
+                let done = done(rt, name, &mut outbox, errand, output);
+                (Left::Open(outbox.into_conn()), done)
+            }
+            Err(fault) => (left_by(&fault), Err(fault)),
+        }
+    }
+}
+
+/// Does an errand to the outbox of the file with this name. What was told stays whether or not the files are then closed: where they
+/// are not, this is told.
+pub fn run_errand<'a, D: Disk + Drop, P: Place<D>, O: Write, E: Write>(
+    rt: &HostRuntime,
+    place: &P,
+    name: &'a str,
+    errand: Errand<'a>,
+    output: &mut O,
+    errors: &mut E,
+) -> Result<(), Fault<'a>> {
+    let opening = errand.opening();
+    let work = Visit {
+        name,
+        errand,
+        output,
+    };
+    match on_database(rt, place, name, opening, work) {
+        Ok(visited) => {
+            tell_close(visited.closed, name, errors);
+            visited.answer
+        }
+        Err(fault) => Err(CommandFault::Database { name, fault }.into()),
+    }
+}
+
+/// Says where the files of an outbox are not closed. What was told stays then, in the log beside the file.
+fn tell_close<E: Write>(closed: Result<(), Error>, name: &str, errors: &mut E) {
+    if let Err(error) = closed {
+        let fault = error.into();
+        Fault::NotClosed { name, fault }.tell(errors);
+    }
+}
+
+/// The outbox for an errand: made, migrated, or opened.
+fn outbox_of<'a, S: Alter + Drop>(
+    alloc: Global,
+    name: &'a str,
+    conn: Connection<S>,
+    errand: &Errand<'_>,
+) -> Result<Outbox<S>, Fault<'a>>
+    requires autocommit { conn.in_transaction ≡ false }
+    requires unlimited { conn.step_limit ≡ None }
+{
+    match errand {
+        Errand::Init { filer } => create(alloc, name, conn, filer),
+        Errand::Migrate => migrate(alloc, name, conn),
+        _ => open(alloc, name, conn),
+    }
+}
+
+/// Makes the tables of an outbox of this filer.
+fn create<'a, S: Alter + Drop>(
+    alloc: Global,
+    name: &'a str,
+    conn: Connection<S>,
+    filer: &str,
+) -> Result<Outbox<S>, Fault<'a>>
+    requires autocommit { conn.in_transaction ≡ false }
+    requires unlimited { conn.step_limit ≡ None }
+{
+    match calls::create(alloc, conn, filer) {
+        Ok(outbox) => Ok(outbox),
+        Err(fault) => Err(Fault::Outbox { name, fault }),
+    }
+}
+
+/// Makes the outbox, which is one of an earlier version, one of this version.
+fn migrate<'a, S: Alter + Drop>(
+    alloc: Global,
+    name: &'a str,
+    conn: Connection<S>,
+) -> Result<Outbox<S>, Fault<'a>>
+    requires autocommit { conn.in_transaction ≡ false }
+    requires unlimited { conn.step_limit ≡ None }
+{
+    match calls::migrate(alloc, conn) {
+        Ok(outbox) => Ok(outbox),
+        Err(fault) => Err(Fault::Outbox { name, fault }),
+    }
+}
+
+/// The outbox of a database that is there.
+fn open<'a, S: Alter + Drop>(
+    alloc: Global,
+    name: &'a str,
+    conn: Connection<S>,
+) -> Result<Outbox<S>, Fault<'a>>
+    requires autocommit { conn.in_transaction ≡ false }
+    requires unlimited { conn.step_limit ≡ None }
+{
+    match calls::open(alloc, conn) {
+        Ok(outbox) => Ok(outbox),
+        Err(fault) => Err(Fault::Open { name, fault }),
+    }
+}
+
+/// What is left of a database that gave no outbox.
+fn left_by<S: Alter>(fault: &Fault<'_>) -> Left<S> {
+    match fault.verdict() {
+        Some(Verdict::NotOurs) => Left::NotOurs,
+        Some(Verdict::Damaged(_)) | None => Left::GivenUp,
+    }
+}
+
+/// Does an errand to this outbox. An outbox that was made tells nothing.
+fn done<'a, S: Alter + Drop, O: Write>(
+    rt: &HostRuntime,
+    name: &'a str,
+    outbox: &mut Outbox<S>,
+    errand: Errand<'_>,
+    output: &mut O,
+) -> Result<(), Fault<'a>> {
+    match errand {
+        Errand::Init { .. } => Ok(()),
+        Errand::Put { key, target, body } => put(rt, name, outbox, key, target, body, output),
+        Errand::Migrate => show_migrated(output),
+        Errand::Send { port, which } => send(rt, name, port, outbox, which, output),
+        Errand::Status => show_states(rt.alloc(), name, outbox, output),
+        Errand::Show { entry } => show_entries(rt.alloc(), name, outbox, entry, output),
+    }
+}
+
+fn show_migrated<'a, O: Write>(output: &mut O) -> Result<(), Fault<'a>> {
+    Ok(show(output, b"migrated\n")?)
+}
+
+fn show_entry<'a, O: Write>(
+    rt: &HostRuntime,
+    output: &mut O,
+    id: u64,
+    state: State,
+) -> Result<(), Fault<'a>> {
+    let text = format!(in rt.alloc(); "{}", EntryLine { id, state })?;
+    Ok(show(output, text.as_bytes())?)
+}
+
+/// Prints the id of an entry that was put in. Where the output takes nothing the fault names it, so that the report is not put in again.
+fn show_id<'a, O: Write>(
+    rt: &HostRuntime,
+    name: &'a str,
+    id: u64,
+    output: &mut O,
+) -> Result<(), Fault<'a>> {
+    let text = format!(in rt.alloc(); "entry {id}\n")?;
+    match show(output, text.as_bytes()) {
+        Ok(()) => Ok(()),
+        Err(_) => Err(Fault::NotTold { name, id }),
+    }
+}
+
+/// Puts a report in, and tells its id before the files are closed: it stands from then on.
+fn put<'a, S: Alter + Drop, O: Write>(
+    rt: &HostRuntime,
+    name: &'a str,
+    outbox: &mut Outbox<S>,
+    key: KeyText,
+    target: Target,
+    body: Vec<u8>,
+    output: &mut O,
+) -> Result<(), Fault<'a>> {
+    match calls::put(outbox, key, target, body) {
+        Ok(id) => show_id(rt, name, id, output),
+        Err(fault) => Err(Fault::Put { name, fault }),
+    }
+}
+
+/// The entry of this id.
+fn entry_of<'a, S: Alter + Drop>(
+    outbox: &mut Outbox<S>,
+    name: &'a str,
+    id: u64,
+) -> Result<Entry, Fault<'a>> {
+    match calls::entry(outbox, id) {
+        Ok(Some(entry)) => Ok(entry),
+        Ok(None) => Err(Fault::NoEntry { name, id }),
+        Err(fault) => Err(Fault::Store { name, fault }),
+    }
+}
+
+/// The open entry with the least id.
+fn next_open<'a, S: Alter + Drop>(
+    outbox: &mut Outbox<S>,
+    name: &'a str,
+) -> Result<Option<Entry>, Fault<'a>> {
+    match calls::next_open(outbox) {
+        Ok(entry) => Ok(entry),
+        Err(fault) => Err(Fault::Store { name, fault }),
+    }
+}
+
+/// The id and the state of each entry.
+fn states_of<'a, S: Alter + Drop>(
+    outbox: &mut Outbox<S>,
+    name: &'a str,
+) -> Result<Vec<(u64, State)>, Fault<'a>> {
+    match calls::states(outbox) {
+        Ok(states) => Ok(states),
+        Err(fault) => Err(Fault::Store { name, fault }),
+    }
+}
+
+/// One exchange over a connection of its own. A fault names the address, or the outbox where that failed.
+fn exchange_on<'a, S: Alter + Drop>(
+    rt: &HostRuntime,
+    name: &'a str,
+    port: u16,
+    outbox: &mut Outbox<S>,
+    id: u64,
+) -> Result<State, Fault<'a>> {
+    let stream = connect(rt, port)?;
+    let mut reader = Device::new(&stream);
+    let mut writer = Device::new(&stream);
+    match calls::exchange(rt.alloc(), &mut reader, &mut writer, outbox, id) {
+        Ok(state) => Ok(state),
+        Err(ExchangeFault::Take(fault)) => Err(Fault::Take { name, fault }),
+        Err(fault) => Err(Fault::Exchange { port, fault }),
+    }
+}
+
+fn connect<'a>(rt: &HostRuntime, port: u16) -> Result<TcpStream, Fault<'a>> {
+    match try_connect(rt, port) {
+        Ok(stream) => Ok(stream),
+        Err(error) => Err(Fault::Connect { port, error }),
+    }
+}
+
+fn try_connect(rt: &HostRuntime, port: u16) -> io::Result<TcpStream> {
+    let stream = TcpStream::connect(rt, ("127.0.0.1", port))?;
+    stream.set_nodelay(true)?;
+    Ok(stream)
+}
+
+/// Sends an entry that is open, and shows its state. After a fault it is open still.
+fn send_open<'a, S: Alter + Drop, O: Write>(
+    rt: &HostRuntime,
+    name: &'a str,
+    port: u16,
+    outbox: &mut Outbox<S>,
+    id: u64,
+    output: &mut O,
+) -> Result<(), Fault<'a>> {
+    match exchange_on(rt, name, port, outbox, id) {
+        Ok(state) => show_entry(rt, output, id, state),
+        Err(fault) => {
+            show_entry(rt, output, id, State::Open)?;
+            Err(fault)
+        }
+    }
+}
+
+/// Sends this entry, where it is open, and shows its state.
+fn send_entry<'a, S: Alter + Drop, O: Write>(
+    rt: &HostRuntime,
+    name: &'a str,
+    port: u16,
+    outbox: &mut Outbox<S>,
+    id: u64,
+    output: &mut O,
+) -> Result<(), Fault<'a>> {
+    match entry_of(outbox, name, id)?.state {
+        State::Open => send_open(rt, name, port, outbox, id, output),
+        state => show_entry(rt, output, id, state),
+    }
+}
+
+fn show_none<'a, O: Write>(output: &mut O) -> Result<(), Fault<'a>> {
+    Ok(show(output, b"nothing open\n")?)
+}
+
+/// Sends the open entry with the least id, and shows its state.
+fn send_next<'a, S: Alter + Drop, O: Write>(
+    rt: &HostRuntime,
+    name: &'a str,
+    port: u16,
+    outbox: &mut Outbox<S>,
+    output: &mut O,
+) -> Result<(), Fault<'a>> {
+    match next_open(outbox, name)? {
+        Some(entry) => send_open(rt, name, port, outbox, entry.id, output),
+        None => show_none(output),
+    }
+}
+
+/// Sends each open entry once, by id, and shows its state, up to the first fault.
+fn send_all<'a, S: Alter + Drop, O: Write>(
+    rt: &HostRuntime,
+    name: &'a str,
+    port: u16,
+    outbox: &mut Outbox<S>,
+    output: &mut O,
+) -> Result<(), Fault<'a>> {
+    let states = states_of(outbox, name)?;
+    let mut none = true;
+    for &(id, state) in &states {
+        if state == State::Open {
+            none = false;
+            send_open(rt, name, port, outbox, id, output)?;
+        }
+    }
+    if none { show_none(output) } else { Ok(()) }
+}
+
+/// Sends these entries, and shows their states.
+fn send<'a, S: Alter + Drop, O: Write>(
+    rt: &HostRuntime,
+    name: &'a str,
+    port: u16,
+    outbox: &mut Outbox<S>,
+    which: Which,
+    output: &mut O,
+) -> Result<(), Fault<'a>> {
+    match which {
+        Which::Next => send_next(rt, name, port, outbox, output),
+        Which::Entry(id) => send_entry(rt, name, port, outbox, id, output),
+        Which::All => send_all(rt, name, port, outbox, output),
+    }
+}
+
+/// The lines of entries.
+fn lines(alloc: Global, states: &[(u64, State)]) -> Result<String, AllocError> {
+    let mut text = String::new(alloc);
+    for &(id, state) in states {
+        text.push_str(format!(in alloc; "{}", EntryLine { id, state })?.as_str())?;
+    }
+    Ok(text)
+}
+
+/// Prints the line of each entry.
+fn show_states<'a, S: Alter + Drop, O: Write>(
+    alloc: Global,
+    name: &'a str,
+    outbox: &mut Outbox<S>,
+    output: &mut O,
+) -> Result<(), Fault<'a>> {
+    let states = states_of(outbox, name)?;
+    let text = lines(alloc, states.as_slice())?;
+    Ok(show(output, text.as_bytes())?)
+}
+
+/// Prints the line of an entry with its length, what it is to replace, and its key.
+fn show_long<'a, S: Alter + Drop, O: Write>(
+    alloc: Global,
+    name: &'a str,
+    outbox: &mut Outbox<S>,
+    id: u64,
+    output: &mut O,
+) -> Result<(), Fault<'a>> {
+    let entry = entry_of(outbox, name, id)?;
+    let line = LongLine {
+        id,
+        state: entry.state,
+        bytes: entry.body.len(),
+        replaces: entry.target,
+        key: entry.key.as_str(),
+    };
+    let text = format!(in alloc; "{line}")?;
+    Ok(show(output, text.as_bytes())?)
+}
+
+/// Prints such a line for each entry.
+fn show_each<'a, S: Alter + Drop, O: Write>(
+    alloc: Global,
+    name: &'a str,
+    outbox: &mut Outbox<S>,
+    output: &mut O,
+) -> Result<(), Fault<'a>> {
+    for &(id, _) in &states_of(outbox, name)? {
+        show_long(alloc, name, outbox, id, output)?;
+    }
+    Ok(())
+}
+
+/// Prints such a line for the entry of this id, or for each.
+fn show_entries<'a, S: Alter + Drop, O: Write>(
+    alloc: Global,
+    name: &'a str,
+    outbox: &mut Outbox<S>,
+    id: Option<u64>,
+    output: &mut O,
+) -> Result<(), Fault<'a>> {
+    match id {
+        Some(id) => show_long(alloc, name, outbox, id, output),
+        None => show_each(alloc, name, outbox, output),
+    }
+}
