@@ -13,9 +13,7 @@ ghost use Rattle.intake_core.specs.Answered.{told_style};
 
 use filing_model::{Answer, FilingRow, Style};
 use http_wire::{Kind, Reply};
-use register_store::{
-    problem_value, refusal_value, refused_status, refused_text, registered_text,
-};
+use register_store::{problem_value, refusal_value, refused_status, refused_text, registered_text};
 use serde_json::{Value, json};
 use std::alloc::{AllocError, Global};
 
