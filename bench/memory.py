@@ -108,12 +108,12 @@ INSERT INTO outbox_meta VALUES (1, 'outbox', 2, 'ACME');
 """
 
 
-def make_outbox(name, entries, length):
-    """An outbox with so many entries of so many bytes, all of them open. A file that another program writes has no sums."""
+def make_outbox(name, entries, body):
+    """An outbox with so many entries of this body, all of them open. A file that another program writes has no sums."""
     base = sqlite3.connect(name)
     base.executescript(OUTBOX)
     with base:
-        rows = ((at, f"k-{at}", b"x" * length, 0, None) for at in range(1, entries + 1))
+        rows = ((at, f"k-{at}", body, 0, None) for at in range(1, entries + 1))
         base.executemany("INSERT INTO entry VALUES (?, ?, ?, ?, ?)", rows)
     base.close()
 
@@ -123,7 +123,7 @@ def outboxes(entries, length):
     print(f"an outbox of {entries} entries of {length} bytes")
     with folder() as place:
         name = os.path.join(place, "outbox.db")
-        make_outbox(name, entries, length)
+        make_outbox(name, entries, b"x" * length)
         body = os.path.join(place, "body")
         with open(body, "wb") as it:
             it.write(b"y" * length)
