@@ -21,6 +21,7 @@ pub mod Adjacent
 pub mod Chars
 pub mod Indices
 pub mod Parentheses
+pub mod Measures
 pub mod Plain
 pub mod FactOrder
 pub mod NamedDimensions

@@ -24,6 +24,7 @@ mod number;
 mod period;
 mod pointer;
 mod report;
+mod taken;
 mod unit;
 mod walk;
 
