@@ -1,16 +1,14 @@
 //! The request of an entry.
 
-ghost use Rattle.std.specs.Prelude.{◌≡◌, ◌≤◌, ◌↔◌, length, true, Some, None, IsTrue, IfOk, IfErr, Err};
+ghost use Rattle.std.specs.Prelude.{◌≡◌, ◌≤◌, length, true, Some, IfOk, IfErr};
 ghost use Rattle.key_string.specs.Filer.{is_filer};
 ghost use Rattle.http_wire.specs.Posting.{IsTarget};
 ghost use Rattle.http_wire.specs.Head.{max_body_len};
-ghost use Rattle.sqlite.specs.State.{HasCleanDisk};
 ghost use Rattle.filing_model.specs.Outbox.{bytes_of, request_of};
-ghost use Rattle.outbox_core.specs.OutboxParts.{shows, HasEntries, ForEntries};
-ghost use Rattle.outbox_core.specs.Entries.{entry_at, found_at};
+ghost use Rattle.outbox_core.specs.Entries.{found_at};
 ghost use Rattle.outbox_core.specs.Reading.{view_entry};
-ghost use Rattle.filer_client.specs.Exchange.{request_at, IsToSend, IsDurableOnOk};
-ghost use Rattle.table_rows.specs.Standing.{CommitsNothing};
+ghost use Rattle.filer_client.specs.Exchange.{request_at, IsToSend};
+ghost use Rattle.filer_client.specs.Calls.{AnswersOf};
 
 use http_wire::append_request;
 use outbox_core::{Entry, Outbox, State, StoreFault, TakeFault};
@@ -33,19 +31,8 @@ pub fn request_bytes<S: Alter>(
     outbox: &mut Outbox<S>,
     id: u64,
 ) -> Result<Vec<u8>, TakeFault>
-    ensures built { ForEntries S.Store outbox.old outbox.new (λ entries.
-        IfOk result (λ text. Some text.items ≡ request_at outbox.old.filer entries id)) }
-    ensures no_entry { ForEntries S.Store outbox.old outbox.new (λ entries.
-        result ≡ Err TakeFault.NoEntry → entry_at entries id ≡ None) }
-
-    // The entries are those of before, whatever the answer is, and a crash leaves what it could leave before; after Ok these alone.
-    ensures kept { ForEntries S.Store outbox.old outbox.new (HasEntries S.Store outbox.new) }
-    ensures stopped { IsTrue outbox.old.has_failed → (result ≡ Err TakeFault.Store) × (outbox.new ≡ outbox.old) }
-    ensures stops { IsTrue outbox.new.has_failed ↔ (result ≡ Err TakeFault.Store) }
-    ensures filer { outbox.new.filer ≡ outbox.old.filer }
-    ensures clean { HasCleanDisk (shows S.Store outbox.new) → HasCleanDisk (shows S.Store outbox.old) }
-    ensures crash { CommitsNothing (shows S.Store outbox.old) (shows S.Store outbox.new) }
-    ensures durable { IsDurableOnOk S.Store outbox.old outbox.new result }
+    ensures { AnswersOf S.Store outbox.old outbox.new id
+        (λ entries text. Some text.items ≡ request_at outbox.old.filer entries id) result }
 {
     let entry = find_entry(outbox, id)?;
     request_of(alloc, outbox.filer(), &entry)
@@ -58,19 +45,7 @@ pub fn open_request<S: Alter>(
     outbox: &mut Outbox<S>,
     id: u64,
 ) -> Result<ToSend, TakeFault>
-    ensures found { ForEntries S.Store outbox.old outbox.new (λ entries.
-        IfOk result (IsToSend outbox.old.filer entries id)) }
-    ensures no_entry { ForEntries S.Store outbox.old outbox.new (λ entries.
-        result ≡ Err TakeFault.NoEntry → entry_at entries id ≡ None) }
-
-    // The entries are those of before, whatever the answer is, and a crash leaves what it could leave before; after Ok these alone.
-    ensures kept { ForEntries S.Store outbox.old outbox.new (HasEntries S.Store outbox.new) }
-    ensures stopped { IsTrue outbox.old.has_failed → (result ≡ Err TakeFault.Store) × (outbox.new ≡ outbox.old) }
-    ensures stops { IsTrue outbox.new.has_failed ↔ (result ≡ Err TakeFault.Store) }
-    ensures filer { outbox.new.filer ≡ outbox.old.filer }
-    ensures clean { HasCleanDisk (shows S.Store outbox.new) → HasCleanDisk (shows S.Store outbox.old) }
-    ensures crash { CommitsNothing (shows S.Store outbox.old) (shows S.Store outbox.new) }
-    ensures durable { IsDurableOnOk S.Store outbox.old outbox.new result }
+    ensures { AnswersOf S.Store outbox.old outbox.new id (λ entries. IsToSend outbox.old.filer entries id) result }
 {
     let entry = find_entry(outbox, id)?;
     match entry.state {
@@ -81,19 +56,10 @@ pub fn open_request<S: Alter>(
 
 /// The entry of this id.
 fn find_entry<S: Alter>(outbox: &mut Outbox<S>, id: u64) -> Result<Entry, TakeFault>
-    ensures found { ForEntries S.Store outbox.old outbox.new (λ entries.
-        IfOk result (λ entry. Some (view_entry entry) ≡ found_at entries id)) }
+    ensures read { AnswersOf S.Store outbox.old outbox.new id
+        (λ entries entry. Some (view_entry entry) ≡ found_at entries id) result }
     ensures short { IfOk result (λ entry. length entry.body.items ≤ max_body_len) }
     ensures target { IfOk result (λ entry. IsTarget entry.target) }
-    ensures no_entry { ForEntries S.Store outbox.old outbox.new (λ entries.
-        result ≡ Err TakeFault.NoEntry → entry_at entries id ≡ None) }
-    ensures kept { ForEntries S.Store outbox.old outbox.new (HasEntries S.Store outbox.new) }
-    ensures stopped { IsTrue outbox.old.has_failed → (result ≡ Err TakeFault.Store) × (outbox.new ≡ outbox.old) }
-    ensures stops { IsTrue outbox.new.has_failed ↔ (result ≡ Err TakeFault.Store) }
-    ensures filer { outbox.new.filer ≡ outbox.old.filer }
-    ensures clean { HasCleanDisk (shows S.Store outbox.new) → HasCleanDisk (shows S.Store outbox.old) }
-    ensures crash { CommitsNothing (shows S.Store outbox.old) (shows S.Store outbox.new) }
-    ensures durable { IsDurableOnOk S.Store outbox.old outbox.new result }
 {
     match outbox.entry(id) {
         Ok(Some(entry)) => Ok(entry),

@@ -1,3 +1,4 @@
 pub mod Answered
 pub mod Cache
+pub mod Calls
 pub mod Held

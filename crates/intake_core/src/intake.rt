@@ -1,6 +1,6 @@
 //! The intake: its register, and the answer to the next request.
 
-ghost use Rattle.std.specs.Prelude.{◌≡◌, ◌<◌, ◌≤◌, ◌^◌, ◌+◌, ◌++◌, ◌∷◌, ◌↔◌, ◌⊎◌, [], ℕ, List, length, map, true, false, Err, None, Some, IsTrue, IfOk, IfSome, OnOk, OnErr, ◌≢◌};
+ghost use Rattle.std.specs.Prelude.{◌≡◌, ◌<◌, ◌≤◌, ◌^◌, ◌+◌, ◌++◌, ◌∷◌, ◌⊎◌, [], ℕ, List, length, map, true, false, Err, None, Some, IsTrue, IfOk, IfSome, OnOk, OnErr, ◌≢◌};
 ghost use Rattle.key_string.specs.Filer.{is_filer};
 ghost use Rattle.http_wire.specs.Head.{max_body_len};
 ghost use Rattle.http_wire.specs.Posting.{IsTarget};
@@ -91,8 +91,8 @@ impl<S: Alter + Drop> Drop for Intake<S> {
 }
 
 impl<S: Alter> Intake<S> {
-    ghost use Rattle.intake_core.specs.Answered.{IsAnswerTo};
-    ghost use Rattle.intake_core.specs.Held.{store_of, shows, limit_of, early_of, early_in, has_stopped, HoldsRequests, IsClean, ForRequests, IsDurableAs, SurvivesAs, with_request};
+    ghost use Rattle.intake_core.specs.Calls.{DecidesRequest};
+    ghost use Rattle.intake_core.specs.Held.{store_of, limit_of, has_stopped, HoldsRequests};
 
     /// An intake over this register, which keeps at most `limit` keys.
     pub fn new(alloc: Global, store: Store<S>, limit: u64) -> Intake<S>
@@ -149,42 +149,8 @@ impl<S: Alter> Intake<S> {
         requires filer { is_filer filer.now ≡ true }
         requires target { IsTarget target }
         requires body { length body.now ≤ max_body_len }
-        ensures answer { ForRequests S.Store self.old self.new (λ requests.
-            IfOk result (λ a.
-            IsAnswerTo (early_in self.old requests) requests (the_request filer.now key.now target body.now) a
-            × HoldsRequests S.Store self.new
-            (with_request requests (the_request filer.now key.now target body.now)))) }
-
-        // Nothing changes where there is no answer, and the limit and the early requests never do.
-        ensures err { ForRequests S.Store self.old self.new (λ requests.
-            OnErr result (HoldsRequests S.Store self.new requests)) }
-        ensures clean { IsClean S.Store self.new → IsClean S.Store self.old }
-        ensures limit { limit_of self.new ≡ limit_of self.old }
-        ensures early { early_of self.new ≡ early_of self.old }
-
-        // Full comes for a new key alone, and always where the limit is reached.
-        ensures full { ForRequests S.Store self.old self.new (λ requests.
-            (k : ℕ) → result ≡ Err (Full k)
-            → (has_key requests (the_request filer.now key.now target body.now) ≡ false) × (limit_of self.old ≤ k)
-            × (k ≡ length requests)) }
-        ensures room { ForRequests S.Store self.old self.new (λ requests.
-            OnOk result (has_key requests (the_request filer.now key.now target body.now) ≡ false
-            → length requests < limit_of self.old)) }
-
-        // A crash leaves what one before the call could leave, or the requests with this one, and after an answer these alone.
-        ensures crash { SurvivesAs S.Store self.old self.new (λ requests trees.
-            LeavesRegister (early_of self.old)
-            (with_request requests (the_request filer.now key.now target body.now)) trees) }
-        ensures durable { ForRequests S.Store self.old self.new (λ requests.
-            IsTrue (shows S.Store self.old).is_open
-            → OnOk result
-            (IsDurableAs S.Store self.new (early_of self.old)
-            (with_request requests (the_request filer.now key.now target body.now)))) }
-
-        // After a refusal of the database there is no other answer than that.
-        ensures down { has_stopped self.old ≡ true → (result ≡ Err Down) × (self.new ≡ self.old) }
-        ensures stops { (has_stopped self.new ≡ true) ↔ ((has_stopped self.old ≡ true) ⊎ (result ≡ Err StoreFailed)) }
-        ensures up { result ≡ Err Down → has_stopped self.old ≡ true }
+        ensures { DecidesRequest S.Store (the_request filer.now key.now target body.now) self.old self.new
+            result }
     {
         if self.is_down {
             return Err(Unavailable::Down);
@@ -199,29 +165,12 @@ impl<S: Alter> Intake<S> {
 }
 
 impl<S: Alter> Intake<S> {
-    ghost use Rattle.intake_core.specs.Held.{shows, limit_of, early_of, has_stopped, HoldsRequests, IsClean, ForRequests, IsDurableAs};
+    ghost use Rattle.intake_core.specs.Calls.{TellsOfRequests};
 
     /// The filings of a filer, ascending by number. Full never comes here.
     pub fn list(&mut self, filer: &str) -> Result<Vec<FilingRow>, Unavailable>
-        ensures rows { ForRequests S.Store self.old self.new (λ requests.
-            IfOk result (λ rows. map view_row rows.items ≡ listings filer.now None (register requests))) }
-
-        // What is held stays, whatever the answer is.
-        ensures kept { ForRequests S.Store self.old self.new (HoldsRequests S.Store self.new) }
-        ensures clean { IsClean S.Store self.new → IsClean S.Store self.old }
-        ensures limit { limit_of self.new ≡ limit_of self.old }
-        ensures early { early_of self.new ≡ early_of self.old }
-
-        // A crash leaves what it could leave before.
-        ensures crash { CommitsNothing (shows S.Store self.old) (shows S.Store self.new) }
-        ensures durable { ForRequests S.Store self.old self.new (λ requests.
-            OnOk result (IsDurableAs S.Store self.new (early_of self.old) requests)) }
-
-        // After a refusal of the database there is no other answer than that.
-        ensures down { has_stopped self.old ≡ true → (result ≡ Err Down) × (self.new ≡ self.old) }
-        ensures stops { (has_stopped self.new ≡ true) ↔ ((has_stopped self.old ≡ true) ⊎ (result ≡ Err StoreFailed)) }
-        ensures up { result ≡ Err Down → has_stopped self.old ≡ true }
-        ensures room { (k : ℕ) → result ≢ Err (Full k) }
+        ensures { TellsOfRequests S.Store self.old self.new result (λ requests rows.
+            map view_row rows.items ≡ listings filer.now None (register requests)) }
     {
         if self.is_down {
             return Err(Unavailable::Down);
@@ -233,25 +182,8 @@ impl<S: Alter> Intake<S> {
 
     /// The registered requests under their numbers, ascending. Full never comes here.
     pub fn register(&mut self) -> Result<Vec<Registered>, Unavailable>
-        ensures rows { ForRequests S.Store self.old self.new (λ requests.
-            IfOk result (λ rows. rows.items ≡ register requests)) }
-
-        // What is held stays, whatever the answer is.
-        ensures kept { ForRequests S.Store self.old self.new (HoldsRequests S.Store self.new) }
-        ensures clean { IsClean S.Store self.new → IsClean S.Store self.old }
-        ensures limit { limit_of self.new ≡ limit_of self.old }
-        ensures early { early_of self.new ≡ early_of self.old }
-
-        // A crash leaves what it could leave before.
-        ensures crash { CommitsNothing (shows S.Store self.old) (shows S.Store self.new) }
-        ensures durable { ForRequests S.Store self.old self.new (λ requests.
-            OnOk result (IsDurableAs S.Store self.new (early_of self.old) requests)) }
-
-        // After a refusal of the database there is no other answer than that.
-        ensures down { has_stopped self.old ≡ true → (result ≡ Err Down) × (self.new ≡ self.old) }
-        ensures stops { (has_stopped self.new ≡ true) ↔ ((has_stopped self.old ≡ true) ⊎ (result ≡ Err StoreFailed)) }
-        ensures up { result ≡ Err Down → has_stopped self.old ≡ true }
-        ensures room { (k : ℕ) → result ≢ Err (Full k) }
+        ensures { TellsOfRequests S.Store self.old self.new result (λ requests rows.
+            rows.items ≡ register requests) }
     {
         if self.is_down {
             return Err(Unavailable::Down);

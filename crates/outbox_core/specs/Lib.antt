@@ -13,3 +13,7 @@ pub mod Targets
 pub mod Earlier
 pub mod Files
 pub mod Walk
+pub mod Opening
+pub mod Migrating
+pub mod HandedOut
+pub mod Calls

@@ -167,6 +167,7 @@ pub(crate) fn open_entry<S: Alter>(
     ensures short { IfOk result (λ entry. IfSome entry (λ e. length e.body.items ≤ max_body_len)) }
     ensures within { IfOk result (λ entry. IfSome entry (λ e. IsTarget e.target)) }
     ensures kept { KeepsOutbox (state S.Store conn.old) (state S.Store conn.new) }
+    ensures open { AnswersOpen (state S.Store conn.old) (state S.Store conn.new) result }
     ensures crash { CommitsNothing (state S.Store conn.old) (state S.Store conn.new) }
 {
     match rows::first_open_entry(conn) {

@@ -6,12 +6,13 @@ ghost use Rattle.filing_model.specs.Outbox.{Entry as Item};
 ghost use Rattle.sqlite.specs.Effect.{IsDatabase};
 ghost use Rattle.sqlite.specs.Held.{state};
 ghost use Rattle.sqlite.specs.State.{HasCleanDisk, IsUnchanged, Survives};
-ghost use Rattle.table_rows.specs.Standing.{HasCommitted, CommitsNothing, StaysAutocommit, StaysCommitted, IsCommitted, IsLasting, KeepsOnErr};
+ghost use Rattle.table_rows.specs.Standing.{CommitsNothing, StaysAutocommit, StaysCommitted, IsCommitted, IsLasting, KeepsOnErr};
 ghost use Rattle.outbox_core.specs.Schema.{HasCommon};
 ghost use Rattle.outbox_core.specs.Entries.{Contents, contents_of};
 ghost use Rattle.outbox_core.specs.Rows.{IsOutboxOf};
-ghost use Rattle.outbox_core.specs.Earlier.{IsAlone, IsEarlierOf, IsFound, IsNotFound, Raises, IsNotMigrated, is_blocked, LeavesMigrated};
+ghost use Rattle.outbox_core.specs.Earlier.{IsAlone, IsEarlierOf, IsFound, IsNotFound, Raises, LeavesMigrated};
 ghost use Rattle.outbox_core.specs.Faults.{IsFailure};
+ghost use Rattle.outbox_core.specs.Migrating.{MigratesOutbox};
 
 use crate::fault::OutboxFault;
 use crate::opening::{FoundOutbox, count_whole, filer_of, is_settled};
@@ -94,32 +95,7 @@ pub fn migrate_outbox<S: Alter>(
 ) -> Result<FoundOutbox, OutboxFault>
     requires autocommit { conn.old.in_transaction ≡ false }
     requires unlimited { conn.old.step_limit ≡ None }
-    ensures autocommit { conn.new.in_transaction ≡ false }
-
-    // The rows held an outbox in that form, and hold the same in this one.
-    ensures migrated { HasCleanDisk (state S.Store conn.new) → IsAlone (state S.Store conn.old).now.schema
-        → IfOk result (λ found.
-        (entries : List Item)
-        × IsEarlierOf (contents_of (string_bytes found.filer) entries) (state S.Store conn.old).now
-        × HasCommitted (IsOutboxOf (contents_of (string_bytes found.filer) entries)) (state S.Store conn.new)
-        × (found.count ≡ length entries)) }
-    ensures open { HasCleanDisk (state S.Store conn.new) → OnOk result (IsTrue (state S.Store conn.new).is_open) }
-    ensures code { IfOk result (λ found. is_filer (string_bytes found.filer) ≡ true) }
-    ensures few { IfOk result (λ found. found.count ≤ 2 ^ 62) }
-
-    // A refusal says why; where the rows hold an outbox in that form and the name is not in the way, it is by memory or disk.
-    // What is committed is what was committed.
-    ensures refused { HasCleanDisk (state S.Store conn.new)
-        → IfErr result (λ fault. IsNotMigrated S.Store fault conn.old conn.new) }
-    ensures sound { HasCleanDisk (state S.Store conn.new) → IfErr result (λ fault.
-        (it : Contents) → IsEarlierOf it (state S.Store conn.old).now
-        → is_blocked (state S.Store conn.old).now.schema ≡ false → IsFailure fault) }
-    ensures undone { KeepsOnErr (state S.Store conn.old) (state S.Store conn.new) result }
-
-    // A crash leaves what it could leave before, or the migrated rows, and after the call these alone.
-    ensures crash { Survives (state S.Store conn.old) (state S.Store conn.new)
-        (LeavesMigrated (state S.Store conn.old)) }
-    ensures durable { HasCleanDisk (state S.Store conn.new) → OnOk result (IsLasting (state S.Store conn.new)) }
+    ensures { MigratesOutbox S.Store conn.old conn.new result }
 {
     prove!(is_settled(conn));
     match read_earlier(alloc, conn) {

@@ -8,15 +8,15 @@ ghost use Rattle.sqlite.specs.Held.{state};
 ghost use Rattle.sqlite.specs.Order.{Row as Stored};
 ghost use Rattle.sqlite.specs.State.{HasCleanDisk, IsLive, IsUnchanged, Shown};
 ghost use Rattle.table_rows.specs.Rows.{TableHas};
-ghost use Rattle.table_rows.specs.Standing.{HasCommitted, CommitsNothing, StaysAutocommit, StaysCommitted, KeepsOnErr, StaysOnOk};
+ghost use Rattle.table_rows.specs.Standing.{CommitsNothing, StaysAutocommit, StaysCommitted, KeepsOnErr, StaysOnOk};
 ghost use Rattle.outbox_core.specs.Schema.{IsDeclared, HasCommon, meta_table, entry_table, target_table};
-ghost use Rattle.outbox_core.specs.Entries.{contents_of};
-ghost use Rattle.outbox_core.specs.Rows.{IsOutboxOf, form_row, entry_rows, target_rows};
-ghost use Rattle.outbox_core.specs.Faults.{meta_fault, entry_fault, IsFailure, IsDamageOrFailure, IsOfOpening};
-ghost use Rattle.outbox_core.specs.Audit.{meta_text, targets_text, entries_text, damaged_row, IsKept, IsPair, StopsFor, IsNoOutbox, ReadsFiler, IsDamagedAt, AreDamaged, AreStopped, IsRefused};
+ghost use Rattle.outbox_core.specs.Rows.{form_row, entry_rows, target_rows};
+ghost use Rattle.outbox_core.specs.Faults.{meta_fault, entry_fault, IsFailure, IsDamageOrFailure};
+ghost use Rattle.outbox_core.specs.Audit.{meta_text, targets_text, entries_text, damaged_row, IsKept, IsPair, StopsFor, IsNoOutbox, ReadsFiler, IsDamagedAt, AreDamaged, AreStopped};
 ghost use Rattle.outbox_core.specs.Walk.{AreCounted};
 ghost use Rattle.table_rows.specs.declared.cause.Cause.TheVariants as cause;
 ghost use Rattle.outbox_core.specs.Promises.{ForOutbox};
+ghost use Rattle.outbox_core.specs.Opening.{ReadsOutbox};
 
 pub(crate) mod audit;
 pub(crate) mod picks;
@@ -276,27 +276,7 @@ pub fn read_outbox<S: Alter>(
 ) -> Result<FoundOutbox, OutboxFault>
     requires autocommit { conn.old.in_transaction ≡ false }
     requires unlimited { conn.old.step_limit ≡ None }
-    ensures found { HasCleanDisk (state S.Store conn.new) → IsDeclared (state S.Store conn.old).now.schema
-        → IfOk result (λ found.
-        (entries : List Item)
-        × IsOutboxOf (contents_of (string_bytes found.filer) entries) (state S.Store conn.old).now
-        × HasCommitted (IsOutboxOf (contents_of (string_bytes found.filer) entries)) (state S.Store conn.new)
-        × (found.count ≡ length entries)) }
-    ensures open { HasCleanDisk (state S.Store conn.new) → IsDeclared (state S.Store conn.old).now.schema
-        → OnOk result (IsTrue (state S.Store conn.new).is_open) }
-    ensures code { IfOk result (λ found. is_filer (string_bytes found.filer) ≡ true) }
-    ensures few { IfOk result (λ found. found.count ≤ 2 ^ 62) }
-
-    // A refusal says why; an outbox is refused by memory or disk.
-    ensures refused { HasCleanDisk (state S.Store conn.new)
-        → IfErr result (λ fault. IsRefused S.Store fault conn.old conn.new) }
-    ensures sound { ForOutbox S.Store conn.old conn.new (λ _. IfErr result IsFailure) }
-    ensures others { IfErr result IsOfOpening }
-
-    // Whatever database it is, what is committed is what was committed, and a crash leaves what it could leave before.
-    ensures kept { StaysCommitted S.Store conn.old conn.new }
-    ensures crash { CommitsNothing (state S.Store conn.old) (state S.Store conn.new) }
-    ensures autocommit { conn.new.in_transaction ≡ false }
+    ensures { ReadsOutbox S.Store conn.old conn.new result }
 {
     prove!(is_settled(conn));
     match filer_of(conn, alloc, 2) {

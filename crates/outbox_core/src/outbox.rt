@@ -1,18 +1,11 @@
 //! The outbox of a filer.
 
-ghost use Rattle.std.specs.Prelude.{◌≡◌, List, ◌+◌, ◌^◌, ◌<◌, ◌≤◌, ◌↔◌, [], ◌∷◌, ◌++◌, length, find, map, option_map, false, None, Some, IsTrue, IfOk, IfErr, OnOk, OnErr, IfSome, IsSome, true, Err};
-ghost use Rattle.sqlite.specs.State.{Survives};
-ghost use Rattle.sqlite.specs.Held.{state};
+ghost use Rattle.std.specs.Prelude.{◌≡◌, ◌^◌, ◌≤◌, ◌↔◌, map, false, None, IsTrue, IfOk, true, Err};
 ghost use Rattle.key_string.specs.Filer.{is_filer};
-ghost use Rattle.http_wire.specs.Head.{max_body_len};
 ghost use Rattle.http_wire.specs.Posting.{IsTarget};
 ghost use Rattle.http_wire.specs.Replies.{reply_parts};
-ghost use Rattle.filing_model.specs.Outbox.{Entry as Item, moved};
-ghost use Rattle.table_rows.specs.Tables.{no_schema};
-ghost use Rattle.outbox_core.specs.Schema.{is_taken};
-ghost use Rattle.outbox_core.specs.Entries.{empty, opened, numbered, has_text, entry_at, found_at, first_open, set_state};
-ghost use Rattle.outbox_core.specs.Rows.{LeavesOutbox};
-ghost use Rattle.outbox_core.specs.Reading.{Finds, view_state, view_pair, id_and_state};
+ghost use Rattle.outbox_core.specs.Entries.{numbered, found_at, first_open};
+ghost use Rattle.outbox_core.specs.Reading.{view_pair, id_and_state};
 ghost use Rattle.table_rows.specs.Standing.{CommitsNothing};
 
 pub(crate) mod files;
@@ -69,10 +62,7 @@ impl<S: Alter + Drop> Drop for Outbox<S> {
 }
 
 impl<S: Alter + Drop> Outbox<S> {
-    ghost use Rattle.outbox_core.specs.Faults.{IsOfMaking};
-    ghost use Rattle.outbox_core.specs.Making.{LeavesMade};
-    ghost use Rattle.outbox_core.specs.OutboxParts.{shows, HandsOut, HasEntries, IsDurableAs};
-    ghost use Rattle.outbox_core.specs.Refusals.{GivesUpMaking};
+    ghost use Rattle.outbox_core.specs.HandedOut.{HandsOutMade};
 
     /// Makes the tables of an outbox of this filer that has no entry, in one transaction. A refusal gives the connection
     /// up, and leaves the database as it was, as `make_outbox` says of one that is kept. The tables are those of an outbox
@@ -80,25 +70,7 @@ impl<S: Alter + Drop> Outbox<S> {
     pub fn create(alloc: Global, conn: Connection<S>, filer: &str) -> Result<Outbox<S>, OutboxFault>
         requires autocommit { conn.in_transaction ≡ false }
         requires unlimited { conn.step_limit ≡ None }
-        ensures made { HandsOut S.Store result (λ outbox.
-            (state S.Store conn).now.schema ≡ no_schema → HasEntries S.Store outbox []) }
-        ensures filer { IfOk result (λ outbox. (outbox.filer ≡ filer.now) × (outbox.has_failed ≡ false)) }
-
-        // BadFiler comes where the text is no filer code, and always there; Taken where it is one and one of the names is
-        // in use, and always there.
-        ensures bad_filer { (result ≡ Err OutboxFault.BadFiler) ↔ (is_filer filer.now ≡ false) }
-        ensures taken { (result ≡ Err OutboxFault.Taken) ↔ ((is_filer filer.now ≡ true)
-            × IsTrue (is_taken (state S.Store conn).now.schema)) }
-        ensures no_other { IfErr result IsOfMaking }
-
-        // Of the connection as it was given up; `make_outbox` says the same of one that is kept.
-        ensures refused { OnErr result (GivesUpMaking S.Store filer.now conn) }
-
-        // A crash leaves what one before the call could leave, or the outbox with no entry, and after the call that alone.
-        ensures crash { IfOk result (λ outbox.
-            Survives (state S.Store conn) (shows S.Store outbox) (LeavesMade S.Store filer.now conn)) }
-        ensures durable { HandsOut S.Store result (λ outbox.
-            (state S.Store conn).now.schema ≡ no_schema → IsDurableAs S.Store outbox (empty filer.now)) }
+        ensures { HandsOutMade S.Store filer.now conn result }
     {
         let mut conn = conn;
         match make_outbox(alloc, &mut conn, filer) {
@@ -115,33 +87,14 @@ impl<S: Alter + Drop> Outbox<S> {
 }
 
 impl<S: Alter + Drop> Outbox<S> {
-    ghost use Rattle.outbox_core.specs.Schema.{IsDeclared};
-    ghost use Rattle.outbox_core.specs.Rows.{IsOutboxOf};
-    ghost use Rattle.outbox_core.specs.Faults.{IsOfOpening};
-    ghost use Rattle.outbox_core.specs.OutboxParts.{shows, contents, HandsOut, HasEntries, IsDurableAs};
-    ghost use Rattle.outbox_core.specs.Promises.{ForOutbox};
-    ghost use Rattle.outbox_core.specs.Refusals.{GivesUpOpening};
+    ghost use Rattle.outbox_core.specs.HandedOut.{HandsOutFound};
 
     /// Opens the outbox that the database holds. A refusal gives the connection up, and leaves the database as it was. How
     /// the tables are declared is not tested.
     pub fn open(alloc: Global, conn: Connection<S>) -> Result<Outbox<S>, OutboxFault>
         requires autocommit { conn.in_transaction ≡ false }
         requires unlimited { conn.step_limit ≡ None }
-        ensures opened { HandsOut S.Store result (λ outbox.
-            IsDeclared (state S.Store conn).now.schema
-            → (entries : List Item) × IsOutboxOf (contents outbox entries) (state S.Store conn).now
-            × HasEntries S.Store outbox entries) }
-        ensures able { IfOk result (λ outbox. outbox.has_failed ≡ false) }
-
-        // Where the database is an outbox, it is that one that is opened, and after the call a crash leaves it alone.
-        ensures same { IfOk result (λ outbox. ForOutbox S.Store conn outbox.conn (λ it.
-            (outbox.filer ≡ it.filer) × HasEntries S.Store outbox it.entries)) }
-        ensures durable { IfOk result (λ outbox. ForOutbox S.Store conn outbox.conn (IsDurableAs S.Store outbox)) }
-        ensures crash { IfOk result (λ outbox. CommitsNothing (state S.Store conn) (shows S.Store outbox)) }
-
-        // Of the connection as it was given up; `read_outbox` says the same of one that is kept.
-        ensures refused { IfErr result (GivesUpOpening S.Store conn) }
-        ensures no_other { IfErr result IsOfOpening }
+        ensures { HandsOutFound S.Store conn result }
     {
         let mut conn = conn;
         match read_outbox(alloc, &mut conn) {
@@ -158,9 +111,7 @@ impl<S: Alter + Drop> Outbox<S> {
 }
 
 impl<S: Alter + Drop> Outbox<S> {
-    ghost use Rattle.outbox_core.specs.Earlier.{ForEarlier, IsAlone, IsEarlierOf, LeavesMigrated};
-    ghost use Rattle.outbox_core.specs.OutboxParts.{shows, contents, HandsOut, HasEntries, IsDurableAs};
-    ghost use Rattle.outbox_core.specs.Refusals.{GivesUpMigrating};
+    ghost use Rattle.outbox_core.specs.HandedOut.{HandsOutMigrated};
 
     /// Brings the outbox that the database holds from the form before this one into this one, in one transaction, and opens
     /// it: no entry has a target. A refusal gives the connection up, and leaves the rows as they were. What is said of the new
@@ -168,22 +119,7 @@ impl<S: Alter + Drop> Outbox<S> {
     pub fn migrate(alloc: Global, conn: Connection<S>) -> Result<Outbox<S>, OutboxFault>
         requires autocommit { conn.in_transaction ≡ false }
         requires unlimited { conn.step_limit ≡ None }
-        ensures migrated { HandsOut S.Store result (λ outbox.
-            IsAlone (state S.Store conn).now.schema
-            → (entries : List Item) × IsEarlierOf (contents outbox entries) (state S.Store conn).now
-            × HasEntries S.Store outbox entries) }
-        ensures only { HandsOut S.Store result (λ outbox.
-            ForEarlier (state S.Store conn) (λ it. (outbox.filer ≡ it.filer) × HasEntries S.Store outbox it.entries)) }
-        ensures able { IfOk result (λ outbox. outbox.has_failed ≡ false) }
-
-        // Of the connection as it was given up; `migrate_outbox` says the same of one that is kept.
-        ensures refused { IfErr result (GivesUpMigrating S.Store conn) }
-
-        // A crash leaves what it could leave before, or the migrated rows, and after the call these alone.
-        ensures crash { IfOk result (λ outbox.
-            Survives (state S.Store conn) (shows S.Store outbox) (LeavesMigrated (state S.Store conn))) }
-        ensures durable { HandsOut S.Store result (λ outbox. (entries : List Item)
-            → HasEntries S.Store outbox entries → IsDurableAs S.Store outbox (contents outbox entries)) }
+        ensures { HandsOutMigrated S.Store conn result }
     {
         let mut conn = conn;
         match migrate_outbox(alloc, &mut conn) {
@@ -200,7 +136,8 @@ impl<S: Alter + Drop> Outbox<S> {
 }
 
 impl<S: Alter> Outbox<S> {
-    ghost use Rattle.outbox_core.specs.OutboxParts.{shows, contents, HasEntries, ForEntries, KeepsOnRefusal, IsDurableAs, SurvivesAs, LeavesMoved};
+    ghost use Rattle.outbox_core.specs.OutboxParts.{shows, HasEntries, ForEntries};
+    ghost use Rattle.outbox_core.specs.Calls.{PutsEntry, LooksUp, MovesEntry};
 
     /// The code of the filer.
     pub fn filer(&self) -> &str
@@ -228,26 +165,7 @@ impl<S: Alter> Outbox<S> {
     /// refusal gives the key and the body up. With 2^62 entries the answer is Store.
     pub fn put(&mut self, key: KeyText, target: Option<u64>, body: Vec<u8>) -> Result<u64, PutFault>
         requires { IsTarget target }
-        ensures added { ForEntries S.Store self.old self.new (λ entries. IfOk result (λ id.
-            (id ≡ 1 + length entries) × HasEntries S.Store self.new (entries ++ opened key target body.items ∷ []))) }
-        ensures unused { ForEntries S.Store self.old self.new (λ entries.
-            OnOk result (find (has_text key) (numbered entries) ≡ None)) }
-        ensures used { ForEntries S.Store self.old self.new (λ entries. (id : _) → result ≡ Err (PutFault.KeyUsed id)
-            → option_map (λ x. x.0) (find (has_text key) (numbered entries)) ≡ Some id) }
-        ensures too_large { (result ≡ Err PutFault.TooLarge) ↔ ((self.old.has_failed ≡ false)
-            × (max_body_len < length body.items)) }
-
-        // A refusal changes no entry.
-        ensures kept { KeepsOnRefusal S.Store self.old self.new result }
-        ensures stopped { IsTrue self.old.has_failed → (result ≡ Err PutFault.Store) × (self.new ≡ self.old) }
-        ensures stops { IsTrue self.new.has_failed ↔ (result ≡ Err PutFault.Store) }
-        ensures filer { self.new.filer ≡ self.old.filer }
-
-        // A crash leaves what one before the call could leave, or the entries with this one, and after Ok these alone.
-        ensures crash { SurvivesAs S.Store self.old self.new (λ entries.
-            LeavesOutbox (contents self.old (entries ++ opened key target body.items ∷ []))) }
-        ensures durable { ForEntries S.Store self.old self.new (λ entries. OnOk result
-            (IsDurableAs S.Store self.new (contents self.new (entries ++ opened key target body.items ∷ [])))) }
+        ensures { PutsEntry S.Store self.old self.new key target body.items result }
     {
         if self.has_failed {
             return Err(PutFault::Store);
@@ -275,20 +193,7 @@ impl<S: Alter> Outbox<S> {
 
     /// The entry of this id, or `None` where there is none.
     pub fn entry(&mut self, id: u64) -> Result<Option<Entry>, StoreFault>
-        ensures found { ForEntries S.Store self.old self.new (λ entries. Finds result (found_at entries id)) }
-        ensures short { IfOk result (λ entry. IfSome entry (λ e. length e.body.items ≤ max_body_len)) }
-        ensures within { IfOk result (λ entry. IfSome entry (λ e. IsTarget e.target)) }
-
-        // The entries are those of before, whatever the answer is, and a crash leaves what it could leave before.
-        ensures kept { ForEntries S.Store self.old self.new (HasEntries S.Store self.new) }
-        ensures stopped { IsTrue self.old.has_failed → (result ≡ Err StoreFault.Store) × (self.new ≡ self.old) }
-        ensures stops { IsTrue self.new.has_failed ↔ (result ≡ Err StoreFault.Store) }
-        ensures filer { self.new.filer ≡ self.old.filer }
-        ensures crash { CommitsNothing (shows S.Store self.old) (shows S.Store self.new) }
-
-        // Where an entry is answered, a crash leaves these entries alone.
-        ensures durable { ForEntries S.Store self.old self.new (λ entries.
-            IfOk result (λ entry. IsSome entry → IsDurableAs S.Store self.new (contents self.new entries))) }
+        ensures { LooksUp S.Store self.old self.new (λ entries. found_at entries id) result }
     {
         if self.has_failed {
             return Err(StoreFault::Store);
@@ -307,16 +212,7 @@ impl<S: Alter> Outbox<S> {
 
     /// The open entry with the least id, or `None` where no entry is open.
     pub fn next_open(&mut self) -> Result<Option<Entry>, StoreFault>
-        ensures found { ForEntries S.Store self.old self.new (λ entries. Finds result (first_open entries)) }
-        ensures short { IfOk result (λ entry. IfSome entry (λ e. length e.body.items ≤ max_body_len)) }
-        ensures within { IfOk result (λ entry. IfSome entry (λ e. IsTarget e.target)) }
-
-        // The entries are those of before, whatever the answer is, and a crash leaves what it could leave before.
-        ensures kept { ForEntries S.Store self.old self.new (HasEntries S.Store self.new) }
-        ensures stopped { IsTrue self.old.has_failed → (result ≡ Err StoreFault.Store) × (self.new ≡ self.old) }
-        ensures stops { IsTrue self.new.has_failed ↔ (result ≡ Err StoreFault.Store) }
-        ensures filer { self.new.filer ≡ self.old.filer }
-        ensures crash { CommitsNothing (shows S.Store self.old) (shows S.Store self.new) }
+        ensures { LooksUp S.Store self.old self.new first_open result }
     {
         if self.has_failed {
             return Err(StoreFault::Store);
@@ -357,24 +253,7 @@ impl<S: Alter> Outbox<S> {
     /// Moves an entry by the status and the content of a reply, and answers its state. An entry that is not open
     /// keeps its state, and no entry's key, target or body changes.
     pub fn take(&mut self, id: u64, reply: &Reply) -> Result<State, TakeFault>
-        ensures moved { ForEntries S.Store self.old self.new (λ entries. IfOk result (λ to.
-            (Some (view_state to) ≡ option_map (λ e. moved e.state (reply_parts reply.now)) (entry_at entries id))
-            × HasEntries S.Store self.new (set_state entries id (view_state to)))) }
-        ensures no_entry { ForEntries S.Store self.old self.new (λ entries.
-            result ≡ Err TakeFault.NoEntry → entry_at entries id ≡ None) }
-
-        // A refusal changes no entry.
-        ensures kept { KeepsOnRefusal S.Store self.old self.new result }
-        ensures stopped { IsTrue self.old.has_failed → (result ≡ Err TakeFault.Store) × (self.new ≡ self.old) }
-        ensures stops { IsTrue self.new.has_failed ↔ (result ≡ Err TakeFault.Store) }
-        ensures filer { self.new.filer ≡ self.old.filer }
-
-        // A crash leaves what one before the call could leave, or the entries after the move where the id names one, and after
-        // Ok these alone.
-        ensures crash { SurvivesAs S.Store self.old self.new (λ entries.
-            LeavesMoved (contents self.old entries) id (reply_parts reply.now)) }
-        ensures durable { ForEntries S.Store self.old self.new (λ entries. IfOk result (λ to.
-            IsDurableAs S.Store self.new (contents self.new (set_state entries id (view_state to))))) }
+        ensures { MovesEntry S.Store self.old self.new id (reply_parts reply.now) result }
     {
         if self.has_failed {
             return Err(TakeFault::Store);

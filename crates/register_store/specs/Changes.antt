@@ -1,12 +1,20 @@
 -- What is written for a request that is to be kept.
-use Rattle.std.specs.Prelude.{◌≡◌, ℕ, List, [], ◌∷◌, ◌++◌, IsTrue}
+use Rattle.std.specs.Prelude.{◌≡◌, ℕ, false, List, [], ◌∷◌, ◌++◌, Result, IsTrue, OnOk, OnErr}
+use Rattle.std.specs.Borrow.{MutBor}
+use Rattle.sqlite.specs.Store.{Ghosts}
+use Rattle.sqlite.specs.Held.{Held, state}
+use Rattle.sqlite.specs.declared.error.Error.{Error}
 use Rattle.sqlite.specs.Order.{Row}
 use Rattle.sqlite.specs.Table.{Table}
 use Rattle.sqlite.specs.Tree.{Trees}
 use Rattle.sqlite.specs.Effect.{Database, IsDatabase}
-use Rattle.sqlite.specs.State.{State}
+use Rattle.sqlite.specs.State.{State, HasCleanDisk, Survives}
+use Rattle.key_string.specs.Key.{IsKey}
 use Rattle.filing_model.specs.Register.{Kept}
 use Rattle.table_rows.specs.Rows.{GainsInside}
+use Rattle.table_rows.specs.Standing.{CommitsNothing, IsLasting, StaysCommitted}
+use Rattle.register_store.specs.declared.outcome.NewRow.{NewRow}
+use Rattle.register_store.specs.Outcomes.{kept_new}
 use Rattle.register_store.specs.Schema.{IsDeclared, register_tables}
 use Rattle.register_store.specs.Register.{HasRows, kept_row, finding_rows, filing_rows, fact_rows, amends_rows}
 
@@ -44,3 +52,25 @@ pub record AddsNothing (old new : State) : Type 0 where
   pub was_open : IsTrue new.is_open → IsTrue old.is_open
   pub now : IsTrue new.is_open → new.now ≡ old.committed
   pub committed : IsTrue new.is_open → new.committed ≡ old.committed
+
+-- What the writing of one row inside a transaction does.
+pub record InsertsRow {S : Type 0} (g : Ghosts S) (table : Table) (row : Row) (old new : MutBor (Held S)) (result : Result (Unit {0}) Error) : Type 0 where
+  pub same_reference : new.ghost_name ≡ old.ghost_name
+  -- an answer says that a transaction was under way, and that the table has the row
+  pub was_inside : OnOk result (IsTrue (state g old.now).in_transaction)
+  pub gains : HasCleanDisk (state g new.now) → OnOk result (GainsRows table (row ∷ []) (state g old.now) (state g new.now))
+  -- whatever the answer is, nothing was committed
+  pub keeps : StaysCommitted g old.now new.now
+  pub survives : CommitsNothing (state g old.now) (state g new.now)
+
+-- What the keeping of a request at its place does, in one transaction, where the next filing has this number.
+pub record KeepsRequest {S : Type 0} (g : Ghosts S) (seq number : ℕ) (row : NewRow) (old new : Held S) (result : Result (Unit {0}) Error) : Type 0 where
+  pub key : IsKey row.key.now
+  pub autocommit : new.in_transaction ≡ false
+  -- after an answer the rows are there, and a crash leaves them
+  pub adds : HasCleanDisk (state g new) → OnOk result (Adds seq (kept_new number row) (state g old) (state g new))
+  pub durable : HasCleanDisk (state g new) → OnOk result (IsLasting (state g new))
+  -- a refusal wrote nothing
+  pub neither : HasCleanDisk (state g new) → OnErr result (AddsNothing (state g old) (state g new))
+  -- a crash leaves what one before the call could leave, or the rows with this request
+  pub crash : Survives (state g old) (state g new) (AddsTo seq (kept_new number row) (state g old).now)

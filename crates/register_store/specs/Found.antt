@@ -1,8 +1,11 @@
 -- What the look-ups of a request's rows find.
-use Rattle.std.specs.Prelude.{◌≡◌, ◌⊎◌, ◌&&◌, ◌+◌, ℕ, ℤ, pos, Bool, true, false, nat_eq, find, unwrap_or, ◌≢◌, List, [], ◌∷◌, Option, None, Some}
+use Rattle.std.specs.Prelude.{◌≡◌, ◌⊎◌, ◌&&◌, ◌+◌, ℕ, ℤ, pos, Bool, true, false, nat_eq, find, take, unwrap_or, option_map, ◌≢◌, List, [], ◌∷◌, Option, None, Some, Result, IfOk, IfSome}
 use Rattle.sqlite.specs.declared.types.Value.{Value}
 use Rattle.sqlite.specs.declared.types.Value.TheVariants.{Int, Text, Blob}
 use Rattle.sqlite.specs.Order.{Row, column}
+use Rattle.sqlite.specs.Store.{Ghosts}
+use Rattle.sqlite.specs.Held.{Held, state}
+use Rattle.sqlite.specs.State.{HasCleanDisk}
 use Rattle.sqlite.specs.Ops.{binary, is_true}
 use Rattle.sqlite.specs.Values.{or_null}
 use Rattle.sqlite_sql.specs.declared.ops.BinaryOp.TheVariants.{Compare}
@@ -15,10 +18,16 @@ use Rattle.xbrl_report.specs.CodeNumber.{number_of as code_number}
 use Rattle.filing_model.specs.Request.{Request}
 use Rattle.filing_model.specs.Register.{Kept, kept}
 use Rattle.filing_model.specs.Answer.{kept_for}
+use Rattle.filing_model.specs.Style.{style_of}
 use Rattle.filing_model.specs.Views.{the_request}
+use Rattle.table_rows.specs.Standing.{HasCommitted, CommitsNothing, StaysAutocommit}
+use Rattle.register_store.specs.declared.fault.StoreFault.{StoreFault}
+use Rattle.register_store.specs.declared.outcome.KeptRow.{KeptRow}
 use Rattle.register_store.specs.declared.select.found.FoundRow.{FoundRow}
 use Rattle.register_store.specs.Columns.{bytes_in}
+use Rattle.register_store.specs.Outcomes.{kept_as}
 use Rattle.register_store.specs.Register.{number_of}
+use Rattle.register_store.specs.Store.{IsRegisterOf, AnswersOpen, KeepsRegister, ForRegister}
 
 -- the columns `filer` and `idem` of `kept` equal these texts, as SQL compares
 abbrev pub has_texts : List ℕ → List ℕ → Row → Bool
@@ -95,3 +104,14 @@ IsReading rows (Some found) = (rows ≢ []) × ((seq : ℕ) (k : Kept) → rows 
 abbrev pub IsPlaceOf : ℕ → List Request → Option ℤ → Type 0
 IsPlaceOf number F None = (k : Kept) (seq : ℕ) → IsPlaced 1 seq (kept F) k → number_of k.outcome ≡ Some number → ⊥
 IsPlaceOf number F (Some place) = (k : Kept) × (seq : ℕ) × IsPlaced 1 seq (kept F) k × (number_of k.outcome ≡ Some number) × (place ≡ pos seq)
+
+-- What the looking up of a filer and key tells, where the first `early` requests are answered as before, and that it writes nothing.
+pub record FindsKept {S : Type 0} (g : Ghosts S) (early : ℕ) (filer key : List ℕ) (old new : Held S) (result : Result (Option KeptRow) StoreFault) : Type 0 where
+  pub found : ForRegister g old new (λ _ F. (target : Option ℕ) (body : List ℕ)
+      → IfOk result (λ row. option_map (kept_as filer key) row ≡ kept_for (kept F) (the_request filer key target body)))
+  pub style : HasCleanDisk (state g new) → (F : List Request) → HasCommitted (IsRegisterOf early F) (state g old) → (target : Option ℕ) (body : List ℕ)
+      → IfOk result (λ row. IfSome row (λ r. r.style ≡ style_of (take early F) (the_request filer key target body)))
+  pub same : KeepsRegister (state g old) (state g new)
+  pub «open» : AnswersOpen (state g old) (state g new) result
+  pub mode : StaysAutocommit old new
+  pub crash : CommitsNothing (state g old) (state g new)

@@ -1,4 +1,5 @@
 pub mod Audit
+pub mod Calls
 pub mod Cells
 pub mod Changes
 pub mod Columns

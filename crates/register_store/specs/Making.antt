@@ -1,11 +1,15 @@
 -- The statements that make a register, and what a refusal of them says.
-use Rattle.std.specs.Prelude.{◌≡◌, ◌⊎◌, ◌≤◌, ℕ, true, List, [], ◌∷◌, ◌++◌, codes, Ok, Err}
+use Rattle.std.specs.Prelude.{◌≡◌, ◌⊎◌, ◌≤◌, ℕ, true, false, List, [], ◌∷◌, ◌++◌, codes, Result, Ok, Err, IsTrue, OnOk, OnErr}
 use Rattle.sqlite.specs.Store.{Ghosts}
 use Rattle.sqlite.specs.Held.{Held, state}
 use Rattle.sqlite.specs.Tree.{Trees}
 use Rattle.sqlite.specs.Steps.{FailsToCommit}
-use Rattle.sqlite.specs.State.{ExecutesInside, IsRolledBack}
+use Rattle.sqlite.specs.State.{HasCleanDisk, Survives, ExecutesInside, IsRolledBack}
 use Rattle.sqlite.specs.declared.error.Error.{Error}
+use Rattle.table_rows.specs.Tables.{no_schema}
+use Rattle.table_rows.specs.Standing.{IsLasting}
+use Rattle.register_store.specs.Changes.{AddsNothing}
+use Rattle.register_store.specs.Store.{IsRegisterOf}
 
 abbrev pub create_meta : List ℕ
 create_meta = codes "CREATE TABLE intake_meta (id INTEGER PRIMARY KEY, kind TEXT NOT NULL, form INTEGER NOT NULL) STRICT"
@@ -73,3 +77,15 @@ pub record FailsToMake {S : Type 0} (g : Ghosts S) (error : Error) (old new : He
   pub counts : (state g last).faults ≤ (state g new).faults
   pub why : (StopsWith g error making_texts (begun old) last × IsRolledBack (state g last) (state g new))
       ⊎ (AreRun g making_texts (begun old) last × FailsToCommit (state g last) (state g new) error)
+
+-- What the making of a register that has no request does, in one transaction.
+pub record MakesRegister {S E : Type 0} (g : Ghosts S) (old new : Held S) (result : Result (Unit {0}) E) : Type 0 where
+  pub autocommit : new.in_transaction ≡ false
+  -- where the database had no table before, the rows stand for no request, and they are committed
+  pub made : HasCleanDisk (state g new) → (state g old).now.schema ≡ no_schema
+      → OnOk result (IsTrue (state g new).is_open × IsRegisterOf 0 [] (state g new).now × ((state g new).committed ≡ (state g new).now))
+  pub durable : HasCleanDisk (state g new) → OnOk result (IsLasting (state g new))
+  -- After a refusal nothing was written, and what was committed is what it was: whatever tables there are.
+  pub neither : HasCleanDisk (state g new) → OnErr result (AddsNothing (state g old) (state g new))
+  -- A crash leaves what it could leave before, or what all the statements make of the database.
+  pub crash : Survives (state g old) (state g new) (Makes g old)

@@ -1,11 +1,11 @@
 -- What a migration reads and writes, and why a database is not migrated.
-use Rattle.std.specs.Prelude.{◌≡◌, ◌≢◌, ◌⊎◌, ◌≤◌, ℕ, pos, false, List, [], ◌∷◌, length, codes, Ok, Err, IsTrue}
+use Rattle.std.specs.Prelude.{◌≡◌, ◌≢◌, ◌⊎◌, ◌≤◌, ℕ, pos, false, List, [], ◌∷◌, length, codes, Result, Ok, Err, IsTrue, IfOk, IfErr, OnOk, OnErr}
 use Rattle.sqlite.specs.Order.{Row}
 use Rattle.sqlite.specs.Store.{Ghosts}
 use Rattle.sqlite.specs.Held.{Held, state}
 use Rattle.sqlite.specs.Tree.{Trees}
 use Rattle.sqlite.specs.Steps.{FailsToCommit}
-use Rattle.sqlite.specs.State.{State, IsUnchanged, ExecutesInside, IsRolledBack}
+use Rattle.sqlite.specs.State.{State, HasCleanDisk, IsUnchanged, Survives, ExecutesInside, IsRolledBack}
 use Rattle.sqlite.specs.declared.error.Error.{Error}
 use Rattle.sqlite.specs.declared.types.Value.TheVariants.{Int}
 use Rattle.filing_model.specs.Request.{Request}
@@ -22,13 +22,15 @@ use Rattle.register_store.specs.declared.fault.OpenFault.TheVariants as fault
 use Rattle.register_store.specs.declared.opening.Counts.{Counts}
 use Rattle.register_store.specs.declared.opening.walk.Totals.{Totals}
 use Rattle.register_store.specs.Audit.{OtherRows, IsVerdict}
-use Rattle.register_store.specs.Earlier.{form_number, is_blocked, IsEarlierOf}
-use Rattle.register_store.specs.Faults.{table_fault}
+use Rattle.register_store.specs.Changes.{AddsNothing}
+use Rattle.register_store.specs.Earlier.{form_number, is_blocked, ForEarlier, IsAlone, IsEarlierOf}
+use Rattle.register_store.specs.Faults.{table_fault, IsFailure}
 use Rattle.register_store.specs.Making.{create_migrated, create_amends, begun}
-use Rattle.register_store.specs.Opening.{all_meta, all_migrated, row_texts, IsRead, AreRead, StopsFor}
+use Rattle.register_store.specs.Opening as opening
+use Rattle.register_store.specs.Opening.{all_meta, all_migrated, row_texts, AreWithin, IsRead, AreRead, StopsFor}
 use Rattle.register_store.specs.Register.{form_row, migrated_row}
 use Rattle.register_store.specs.Schema.{HasCommon}
-use Rattle.register_store.specs.Store.{IsRegisterOf}
+use Rattle.register_store.specs.Store.{IsRegisterOf, LeavesOnly}
 use Rattle.register_store.specs.Walk.{Amounts}
 
 -- ---- what is read
@@ -185,3 +187,25 @@ IsHindered g form early why old new =
 abbrev pub IsNotMigrated : {S : Type 0} → Ghosts S → OpenFault → Held S → Held S → Type 0
 IsNotMigrated {S} g why old new =
     IsNotSurveyed g why old new ⊎ ((form : Earlier) × (counts : Counts) × (mid : Held S) × IsSurveyed g form counts old mid × IsHindered g form counts.early why mid new)
+
+-- What the bringing of a register from an earlier form into the present one does, in one transaction.
+pub record MigratesRegister {S : Type 0} (g : Ghosts S) (old new : Held S) (result : Result Counts OpenFault) : Type 0 where
+  pub autocommit : new.in_transaction ≡ false
+  -- The rows stood for requests, and stand for them in the present form. Others than those that are counted they didn't stand for.
+  pub migrated : HasCleanDisk (state g new) → (form : Earlier) → IsAlone form (state g old).now.schema
+      → IfOk result (λ counts. Migrates g form counts old new)
+  pub only : HasCleanDisk (state g new) → IfOk result (λ counts. ForEarlier g old (λ _. opening.IsCounted g new counts))
+  pub few : IfOk result AreWithin
+  -- The statements of the form that was read, and they alone, were run in one transaction and committed.
+  pub ran : HasCleanDisk (state g new) → IfOk result (λ counts. (form : Earlier) × IsMigrated g form counts old new)
+  -- A refusal says why; where the rows stand for requests and no name is in the way, it is by memory, or by the disk or another
+  -- failure of a statement that writes. It leaves the rows as they were.
+  pub refused : HasCleanDisk (state g new) → IfErr result (λ fault. IsNotMigrated g fault old new)
+  pub sound : HasCleanDisk (state g new)
+      → IfErr result (λ fault. (form : Earlier) (early : ℕ) (F : List Request) → IsEarlierOf form early F (state g old).now
+      → is_blocked (state g old).now.schema form ≡ false → IsFailure fault)
+  pub neither : HasCleanDisk (state g new) → OnErr result (AddsNothing (state g old) (state g new))
+  -- A crash leaves what it could leave before, or what all the statements make, and after the call the migrated rows alone.
+  pub crash : Survives (state g old) (state g new) (MigratesTo g old)
+  pub durable : HasCleanDisk (state g new)
+      → OnOk result (ForEarlier g old (λ _ early F. IsTrue (state g new).is_open × LeavesOnly (state g new) early F))

@@ -1,23 +1,25 @@
 -- What an opening reads, and why a database is not opened.
-use Rattle.std.specs.Prelude.{◌≡◌, ◌≢◌, ◌⊎◌, ◌≤◌, ◌^◌, ℕ, List, [], ◌∷◌, ◌++◌, length, codes}
+use Rattle.std.specs.Prelude.{◌≡◌, ◌≢◌, ◌⊎◌, ◌≤◌, ◌^◌, ℕ, false, List, [], ◌∷◌, ◌++◌, length, codes, Result, IfOk, IfErr}
 use Rattle.sqlite.specs.Order.{Row}
 use Rattle.sqlite.specs.Store.{Ghosts}
 use Rattle.sqlite.specs.Held.{Held, state}
-use Rattle.sqlite.specs.State.{Shown, FailsToQuery}
+use Rattle.sqlite.specs.State.{HasCleanDisk, Shown, FailsToQuery}
 use Rattle.sqlite.specs.declared.error.Error.{Error}
 use Rattle.table_rows.specs.Causes.{cause_of}
 use Rattle.table_rows.specs.declared.cause.Cause.{Cause}
 use Rattle.table_rows.specs.declared.cause.Cause.TheVariants as cause
 use Rattle.filing_model.specs.Request.{Request}
 use Rattle.filing_model.specs.Register.{register}
-use Rattle.table_rows.specs.Standing.{HasCommitted}
+use Rattle.table_rows.specs.Standing.{HasCommitted, CommitsNothing, StaysOnOk, KeepsOnErr}
 use Rattle.register_store.specs.declared.opening.Counts.{Counts}
 use Rattle.register_store.specs.declared.opening.audit.Verdict.TheVariants as verdict
 use Rattle.register_store.specs.declared.fault.OpenFault.{OpenFault}
 use Rattle.register_store.specs.declared.fault.OpenFault.TheVariants as fault
 use Rattle.register_store.specs.Audit.{OtherRows, IsVerdict}
+use Rattle.register_store.specs.Faults.{IsFailure}
 use Rattle.register_store.specs.Register.{meta_row, migrated_row}
-use Rattle.register_store.specs.Store.{IsRegisterOf}
+use Rattle.register_store.specs.Schema.{IsDeclared}
+use Rattle.register_store.specs.Store.{ForRows, IsRegisterOf}
 
 -- ---- the rows of the tables, each in the order of its key
 
@@ -140,3 +142,22 @@ IsCounted g conn counts early F =
 
 abbrev pub AreWithin : Counts → Type 0
 AreWithin counts = (counts.kept ≤ 2 ^ 62) × (counts.filings ≤ counts.kept) × (counts.early ≤ counts.kept)
+
+-- ---- the whole
+
+-- What the reading of a register tells of it, and that it writes nothing.
+pub record ReadsRegister {S : Type 0} (g : Ghosts S) (old new : Held S) (result : Result Counts OpenFault) : Type 0 where
+  -- The rows stand for requests, and these are counted. Others than those that are counted they don't stand for.
+  pub found : HasCleanDisk (state g new) → IsDeclared (state g old).now.schema
+      → IfOk result (λ counts. (F : List Request) × IsRegisterOf counts.early F (state g old).now
+      × HasCommitted (IsRegisterOf counts.early F) (state g new) × (counts.kept ≡ length F) × (counts.filings ≡ length (register F)))
+  pub only : HasCleanDisk (state g new) → IfOk result (λ counts. ForRows g old (IsCounted g new counts))
+  pub few : IfOk result AreWithin
+  -- A refusal says why; where the rows stand for requests, it is by memory or disk.
+  pub refused : HasCleanDisk (state g new) → IfErr result (λ fault. IsRefused g fault old new)
+  pub sound : HasCleanDisk (state g new) → IfErr result (λ fault. ForRows g old (λ _ _. IsFailure fault))
+  -- The connection is as it was, and after a refusal at least what is committed. A crash leaves what it could leave before.
+  pub same : StaysOnOk (state g old) (state g new) result
+  pub keeps : KeepsOnErr (state g old) (state g new) result
+  pub mode : new.in_transaction ≡ false
+  pub survives : CommitsNothing (state g old) (state g new)

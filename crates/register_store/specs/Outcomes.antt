@@ -8,6 +8,7 @@ use Rattle.filing_model.specs.Register.{Outcome, Kept}
 use Rattle.filing_model.specs.Views.{the_request}
 use Rattle.register_store.specs.declared.outcome.Outcome.{Outcome as Stored}
 use Rattle.register_store.specs.declared.outcome.KeptRow.{KeptRow}
+use Rattle.register_store.specs.declared.outcome.NewRow.{NewRow}
 
 -- an outcome
 abbrev pub view_outcome : Stored → Outcome
@@ -22,6 +23,10 @@ kept_as filer key row = record { request = the_request filer key row.target row.
 abbrev pub outcome_of : ℕ → Judged → Outcome
 outcome_of number (Valid report) = Outcome.Registered number
 outcome_of number (Refused findings) = Outcome.Refused findings
+
+-- what is kept of a request that was judged so, where the next filing has this number
+abbrev pub kept_new : ℕ → NewRow → Kept
+kept_new number row = record { request = the_request row.filer.now row.key.now row.target row.body.now; outcome = outcome_of number row.judged.now }
 
 -- how many filings an outcome is
 abbrev pub filings_by : Outcome → ℕ

@@ -1,19 +1,14 @@
 //! A register in an earlier form is brought into the present one.
 
-ghost use Rattle.std.specs.Prelude.{◌≡◌, ◌<◌, ◌^◌, ◌∷◌, ℕ, List, [], pos, false, None, Ok, Err, IsTrue, IfOk, IfErr, OnOk, OnErr};
-ghost use Rattle.filing_model.specs.Register.{register};
-ghost use Rattle.filing_model.specs.Request.{Request};
+ghost use Rattle.std.specs.Prelude.{◌≡◌, ◌<◌, ◌^◌, ◌∷◌, ℕ, [], pos, false, None, Ok, Err, IsTrue, IfErr, OnOk, OnErr};
 ghost use Rattle.sqlite.specs.Held.{state};
 ghost use Rattle.sqlite.specs.declared.error.Error.{Error};
 ghost use Rattle.sqlite.specs.declared.types.Value.TheVariants.{Int};
 ghost use Rattle.sqlite.specs.State.{HasCleanDisk, Survives, ExecutesInside};
 ghost use Rattle.table_rows.specs.Standing.{CommitsNothing, IsLasting, StaysCommitted};
 ghost use Rattle.register_store.specs.Changes.{AddsNothing};
-ghost use Rattle.register_store.specs.Earlier.{ForEarlier, IsAlone, IsEarlierOf, is_blocked};
-ghost use Rattle.register_store.specs.Faults.{IsFailure};
-ghost use Rattle.register_store.specs.Migrating.{insert_early, write_fault, migrating, AreDone, StopsAt, AreCommitted, AreUndone, AreTreesOf, IsMigrated, IsNotMigrated, Migrates, MigratesTo};
-ghost use Rattle.register_store.specs.Store.{LeavesOnly};
-ghost use Rattle.register_store.specs.Opening.{AreWithin, IsCounted};
+ghost use Rattle.register_store.specs.Earlier.{is_blocked};
+ghost use Rattle.register_store.specs.Migrating.{insert_early, write_fault, migrating, AreDone, StopsAt, AreCommitted, AreUndone, AreTreesOf, MigratesRegister};
 
 pub(crate) mod earlier;
 
@@ -143,36 +138,7 @@ pub fn migrate_register<S: Alter>(
 ) -> Result<Counts, OpenFault>
     requires autocommit { conn.old.in_transaction ≡ false }
     requires unlimited { conn.old.step_limit ≡ None }
-    ensures autocommit { conn.new.in_transaction ≡ false }
-
-    // The rows stood for requests, and stand for them in the present form. Others than those that are counted they didn't stand for.
-    ensures migrated { HasCleanDisk (state S.Store conn.new) → (form : Earlier)
-        → IsAlone form (state S.Store conn.old).now.schema
-        → IfOk result (λ counts. Migrates S.Store form counts conn.old conn.new) }
-    ensures only { HasCleanDisk (state S.Store conn.new)
-        → IfOk result (λ counts. ForEarlier S.Store conn.old (λ _. IsCounted S.Store conn.new counts)) }
-    ensures few { IfOk result AreWithin }
-
-    // The statements of the form that was read, and they alone, were run in one transaction and committed.
-    ensures ran { HasCleanDisk (state S.Store conn.new)
-        → IfOk result (λ counts. (form : Earlier) × IsMigrated S.Store form counts conn.old conn.new) }
-
-    // A refusal says why; where the rows stand for requests and no name is in the way, it is by memory, or by the disk or another
-    // failure of a statement that writes. It leaves the rows as they were.
-    ensures refused { HasCleanDisk (state S.Store conn.new)
-        → IfErr result (λ fault. IsNotMigrated S.Store fault conn.old conn.new) }
-    ensures sound { HasCleanDisk (state S.Store conn.new)
-        → IfErr result (λ fault.
-        (form : Earlier) (early : ℕ) (F : List Request) → IsEarlierOf form early F (state S.Store conn.old).now
-        → is_blocked (state S.Store conn.old).now.schema form ≡ false → IsFailure fault) }
-    ensures neither { HasCleanDisk (state S.Store conn.new)
-        → OnErr result (AddsNothing (state S.Store conn.old) (state S.Store conn.new)) }
-
-    // A crash leaves what it could leave before, or what all the statements make, and after the call the migrated rows alone.
-    ensures crash { Survives (state S.Store conn.old) (state S.Store conn.new) (MigratesTo S.Store conn.old) }
-    ensures durable { HasCleanDisk (state S.Store conn.new)
-        → OnOk result (ForEarlier S.Store conn.old (λ _ early F.
-        IsTrue (state S.Store conn.new).is_open × LeavesOnly (state S.Store conn.new) early F)) }
+    ensures { MigratesRegister S.Store conn.old conn.new result }
 {
     prove!(is_settled(conn));
     match read_earlier(alloc, conn) {

@@ -1,20 +1,18 @@
 //! What an opening finds in a database.
 
-ghost use Rattle.std.specs.Prelude.{◌≡◌, ◌≤◌, ◌<◌, ◌^◌, ◌⊎◌, ◌↔◌, ◌∷◌, [], ℕ, pos, List, length, false, not, Err, IsTrue, IfOk, IfErr, IfSome, OnOk, None, Option};
+ghost use Rattle.std.specs.Prelude.{◌≡◌, ◌≤◌, ◌<◌, ◌^◌, ◌⊎◌, ◌↔◌, ◌∷◌, [], ℕ, pos, length, false, not, Err, IsTrue, IfOk, IfErr, IfSome, OnOk, None, Option};
 ghost use Rattle.filing_model.specs.Register.{register};
-ghost use Rattle.filing_model.specs.Request.{Request};
 ghost use Rattle.sqlite.specs.Held.{state};
 ghost use Rattle.sqlite.specs.Order.{column};
 ghost use Rattle.sqlite.specs.declared.types.Value.TheVariants.{Int};
 ghost use Rattle.sqlite.specs.State.{HasCleanDisk, IsLive, IsUnchanged};
 ghost use Rattle.table_rows.specs.Causes.{cause_of};
-ghost use Rattle.table_rows.specs.Standing.{HasCommitted, CommitsNothing, StaysAutocommit, KeepsOnErr, StaysOnOk};
+ghost use Rattle.table_rows.specs.Standing.{CommitsNothing, StaysAutocommit, StaysOnOk};
 ghost use Rattle.register_store.specs.Audit.{IsVerdict};
-ghost use Rattle.register_store.specs.Faults.{IsFailure, meta_fault, table_fault};
-ghost use Rattle.register_store.specs.Opening.{all_meta, row_texts, new_texts, IsRead, AreRead, StopsFor, SaysEarly, SaysNothing, AreDamaged, IsRefused, IsRefusedAfter, IsCounted, AreWithin};
+ghost use Rattle.register_store.specs.Faults.{meta_fault, table_fault};
+ghost use Rattle.register_store.specs.Opening.{all_meta, row_texts, new_texts, IsRead, AreRead, StopsFor, SaysEarly, SaysNothing, AreDamaged, IsRefused, IsRefusedAfter, AreWithin, ReadsRegister};
 ghost use Rattle.register_store.specs.Register.{meta_row, migrated_row};
-ghost use Rattle.register_store.specs.Schema.{IsDeclared, HasCommon};
-ghost use Rattle.register_store.specs.Store.{ForRows, IsRegisterOf};
+ghost use Rattle.register_store.specs.Schema.{HasCommon};
 ghost use Rattle.register_store.specs.Walk.{AreCounted};
 
 pub(crate) mod audit;
@@ -358,28 +356,7 @@ pub fn read_register<S: Alter, W: Watch>(
 ) -> Result<Counts, OpenFault>
     requires autocommit { conn.old.in_transaction ≡ false }
     requires unlimited { conn.old.step_limit ≡ None }
-
-    // The rows stand for requests, and these are counted. Others than those that are counted they don't stand for.
-    ensures found { HasCleanDisk (state S.Store conn.new) → IsDeclared (state S.Store conn.old).now.schema
-        → IfOk result (λ counts.
-        (F : List Request) × IsRegisterOf counts.early F (state S.Store conn.old).now
-        × HasCommitted (IsRegisterOf counts.early F) (state S.Store conn.new) × (counts.kept ≡ length F)
-        × (counts.filings ≡ length (register F))) }
-    ensures only { HasCleanDisk (state S.Store conn.new)
-        → IfOk result (λ counts. ForRows S.Store conn.old (IsCounted S.Store conn.new counts)) }
-    ensures few { IfOk result AreWithin }
-
-    // A refusal says why; where the rows stand for requests, it is by memory or disk.
-    ensures refused { HasCleanDisk (state S.Store conn.new)
-        → IfErr result (λ fault. IsRefused S.Store fault conn.old conn.new) }
-    ensures sound { HasCleanDisk (state S.Store conn.new)
-        → IfErr result (λ fault. ForRows S.Store conn.old (λ _ _. IsFailure fault)) }
-
-    // The connection is as it was, and after a refusal at least what is committed. A crash leaves what it could leave before.
-    ensures same { StaysOnOk (state S.Store conn.old) (state S.Store conn.new) result }
-    ensures keeps { KeepsOnErr (state S.Store conn.old) (state S.Store conn.new) result }
-    ensures mode { conn.new.in_transaction ≡ false }
-    ensures survives { CommitsNothing (state S.Store conn.old) (state S.Store conn.new) }
+    ensures { ReadsRegister S.Store conn.old conn.new result }
 {
     prove!(is_settled(conn));
     match read_meta(conn) {

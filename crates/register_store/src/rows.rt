@@ -12,7 +12,7 @@ ghost use Rattle.register_store.specs.Reads.{Knows, KnowsAll, by_second};
 ghost use Rattle.register_store.specs.Found.{has_texts, has_seq, unsorted, found_in, pair_in, target_alone};
 ghost use Rattle.register_store.specs.Schema.{kept_table, finding_table, filing_table, fact_table, amends_table};
 ghost use Rattle.key_string.specs.Key.{IsKey};
-ghost use Rattle.register_store.specs.Changes.{GainsRows};
+ghost use Rattle.register_store.specs.Changes.{GainsRows, InsertsRow};
 ghost use Rattle.register_store.specs.Register.{finding_row, fact_row};
 
 use crate::outcome::NewRow;
@@ -39,15 +39,10 @@ pub fn insert_kept<S: Alter>(
 ) -> Result<(), Error>
     requires seq { seq < 2 ^ 63 }
     requires number { IfSome number (λ n. n < 2 ^ 63) }
-    ensures same_reference { tx.new.conn.ghost_name ≡ tx.old.conn.ghost_name }
     ensures key { IsKey row.now.key.now }
-    ensures was_inside { OnOk result (IsTrue (state S.Store tx.old.conn.now).in_transaction) }
-    ensures gains { HasCleanDisk (state S.Store tx.new.conn.now)
-        → OnOk result (GainsRows kept_table
-        ((Int (pos seq) ∷ Text row.now.filer.now ∷ Text row.now.key.now ∷ Blob row.now.body.now ∷ or_null (λ n. Int (pos n)) number ∷ []) ∷ [])
-        (state S.Store tx.old.conn.now) (state S.Store tx.new.conn.now)) }
-    ensures keeps { StaysCommitted S.Store tx.old.conn.now tx.new.conn.now }
-    ensures survives { CommitsNothing (state S.Store tx.old.conn.now) (state S.Store tx.new.conn.now) }
+    ensures inserts { InsertsRow S.Store kept_table
+        (Int (pos seq) ∷ Text row.now.filer.now ∷ Text row.now.key.now ∷ Blob row.now.body.now
+        ∷ or_null (λ n. Int (pos n)) number ∷ []) tx.old.conn tx.new.conn result }
 {
     let number = signed(number);
     tx.execute(
@@ -65,14 +60,8 @@ pub fn insert_filing<S: Alter>(
 ) -> Result<(), Error>
     requires number { number < 2 ^ 63 }
     requires seq { seq < 2 ^ 63 }
-    ensures same_reference { tx.new.conn.ghost_name ≡ tx.old.conn.ghost_name }
-    ensures was_inside { OnOk result (IsTrue (state S.Store tx.old.conn.now).in_transaction) }
-    ensures gains { HasCleanDisk (state S.Store tx.new.conn.now)
-        → OnOk result
-        (GainsRows filing_table ((Int (pos number) ∷ Int (pos seq) ∷ []) ∷ []) (state S.Store tx.old.conn.now)
-        (state S.Store tx.new.conn.now)) }
-    ensures keeps { StaysCommitted S.Store tx.old.conn.now tx.new.conn.now }
-    ensures survives { CommitsNothing (state S.Store tx.old.conn.now) (state S.Store tx.new.conn.now) }
+    ensures { InsertsRow S.Store filing_table (Int (pos number) ∷ Int (pos seq) ∷ []) tx.old.conn tx.new.conn
+        result }
 {
     tx.execute(
         "INSERT INTO filing VALUES (?1, ?2)",
@@ -89,14 +78,8 @@ pub fn insert_amends<S: Alter>(
 ) -> Result<(), Error>
     requires seq { seq < 2 ^ 63 }
     requires target { target < 2 ^ 63 }
-    ensures same_reference { tx.new.conn.ghost_name ≡ tx.old.conn.ghost_name }
-    ensures was_inside { OnOk result (IsTrue (state S.Store tx.old.conn.now).in_transaction) }
-    ensures gains { HasCleanDisk (state S.Store tx.new.conn.now)
-        → OnOk result
-        (GainsRows amends_table ((Int (pos seq) ∷ Int (pos target) ∷ []) ∷ []) (state S.Store tx.old.conn.now)
-        (state S.Store tx.new.conn.now)) }
-    ensures keeps { StaysCommitted S.Store tx.old.conn.now tx.new.conn.now }
-    ensures survives { CommitsNothing (state S.Store tx.old.conn.now) (state S.Store tx.new.conn.now) }
+    ensures { InsertsRow S.Store amends_table (Int (pos seq) ∷ Int (pos target) ∷ []) tx.old.conn tx.new.conn
+        result }
 {
     tx.execute(
         "INSERT INTO amends VALUES (?1, ?2)",
@@ -114,14 +97,7 @@ fn insert_finding<S: Alter>(
 ) -> Result<(), Error>
     requires seq { seq < 2 ^ 63 }
     requires at { at < 2 ^ 63 }
-    ensures same_reference { tx.new.conn.ghost_name ≡ tx.old.conn.ghost_name }
-    ensures was_inside { OnOk result (IsTrue (state S.Store tx.old.conn.now).in_transaction) }
-    ensures gains { HasCleanDisk (state S.Store tx.new.conn.now)
-        → OnOk result
-        (GainsRows finding_table (finding_row seq at finding.now ∷ []) (state S.Store tx.old.conn.now)
-        (state S.Store tx.new.conn.now)) }
-    ensures keeps { StaysCommitted S.Store tx.old.conn.now tx.new.conn.now }
-    ensures survives { CommitsNothing (state S.Store tx.old.conn.now) (state S.Store tx.new.conn.now) }
+    ensures { InsertsRow S.Store finding_table (finding_row seq at finding.now) tx.old.conn tx.new.conn result }
 {
     let code = u32::from(finding.code.number());
     let place = finding.place.as_bytes();
@@ -174,14 +150,7 @@ fn insert_fact<S: Alter>(
 ) -> Result<(), Error>
     requires number { number < 2 ^ 63 }
     requires at { at < 2 ^ 63 }
-    ensures same_reference { tx.new.conn.ghost_name ≡ tx.old.conn.ghost_name }
-    ensures was_inside { OnOk result (IsTrue (state S.Store tx.old.conn.now).in_transaction) }
-    ensures gains { HasCleanDisk (state S.Store tx.new.conn.now)
-        → OnOk result
-        (GainsRows fact_table (fact_row number at fact.now ∷ []) (state S.Store tx.old.conn.now)
-        (state S.Store tx.new.conn.now)) }
-    ensures keeps { StaysCommitted S.Store tx.old.conn.now tx.new.conn.now }
-    ensures survives { CommitsNothing (state S.Store tx.old.conn.now) (state S.Store tx.new.conn.now) }
+    ensures { InsertsRow S.Store fact_table (fact_row number at fact.now) tx.old.conn tx.new.conn result }
 {
     let id = fact.id.as_bytes();
     let concept = fact.concept.as_bytes();

@@ -1,8 +1,8 @@
 //! A request is kept: its row, and those of its findings or of its filing and its facts, in one transaction.
 
-ghost use Rattle.std.specs.Prelude.{◌≡◌, ◌<◌, ◌^◌, ◌-◌, false, None, Some, OnOk, OnErr};
+ghost use Rattle.std.specs.Prelude.{◌≡◌, ◌<◌, ◌^◌, ◌-◌, false, None, Some, OnOk};
 ghost use Rattle.sqlite.specs.Held.{state};
-ghost use Rattle.sqlite.specs.State.{HasCleanDisk, Survives};
+ghost use Rattle.sqlite.specs.State.{HasCleanDisk};
 ghost use Rattle.key_string.specs.Key.{IsKey};
 ghost use Rattle.http_wire.specs.Posting.{IsTarget};
 ghost use Rattle.xbrl_report.specs.Judgement.{HasFacts};
@@ -10,8 +10,8 @@ ghost use Rattle.xbrl_report.specs.ReportParts.{facts as facts_of};
 ghost use Rattle.filing_model.specs.Register.{Outcome};
 ghost use Rattle.filing_model.specs.Views.{the_request};
 ghost use Rattle.register_store.specs.Outcomes.{outcome_of};
-ghost use Rattle.register_store.specs.Changes.{Adds, AddsInside, AddsTo, AddsNothing};
-ghost use Rattle.table_rows.specs.Standing.{CommitsNothing, IsLasting, StaysCommitted};
+ghost use Rattle.register_store.specs.Changes.{AddsInside, KeepsRequest};
+ghost use Rattle.table_rows.specs.Standing.{CommitsNothing, StaysCommitted};
 
 use crate::outcome::NewRow;
 use crate::rows::{insert_amends, insert_facts, insert_filing, insert_findings, insert_kept};
@@ -174,26 +174,7 @@ pub fn keep<S: Alter>(
     requires number { number < 2 ^ 63 }
     requires target { IsTarget row.now.target }
     requires facts { HasFacts row.now.body.now row.now.judged.now }
-    ensures key { IsKey row.now.key.now }
-    ensures autocommit { conn.new.in_transaction ≡ false }
-    ensures adds { HasCleanDisk (state S.Store conn.new)
-        → OnOk result
-        (Adds seq
-        (record {
-          request = the_request row.now.filer.now row.now.key.now row.now.target row.now.body.now;
-          outcome = outcome_of number row.now.judged.now;
-        })
-        (state S.Store conn.old) (state S.Store conn.new)) }
-    ensures durable { HasCleanDisk (state S.Store conn.new) → OnOk result (IsLasting (state S.Store conn.new)) }
-    ensures neither { HasCleanDisk (state S.Store conn.new)
-        → OnErr result (AddsNothing (state S.Store conn.old) (state S.Store conn.new)) }
-    ensures crash { Survives (state S.Store conn.old) (state S.Store conn.new)
-        (AddsTo seq
-        (record {
-          request = the_request row.now.filer.now row.now.key.now row.now.target row.now.body.now;
-          outcome = outcome_of number row.now.judged.now;
-        })
-        (state S.Store conn.old).now) }
+    ensures { KeepsRequest S.Store seq number row.now conn.old conn.new result }
 {
     let mut tx = conn.transaction();
     write(&mut tx, seq, number, row)?;

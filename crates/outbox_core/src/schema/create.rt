@@ -1,6 +1,6 @@
 //! Making the tables of an outbox.
 
-ghost use Rattle.std.specs.Prelude.{◌≡◌, ◌||◌, ◌⊎◌, ◌↔◌, ℕ, true, false, [], Ok, Err, IsTrue, IfOk, IfErr, OnOk, string_bytes};
+ghost use Rattle.std.specs.Prelude.{◌≡◌, ◌||◌, ℕ, true, false, [], Ok, OnOk};
 ghost use Rattle.key_string.specs.Filer.{is_filer};
 ghost use Rattle.sqlite.specs.Held.{state};
 ghost use Rattle.sqlite.specs.Values.{bound};
@@ -8,9 +8,8 @@ ghost use Rattle.sqlite.specs.State.{HasCleanDisk, Survives, ExecutesInside};
 ghost use Rattle.table_rows.specs.Tables.{no_schema};
 ghost use Rattle.outbox_core.specs.Schema.{is_taken};
 ghost use Rattle.outbox_core.specs.Entries.{empty};
-ghost use Rattle.outbox_core.specs.Faults.{IsOfMaking};
 ghost use Rattle.outbox_core.specs.Rows.{IsOutboxOf};
-ghost use Rattle.outbox_core.specs.Making.{RunsAll, AreMade, LeavesMade};
+ghost use Rattle.outbox_core.specs.Making.{RunsAll, AreMade, MakesOutbox};
 ghost use Rattle.table_rows.specs.Standing.{CommitsNothing, StaysCommitted, IsCommitted, IsLasting, KeepsOnErr};
 
 use crate::fault::OutboxFault;
@@ -102,27 +101,7 @@ pub fn make_outbox<S: Alter>(
     filer: &str,
 ) -> Result<String, OutboxFault>
     requires autocommit { conn.old.in_transaction ≡ false }
-    ensures autocommit { conn.new.in_transaction ≡ false }
-    ensures code { IfOk result (λ code. string_bytes code ≡ filer.now) }
-    ensures made { HasCleanDisk (state S.Store conn.new) → (state S.Store conn.old).now.schema ≡ no_schema
-        → OnOk result (IsOutboxOf (empty filer.now) (state S.Store conn.new).now) }
-    ensures committed { HasCleanDisk (state S.Store conn.new) → OnOk result (IsCommitted (state S.Store conn.new)) }
-
-    // BadFiler comes where the text is no filer code, and always there; Taken where it is one and one of the names is in
-    // use, and always there. Neither touches the connection.
-    ensures bad_filer { (result ≡ Err OutboxFault.BadFiler) ↔ (is_filer filer.now ≡ false) }
-    ensures taken { (result ≡ Err OutboxFault.Taken) ↔ ((is_filer filer.now ≡ true)
-        × IsTrue (is_taken (state S.Store conn.old).now.schema)) }
-    ensures untouched { (result ≡ Err OutboxFault.BadFiler) ⊎ (result ≡ Err OutboxFault.Taken) → conn.new ≡ conn.old }
-    ensures no_other { IfErr result IsOfMaking }
-
-    // Whatever tables there were: the four statements are committed together; on a refusal what is committed is what was
-    // committed; and a crash leaves what one before the call could leave, or all four, and after Ok these alone.
-    ensures ran { HasCleanDisk (state S.Store conn.new)
-        → OnOk result (AreMade S.Store filer.now conn.old (state S.Store conn.new).now.trees) }
-    ensures undone { KeepsOnErr (state S.Store conn.old) (state S.Store conn.new) result }
-    ensures crash { Survives (state S.Store conn.old) (state S.Store conn.new) (LeavesMade S.Store filer.now conn.old) }
-    ensures durable { HasCleanDisk (state S.Store conn.new) → OnOk result (IsLasting (state S.Store conn.new)) }
+    ensures { MakesOutbox S.Store filer.now conn.old conn.new result }
 {
     if !is_filer(filer) {
         return Err(OutboxFault::BadFiler);

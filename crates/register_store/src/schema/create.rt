@@ -1,16 +1,13 @@
 //! The tables of a register are made.
 
-ghost use Rattle.std.specs.Prelude.{◌≡◌, ◌≢◌, ◌↔◌, ℕ, false, [], Ok, Err, IsTrue, IfErr, OnOk, OnErr};
+ghost use Rattle.std.specs.Prelude.{◌≡◌, ◌≢◌, ◌↔◌, ℕ, false, [], Ok, Err, IsTrue, IfErr, OnOk};
 ghost use Rattle.sqlite.specs.Held.{state};
 ghost use Rattle.sqlite.specs.declared.error.Error.{Error};
-ghost use Rattle.sqlite.specs.State.{HasCleanDisk, Survives, ExecutesInside};
-ghost use Rattle.table_rows.specs.Tables.{no_schema};
-ghost use Rattle.register_store.specs.Changes.{AddsNothing};
+ghost use Rattle.sqlite.specs.State.{HasCleanDisk, ExecutesInside};
 ghost use Rattle.register_store.specs.Faults.{create_fault};
-ghost use Rattle.register_store.specs.Making.{common_texts, later_texts, making_texts, AreRun, StopsWith, Makes, FailsToMake};
+ghost use Rattle.register_store.specs.Making.{common_texts, later_texts, making_texts, AreRun, StopsWith, FailsToMake, MakesRegister};
 ghost use Rattle.register_store.specs.Schema.{is_taken};
-ghost use Rattle.register_store.specs.Store.{IsRegisterOf};
-ghost use Rattle.table_rows.specs.Standing.{CommitsNothing, IsLasting, StaysCommitted};
+ghost use Rattle.table_rows.specs.Standing.{CommitsNothing, StaysCommitted};
 
 use crate::fault::CreateFault;
 use crate::opening::is_settled;
@@ -113,16 +110,9 @@ fn make_tables<S: Alter>(tx: &mut Transaction<'_, S>) -> Result<(), Error>
 /// Runs the statements in one transaction.
 fn make<S: Alter>(conn: &mut Connection<S>) -> Result<(), Error>
     requires autocommit { conn.old.in_transaction ≡ false }
-    ensures autocommit { conn.new.in_transaction ≡ false }
-    ensures made { HasCleanDisk (state S.Store conn.new) → (state S.Store conn.old).now.schema ≡ no_schema
-        → OnOk result (IsTrue (state S.Store conn.new).is_open × IsRegisterOf 0 [] (state S.Store conn.new).now
-        × ((state S.Store conn.new).committed ≡ (state S.Store conn.new).now)) }
-    ensures durable { HasCleanDisk (state S.Store conn.new) → OnOk result (IsLasting (state S.Store conn.new)) }
+    ensures makes { MakesRegister S.Store conn.old conn.new result }
     ensures failed { HasCleanDisk (state S.Store conn.new)
         → IfErr result (λ error. FailsToMake S.Store error conn.old conn.new) }
-    ensures neither { HasCleanDisk (state S.Store conn.new)
-        → OnErr result (AddsNothing (state S.Store conn.old) (state S.Store conn.new)) }
-    ensures crash { Survives (state S.Store conn.old) (state S.Store conn.new) (Makes S.Store conn.old) }
 {
     let mut tx = conn.transaction();
     make_tables(&mut tx)?;
@@ -133,11 +123,7 @@ fn make<S: Alter>(conn: &mut Connection<S>) -> Result<(), Error>
 /// had no table before.
 pub fn make_register<S: Alter>(conn: &mut Connection<S>) -> Result<(), CreateFault>
     requires autocommit { conn.old.in_transaction ≡ false }
-    ensures autocommit { conn.new.in_transaction ≡ false }
-    ensures made { HasCleanDisk (state S.Store conn.new) → (state S.Store conn.old).now.schema ≡ no_schema
-        → OnOk result (IsTrue (state S.Store conn.new).is_open × IsRegisterOf 0 [] (state S.Store conn.new).now
-        × ((state S.Store conn.new).committed ≡ (state S.Store conn.new).now)) }
-    ensures durable { HasCleanDisk (state S.Store conn.new) → OnOk result (IsLasting (state S.Store conn.new)) }
+    ensures makes { MakesRegister S.Store conn.old conn.new result }
 
     // Taken comes where one of the names is in use, and always there. Another refusal has its cause in a statement or in the commit.
     ensures taken { (result ≡ Err CreateFault.Taken) ↔ IsTrue (is_taken (state S.Store conn.old).now.schema) }
@@ -145,13 +131,6 @@ pub fn make_register<S: Alter>(conn: &mut Connection<S>) -> Result<(), CreateFau
         → IfErr result (λ fault.
         fault ≢ CreateFault.Taken
         → (error : Error) × (fault ≡ create_fault error) × FailsToMake S.Store error conn.old conn.new) }
-
-    // After a refusal nothing was written, and what was committed is what it was: whatever tables there are.
-    ensures neither { HasCleanDisk (state S.Store conn.new)
-        → OnErr result (AddsNothing (state S.Store conn.old) (state S.Store conn.new)) }
-
-    // A crash leaves what it could leave before, or what all the statements make of the database.
-    ensures crash { Survives (state S.Store conn.old) (state S.Store conn.new) (Makes S.Store conn.old) }
 {
     prove!(is_settled(conn));
     if names::is_taken(conn.schema()) {

@@ -1,19 +1,16 @@
 //! What is kept of a filer and key: its row, and the findings where it was refused.
 
-ghost use Rattle.std.specs.Prelude.{◌≡◌, ℕ, pos, List, map, take, option_map, Option, IsTrue, IfOk, IfSome, OnOk};
+ghost use Rattle.std.specs.Prelude.{◌≡◌, ℕ, pos, List, map, Option, IsTrue, IfOk, OnOk};
 ghost use Rattle.sqlite.specs.Held.{state};
 ghost use Rattle.sqlite.specs.State.{HasCleanDisk};
 ghost use Rattle.filing_model.specs.Request.{Request};
 ghost use Rattle.filing_model.specs.Register.{Kept, kept};
-ghost use Rattle.filing_model.specs.Answer.{kept_for};
-ghost use Rattle.filing_model.specs.Style.{style_of};
-ghost use Rattle.filing_model.specs.Views.{the_request};
 ghost use Rattle.table_rows.specs.Standing.{HasCommitted, CommitsNothing, StaysAutocommit};
 ghost use Rattle.register_store.specs.Register.{amends_rows_by, findings_of, number_of};
 ghost use Rattle.xbrl_report.specs.CodeNumber.{number_of as code_number};
 ghost use Rattle.register_store.specs.Store.{IsRegisterOf, AnswersOpen, KeepsRegister, ForRegister};
 ghost use Rattle.register_store.specs.Outcomes.{kept_as, style_at};
-ghost use Rattle.register_store.specs.Found.{IsFound, IsLookUp, IsPlaced, IsReading, found_row, finding_in, target_alone};
+ghost use Rattle.register_store.specs.Found.{FindsKept, IsFound, IsLookUp, IsPlaced, IsReading, found_row, finding_in, target_alone};
 
 use crate::decode::facts::read_text;
 use crate::fault::StoreFault;
@@ -244,19 +241,7 @@ pub fn find_kept<S: Alter>(
     filer: &str,
     key: &str,
 ) -> Result<Option<KeptRow>, StoreFault>
-    ensures found { ForRegister S.Store conn.old conn.new (λ _ F.
-        (target : Option ℕ) (body : List ℕ)
-        → IfOk result (λ row.
-        option_map (kept_as filer.now key.now) row ≡ kept_for (kept F)
-        (the_request filer.now key.now target body))) }
-    ensures style { HasCleanDisk (state S.Store conn.new) → (F : List Request)
-        → HasCommitted (IsRegisterOf early F) (state S.Store conn.old) → (target : Option ℕ) (body : List ℕ)
-        → IfOk result (λ row.
-        IfSome row (λ r. r.style ≡ style_of (take early F) (the_request filer.now key.now target body))) }
-    ensures same { KeepsRegister (state S.Store conn.old) (state S.Store conn.new) }
-    ensures open { AnswersOpen (state S.Store conn.old) (state S.Store conn.new) result }
-    ensures mode { StaysAutocommit conn.old conn.new }
-    ensures crash { CommitsNothing (state S.Store conn.old) (state S.Store conn.new) }
+    ensures { FindsKept S.Store early filer.now key.now conn.old conn.new result }
 {
     match look_up(conn, filer, key) {
         Ok(Some(found)) => match complete_found(conn, alloc, early, found) {

@@ -4,8 +4,14 @@ use Rattle.sqlite.specs.Held.{state}
 use Rattle.register_store.proofs.OurGains.{filing_gains}
 use Rattle.register_store.proofs.rows.insert_filing.Goals as goal
 
-pub returns-clause-gains : goal.returns-clause-gains
-returns-clause-gains g c clean =
-    let ran = c.in_ok-execute.ensures.runs clean (search rules) in
-    filing_gains (state g.S.Store c.args.tx.now.conn.now) (state g.S.Store c.execute.new.self.conn.now) (pos c.args.number) (pos c.args.seq) c.in_ok-execute.field-0
-    (rw (c.params-to_sql.ensures, c.params-to_sql-2.ensures, to_z-of_z w64 (pos c.args.number) (record { sfits = omega (arith, c.requires.number) }), to_z-of_z w64 (pos c.args.seq) (record { sfits = omega (arith, c.requires.seq) })) at ran)
+pub returns : goal.returns
+returns g c = record {
+  same_reference = search rules;
+  was_inside = search rules;
+  gains = λ clean.
+      let ran = c.in_ok-execute.ensures.runs clean (search rules) in
+      filing_gains (state g.S.Store c.args.tx.now.conn.now) (state g.S.Store c.execute.new.self.conn.now) (pos c.args.number) (pos c.args.seq) c.in_ok-execute.field-0
+      (rw (c.params-to_sql.ensures, c.params-to_sql-2.ensures, to_z-of_z w64 (pos c.args.number) (record { sfits = omega (arith, c.requires.number) }), to_z-of_z w64 (pos c.args.seq) (record { sfits = omega (arith, c.requires.seq) })) at ran);
+  keeps = search rules;
+  survives = search rules;
+}

@@ -15,7 +15,7 @@ returns-clause-adds g c clean =
     let row = c.args.row.now in
     let late : HasCleanDisk next = omega (arith, c.insert_facts.ensures.survives.clean) in
     let early : HasCleanDisk mid = omega (arith, c.insert_filing.ensures.survives.clean, late) in
-    let one = c.in_ok-insert_kept.ensures.gains early in
+    let one = c.in_ok-insert_kept.ensures.inserts.gains early in
     let two = c.in_ok-insert_filing.ensures.gains late in
     IfOk-weaker c.insert_facts.result _ _ (λ _ three. adds_accepted c.args.seq (the_request row.filer.now row.key.now None row.body.now) refl c.args.number first mid next last one two (rw c.requires.facts at three))
     (c.insert_facts.ensures.gains clean two.inside)

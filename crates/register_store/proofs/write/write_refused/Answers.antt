@@ -13,6 +13,6 @@ returns-clause-adds g c clean =
     let last = state g.S.Store c.insert_findings.new.tx.conn.now in
     let row = c.args.row.now in
     let early : HasCleanDisk mid = omega (arith, c.insert_findings.ensures.survives.clean) in
-    let one = c.in_ok-insert_kept.ensures.gains early in
+    let one = c.in_ok-insert_kept.ensures.inserts.gains early in
     IfOk-weaker c.insert_findings.result _ _ (λ _ two. adds_refused c.args.seq (the_request row.filer.now row.key.now None row.body.now) refl c.args.findings.now first mid last one two)
     (c.insert_findings.ensures.gains clean one.inside)

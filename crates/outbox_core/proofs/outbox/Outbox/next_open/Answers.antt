@@ -1,16 +1,33 @@
+use Rattle.std.proofs.Common.{rules}
+use Rattle.sqlite.specs.Held.{state}
+use Rattle.outbox_core.proofs.ListLemmas.{leaves_last}
 use Rattle.outbox_core.proofs.outbox.Outbox.next_open.Goals as goal
 
-pub returns-in-Ok-clause-found : goal.returns-in-Ok-clause-found
-returns-in-Ok-clause-found g c clean entries was =
-    let had = rw (← c.self.view_is) at was in
-    c.in-Ok.ensures.found clean _ had.stands
+pub returns-in-Ok : goal.returns-in-Ok
+returns-in-Ok g c = record {
+  found = λ clean entries was. let had = rw (← c.self.view_is) at was in c.in-Ok.ensures.found clean _ had.stands;
+  short = search rules;
+  within = search rules;
+  kept = λ clean entries was. let had = rw (← c.self.view_is) at was in record { stands = c.in-Ok.ensures.kept clean _ had.stands; count = had.count };
+  stopped = search rules;
+  stops = search rules;
+  filer = search rules;
+  crash = search rules;
+  durable = λ clean entries was some.
+      let had = rw (← c.self.view_is) at was in
+      let alive = c.in-Ok.ensures.open clean _ had.stands in
+      (alive, λ trees may. leaves_last (state g.S.Store c.open_entry.new.conn) _ (c.in-Ok.ensures.kept clean _ had.stands) alive trees (g.met.S.Store.settled c.open_entry.new.conn.store trees alive may));
+}
 
-pub returns-in-Ok-clause-kept : goal.returns-in-Ok-clause-kept
-returns-in-Ok-clause-kept g c clean entries was =
-    let had = rw (← c.self.view_is) at was in
-    record { stands = c.in-Ok.ensures.kept clean _ had.stands; count = had.count }
-
-pub returns-in-Err-clause-kept : goal.returns-in-Err-clause-kept
-returns-in-Err-clause-kept g c clean entries was =
-    let had = rw (← c.self.view_is) at was in
-    record { stands = c.in-Err.ensures.kept clean _ had.stands; count = had.count }
+pub returns-in-Err : goal.returns-in-Err
+returns-in-Err g c = record {
+  found = search rules;
+  short = search rules;
+  within = search rules;
+  kept = λ clean entries was. let had = rw (← c.self.view_is) at was in record { stands = c.in-Err.ensures.kept clean _ had.stands; count = had.count };
+  stopped = search rules;
+  stops = search rules;
+  filer = search rules;
+  crash = search rules;
+  durable = search rules;
+}

@@ -1,4 +1,4 @@
-use Rattle.std.proofs.Common.{subst, string_bytes}
+use Rattle.std.proofs.Common.{subst, string_bytes, rules}
 use Rattle.sqlite.specs.Held.{state}
 use Rattle.table_rows.specs.Standing.{HasCommitted}
 use Rattle.outbox_core.specs.Entries.{contents_of}
@@ -7,24 +7,32 @@ use Rattle.outbox_core.proofs.ListLemmas.{leaves_last}
 use Rattle.outbox_core.proofs.UniqueLemmas.{one_outbox, holds_same}
 use Rattle.outbox_core.proofs.outbox.Outbox.open.Goals as goal
 
-pub returns-in-Ok-clause-opened : goal.returns-in-Ok-clause-opened
-returns-in-Ok-clause-opened g c clean declared =
-    let found = c.in-Ok.ensures.found clean declared in
-    (found.0, found.1, record { stands = found.2; count = found.3 })
+pub returns-in-Ok : goal.returns-in-Ok
+returns-in-Ok g c = record {
+  opened = λ clean declared. let found = c.in-Ok.ensures.found clean declared in (found.0, found.1, record { stands = found.2; count = found.3 });
+  able = search rules;
+  same = λ clean it is.
+      let found = c.in-Ok.ensures.found clean is.rows.declared in
+      let one = one_outbox (contents_of (string_bytes c.in-Ok.field-0.filer) found.0) it (state g.S.Store c.args.conn).now found.1 is in
+      holds_same g.S.Store _ found.0 it one (record { stands = found.2; count = found.3 });
+  durable = λ clean it is.
+      let found = c.in-Ok.ensures.found clean is.rows.declared in
+      let one = one_outbox (contents_of (string_bytes c.in-Ok.field-0.filer) found.0) it (state g.S.Store c.args.conn).now found.1 is in
+      let new = state g.S.Store c.read_outbox.new.conn in
+      let alive = c.in-Ok.ensures.open clean is.rows.declared in
+      (alive, λ trees may. leaves_last new it (subst (λ i. HasCommitted (IsOutboxOf i) new) one found.2) alive trees (g.met.S.Store.settled c.read_outbox.new.conn.store trees alive may));
+  crash = search rules;
+  refused = search rules;
+  no_other = search rules;
+}
 
-pub returns-in-Ok-clause-same : goal.returns-in-Ok-clause-same
-returns-in-Ok-clause-same g c clean it is =
-    let found = c.in-Ok.ensures.found clean is.rows.declared in
-    let one = one_outbox (contents_of (string_bytes c.in-Ok.field-0.filer) found.0) it (state g.S.Store c.args.conn).now found.1 is in
-    holds_same g.S.Store _ found.0 it one (record { stands = found.2; count = found.3 })
-
-pub returns-in-Ok-clause-durable : goal.returns-in-Ok-clause-durable
-returns-in-Ok-clause-durable g c clean it is =
-    let found = c.in-Ok.ensures.found clean is.rows.declared in
-    let one = one_outbox (contents_of (string_bytes c.in-Ok.field-0.filer) found.0) it (state g.S.Store c.args.conn).now found.1 is in
-    let new = state g.S.Store c.read_outbox.new.conn in
-    let alive = c.in-Ok.ensures.open clean is.rows.declared in
-    (alive, λ trees may. leaves_last new it (subst (λ i. HasCommitted (IsOutboxOf i) new) one found.2) alive trees (g.met.S.Store.settled c.read_outbox.new.conn.store trees alive may))
-
-pub returns-in-Err-clause-refused : goal.returns-in-Err-clause-refused
-returns-in-Err-clause-refused g c = (c.read_outbox.new.conn, c.read_outbox.ensures.crash, c.read_outbox.ensures.kept, c.in-Err.ensures.refused, c.in-Err.ensures.sound)
+pub returns-in-Err : goal.returns-in-Err
+returns-in-Err g c = record {
+  opened = search rules;
+  able = search rules;
+  same = search rules;
+  durable = search rules;
+  crash = search rules;
+  refused = (c.read_outbox.new.conn, c.read_outbox.ensures.crash, c.read_outbox.ensures.kept, c.in-Err.ensures.refused, c.in-Err.ensures.sound);
+  no_other = search rules;
+}

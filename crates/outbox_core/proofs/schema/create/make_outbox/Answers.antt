@@ -5,12 +5,38 @@ use Rattle.sqlite.proofs.StateLemmas.{survives_weaker}
 use Rattle.outbox_core.proofs.MakeLemmas.{made_leaves}
 use Rattle.outbox_core.proofs.schema.create.make_outbox.Goals as goal
 
-pub returns-in-Ok-clause-crash : goal.returns-in-Ok-clause-crash
-returns-in-Ok-clause-crash g c =
-    let is : is_filer c.args.filer.now ≡ true = search rules in
-    survives_weaker (state g.S.Store c.args.conn.now) (state g.S.Store c.make.new.conn) _ _ (λ _ trees made. (made, made_leaves g.S.Store c.args.filer.now c.args.conn.now is trees made)) c.make.ensures.crash
+pub returns-in-Ok : goal.returns-in-Ok
+returns-in-Ok g c = record {
+  autocommit = search rules;
+  code = search rules;
+  made = search rules;
+  committed = search rules;
+  bad_filer = search rules;
+  taken = search rules;
+  untouched = search rules;
+  no_other = search rules;
+  ran = c.in-Ok.ensures.ran;
+  undone = search rules;
+  crash =
+      let is : is_filer c.args.filer.now ≡ true = search rules in
+      survives_weaker (state g.S.Store c.args.conn.now) (state g.S.Store c.make.new.conn) _ _ (λ _ trees made. (made, made_leaves g.S.Store c.args.filer.now c.args.conn.now is trees made)) c.make.ensures.crash;
+  durable = search rules;
+}
 
-pub returns-in-Err-clause-crash : goal.returns-in-Err-clause-crash
-returns-in-Err-clause-crash g c =
-    let is : is_filer c.args.filer.now ≡ true = search rules in
-    survives_weaker (state g.S.Store c.args.conn.now) (state g.S.Store c.make.new.conn) _ _ (λ _ trees made. (made, made_leaves g.S.Store c.args.filer.now c.args.conn.now is trees made)) c.make.ensures.crash
+pub returns-in-Err : goal.returns-in-Err
+returns-in-Err g c = record {
+  autocommit = search rules;
+  code = search rules;
+  made = search rules;
+  committed = search rules;
+  bad_filer = search rules;
+  taken = search rules;
+  untouched = search rules;
+  no_other = search rules;
+  ran = search rules;
+  undone = search rules;
+  crash =
+      let is : is_filer c.args.filer.now ≡ true = search rules in
+      survives_weaker (state g.S.Store c.args.conn.now) (state g.S.Store c.make.new.conn) _ _ (λ _ trees made. (made, made_leaves g.S.Store c.args.filer.now c.args.conn.now is trees made)) c.make.ensures.crash;
+  durable = search rules;
+}

@@ -14,41 +14,41 @@ use Rattle.register_store.proofs.schema.create.make.Goals as goal
 abbrev IsMade : State → Type 0
 IsMade s = IsTrue s.is_open × IsRegisterOf 0 [] s.now × (s.committed ≡ s.now)
 
-pub returns-clause-made : goal.returns-clause-made
-returns-clause-made g c clean none =
-    let last = c.make_tables.new.tx.conn.now in
-    let end = c.commit.new.self.0 in
-    let same : end ≡ c.conn-2-1.given.0 = search rules in
-    let late : HasCleanDisk (state g.S.Store end) = search rules in
-    let mid : HasCleanDisk (state g.S.Store last) = omega (arith, c.commit.ensures.survives.clean) in
-    let ran : AreRun g.S.Store making_texts (begun c.args.conn.now) last = rw c.transaction-tx.ensures.begun at c.in_ok-make_tables.ensures.ran mid in
-    let register = makes_empty g.S.Store c.args.conn.now last ran none in
-    IfOk-weaker c.commit.result _ _ (λ _ done.
-    let there : IsMade (state g.S.Store end) = (done.1.is_open, subst (IsRegisterOf 0 []) (sym done.1.now_is) register, done.1.committed_is ∙ sym done.1.now_is) in
-    let here : IsMade (state g.S.Store c.conn-2-1.given.0) = subst (λ h. IsMade (state g.S.Store h)) same there in
-    here) (c.commit.ensures.ok late)
-
-pub returns-clause-crash : goal.returns-clause-crash
-returns-clause-crash g c =
-    let old = c.args.conn.now in
-    let last = c.make_tables.new.tx.conn.now in
-    let begins = c.transaction-tx.ensures.begun in
-    let end = c.commit.new.self.0 in
-    let same : end ≡ c.conn-2-1.given.0 = search rules in
-    let ran : HasCleanDisk (state g.S.Store last) → AreRun g.S.Store making_texts (begun old) last = λ mid. rw begins at c.in_ok-make_tables.ensures.ran mid in
-    let whole = survives_then (state g.S.Store old) (state g.S.Store last) (state g.S.Store end) _ _ (Makes g.S.Store old) (λ _ db none. absurd none)
-    (λ late db is. record { last = last; ran = ran (omega (arith, c.commit.ensures.survives.clean)); is = is }) (survives_begin g.S.Store old (state g.S.Store last) _ (rw begins at c.in_ok-make_tables.ensures.survives)) c.commit.ensures.survives in
-    subst (λ h. Survives (state g.S.Store old) (state g.S.Store h) (Makes g.S.Store old)) same whole
-
--- once they are made, a crash leaves them
-pub returns-clause-durable : goal.returns-clause-durable
-returns-clause-durable g c clean =
-    let end = c.commit.new.self.0 in
-    let same : end ≡ c.conn-2-1.given.0 = search rules in
-    let late : HasCleanDisk (state g.S.Store end) = search rules in
-    IfOk-weaker c.commit.result _ _ (λ _ done. let r : (trees : Trees) → (state g.S.Store c.conn-2-1.given.0).may_leave trees → trees ≡ (state g.S.Store c.conn-2-1.given.0).now.trees =
-    subst (λ h. (trees : Trees) → (state g.S.Store h).may_leave trees → trees ≡ (state g.S.Store h).now.trees) same
-    (λ trees left. g.met.S.Store.settled end.store trees done.1.is_open left ∙ ap (λ (d : Database). d.trees) (done.1.committed_is ∙ sym done.1.now_is)) in r) (c.commit.ensures.ok late)
+pub returns-clause-makes : goal.returns-clause-makes
+returns-clause-makes g c = record {
+  autocommit = search rules;
+  made = λ clean none.
+      let last = c.make_tables.new.tx.conn.now in
+      let end = c.commit.new.self.0 in
+      let same : end ≡ c.conn-2-1.given.0 = search rules in
+      let late : HasCleanDisk (state g.S.Store end) = search rules in
+      let mid : HasCleanDisk (state g.S.Store last) = omega (arith, c.commit.ensures.survives.clean) in
+      let ran : AreRun g.S.Store making_texts (begun c.args.conn.now) last = rw c.transaction-tx.ensures.begun at c.in_ok-make_tables.ensures.ran mid in
+      let register = makes_empty g.S.Store c.args.conn.now last ran none in
+      IfOk-weaker c.commit.result _ _ (λ _ done.
+      let there : IsMade (state g.S.Store end) = (done.1.is_open, subst (IsRegisterOf 0 []) (sym done.1.now_is) register, done.1.committed_is ∙ sym done.1.now_is) in
+      let here : IsMade (state g.S.Store c.conn-2-1.given.0) = subst (λ h. IsMade (state g.S.Store h)) same there in
+      here) (c.commit.ensures.ok late);
+  -- once they are made, a crash leaves them
+  durable = λ clean.
+      let end = c.commit.new.self.0 in
+      let same : end ≡ c.conn-2-1.given.0 = search rules in
+      let late : HasCleanDisk (state g.S.Store end) = search rules in
+      IfOk-weaker c.commit.result _ _ (λ _ done. let r : (trees : Trees) → (state g.S.Store c.conn-2-1.given.0).may_leave trees → trees ≡ (state g.S.Store c.conn-2-1.given.0).now.trees =
+      subst (λ h. (trees : Trees) → (state g.S.Store h).may_leave trees → trees ≡ (state g.S.Store h).now.trees) same
+      (λ trees left. g.met.S.Store.settled end.store trees done.1.is_open left ∙ ap (λ (d : Database). d.trees) (done.1.committed_is ∙ sym done.1.now_is)) in r) (c.commit.ensures.ok late);
+  neither = search rules;
+  crash =
+      let old = c.args.conn.now in
+      let last = c.make_tables.new.tx.conn.now in
+      let begins = c.transaction-tx.ensures.begun in
+      let end = c.commit.new.self.0 in
+      let same : end ≡ c.conn-2-1.given.0 = search rules in
+      let ran : HasCleanDisk (state g.S.Store last) → AreRun g.S.Store making_texts (begun old) last = λ mid. rw begins at c.in_ok-make_tables.ensures.ran mid in
+      let whole = survives_then (state g.S.Store old) (state g.S.Store last) (state g.S.Store end) _ _ (Makes g.S.Store old) (λ _ db none. absurd none)
+      (λ late db is. record { last = last; ran = ran (omega (arith, c.commit.ensures.survives.clean)); is = is }) (survives_begin g.S.Store old (state g.S.Store last) _ (rw begins at c.in_ok-make_tables.ensures.survives)) c.commit.ensures.survives in
+      subst (λ h. Survives (state g.S.Store old) (state g.S.Store h) (Makes g.S.Store old)) same whole;
+}
 
 pub returns-in_err-make_tables-clause-failed : goal.returns-in_err-make_tables-clause-failed
 returns-in_err-make_tables-clause-failed g c clean =

@@ -1,22 +1,23 @@
+use Rattle.std.proofs.Common.{rules}
 use Rattle.std.proofs.lemmas.Result.{IfOk-weaker}
 use Rattle.sqlite.specs.Held.{state}
 use Rattle.register_store.proofs.StoreLemmas.{leaves}
 use Rattle.register_store.proofs.store.Store.find.Goals as goal
 
-pub returns-clause-found : goal.returns-clause-found
-returns-clause-found g c clean F has = let had = rw (← c.self.view_is) at has in rw (← c.as_str.ensures.value) (c.find_kept.ensures.found clean c.self.inside.early F had.stands)
-
-pub returns-clause-style : goal.returns-clause-style
-returns-clause-style g c clean F = rw (← c.self.view_is, ← c.as_str.ensures.value) (λ had. c.find_kept.ensures.style clean F had.stands)
-
-pub returns-clause-same : goal.returns-clause-same
-returns-clause-same g c clean F has =
-    let had = rw (← c.self.view_is) at has in
-    record { stands = c.find_kept.ensures.same clean c.self.inside.early F had.stands; kept_is = had.kept_is; filings_is = had.filings_is; within = had.within }
-
-pub returns-clause-durable : goal.returns-clause-durable
-returns-clause-durable g c clean F = rw (← c.self.view_is) (λ had.
-    let early = c.self.inside.early in
-    let new = c.find_kept.new.conn in
-    let stands = c.find_kept.ensures.same clean early F had.stands in
-    IfOk-weaker c.find_kept.result _ _ (λ _ alive. (alive, λ trees left. leaves early F (state g.S.Store new) stands alive trees (g.met.S.Store.settled new.store trees alive left))) (c.find_kept.ensures.open clean early F had.stands))
+pub returns : goal.returns
+returns g c = record {
+  found = λ clean F has. let had = rw (← c.self.view_is) at has in rw (← c.as_str.ensures.value) (c.find_kept.ensures.found clean c.self.inside.early F had.stands);
+  style = λ clean F. rw (← c.self.view_is, ← c.as_str.ensures.value) (λ had. c.find_kept.ensures.style clean F had.stands);
+  same = λ clean F has.
+      let had = rw (← c.self.view_is) at has in
+      record { stands = c.find_kept.ensures.same clean c.self.inside.early F had.stands; kept_is = had.kept_is; filings_is = had.filings_is; within = had.within };
+  counts = search rules;
+  early = search rules;
+  crash = search rules;
+  durable = λ clean F.
+      rw (← c.self.view_is) (λ had.
+      let early = c.self.inside.early in
+      let new = c.find_kept.new.conn in
+      let stands = c.find_kept.ensures.same clean early F had.stands in
+      IfOk-weaker c.find_kept.result _ _ (λ _ alive. (alive, λ trees left. leaves early F (state g.S.Store new) stands alive trees (g.met.S.Store.settled new.store trees alive left))) (c.find_kept.ensures.open clean early F had.stands));
+}

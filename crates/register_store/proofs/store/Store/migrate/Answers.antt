@@ -1,4 +1,4 @@
-use Rattle.std.proofs.Common.{sym, subst}
+use Rattle.std.proofs.Common.{sym, subst, rules}
 use Rattle.sqlite.specs.Held.{state}
 use Rattle.sqlite.proofs.StateLemmas.{survives_weaker}
 use Rattle.table_rows.specs.Standing.{HasCommitted}
@@ -6,29 +6,34 @@ use Rattle.register_store.specs.Store.{IsRegisterOf}
 use Rattle.register_store.proofs.Surveyed.{early_within, leaves_migrated}
 use Rattle.register_store.proofs.store.Store.migrate.Goals as goal
 
-pub returns-in-Ok-clause-migrated : goal.returns-in-Ok-clause-migrated
-returns-in-Ok-clause-migrated g c clean form alone =
-    let m = c.in-Ok.ensures.migrated clean form alone in
-    (m.requests, m.were, record { stands = m.are; kept_is = m.kept_is; filings_is = m.filings_is; within = early_within form _ _ _ m.were.rows.early_is })
+pub returns-in-Ok : goal.returns-in-Ok
+returns-in-Ok g c = record {
+  migrated = λ clean form alone.
+      let m = c.in-Ok.ensures.migrated clean form alone in
+      (m.requests, m.were, record { stands = m.are; kept_is = m.kept_is; filings_is = m.filings_is; within = early_within form _ _ _ m.were.rows.early_is });
+  only = λ clean form early F alone is.
+      let found = c.in-Ok.ensures.only clean form early F alone is in
+      let same = sym found.0 in (
+        found.0,
+        record {
+          stands = subst (λ n. HasCommitted (IsRegisterOf n F) (state g.S.Store c.migrate_register.new.conn)) same found.1;
+          kept_is = found.2;
+          filings_is = found.3;
+          within = rw found.0 (early_within form _ early _ is.rows.early_is);
+        },
+      );
+  refused = search rules;
+  crash = survives_weaker (state g.S.Store c.args.conn) (state g.S.Store c.migrate_register.new.conn) _ _ (λ _ trees m form early F alone is. leaves_migrated g.S.Store c.args.conn trees m form early F alone is) c.migrate_register.ensures.crash;
+  durable = search rules;
+}
 
-pub returns-in-Ok-clause-only : goal.returns-in-Ok-clause-only
-returns-in-Ok-clause-only g c clean form early F alone is =
-    let found = c.in-Ok.ensures.only clean form early F alone is in
-    let same = sym found.0 in (
-      found.0,
-      record {
-        stands = subst (λ n. HasCommitted (IsRegisterOf n F) (state g.S.Store c.migrate_register.new.conn)) same found.1;
-        kept_is = found.2;
-        filings_is = found.3;
-        within = rw found.0 (early_within form _ early _ is.rows.early_is);
-      },
-    )
-
-pub returns-in-Ok-clause-crash : goal.returns-in-Ok-clause-crash
-returns-in-Ok-clause-crash g c =
-    survives_weaker (state g.S.Store c.args.conn) (state g.S.Store c.migrate_register.new.conn) _ _ (λ _ trees m form early F alone is. leaves_migrated g.S.Store c.args.conn trees m form early F alone is) c.migrate_register.ensures.crash
-
-pub returns-in-Err-clause-refused : goal.returns-in-Err-clause-refused
-returns-in-Err-clause-refused g c =
-    let last = c.migrate_register.new.conn in
-    (last, c.migrate_register.ensures.crash, λ clean. (c.in-Err.ensures.neither clean, c.in-Err.ensures.refused clean), λ clean form early F is free. c.in-Err.ensures.sound clean form early F is free)
+pub returns-in-Err : goal.returns-in-Err
+returns-in-Err g c = record {
+  migrated = search rules;
+  only = search rules;
+  refused =
+      let last = c.migrate_register.new.conn in
+      (last, c.migrate_register.ensures.crash, λ clean. (c.in-Err.ensures.neither clean, c.in-Err.ensures.refused clean), λ clean form early F is free. c.in-Err.ensures.sound clean form early F is free);
+  crash = search rules;
+  durable = search rules;
+}

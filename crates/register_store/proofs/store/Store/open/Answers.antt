@@ -1,28 +1,36 @@
-use Rattle.std.proofs.Common.{◌≤◌, length, sym, subst}
+use Rattle.std.proofs.Common.{◌≤◌, length, sym, subst, rules}
 use Rattle.table_rows.specs.Standing.{HasCommitted}
 use Rattle.register_store.specs.Store.{IsRegisterOf}
 use Rattle.sqlite.specs.Held.{state}
 use Rattle.register_store.proofs.StoreLemmas.{leaves}
 use Rattle.register_store.proofs.store.Store.open.Goals as goal
 
-pub returns-in-Ok-clause-opened : goal.returns-in-Ok-clause-opened
-returns-in-Ok-clause-opened g c clean d =
-    let found = c.in-Ok.ensures.found clean d in
-    (found.0, found.1, record { stands = found.2; kept_is = found.3; filings_is = found.4; within = found.1.rows.within })
+pub returns-in-Ok : goal.returns-in-Ok
+returns-in-Ok g c = record {
+  opened = λ clean d.
+      let found = c.in-Ok.ensures.found clean d in
+      (found.0, found.1, record { stands = found.2; kept_is = found.3; filings_is = found.4; within = found.1.rows.within });
+  only = λ clean early F is.
+      let found = c.in-Ok.ensures.only clean early F is in
+      let same = found.0 in
+      (same, record { stands = subst (λ n. HasCommitted (IsRegisterOf n F) (state g.S.Store c.read_register.new.conn)) (sym same) found.1; kept_is = found.2; filings_is = found.3; within = subst (λ n. n ≤ length F) (sym same) is.rows.within });
+  same = search rules;
+  refused = search rules;
+  crash = search rules;
+  durable = λ clean early F is.
+      let alive = (c.in-Ok.ensures.same clean).0.is_open in
+      let new = c.read_register.new.conn in
+      (alive, λ trees left. leaves early F (state g.S.Store new) (c.in-Ok.ensures.only clean early F is).1 alive trees (g.met.S.Store.settled new.store trees alive left));
+}
 
-pub returns-in-Ok-clause-only : goal.returns-in-Ok-clause-only
-returns-in-Ok-clause-only g c clean early F is =
-    let found = c.in-Ok.ensures.only clean early F is in
-    let same = found.0 in
-    (same, record { stands = subst (λ n. HasCommitted (IsRegisterOf n F) (state g.S.Store c.read_register.new.conn)) (sym same) found.1; kept_is = found.2; filings_is = found.3; within = subst (λ n. n ≤ length F) (sym same) is.rows.within })
-
-pub returns-in-Ok-clause-durable : goal.returns-in-Ok-clause-durable
-returns-in-Ok-clause-durable g c clean early F is =
-    let alive = (c.in-Ok.ensures.same clean).0.is_open in
-    let new = c.read_register.new.conn in
-    (alive, λ trees left. leaves early F (state g.S.Store new) (c.in-Ok.ensures.only clean early F is).1 alive trees (g.met.S.Store.settled new.store trees alive left))
-
-pub returns-in-Err-clause-refused : goal.returns-in-Err-clause-refused
-returns-in-Err-clause-refused g c =
-    let last = c.read_register.new.conn in
-    (last, c.read_register.ensures.survives, λ clean. (c.in-Err.ensures.keeps clean, c.in-Err.ensures.refused clean), λ clean early F is. c.in-Err.ensures.sound clean early F is)
+pub returns-in-Err : goal.returns-in-Err
+returns-in-Err g c = record {
+  opened = search rules;
+  only = search rules;
+  same = search rules;
+  refused =
+      let last = c.read_register.new.conn in
+      (last, c.read_register.ensures.survives, λ clean. (c.in-Err.ensures.keeps clean, c.in-Err.ensures.refused clean), λ clean early F is. c.in-Err.ensures.sound clean early F is);
+  crash = search rules;
+  durable = search rules;
+}

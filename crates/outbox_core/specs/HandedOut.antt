@@ -1,0 +1,66 @@
+-- What is promised of an outbox that a call hands out over a connection, and of the connection where the call refuses.
+use Rattle.std.specs.Prelude.{◌≡◌, ◌↔◌, true, false, ℕ, List, [], Result, Err, IsTrue, IfOk, IfErr, OnErr}
+use Rattle.key_string.specs.Filer.{is_filer}
+use Rattle.sqlite.specs.Store.{Ghosts}
+use Rattle.sqlite.specs.Held.{Held, state}
+use Rattle.sqlite.specs.State.{Survives}
+use Rattle.filing_model.specs.Outbox.{Entry}
+use Rattle.table_rows.specs.Tables.{no_schema}
+use Rattle.table_rows.specs.Standing.{CommitsNothing}
+use Rattle.outbox_core.specs.declared.fault.OutboxFault.{OutboxFault}
+use Rattle.outbox_core.specs.declared.fault.OutboxFault.TheVariants.{BadFiler, Taken}
+use Rattle.outbox_core.specs.Schema.{IsDeclared, is_taken}
+use Rattle.outbox_core.specs.Entries.{empty}
+use Rattle.outbox_core.specs.Rows.{IsOutboxOf}
+use Rattle.outbox_core.specs.Faults.{IsOfMaking, IsOfOpening}
+use Rattle.outbox_core.specs.OutboxParts.{OutboxParts, shows, contents, HandsOut, HasEntries, IsDurableAs}
+use Rattle.outbox_core.specs.Promises.{ForOutbox}
+use Rattle.outbox_core.specs.Making.{LeavesMade}
+use Rattle.outbox_core.specs.Earlier.{ForEarlier, IsAlone, IsEarlierOf, LeavesMigrated}
+use Rattle.outbox_core.specs.Refusals.{GivesUpMaking, GivesUpOpening, GivesUpMigrating}
+
+-- An outbox of the filer of this code was made, in one transaction; or it was refused, and the connection is given up.
+pub record HandsOutMade {S : Type 0} (g : Ghosts S) (code : List ℕ) (conn : Held S) (result : Result (OutboxParts S) OutboxFault) : Type 0 where
+  -- Where the database had no tables before, it has no entry.
+  pub made : HandsOut g result (λ outbox. (state g conn).now.schema ≡ no_schema → HasEntries g outbox [])
+  pub filer : IfOk result (λ outbox. (outbox.filer ≡ code) × (outbox.has_failed ≡ false))
+  -- BadFiler comes where the text is no filer code, and always there; Taken where it is one and one of the names is in use, and always
+  -- there.
+  pub bad_filer : (result ≡ Err BadFiler) ↔ (is_filer code ≡ false)
+  pub taken : (result ≡ Err Taken) ↔ ((is_filer code ≡ true) × IsTrue (is_taken (state g conn).now.schema))
+  pub no_other : IfErr result IsOfMaking
+  -- Of the connection as it was given up; `MakesOutbox` says the same of one that is kept.
+  pub refused : OnErr result (GivesUpMaking g code conn)
+  -- A crash leaves what one before the call could leave, or the outbox with no entry, and after the call that alone.
+  pub crash : IfOk result (λ outbox. Survives (state g conn) (shows g outbox) (LeavesMade g code conn))
+  pub durable : HandsOut g result (λ outbox. (state g conn).now.schema ≡ no_schema → IsDurableAs g outbox (empty code))
+
+-- The outbox that the database holds was opened; or it was refused, and the connection is given up. Nothing was written.
+pub record HandsOutFound {S : Type 0} (g : Ghosts S) (conn : Held S) (result : Result (OutboxParts S) OutboxFault) : Type 0 where
+  -- Where the tables are declared as an outbox has them, the rows are those of the entries that it has.
+  pub opened :
+      HandsOut g result (λ outbox.
+      IsDeclared (state g conn).now.schema → (entries : List Entry) × IsOutboxOf (contents outbox entries) (state g conn).now × HasEntries g outbox entries)
+  pub able : IfOk result (λ outbox. outbox.has_failed ≡ false)
+  -- Where the database is an outbox, it is that one that is opened, and after the call a crash leaves it alone.
+  pub same : IfOk result (λ outbox. ForOutbox g conn outbox.conn (λ it. (outbox.filer ≡ it.filer) × HasEntries g outbox it.entries))
+  pub durable : IfOk result (λ outbox. ForOutbox g conn outbox.conn (IsDurableAs g outbox))
+  pub crash : IfOk result (λ outbox. CommitsNothing (state g conn) (shows g outbox))
+  -- Of the connection as it was given up; `ReadsOutbox` says the same of one that is kept.
+  pub refused : IfErr result (GivesUpOpening g conn)
+  pub no_other : IfErr result IsOfOpening
+
+-- The outbox that the database holds in the form before this one was brought into this one, in one transaction, and opened; or it was
+-- refused, and the connection is given up.
+pub record HandsOutMigrated {S : Type 0} (g : Ghosts S) (conn : Held S) (result : Result (OutboxParts S) OutboxFault) : Type 0 where
+  -- Where the database has no other tables, the rows were in that form those of the entries that it has.
+  pub migrated :
+      HandsOut g result (λ outbox.
+      IsAlone (state g conn).now.schema → (entries : List Entry) × IsEarlierOf (contents outbox entries) (state g conn).now × HasEntries g outbox entries)
+  pub only : HandsOut g result (λ outbox. ForEarlier (state g conn) (λ it. (outbox.filer ≡ it.filer) × HasEntries g outbox it.entries))
+  pub able : IfOk result (λ outbox. outbox.has_failed ≡ false)
+  -- Of the connection as it was given up; `MigratesOutbox` says the same of one that is kept.
+  pub refused : IfErr result (GivesUpMigrating g conn)
+  -- A crash leaves what it could leave before, or the migrated rows, and after the call these alone.
+  pub crash : IfOk result (λ outbox. Survives (state g conn) (shows g outbox) (LeavesMigrated (state g conn)))
+  pub durable : HandsOut g result (λ outbox. (entries : List Entry) → HasEntries g outbox entries → IsDurableAs g outbox (contents outbox entries))

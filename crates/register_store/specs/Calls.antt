@@ -1,0 +1,100 @@
+-- What the calls of a store do.
+use Rattle.std.specs.Prelude.{◌≡◌, ◌↔◌, ◌+◌, ◌++◌, ◌∷◌, [], ℕ, List, take, option_map, Option, Result, Err, IsTrue, IfOk, IfErr, IfSome, OnOk, OnErr}
+use Rattle.sqlite.specs.Store.{Ghosts}
+use Rattle.sqlite.specs.Held.{Held, state}
+use Rattle.sqlite.specs.State.{IsUnchanged, Survives}
+use Rattle.filing_model.specs.Request.{Request}
+use Rattle.filing_model.specs.Register.{kept, judged}
+use Rattle.filing_model.specs.Answer.{kept_for}
+use Rattle.filing_model.specs.Style.{style_of}
+use Rattle.filing_model.specs.Views.{the_request}
+use Rattle.table_rows.specs.Tables.{no_schema}
+use Rattle.table_rows.specs.Standing.{CommitsNothing}
+use Rattle.register_store.specs.declared.fault.CreateFault.{CreateFault}
+use Rattle.register_store.specs.declared.fault.CreateFault.TheVariants.{Taken}
+use Rattle.register_store.specs.declared.fault.OpenFault.{OpenFault}
+use Rattle.register_store.specs.declared.fault.StoreFault.{StoreFault}
+use Rattle.register_store.specs.declared.migrate.earlier.Earlier.{Earlier}
+use Rattle.register_store.specs.declared.outcome.KeptRow.{KeptRow}
+use Rattle.register_store.specs.declared.outcome.NewRow.{NewRow}
+use Rattle.register_store.specs.declared.outcome.Outcome.{Outcome}
+use Rattle.register_store.specs.Earlier.{IsAlone, IsEarlierOf, ForEarlier}
+use Rattle.register_store.specs.Outcomes.{view_outcome, kept_as}
+use Rattle.register_store.specs.Refusals.{GivesUpMaking, GivesUpMigrating, GivesUpOpening}
+use Rattle.register_store.specs.Schema.{is_taken, IsDeclared}
+use Rattle.register_store.specs.Store.{StoreParts, shows, ForNew, ForRequests, ForRows, HandsOut, HasRequests, IsDurableAs, IsRegisterOf, LeavesRegister, SurvivesAs}
+
+-- ---- a store is handed out
+
+-- What `create` does with a connection: it makes the tables of a register that has no request. What is said of rows holds where the
+-- database had no table before.
+pub record CreatesStore {S : Type 0} (g : Ghosts S) (conn : Held S) (result : Result (StoreParts S) CreateFault) : Type 0 where
+  pub made : HandsOut g result (λ store. (state g conn).now.schema ≡ no_schema → HasRequests g store [])
+  pub counts : IfOk result (λ store. (store.kept ≡ 0) × (store.filings ≡ 0) × (store.early ≡ 0))
+  -- Taken comes where one of the names is in use, and always there.
+  pub taken : (result ≡ Err Taken) ↔ IsTrue (is_taken (state g conn).now.schema)
+  -- Of the connection as it was given up; `make_register` says the same of one that is kept.
+  pub refused : IfErr result (GivesUpMaking g conn)
+  -- A crash leaves what one before the call could leave, or the empty register, and after the call that alone.
+  pub crash : IfOk result (λ store. Survives (state g conn) (shows g store) (λ trees. (state g conn).now.schema ≡ no_schema → LeavesRegister 0 [] trees))
+  pub durable : HandsOut g result (λ store. (state g conn).now.schema ≡ no_schema → IsDurableAs g store 0 [])
+
+-- What `open` does with a connection: it reads the register that the database holds, and writes nothing.
+pub record OpensStore {S : Type 0} (g : Ghosts S) (conn : Held S) (result : Result (StoreParts S) OpenFault) : Type 0 where
+  -- The store has the requests that the rows stand for, and there is one such list at most.
+  pub opened : HandsOut g result (λ store. IsDeclared (state g conn).now.schema
+      → (F : List Request) × IsRegisterOf store.early F (state g conn).now × HasRequests g store F)
+  pub only : HandsOut g result (λ store. ForRows g conn (λ early F. (store.early ≡ early) × HasRequests g store F))
+  pub same : HandsOut g result (λ store. IsUnchanged (state g conn) (shows g store))
+  -- Of the connection as it was given up; `read_register` says the same of one that is kept.
+  pub refused : IfErr result (GivesUpOpening g conn)
+  -- A crash leaves what it could leave before, and after the call these requests alone.
+  pub crash : IfOk result (λ store. CommitsNothing (state g conn) (shows g store))
+  pub durable : HandsOut g result (λ store. ForRows g conn (IsDurableAs g store))
+
+-- What `migrate` does with a connection: it brings the register that the database holds from an earlier form into the present one.
+-- What is said of the new rows holds where the database has no other tables.
+pub record MigratesStore {S : Type 0} (g : Ghosts S) (conn : Held S) (result : Result (StoreParts S) OpenFault) : Type 0 where
+  -- The store has the requests that the rows stood for, and there is one such list at most.
+  pub migrated : HandsOut g result (λ store. (form : Earlier) → IsAlone form (state g conn).now.schema
+      → (F : List Request) × IsEarlierOf form store.early F (state g conn).now × HasRequests g store F)
+  pub only : HandsOut g result (λ store. ForEarlier g conn (λ _ early F. (store.early ≡ early) × HasRequests g store F))
+  -- Of the connection as it was given up; `migrate_register` says the same of one that is kept.
+  pub refused : IfErr result (GivesUpMigrating g conn)
+  -- A crash leaves what it could leave before, or the migrated rows, and after the call these alone.
+  pub crash : IfOk result (λ store. Survives (state g conn) (shows g store) (λ trees. ForEarlier g conn (λ _ early F. LeavesRegister early F trees)))
+  pub durable : HandsOut g result (λ store. ForEarlier g conn (λ _. IsDurableAs g store))
+
+-- ---- a store is asked
+
+-- What `find` tells of a filer and key, and that it writes nothing.
+pub record FindsRow {S : Type 0} (g : Ghosts S) (filer key : List ℕ) (old new : StoreParts S) (result : Result (Option KeptRow) StoreFault) : Type 0 where
+  pub found : ForRequests g old new (λ F. (target : Option ℕ) (body : List ℕ)
+      → IfOk result (λ row. option_map (kept_as filer key) row ≡ kept_for (kept F) (the_request filer key target body)))
+  -- It is answered in the style of before where it is among the first that were kept then.
+  pub style : ForRequests g old new (λ F. (target : Option ℕ) (body : List ℕ)
+      → IfOk result (λ row. IfSome row (λ r. r.style ≡ style_of (take old.early F) (the_request filer key target body))))
+  -- The rows are those of before, whatever the answer is, and a crash leaves what it could leave before.
+  pub same : ForRequests g old new (HasRequests g new)
+  pub counts : (new.kept ≡ old.kept) × (new.filings ≡ old.filings)
+  pub early : new.early ≡ old.early
+  pub crash : CommitsNothing (shows g old) (shows g new)
+  pub durable : ForRequests g old new (λ F. OnOk result (IsDurableAs g new old.early F))
+
+-- ---- a store is written to
+
+-- What `add` does with a request, in one transaction. What is said of rows holds where its filer and key are not kept yet, and where it
+-- was judged by whether the filing that it is to replace, if any, is free after the kept requests.
+pub record AddsRequest {S : Type 0} (g : Ghosts S) (row : NewRow) (old new : StoreParts S) (result : Result Outcome StoreFault) : Type 0 where
+  pub added : ForRequests g old new (λ F. ForNew F (the_request row.filer.now row.key.now row.target row.body.now) row.judged.now (λ r.
+      IfOk result (λ outcome. (view_outcome outcome ≡ (judged (kept F) r).outcome) × HasRequests g new (F ++ r ∷ []))))
+  -- A refusal changes nothing.
+  pub same : ForRequests g old new (λ F. OnErr result (HasRequests g new F))
+  pub count : OnOk result (new.kept ≡ old.kept + 1)
+  pub counts : OnErr result ((new.kept ≡ old.kept) × (new.filings ≡ old.filings))
+  pub early : new.early ≡ old.early
+  -- A crash leaves what one before the call could leave, or the rows with this request, and after Ok these alone.
+  pub crash : SurvivesAs g old new (λ F trees. ForNew F (the_request row.filer.now row.key.now row.target row.body.now) row.judged.now (λ r.
+      LeavesRegister old.early (F ++ r ∷ []) trees))
+  pub durable : ForRequests g old new (λ F. ForNew F (the_request row.filer.now row.key.now row.target row.body.now) row.judged.now (λ r.
+      OnOk result (IsDurableAs g new old.early (F ++ r ∷ []))))
