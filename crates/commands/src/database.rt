@@ -83,9 +83,9 @@ pub(crate) struct Visited<A> {
     pub closed: Result<(), Error>,
 }
 
-/// Where the files of databases lie. The commands are written over any such place, so that what they do is proved once,
+/// Where the files of databases lie. The commands are written over any such system, so that what they do is proved once,
 /// and not for the files of the system.
-pub trait Place<D: Disk + Drop> {
+pub trait FileSystem<D: Disk + Drop> {
     /// Whether there is no file of this name.
     fn is_missing(&self, rt: &HostRuntime, name: &str) -> bool;
 
@@ -109,7 +109,7 @@ pub trait Place<D: Disk + Drop> {
 #[derive(Clone, Copy)]
 pub struct SystemFiles;
 
-impl Place<File> for SystemFiles {
+impl FileSystem<File> for SystemFiles {
     fn is_missing(&self, rt: &HostRuntime, name: &str) -> bool {
         matches!(fs::exists(rt, name), Ok(false))
     }
@@ -174,24 +174,24 @@ fn fault_of_name(rt: &HostRuntime, name: &str) -> DatabaseFault
 
 /// Opens the database of the file with this name, does this work on it, and closes what that leaves. Beside a file that is none of
 /// ours nothing is left.
-pub(crate) fn on_database<D: Disk + Drop, P: Place<D>, W: Work>(
+pub(crate) fn on_database<D: Disk + Drop, F: FileSystem<D>, W: Work>(
     rt: &HostRuntime,
-    place: &P,
+    system: &F,
     name: &str,
     opening: Opening,
     work: W,
 ) -> Result<Visited<W::Answer>, DatabaseFault> {
-    let had_log = place.has_log(rt, name);
-    let conn = open(rt, place, name, opening)?;
+    let had_log = system.has_log(rt, name);
+    let conn = open(rt, system, name, opening)?;
     let (left, answer) = work.on(rt, conn);
-    let closed = close(rt, place, name, had_log, left);
+    let closed = close(rt, system, name, had_log, left);
     Ok(Visited { answer, closed })
 }
 
 /// Closes what is left of a database.
-fn close<D: Disk + Drop, P: Place<D>>(
+fn close<D: Disk + Drop, F: FileSystem<D>>(
     rt: &HostRuntime,
-    place: &P,
+    system: &F,
     name: &str,
     had_log: bool,
     left: Left<FileStore<D>>,
@@ -201,15 +201,15 @@ fn close<D: Disk + Drop, P: Place<D>>(
         // What the database refused once it may refuse again.
         Left::Failed(conn) => drop(conn.close()),
         Left::GivenUp => {}
-        Left::NotOurs => remove_new_log(rt, place, name, had_log),
+        Left::NotOurs => remove_new_log(rt, system, name, had_log),
     }
     Ok(())
 }
 
 /// Opens the database of the file with this name.
-fn open<D: Disk + Drop, P: Place<D>>(
+fn open<D: Disk + Drop, F: FileSystem<D>>(
     rt: &HostRuntime,
-    place: &P,
+    system: &F,
     name: &str,
     opening: Opening,
 ) -> Result<Connection<FileStore<D>>, DatabaseFault>
@@ -217,31 +217,31 @@ fn open<D: Disk + Drop, P: Place<D>>(
     ensures unlimited { IfOk result (λ conn. conn.step_limit ≡ None) }
 {
     match opening {
-        Opening::Found(cache) => find_database(rt, place, name, cache),
-        Opening::Made(cache) => make_database(rt, place, name, cache),
+        Opening::Found(cache) => find_database(rt, system, name, cache),
+        Opening::Made(cache) => make_database(rt, system, name, cache),
     }
 }
 
 /// Opens the database of the file with this name. A file that is not there is not made.
-fn find_database<D: Disk + Drop, P: Place<D>>(
+fn find_database<D: Disk + Drop, F: FileSystem<D>>(
     rt: &HostRuntime,
-    place: &P,
+    system: &F,
     name: &str,
     cache: Cache,
 ) -> Result<Connection<FileStore<D>>, DatabaseFault>
     ensures autocommit { IfOk result (λ conn. conn.in_transaction ≡ false) }
     ensures unlimited { IfOk result (λ conn. conn.step_limit ≡ None) }
 {
-    if place.is_missing(rt, name) {
+    if system.is_missing(rt, name) {
         return Err(DatabaseFault::Missing);
     }
-    make_database(rt, place, name, cache)
+    make_database(rt, system, name, cache)
 }
 
 /// The same, and a file that is not there or is empty gets a database without tables.
-fn make_database<D: Disk + Drop, P: Place<D>>(
+fn make_database<D: Disk + Drop, F: FileSystem<D>>(
     rt: &HostRuntime,
-    place: &P,
+    system: &F,
     name: &str,
     cache: Cache,
 ) -> Result<Connection<FileStore<D>>, DatabaseFault>
@@ -249,13 +249,13 @@ fn make_database<D: Disk + Drop, P: Place<D>>(
     ensures unlimited { IfOk result (λ conn. conn.step_limit ≡ None) }
     ensures any_name { result ≢ Err DatabaseFault.Missing }
 {
-    let options = options(rt, pages(cache, place.len(rt, name)))?;
-    let had_log = place.has_log(rt, name);
-    let files = place.files(rt, name)?;
+    let options = options(rt, pages(cache, system.len(rt, name)))?;
+    let had_log = system.has_log(rt, name);
+    let files = system.files(rt, name)?;
     match connect(rt, files, options) {
         Ok(conn) => Ok(conn),
         Err(fault) => {
-            remove_new_log(rt, place, name, had_log);
+            remove_new_log(rt, system, name, had_log);
             Err(fault)
         }
     }
@@ -263,17 +263,17 @@ fn make_database<D: Disk + Drop, P: Place<D>>(
 
 /// Removes the log that an opening made, in which nothing is, so that nothing lies beside a file that is not ours. The files are
 /// taken for that, so that no other program has them.
-fn remove_new_log<D: Disk + Drop, P: Place<D>>(
+fn remove_new_log<D: Disk + Drop, F: FileSystem<D>>(
     rt: &HostRuntime,
-    place: &P,
+    system: &F,
     name: &str,
     had_log: bool,
 ) {
     if had_log {
         return;
     }
-    if let Ok(files) = place.files(rt, name) {
-        place.remove_empty_log(rt, name);
+    if let Ok(files) = system.files(rt, name) {
+        system.remove_empty_log(rt, name);
         drop(files);
     }
 }

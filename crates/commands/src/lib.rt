@@ -8,4 +8,4 @@ pub mod outbox;
 mod report;
 mod verdict;
 
-pub use database::{Place, SystemFiles};
+pub use database::{FileSystem, SystemFiles};

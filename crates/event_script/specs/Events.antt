@@ -11,8 +11,8 @@ use Rattle.event_script.specs.declared.event.Event.TheVariants as listed
 -- where an end stops
 abbrev pub view_crash : Told → Crash
 view_crash told.No = Crash.No
-view_crash (told.Before place) = Crash.Before place
-view_crash (told.After place) = Crash.After place
+view_crash (told.Before arrival) = Crash.Before arrival
+view_crash (told.After arrival) = Crash.After arrival
 
 -- what happens
 abbrev pub view_event : Listed → Event

@@ -4,7 +4,7 @@ use Rattle.key_string.specs.Key.{double_quote, backslash, key_of_field}
 use Rattle.key_string.specs.Filer.{is_filer}
 use Rattle.filing_model.specs.Stopping.{Crash}
 use Rattle.filing_world.specs.World.{Event}
-use Rattle.event_script.specs.Words.{is_space, words, has_space, first_word, behind_first_word, number_up_to, number, filing_number, place_number, amount}
+use Rattle.event_script.specs.Words.{is_space, words, has_space, first_word, behind_first_word, number_up_to, number, filing_number, arrival_number, amount}
 
 -- ---- put O KEY BODY, amend O N KEY BODY
 
@@ -66,14 +66,14 @@ send_of others = None
 
 -- before, after
 abbrev pub crash_at : List ℕ → ℕ → Option Crash
-crash_at when place =
-    if bytes_eq when (codes "before") then Some (Crash.Before place)
-    else (if bytes_eq when (codes "after") then Some (Crash.After place) else None)
+crash_at when arrival =
+    if bytes_eq when (codes "before") then Some (Crash.Before arrival)
+    else (if bytes_eq when (codes "after") then Some (Crash.After arrival) else None)
 
 -- nothing, before J, after J
 abbrev pub delivery_stop : List (List ℕ) → Option Crash
 delivery_stop [] = Some Crash.No
-delivery_stop (when ∷ place ∷ []) = option_and_then (crash_at when) (place_number place)
+delivery_stop (when ∷ arrival ∷ []) = option_and_then (crash_at when) (arrival_number arrival)
 delivery_stop others = None
 
 -- deliver S N, and where it stops
@@ -82,7 +82,7 @@ deliver_of (item ∷ bytes ∷ stop) =
     option_and_then (λ i. option_and_then (λ b. option_map (λ crash. Event.Deliver i b crash) (delivery_stop stop)) (amount bytes)) (number item)
 deliver_of others = None
 
--- nothing, before, after: while a reply is handed over there is one place to stop at
+-- nothing, before, after: while a reply is handed over there is one point to stop at
 abbrev pub handing_stop : List (List ℕ) → Option Crash
 handing_stop [] = Some Crash.No
 handing_stop (when ∷ []) = crash_at when 1

@@ -41,9 +41,9 @@ number word = number_up_to (2 ^ 63 - 1) word
 abbrev pub filing_number : List ℕ → Option ℕ
 filing_number word = option_and_then (λ n. if nat_le 1 n then Some n else None) (number word)
 
--- the number of a place to stop at
-abbrev pub place_number : List ℕ → Option ℕ
-place_number word = number_up_to (2 ^ 32 - 1) word
+-- the number of an arrival to stop at
+abbrev pub arrival_number : List ℕ → Option ℕ
+arrival_number word = number_up_to (2 ^ 32 - 1) word
 
 -- how many bytes come: as many as a number says, or all that there are
 abbrev pub amount : List ℕ → Option ℕ

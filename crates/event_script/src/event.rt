@@ -3,7 +3,7 @@
 use key_string::KeyText;
 
 /// Where an end stops while it handles an event. The requests of a delivery are counted from 1, and
-/// 0 acts as 1; while a reply is handed over there is one place alone, whatever the number.
+/// 0 acts as 1; while a reply is handed over there is one point to stop at, whatever the number.
 #[derive(Clone, Copy, Debug, PartialEq, Eq)]
 pub enum Crash {
     /// It does not stop.

@@ -7,7 +7,7 @@ ghost use Rattle.event_script.specs.Lines.{send_of, crash_at, delivery_stop, del
 use crate::event::{Crash, Event};
 use crate::put::{read_amend, read_put};
 use crate::stranger::read_stranger;
-use crate::words::{read_amount, read_number, read_number_up_to, read_place, split_words};
+use crate::words::{read_amount, read_arrival, read_number, read_number_up_to, split_words};
 use key_string::is_filer;
 use std::alloc::{AllocError, Global};
 
@@ -98,7 +98,7 @@ fn read_delivery_stop(words: &[&str]) -> Option<Crash>
 {
     match words {
         [] => Some(Crash::No),
-        [when, place] => crash_at(when, read_place(place)?),
+        [when, arrival] => crash_at(when, read_arrival(arrival)?),
         _ => None,
     }
 }
@@ -121,7 +121,7 @@ fn read_hand(words: &[&str]) -> Option<Event>
     })
 }
 
-/// Nothing, `before` or `after`. There is one place to stop at.
+/// Nothing, `before` or `after`. There is one point to stop at.
 fn read_handing_stop(words: &[&str]) -> Option<Crash>
     ensures { option_map view_crash result ≡ handing_stop (map (λ word. word.now) words.now) }
 {
@@ -132,13 +132,13 @@ fn read_handing_stop(words: &[&str]) -> Option<Crash>
     }
 }
 
-/// `before` or `after`, at this place.
-fn crash_at(when: &str, place: u32) -> Option<Crash>
-    ensures { option_map view_crash result ≡ crash_at when.now place }
+/// `before` or `after`, at this arrival.
+fn crash_at(when: &str, arrival: u32) -> Option<Crash>
+    ensures { option_map view_crash result ≡ crash_at when.now arrival }
 {
     match when {
-        "before" => Some(Crash::Before(place)),
-        "after" => Some(Crash::After(place)),
+        "before" => Some(Crash::Before(arrival)),
+        "after" => Some(Crash::After(arrival)),
         _ => None,
     }
 }

@@ -18,7 +18,7 @@ const DEFAULT_LIMIT: u64 = 1_000_000;
 
 /// The script that a text spells (own format). Its lines end in LF, the last one too; its words are
 /// parted by one space; its numbers are decimal, without leading zeros, and at most 2^63 - 1 (a
-/// place to stop at: 2^32 - 1). The first line may say `limit N`, with N at most 2^62; without it
+/// arrival to stop at: 2^32 - 1). The first line may say `limit N`, with N at most 2^62; without it
 /// the limit is 1,000,000. One line or more `outbox FILER` follow, and then any events:
 ///
 /// ```text

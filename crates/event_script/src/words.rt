@@ -1,17 +1,17 @@
 //! The words of a line, and the numbers that words write.
 
-ghost use Rattle.std.specs.Prelude.{◌≡◌, ◌<◌, ◌^◌, map, length, IfOk};
+ghost use Rattle.std.specs.Prelude.{◌≡◌, map, IfOk};
 ghost use Rattle.std.specs.Char.{is_ascii_digit};
 ghost use Rattle.std.specs.List.{list_all};
-ghost use Rattle.event_script.specs.Words.{words, has_leading_zero, is_decimal, number_up_to, number, filing_number, place_number, amount};
+ghost use Rattle.event_script.specs.Words.{words, has_leading_zero, is_decimal, number_up_to, number, filing_number, arrival_number, amount};
 
 use std::alloc::{AllocError, Global};
 
 /// The greatest number that a script may have where nothing else is said.
 const MAX_NUMBER: u64 = (1 << 63) - 1;
 
-/// The greatest number of a place to stop at.
-const MAX_PLACE: u64 = (1 << 32) - 1;
+/// The greatest number of an arrival to stop at.
+const MAX_ARRIVAL: u64 = (1 << 32) - 1;
 
 /// The words, each two parted by one space.
 pub(crate) fn split_words(alloc: Global, line: &str) -> Result<Vec<&str>, AllocError>
@@ -48,11 +48,11 @@ pub(crate) fn read_filing_number(word: &str) -> Option<u64>
     read_number(word).filter(|number| *number >= 1)
 }
 
-/// The number of a place to stop at.
-pub(crate) fn read_place(word: &str) -> Option<u32>
-    ensures { result ≡ place_number word.now }
+/// The number of an arrival to stop at.
+pub(crate) fn read_arrival(word: &str) -> Option<u32>
+    ensures { result ≡ arrival_number word.now }
 {
-    let number = read_number_up_to(MAX_PLACE, word)?;
+    let number = read_number_up_to(MAX_ARRIVAL, word)?;
     u32::try_from(number).ok()
 }
 

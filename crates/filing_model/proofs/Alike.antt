@@ -3,7 +3,7 @@ use Rattle.std.proofs.Common.{◌≡◌, ℕ, ◌<◌, true, not, List, [], ◌�
 use Rattle.std.specs.Prelude.{filter}
 use Rattle.std.proofs.lemmas.List.Elements.{filter_agree}
 use Rattle.http_wire.specs.Head.{closes}
-use Rattle.http_wire.specs.Message.{Place, Ending}
+use Rattle.http_wire.specs.Message.{Arrival, Ending}
 use Rattle.http_wire.specs.Request.{Request as Message}
 use Rattle.http_wire.specs.Reply.{render}
 use Rattle.filing_model.specs.Request.{Request, has_key, firsts}
@@ -43,11 +43,11 @@ module _ (old new : List Request) (same : firsts old ≡ firsts new) where
   pub reply_alike : (early : List Request) (m : Message) → reply_with early old m ≡ reply_with early new m
   reply_alike early m = reply_on_alike early (route m)
 
-  reply_text_alike : (early : List Request) (place : Place) (mark : Mark) → reply_text_with early old place mark ≡ reply_text_with early new place mark
-  reply_text_alike early (Place.Read m) Unavailable = refl
-  reply_text_alike early (Place.Read m) Done = ap (λ x. render x (closes m.head)) (reply_alike early m)
-  reply_text_alike early (Place.Read m) NotFiled = ap (λ x. render x (closes m.head)) (reply_alike early m)
-  reply_text_alike early (Place.Refused refusal) mark = refl
+  reply_text_alike : (early : List Request) (arrival : Arrival) (mark : Mark) → reply_text_with early old arrival mark ≡ reply_text_with early new arrival mark
+  reply_text_alike early (Arrival.Read m) Unavailable = refl
+  reply_text_alike early (Arrival.Read m) Done = ap (λ x. render x (closes m.head)) (reply_alike early m)
+  reply_text_alike early (Arrival.Read m) NotFiled = ap (λ x. render x (closes m.head)) (reply_alike early m)
+  reply_text_alike early (Arrival.Refused refusal) mark = refl
 
   route_fits_alike : (limit : ℕ) (to : Route) (mark : Mark) → RouteFits limit old to mark → RouteFits limit new to mark
   route_fits_alike limit (FileReport r) Done fit = ⊎_elim
@@ -63,23 +63,23 @@ module _ (old new : List Request) (same : firsts old ≡ firsts new) where
   route_fits_alike limit (Reject reply) Unavailable fit = fit
   route_fits_alike limit (Reject reply) NotFiled fit = fit
 
-  mark_fits_alike : (limit : ℕ) (place : Place) (mark : Mark) → MarkFits limit old place mark → MarkFits limit new place mark
-  mark_fits_alike limit (Place.Read m) mark fit = route_fits_alike limit (route m) mark fit
-  mark_fits_alike limit (Place.Refused refusal) Done fit = fit
-  mark_fits_alike limit (Place.Refused refusal) Unavailable fit = fit
-  mark_fits_alike limit (Place.Refused refusal) NotFiled fit = fit
+  mark_fits_alike : (limit : ℕ) (arrival : Arrival) (mark : Mark) → MarkFits limit old arrival mark → MarkFits limit new arrival mark
+  mark_fits_alike limit (Arrival.Read m) mark fit = route_fits_alike limit (route m) mark fit
+  mark_fits_alike limit (Arrival.Refused refusal) Done fit = fit
+  mark_fits_alike limit (Arrival.Refused refusal) Unavailable fit = fit
+  mark_fits_alike limit (Arrival.Refused refusal) NotFiled fit = fit
 
-pub text_alike : (early old new : List Request) → firsts old ≡ firsts new → (places : List Place) (ending : Ending) (marks : List Mark) → text_with early old places ending marks ≡ text_with early new places ending marks
+pub text_alike : (early old new : List Request) → firsts old ≡ firsts new → (arrivals : List Arrival) (ending : Ending) (marks : List Mark) → text_with early old arrivals ending marks ≡ text_with early new arrivals ending marks
 unfolding text_with
-text_alike early old new same places ending [] = refl
+text_alike early old new same arrivals ending [] = refl
 text_alike early old new same [] ending (mark ∷ marks) = refl
-text_alike early old new same (place ∷ places) ending (mark ∷ marks) =
-    ap (λ reply. interim_of place ++ (reply ++ text_with early (old ++ completed_at place mark) places ending marks)) (reply_text_alike old new same early place mark)
-    ∙ ap (λ rest. interim_of place ++ (reply_text_with early new place mark ++ rest)) (text_alike early (old ++ completed_at place mark) (new ++ completed_at place mark) (firsts_alike old new same (completed_at place mark)) places ending marks)
+text_alike early old new same (arrival ∷ arrivals) ending (mark ∷ marks) =
+    ap (λ reply. interim_of arrival ++ (reply ++ text_with early (old ++ completed_at arrival mark) arrivals ending marks)) (reply_text_alike old new same early arrival mark)
+    ∙ ap (λ rest. interim_of arrival ++ (reply_text_with early new arrival mark ++ rest)) (text_alike early (old ++ completed_at arrival mark) (new ++ completed_at arrival mark) (firsts_alike old new same (completed_at arrival mark)) arrivals ending marks)
 
-pub marks_fit_alike : (limit : ℕ) (old new : List Request) → firsts old ≡ firsts new → (places : List Place) (marks : List Mark) → MarksFit limit old places marks → MarksFit limit new places marks
+pub marks_fit_alike : (limit : ℕ) (old new : List Request) → firsts old ≡ firsts new → (arrivals : List Arrival) (marks : List Mark) → MarksFit limit old arrivals marks → MarksFit limit new arrivals marks
 unfolding MarksFit
-marks_fit_alike limit old new same places [] fit = fit
+marks_fit_alike limit old new same arrivals [] fit = fit
 marks_fit_alike limit old new same [] (mark ∷ marks) fit = fit
-marks_fit_alike limit old new same (place ∷ places) (mark ∷ marks) fit =
-    (mark_fits_alike old new same limit place mark fit.0, marks_fit_alike limit (old ++ completed_at place mark) (new ++ completed_at place mark) (firsts_alike old new same (completed_at place mark)) places marks fit.1)
+marks_fit_alike limit old new same (arrival ∷ arrivals) (mark ∷ marks) fit =
+    (mark_fits_alike old new same limit arrival mark fit.0, marks_fit_alike limit (old ++ completed_at arrival mark) (new ++ completed_at arrival mark) (firsts_alike old new same (completed_at arrival mark)) arrivals marks fit.1)

@@ -14,12 +14,12 @@ use Rattle.key_string.specs.Key.{IsKey, spelling}
 use Rattle.key_string.proofs.Fields.{key_of_field-spelled}
 use Rattle.http_wire.specs.Coding.{has_content_coding}
 use Rattle.http_wire.specs.Head.{RequestParts, values_named}
-use Rattle.http_wire.specs.Posting.{IsTarget, place_of}
+use Rattle.http_wire.specs.Posting.{IsTarget, resource_of}
 use Rattle.http_wire.specs.Request.{Request as Message}
 use Rattle.http_wire.proofs.ValueLemmas.{decimal-read}
-use Rattle.filing_model.specs.Text.{Route, FileReport, target_in, place_in, place_of_path, route_by_key, route_by_keys, route_by_method, route_by_place, bare, route}
+use Rattle.filing_model.specs.Text.{Route, FileReport, target_in, resource_in, resource_of_path, route_by_key, route_by_keys, route_by_method, route_by_resource, bare, route}
 
--- ---- the place in a path
+-- ---- the resource in a path
 
 filer-bytes : (filer : List ℕ) → is_filer filer ≡ true → list_all is_filer_byte filer ≡ true
 unfolding is_filer
@@ -63,12 +63,12 @@ target_in-decimal n low high =
     let fits : (nat_le 1 n && nat_lt n (2 ^ 63)) ≡ true = grind (arith, nat_tests, low, high) in
     rw (value, same, fits) refl
 
-place_in-place : (filer : List ℕ) (target : Option ℕ) → is_filer filer ≡ true → IsTarget target → place_in (place_of filer target) ≡ Some (filer, target)
-place_in-place filer None is number =
+resource_in-resource : (filer : List ℕ) (target : Option ℕ) → is_filer filer ≡ true → IsTarget target → resource_in (resource_of filer target) ≡ Some (filer, target)
+resource_in-resource filer None is number =
     let all = filer-bytes filer is in
     let whole : nat_eq (length filer) (length filer) ≡ true = grind (arith, nat_tests) in
-    ap place_in (append-nil filer) ∙ rw (front-alone filer all, is, whole) refl
-place_in-place filer (Some n) is number =
+    ap resource_in (append-nil filer) ∙ rw (front-alone filer all, is, whole) refl
+resource_in-resource filer (Some n) is number =
     let all = filer-bytes filer is in
     let size : length (filer ++ 47 ∷ decimal n) ≡ length filer + length (47 ∷ decimal n) = length-append filer (47 ∷ decimal n) in
     let longer : nat_eq (length filer) (length (filer ++ 47 ∷ decimal n)) ≡ false = unequal (length filer) (length (filer ++ 47 ∷ decimal n)) (omega (arith, size)) in
@@ -77,10 +77,10 @@ place_in-place filer (Some n) is number =
 
 -- ---- the route
 
--- what makes a head that of a POST to this place under this key
+-- what makes a head that of a POST to this resource under this key
 pub record IsPost (head : RequestParts) (filer : List ℕ) (target : Option ℕ) (key : List ℕ) : Type 0 where
   pub method : head.method ≡ codes "POST"
-  pub path : head.path ≡ codes "/filings/" ++ place_of filer target
+  pub path : head.path ≡ codes "/filings/" ++ resource_of filer target
   pub keys : values_named (codes "idempotency-key") head.fields ≡ spelling key ∷ []
   pub uncoded : has_content_coding head ≡ false
 
@@ -99,7 +99,7 @@ module _ (m : Message) (filer : List ℕ) (target : Option ℕ) (key : List ℕ)
   pub route-post : route m ≡ filed
   unfolding route
   route-post =
-      ap (λ method. bare (bytes_eq method (codes "HEAD")) (route_by_place (place_of_path m.head.path) m)) post.method
-      ∙ ap (λ path. route_by_place (place_of_path path) m) post.path
-      ∙ ap (λ place. route_by_place place m) (place_in-place filer target filer_is target_is)
+      ap (λ method. bare (bytes_eq method (codes "HEAD")) (route_by_resource (resource_of_path m.head.path) m)) post.method
+      ∙ ap (λ path. route_by_resource (resource_of_path path) m) post.path
+      ∙ ap (λ resource. route_by_resource resource m) (resource_in-resource filer target filer_is target_is)
       ∙ by_method

@@ -2,7 +2,7 @@
 use Rattle.std.specs.Prelude.{◌≡◌, ℕ, Bool, List, [], ◌∷◌, ◌++◌, map, length, true, false, not, ◌&&◌, if◌then◌else◌}
 use Rattle.std.specs.List.{range_with_len}
 use Rattle.xbrl_report.specs.Pair.{Pair}
-use Rattle.http_wire.specs.Message.{Place, Ending, HasPlaces}
+use Rattle.http_wire.specs.Message.{Arrival, Ending, HasArrivals}
 use Rattle.filing_model.specs.declared.served.Ended.{Ended}
 use Rattle.filing_model.specs.declared.served.Mark.{Mark}
 use Rattle.filing_model.specs.Prefix.{IsPrefixOf}
@@ -51,10 +51,10 @@ pub record RepeatGetsTheFirst (requests : List Request) (r : Request) (more : Li
 abbrev pub StaysRegistered : List Request → Request → ℕ → Type 0
 StaysRegistered requests r number = (more : List Request) → numbers_of r (register ((requests ++ r ∷ []) ++ more)) ≡ number ∷ []
 
--- each place has its mark, the whole text was written, and it ended as the places end
-pub record IsAnswered (done : List Request) (bytes : List ℕ) (places : List Place) (marks : List Mark) (ended : Ended) (out : List ℕ) : Type 0 where
+-- each arrival has its mark, the whole text was written, and it ended as the arrivals end
+pub record IsAnswered (done : List Request) (bytes : List ℕ) (arrivals : List Arrival) (marks : List Mark) (ended : Ended) (out : List ℕ) : Type 0 where
   pub ending : Ending
-  pub splits : HasPlaces bytes places ending
-  pub all : length marks ≡ length places
-  pub written : out ≡ text done places ending marks
+  pub splits : HasArrivals bytes arrivals ending
+  pub all : length marks ≡ length arrivals
+  pub written : out ≡ text done arrivals ending marks
   pub end : ended ≡ end_of ending

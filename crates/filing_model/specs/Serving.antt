@@ -1,6 +1,6 @@
 -- What serving a connection may mark, write and end with.
 use Rattle.std.specs.Prelude.{◌≡◌, ℕ, true, false, List, [], ◌∷◌, ◌++◌, length}
-use Rattle.http_wire.specs.Message.{Place, Ending, Rest, Asks, PlacesThen, HasPlaces}
+use Rattle.http_wire.specs.Message.{Arrival, Ending, Rest, Asks, ArrivalsThen, HasArrivals}
 use Rattle.filing_model.specs.declared.served.Mark.{Mark}
 use Rattle.filing_model.specs.declared.served.Ended.{Ended}
 use Rattle.filing_model.specs.declared.served.Ended.TheVariants.{Closed, InputEnded, Fault}
@@ -19,12 +19,12 @@ pub record Keeping : Type 0 where
 abbrev pub keeping : ℕ → List Request → List Request → List Request → Keeping
 keeping limit early before after = record { limit = limit; early = early; before = before; after = after }
 
--- every place has a mark that it may be given
-pub record AreMarked (limit : ℕ) (before : List Request) (places : List Place) (marks : List Mark) : Type 0 where
-  pub all : length marks ≡ length places
-  pub fit : MarksFit limit before places marks
+-- every arrival has a mark that it may be given
+pub record AreMarked (limit : ℕ) (before : List Request) (arrivals : List Arrival) (marks : List Mark) : Type 0 where
+  pub all : length marks ≡ length arrivals
+  pub fit : MarksFit limit before arrivals marks
 
--- how serving ends where the places end so
+-- how serving ends where the arrivals end so
 abbrev pub end_of : Ending → Ended
 end_of Ending.Closed = Closed
 end_of (Rest asks) = InputEnded
@@ -35,14 +35,14 @@ abbrev pub kept_by : List Request → List Request → List Request
 kept_by before [] = before
 kept_by before (r ∷ requests) = firsts (before ++ r ∷ requests)
 
--- All places are marked and answered, and what is kept `after` follows from what was kept `before`.
+-- All arrivals are marked and answered, and what is kept `after` follows from what was kept `before`.
 pub record IsServed (requests : Keeping) (bytes : List ℕ) (marks : List Mark) (ended : Ended) (out : List ℕ) : Type 0 where
-  pub places : List Place
+  pub arrivals : List Arrival
   pub ending : Ending
-  pub splits : HasPlaces bytes places ending
-  pub marked : AreMarked requests.limit requests.before places marks
-  pub written : out ≡ text_with requests.early requests.before places ending marks
-  pub kept : requests.after ≡ kept_by requests.before (completed places marks)
+  pub splits : HasArrivals bytes arrivals ending
+  pub marked : AreMarked requests.limit requests.before arrivals marks
+  pub written : out ≡ text_with requests.early requests.before arrivals ending marks
+  pub kept : requests.after ≡ kept_by requests.before (completed arrivals marks)
   pub end : ended ≡ end_of ending
 
 -- whatever follows, it asks for an interim response where the ending says so
@@ -51,19 +51,19 @@ AnyFollows bytes Ending.Closed = Unit {0}
 AnyFollows bytes (Rest true) = Asks bytes true
 AnyFollows bytes (Rest false) = Unit {0}
 
--- the bytes begin with these places, all of them or the first
-abbrev pub BeginsPlaces : List ℕ → List Place → Ending → Type 0
-BeginsPlaces bytes places ending = PlacesThen AnyFollows bytes places ending
+-- the bytes begin with these arrivals, all of them or the first
+abbrev pub BeginsArrivals : List ℕ → List Arrival → Ending → Type 0
+BeginsArrivals bytes arrivals ending = ArrivalsThen AnyFollows bytes arrivals ending
 
--- A fault ended early: the first places are marked, and what went out begins their text, with the interim response that may be
+-- A fault ended early: the first arrivals are marked, and what went out begins their text, with the interim response that may be
 -- asked for after them.
 pub record IsCutShort (requests : Keeping) (bytes : List ℕ) (marks : List Mark) (out : List ℕ) : Type 0 where
-  pub places : List Place
+  pub arrivals : List Arrival
   pub ending : Ending
-  pub begins : BeginsPlaces bytes places ending
-  pub marked : AreMarked requests.limit requests.before places marks
-  pub written : IsPrefixOf out (text_with requests.early requests.before places ending marks)
-  pub kept : requests.after ≡ kept_by requests.before (completed places marks)
+  pub begins : BeginsArrivals bytes arrivals ending
+  pub marked : AreMarked requests.limit requests.before arrivals marks
+  pub written : IsPrefixOf out (text_with requests.early requests.before arrivals ending marks)
+  pub kept : requests.after ≡ kept_by requests.before (completed arrivals marks)
 
 -- what serving these bytes may mark, write, keep and end with
 abbrev pub Serves : Keeping → List ℕ → List Mark → Ended → List ℕ → Type 0

@@ -6,7 +6,7 @@ ghost use Rattle.std.specs.Prelude.{◌≡◌, ◌≢◌, ◌↔◌, ℕ, ◌^�
 ghost use Rattle.http_wire.specs.declared.refusal.ConnFault.{ConnFault};
 ghost use Rattle.http_wire.specs.declared.reply.Kind.TheVariants.{Problem};
 ghost use Rattle.http_wire.specs.Head.{closes};
-ghost use Rattle.http_wire.specs.Message.{Place};
+ghost use Rattle.http_wire.specs.Message.{Arrival};
 ghost use Rattle.http_wire.specs.Reply.{render};
 ghost use Rattle.http_wire.specs.Request.{Request as Message};
 ghost use Rattle.http_wire.specs.Response.{IsReadable};
@@ -96,40 +96,40 @@ pub fn serves_as_the_model_says()
     ensures { (limit : ℕ) (done before after : List Request) (read more : List ℕ) (marks : List Mark) (ended : Ended)
         (out : List ℕ)
         → before ≡ firsts done → IsEndOf read more ended → Serves (keeping limit [] before after) read marks ended out
-        → (places : List Place)
-        × ServesUntil limit done (read ++ more) No places marks
-        (Some ended) out × (after ≡ firsts (done ++ completed places marks)) }
+        → (arrivals : List Arrival)
+        × ServesUntil limit done (read ++ more) No arrivals marks
+        (Some ended) out × (after ≡ firsts (done ++ completed arrivals marks)) }
 {}
 
-/// So it is where serving may stop at a place. What was stopped tells no end, and the places that it
+/// So it is where serving may stop at an arrival. What was stopped tells no end, and the arrivals that it
 /// tells are the first ones, up to the one where it stopped.
 pub fn serves_until_as_the_model_says()
     ensures { (limit : ℕ) (done before after : List Request) (read more : List ℕ) (crash : Crash) (marks : List Mark)
         (ended : Option Ended) (out : List ℕ)
         → before ≡ firsts done → IsEndOrStopOf read more ended
         → StopsOrServes (keeping limit [] before after) read crash marks ended out
-        → (places : List Place) × ServesUntil limit done (read ++ more) crash places marks ended out
-        × (after ≡ firsts (done ++ completed places marks)) }
+        → (arrivals : List Arrival) × ServesUntil limit done (read ++ more) crash arrivals marks ended out
+        × (after ≡ firsts (done ++ completed arrivals marks)) }
 {}
 
-/// Where a connection ended by itself, neither by a fault nor by a stop, each of its places has its
+/// Where a connection ended by itself, neither by a fault nor by a stop, each of its arrivals has its
 /// mark and its whole text was written. Only a fault leaves less.
 pub fn serves_all_without_a_fault()
-    ensures { (limit : ℕ) (done : List Request) (bytes : List ℕ) (crash : Crash) (places : List Place)
+    ensures { (limit : ℕ) (done : List Request) (bytes : List ℕ) (crash : Crash) (arrivals : List Arrival)
         (marks : List Mark) (ended : Ended) (out : List ℕ)
-        → ServesUntil limit done bytes crash places marks (Some ended) out → ((fault : ConnFault) → ended ≢ Fault fault)
-        → IsAnswered done bytes places marks ended out }
+        → ServesUntil limit done bytes crash arrivals marks (Some ended) out → ((fault : ConnFault) → ended ≢ Fault fault)
+        → IsAnswered done bytes arrivals marks ended out }
 {}
 
 /// The reply to a HEAD has no content (RFC 9110, section 9.3.2), whatever its path, and so whatever
-/// mark its place may have. It is a refusal, and has the kind of one.
+/// mark its arrival may have. It is a refusal, and has the kind of one.
 pub fn head_is_answered_without_content()
     ensures reply { (early requests : List Request) (m : Message) → m.head.method ≡ codes "HEAD"
         → (reply_with early requests m).content ≡ [] }
     ensures kind { (early requests : List Request) (m : Message) → m.head.method ≡ codes "HEAD"
         → (reply_with early requests m).kind ≡ Problem }
     ensures written { (limit : ℕ) (early requests : List Request) (m : Message) (mark : Mark)
-        → m.head.method ≡ codes "HEAD" → MarkFits limit requests (Place.Read m) mark
-        → reply_text_with early requests (Place.Read m) mark ≡ render
+        → m.head.method ≡ codes "HEAD" → MarkFits limit requests (Arrival.Read m) mark
+        → reply_text_with early requests (Arrival.Read m) mark ≡ render
         (record { status = (reply_with early requests m).status; content = []; kind = Problem }) (closes m.head) }
 {}

@@ -5,7 +5,7 @@ use Rattle.xbrl_report.specs.Findings.{tree}
 use Rattle.xbrl_report.specs.Pair.{Pair}
 use Rattle.xbrl_report.specs.CodeNumber.{number_of}
 use Rattle.http_wire.specs.Head.{closes}
-use Rattle.http_wire.specs.Message.{Place, Ending}
+use Rattle.http_wire.specs.Message.{Arrival, Ending}
 use Rattle.http_wire.specs.Request.{Request as Message}
 use Rattle.http_wire.specs.Reply.{ReplyParts, render}
 use Rattle.http_wire.specs.Response.{SpellsReply, GivesReply, IsReadable}
@@ -19,7 +19,7 @@ use Rattle.filing_model.specs.Request.{Request, firsts}
 use Rattle.filing_model.specs.Answer.{Answer, answer, IsRegistered}
 use Rattle.filing_model.specs.Reply.{reply_as, reply_of, unavailable, refused_status}
 use Rattle.filing_model.specs.Outbox.{Open, Confirmed, Refused, Clashed, moved, state_told, IsSendable, bytes_of}
-use Rattle.filing_model.specs.Serving.{BeginsPlaces}
+use Rattle.filing_model.specs.Serving.{BeginsArrivals}
 use Rattle.filing_model.specs.Stopping.{Crash, No, Before, After}
 use Rattle.filing_model.specs.Text.{FileReport, RouteFits, MarksFit, completed, completed_at, requests_of_route, reply, reply_on, reply_text_with, text, text_with, interim_of, next_interim}
 use Rattle.filing_model.proofs.Answers.{answer_registered, registered_grows}
@@ -83,10 +83,10 @@ module _ (limit : ℕ) (before : List Request) (small : length (firsts before) �
       (λ (e : ending ≡ Ending.Rest false). ap (next_interim []) e)
       silent
 
-  no_place : (ending : Ending) → (ending ≡ Ending.Closed) ⊎ (ending ≡ Ending.Rest false) → (marks : List Mark) → MarksFit limit before [] marks → IsPrefixOf part (text before [] ending marks) → ⊥
+  no_arrival : (ending : Ending) → (ending ≡ Ending.Closed) ⊎ (ending ≡ Ending.Rest false) → (marks : List Mark) → MarksFit limit before [] marks → IsPrefixOf part (text before [] ending marks) → ⊥
   unfolding text_with MarksFit
-  no_place ending silent [] fit front = nothing_heard (prefix_nil part (subst (λ bytes. IsPrefixOf part bytes) (silent_end ending silent) front))
-  no_place ending silent (mark ∷ marks) fit front = fit
+  no_arrival ending silent [] fit front = nothing_heard (prefix_nil part (subst (λ bytes. IsPrefixOf part bytes) (silent_end ending silent) front))
+  no_arrival ending silent (mark ∷ marks) fit front = fit
 
   -- what is heard of a rendered reply is that reply
   heard_is : (reply : ReplyParts) (close : Bool) → IsReadable reply → IsPrefixOf part (render reply close) → heard ≡ reply
@@ -108,41 +108,41 @@ module _ (limit : ℕ) (before : List Request) (small : length (firsts before) �
       let same = heard_is unavailable close unavailable-readable front in
       other_reply unavailable n refl (ap (moved Open) (sym same) ∙ confirmed)
 
-  silent_interim : (m : Message) → FilesAlone m r → interim_of (Place.Read m) ≡ []
+  silent_interim : (m : Message) → FilesAlone m r → interim_of (Arrival.Read m) ≡ []
   silent_interim m alone = rw alone.silent refl
 
-  one_text : (m : Message) → FilesAlone m r → (mark : Mark) → text before (Place.Read m ∷ []) Ending.Closed (mark ∷ []) ≡ reply_text_with [] before (Place.Read m) mark
+  one_text : (m : Message) → FilesAlone m r → (mark : Mark) → text before (Arrival.Read m ∷ []) Ending.Closed (mark ∷ []) ≡ reply_text_with [] before (Arrival.Read m) mark
   unfolding text_with
-  one_text m alone mark = ap (λ front. front ++ (reply_text_with [] before (Place.Read m) mark ++ [])) (silent_interim m alone) ∙ append_nil (reply_text_with [] before (Place.Read m) mark)
+  one_text m alone mark = ap (λ front. front ++ (reply_text_with [] before (Arrival.Read m) mark ++ [])) (silent_interim m alone) ∙ append_nil (reply_text_with [] before (Arrival.Read m) mark)
 
-  by_mark : (m : Message) → FilesAlone m r → (mark : Mark) → RouteFits limit before (FileReport r) mark → IsPrefixOf part (reply_text_with [] before (Place.Read m) mark) → IsRegistered (before ++ requests_of_route (FileReport r) mark) r n
+  by_mark : (m : Message) → FilesAlone m r → (mark : Mark) → RouteFits limit before (FileReport r) mark → IsPrefixOf part (reply_text_with [] before (Arrival.Read m) mark) → IsRegistered (before ++ requests_of_route (FileReport r) mark) r n
   by_mark m alone Done fit front = heard_answer (closes m.head) (subst (λ reply. IsPrefixOf part (render reply (closes m.head))) (reply_alone before m r alone) front)
   by_mark m alone Unavailable fit front = absurd (heard_unavailable (closes m.head) front)
   by_mark m alone NotFiled fit front = absurd fit
 
-  one_place : (m : Message) → FilesAlone m r → (marks : List Mark) → MarksFit limit before (Place.Read m ∷ []) marks → IsPrefixOf part (text before (Place.Read m ∷ []) Ending.Closed marks) → IsRegistered (before ++ completed (Place.Read m ∷ []) marks) r n
+  one_arrival : (m : Message) → FilesAlone m r → (marks : List Mark) → MarksFit limit before (Arrival.Read m ∷ []) marks → IsPrefixOf part (text before (Arrival.Read m ∷ []) Ending.Closed marks) → IsRegistered (before ++ completed (Arrival.Read m ∷ []) marks) r n
   unfolding text_with MarksFit completed
-  one_place m alone [] fit front = absurd (nothing_heard (prefix_nil part (subst (λ bytes. IsPrefixOf part bytes) (silent_interim m alone) front)))
-  one_place m alone (mark ∷ []) fit front =
-      subst (λ more. IsRegistered (before ++ more) r n) (sym (append_nil (completed_at (Place.Read m) mark) ∙ ap (λ route. requests_of_route route mark) alone.filed))
+  one_arrival m alone [] fit front = absurd (nothing_heard (prefix_nil part (subst (λ bytes. IsPrefixOf part bytes) (silent_interim m alone) front)))
+  one_arrival m alone (mark ∷ []) fit front =
+      subst (λ more. IsRegistered (before ++ more) r n) (sym (append_nil (completed_at (Arrival.Read m) mark) ∙ ap (λ route. requests_of_route route mark) alone.filed))
       (by_mark m alone mark (subst (λ route. RouteFits limit before route mark) alone.filed fit.0) (subst (λ bytes. IsPrefixOf part bytes) (one_text m alone mark) front))
-  one_place m alone (mark ∷ another ∷ marks) fit front = absurd fit.1
+  one_arrival m alone (mark ∷ another ∷ marks) fit front = absurd fit.1
 
-  pub heard_alone : (places : List Place) (ending : Ending) (marks : List Mark) → IsAlone places ending r → MarksFit limit before places marks → IsPrefixOf part (text before places ending marks) → IsRegistered (before ++ completed places marks) r n
-  heard_alone places ending marks alone fit front = ⊎_elim
-      (λ (e : (places ≡ []) × ((ending ≡ Ending.Closed) ⊎ (ending ≡ Ending.Rest false))).
-      absurd (no_place ending e.1 marks (subst (λ ps. MarksFit limit before ps marks) e.0 fit) (subst (λ ps. IsPrefixOf part (text before ps ending marks)) e.0 front)))
-      (λ (e : (m : Message) × (places ≡ Place.Read m ∷ []) × (ending ≡ Ending.Closed) × FilesAlone m r).
+  pub heard_alone : (arrivals : List Arrival) (ending : Ending) (marks : List Mark) → IsAlone arrivals ending r → MarksFit limit before arrivals marks → IsPrefixOf part (text before arrivals ending marks) → IsRegistered (before ++ completed arrivals marks) r n
+  heard_alone arrivals ending marks alone fit front = ⊎_elim
+      (λ (e : (arrivals ≡ []) × ((ending ≡ Ending.Closed) ⊎ (ending ≡ Ending.Rest false))).
+      absurd (no_arrival ending e.1 marks (subst (λ ps. MarksFit limit before ps marks) e.0 fit) (subst (λ ps. IsPrefixOf part (text before ps ending marks)) e.0 front)))
+      (λ (e : (m : Message) × (arrivals ≡ Arrival.Read m ∷ []) × (ending ≡ Ending.Closed) × FilesAlone m r).
       subst (λ ps. IsRegistered (before ++ completed ps marks) r n) (sym e.1)
-      (one_place e.0 e.3 marks (subst (λ ps. MarksFit limit before ps marks) e.1 fit) (subst (λ (x : List Place × Ending). IsPrefixOf part (text before x.0 x.1 marks)) (λ i. (e.1 i, e.2 i)) front)))
+      (one_arrival e.0 e.3 marks (subst (λ ps. MarksFit limit before ps marks) e.1 fit) (subst (λ (x : List Arrival × Ending). IsPrefixOf part (text before x.0 x.1 marks)) (λ i. (e.1 i, e.2 i)) front)))
       alone
 
 -- A reply read from any part of an output to an entry's request confirms only what is registered.
 pub hears : (limit : ℕ) (done : List Request) (sent : List Sent) (output : Output) (r : Request) → (out : IsOutput limit done sent output) → length (firsts done) ≤ 2 ^ 62 → IsSendable r → out.item.bytes ≡ bytes_of r → (given : ℕ) (heard : ReplyParts) → GivesReply (take given output.bytes) heard → (n : ℕ) → moved Open heard ≡ Confirmed n → IsRegistered done r n
 hears limit done sent output r out few sendable own given heard gives n confirmed =
     let part : List ℕ = take gives.0 (take given output.bytes) in
-    let alone = own_front r (posted r sendable) output.given out.places out.ending (subst (λ bytes. BeginsPlaces (take output.given bytes) out.places out.ending) own out.begins) in
-    let front = prefix_trans part output.bytes (text out.before out.places out.ending output.marks) (prefix_trans part (take given output.bytes) output.bytes (take_within gives.0 (take given output.bytes)) (take_within given output.bytes)) out.written in
-    let small : length (firsts out.before) ≤ 2 ^ 62 = omega (arith, firsts_more out.before (completed out.places output.marks ++ out.later), ap (λ requests. length (firsts requests)) out.stands) in
-    let here = heard_alone limit out.before small r part heard n gives.1 confirmed out.places out.ending output.marks alone out.fit front in
-    subst (λ requests. IsRegistered requests r n) (append_assoc out.before (completed out.places output.marks) out.later ∙ sym out.stands) (registered_grows (out.before ++ completed out.places output.marks) out.later r n here)
+    let alone = own_front r (posted r sendable) output.given out.arrivals out.ending (subst (λ bytes. BeginsArrivals (take output.given bytes) out.arrivals out.ending) own out.begins) in
+    let front = prefix_trans part output.bytes (text out.before out.arrivals out.ending output.marks) (prefix_trans part (take given output.bytes) output.bytes (take_within gives.0 (take given output.bytes)) (take_within given output.bytes)) out.written in
+    let small : length (firsts out.before) ≤ 2 ^ 62 = omega (arith, firsts_more out.before (completed out.arrivals output.marks ++ out.later), ap (λ requests. length (firsts requests)) out.stands) in
+    let here = heard_alone limit out.before small r part heard n gives.1 confirmed out.arrivals out.ending output.marks alone out.fit front in
+    subst (λ requests. IsRegistered requests r n) (append_assoc out.before (completed out.arrivals output.marks) out.later ∙ sym out.stands) (registered_grows (out.before ++ completed out.arrivals output.marks) out.later r n here)

@@ -13,7 +13,7 @@ use Rattle.http_wire.specs.Posting.{IsTarget}
 use Rattle.filing_model.specs.Request.{Request, firsts}
 use Rattle.filing_model.specs.Answer.{IsRegistered}
 use Rattle.filing_model.specs.Outbox.{State, Open, Confirmed, Refused, Clashed, moved, Entry, request_of, bytes_of}
-use Rattle.filing_model.specs.Serving.{BeginsPlaces}
+use Rattle.filing_model.specs.Serving.{BeginsArrivals}
 use Rattle.filing_model.specs.Stopping.{Crash}
 use Rattle.filing_model.specs.Text.{completed}
 use Rattle.filing_model.proofs.Lists.{append_nil, take_take}
@@ -68,21 +68,21 @@ output_done limit done more sent output out = record {
   here = out.here;
   before = out.before;
   later = out.later ++ more;
-  places = out.places;
+  arrivals = out.arrivals;
   ending = out.ending;
   begins = out.begins;
   fit = out.fit;
   stands = longer;
   count = out.count;
   written = out.written;
-  stable = replies_stand (done ++ more) out.before out.places output.marks (out.later ++ more) longer;
+  stable = replies_stand (done ++ more) out.before out.arrivals output.marks (out.later ++ more) longer;
 }
   where
-    longer : done ++ more ≡ out.before ++ (completed out.places output.marks ++ (out.later ++ more))
+    longer : done ++ more ≡ out.before ++ (completed out.arrivals output.marks ++ (out.later ++ more))
     longer =
         ap (λ requests. requests ++ more) out.stands
-        ∙ append_assoc out.before (completed out.places output.marks ++ out.later) more
-        ∙ ap (λ rest. out.before ++ rest) (append_assoc (completed out.places output.marks) out.later more)
+        ∙ append_assoc out.before (completed out.arrivals output.marks ++ out.later) more
+        ∙ ap (λ rest. out.before ++ rest) (append_assoc (completed out.arrivals output.marks) out.later more)
 
 output_sent : (limit : ℕ) (done : List Request) (sent more : List Sent) (output : Output) → IsOutput limit done sent output → IsOutput limit done (sent ++ more) output
 output_sent limit done sent more output out = record {
@@ -90,7 +90,7 @@ output_sent limit done sent more output out = record {
   here = numbered_grows sent more output.item out.item out.here;
   before = out.before;
   later = out.later;
-  places = out.places;
+  arrivals = out.arrivals;
   ending = out.ending;
   begins = out.begins;
   fit = out.fit;
@@ -115,15 +115,15 @@ turn_sent : (limit : ℕ) (done before : List Request) (sent more : List Sent) (
 unfolding output_sent
 turn_sent limit done before sent more [] all = all
 turn_sent limit done before sent more (output ∷ outputs) all =
-    (output_sent limit done sent more output all.0, all.1, turn_sent limit done (before ++ completed all.0.places output.marks) sent more outputs all.2)
+    (output_sent limit done sent more output all.0, all.1, turn_sent limit done (before ++ completed all.0.arrivals output.marks) sent more outputs all.2)
 
 -- an output more, which completed what was added
-turn_push : (limit : ℕ) (done more before : List Request) (sent : List Sent) (outputs : List Output) (last : Output) (out : IsOutput limit (done ++ more) sent last) → out.before ≡ done → completed out.places last.marks ≡ more
+turn_push : (limit : ℕ) (done more before : List Request) (sent : List Sent) (outputs : List Output) (last : Output) (out : IsOutput limit (done ++ more) sent last) → out.before ≡ done → completed out.arrivals last.marks ≡ more
     → CompleteInTurn limit done sent before outputs → CompleteInTurn limit (done ++ more) sent before (outputs ++ last ∷ [])
 unfolding output_done
 turn_push limit done more before sent [] last out begins adds all = (out, begins ∙ all, ap (λ requests. requests ++ more) all ∙ ap (λ requests. before ++ requests) (sym adds))
 turn_push limit done more before sent (output ∷ outputs) last out begins adds all =
-    (output_done limit done more sent output all.0, all.1, turn_push limit done more (before ++ completed all.0.places output.marks) sent outputs last out begins adds all.2)
+    (output_done limit done more sent output all.0, all.1, turn_push limit done more (before ++ completed all.0.arrivals output.marks) sent outputs last out begins adds all.2)
 
 -- ---- the events
 
@@ -224,7 +224,7 @@ pub keeps_deliver : (old : World) (item given : ℕ) (crash : Crash) (new : Worl
 keeps_deliver old item given crash new keeps step = subst Keeps (sym step.becomes) after
   where
     more : List Request
-    more = completed step.places step.marks
+    more = completed step.arrivals step.marks
 
     output : Output
     output = record { item = item; given = length (take given step.from.bytes); before = length old.done; marks = step.marks; ended = step.ended; bytes = step.out }
@@ -238,15 +238,15 @@ keeps_deliver old item given crash new keeps step = subst Keeps (sym step.become
       here = step.here;
       before = old.done;
       later = [];
-      places = step.places;
+      arrivals = step.arrivals;
       ending = step.serves.ending;
-      begins = subst (λ bytes. BeginsPlaces bytes step.places step.serves.ending) (sym (take_take given step.from.bytes))
-          (serves_begin old.limit old.done (take given step.from.bytes) crash step.places step.marks step.ended step.out step.serves);
+      begins = subst (λ bytes. BeginsArrivals bytes step.arrivals step.serves.ending) (sym (take_take given step.from.bytes))
+          (serves_begin old.limit old.done (take given step.from.bytes) crash step.arrivals step.marks step.ended step.out step.serves);
       fit = step.serves.fit;
       stands = stands;
-      stable = replies_stand (old.done ++ more) old.done step.places step.marks [] stands;
+      stable = replies_stand (old.done ++ more) old.done step.arrivals step.marks [] stands;
       count = refl;
-      written = serves_front old.limit old.done (take given step.from.bytes) crash step.places step.marks step.ended step.out step.serves;
+      written = serves_front old.limit old.done (take given step.from.bytes) crash step.arrivals step.marks step.ended step.out step.serves;
     }
 
     after : Keeps (record old { done = old.done ++ more; outputs = old.outputs ++ output ∷ []; up = is_no crash })
@@ -258,7 +258,7 @@ keeps_deliver old item given crash new keeps step = subst Keeps (sym step.become
       completed = turn_push old.limit old.done more [] old.sent old.outputs output it_is refl refl keeps.completed;
       own = keeps.own;
       boxes = λ outbox box here. sound_done old.done more box (keeps.boxes outbox box here);
-      few = completed_within old.limit old.done step.places step.marks step.serves.fit keeps.few;
+      few = completed_within old.limit old.done step.arrivals step.marks step.serves.fit keeps.few;
       limit = keeps.limit;
     }
 
@@ -434,8 +434,8 @@ holds world keeps = record {
   registered = record { valid = register_valid world.done; numbered = register_numbered world.done };
   outputs = keeps.outputs;
   stable = λ one other first second r reply again at then.
-      answers_stand world.done first.before first.places one.marks r reply first.stable at
-      ∙ sym (answers_stand world.done second.before second.places other.marks r again second.stable then);
+      answers_stand world.done first.before first.arrivals one.marks r reply first.stable at
+      ∙ sym (answers_stand world.done second.before second.arrivals other.marks r again second.stable then);
   confirmed = λ outbox number n box entry here there is.
       registered_number world.done (request_of box.filer entry) n (((keeps.boxes outbox box here).entries number entry there).registered n is);
   sent = keeps.own;

@@ -5,7 +5,7 @@ use Rattle.std.specs.List.{range_with_len}
 use Rattle.std.proofs.lemmas.Bool.{cases_Bool, and_parts}
 use Rattle.std.proofs.lemmas.Slice.Eq.{bytes_eq-Decides}
 use Rattle.http_wire.specs.Head.{closes}
-use Rattle.http_wire.specs.Message.{Place, Ending}
+use Rattle.http_wire.specs.Message.{Arrival, Ending}
 use Rattle.http_wire.specs.Request.{Request as Message}
 use Rattle.http_wire.specs.Reply.{ReplyParts, render}
 use Rattle.http_wire.specs.Response.{SpellsReply, GivesReply, IsReadable}
@@ -19,7 +19,7 @@ use Rattle.filing_model.specs.Register.{Filing, register, numbers_of}
 use Rattle.filing_model.specs.Answer.{Answer, answer}
 use Rattle.filing_model.specs.Reply.{reply_as, reply_of, unavailable}
 use Rattle.filing_model.specs.Outbox.{State, bytes_of, IsSendable}
-use Rattle.filing_model.specs.Serving.{BeginsPlaces}
+use Rattle.filing_model.specs.Serving.{BeginsArrivals}
 use Rattle.filing_model.specs.Stopping.{Crash}
 use Rattle.filing_model.specs.Text.{FileReport, MarksFit, completed, requests_of_route, interim_of, reply_text_with, text, text_with}
 use Rattle.filing_model.proofs.Firsts.{same_target-is}
@@ -157,32 +157,32 @@ undecided done r close again few front =
     other_status (answer done r) (sym (ap (λ (x : ReplyParts). x.status) same))
 
 module _ (limit : ℕ) (done : List Request) (few : length (firsts done) ≤ 2 ^ 62) (r : Request) (close : Bool) where
-  by_mark : (m : Message) → FilesAlone m r → (mark : Mark) → IsPrefixOf (render unavailable close) (text done (Place.Read m ∷ []) Ending.Closed (mark ∷ [])) → requests_of_route (FileReport r) mark ≡ []
+  by_mark : (m : Message) → FilesAlone m r → (mark : Mark) → IsPrefixOf (render unavailable close) (text done (Arrival.Read m ∷ []) Ending.Closed (mark ∷ [])) → requests_of_route (FileReport r) mark ≡ []
   unfolding text_with
   by_mark m alone Unavailable front = refl
   by_mark m alone NotFiled front = refl
   by_mark m alone Done front =
-      let silent : interim_of (Place.Read m) ≡ [] = rw alone.silent refl in
-      let reply : reply_text_with [] done (Place.Read m) Done ≡ render (reply_of (answer done r)) (closes m.head) = rw alone.filed refl in
-      let whole = ap (λ before. before ++ (reply_text_with [] done (Place.Read m) Done ++ [])) silent ∙ append_nil _ ∙ reply in
+      let silent : interim_of (Arrival.Read m) ≡ [] = rw alone.silent refl in
+      let reply : reply_text_with [] done (Arrival.Read m) Done ≡ render (reply_of (answer done r)) (closes m.head) = rw alone.filed refl in
+      let whole = ap (λ before. before ++ (reply_text_with [] done (Arrival.Read m) Done ++ [])) silent ∙ append_nil _ ∙ reply in
       absurd (undecided done r close (closes m.head) few (subst (IsPrefixOf (render unavailable close)) whole front))
 
-  one_place : (m : Message) → FilesAlone m r → (marks : List Mark) → MarksFit limit done (Place.Read m ∷ []) marks → IsPrefixOf (render unavailable close) (text done (Place.Read m ∷ []) Ending.Closed marks) → completed (Place.Read m ∷ []) marks ≡ []
+  one_arrival : (m : Message) → FilesAlone m r → (marks : List Mark) → MarksFit limit done (Arrival.Read m ∷ []) marks → IsPrefixOf (render unavailable close) (text done (Arrival.Read m ∷ []) Ending.Closed marks) → completed (Arrival.Read m ∷ []) marks ≡ []
   unfolding completed MarksFit
-  one_place m alone [] fit front = refl
-  one_place m alone (mark ∷ []) fit front = append_nil _ ∙ ap (λ to. requests_of_route to mark) alone.filed ∙ by_mark m alone mark front
-  one_place m alone (mark ∷ another ∷ marks) fit front = absurd fit.1
+  one_arrival m alone [] fit front = refl
+  one_arrival m alone (mark ∷ []) fit front = append_nil _ ∙ ap (λ to. requests_of_route to mark) alone.filed ∙ by_mark m alone mark front
+  one_arrival m alone (mark ∷ another ∷ marks) fit front = absurd fit.1
 
-  no_place : (marks : List Mark) → completed [] marks ≡ []
+  no_arrival : (marks : List Mark) → completed [] marks ≡ []
   unfolding completed
-  no_place marks = refl
+  no_arrival marks = refl
 
-  nothing_completed : (places : List Place) (ending : Ending) (marks : List Mark) → IsAlone places ending r → MarksFit limit done places marks → IsPrefixOf (render unavailable close) (text done places ending marks) → completed places marks ≡ []
-  nothing_completed places ending marks alone fit front = ⊎_elim
-      (λ (e : (places ≡ []) × ((ending ≡ Ending.Closed) ⊎ (ending ≡ Ending.Rest false))). ap (λ ps. completed ps marks) e.0 ∙ no_place marks)
-      (λ (e : (m : Message) × (places ≡ Place.Read m ∷ []) × (ending ≡ Ending.Closed) × FilesAlone m r).
+  nothing_completed : (arrivals : List Arrival) (ending : Ending) (marks : List Mark) → IsAlone arrivals ending r → MarksFit limit done arrivals marks → IsPrefixOf (render unavailable close) (text done arrivals ending marks) → completed arrivals marks ≡ []
+  nothing_completed arrivals ending marks alone fit front = ⊎_elim
+      (λ (e : (arrivals ≡ []) × ((ending ≡ Ending.Closed) ⊎ (ending ≡ Ending.Rest false))). ap (λ ps. completed ps marks) e.0 ∙ no_arrival marks)
+      (λ (e : (m : Message) × (arrivals ≡ Arrival.Read m ∷ []) × (ending ≡ Ending.Closed) × FilesAlone m r).
       ap (λ ps. completed ps marks) e.1
-      ∙ one_place e.0 e.3 marks (subst (λ ps. MarksFit limit done ps marks) e.1 fit) (subst (λ (x : List Place × Ending). IsPrefixOf (render unavailable close) (text done x.0 x.1 marks)) (λ i. (e.1 i, e.2 i)) front))
+      ∙ one_arrival e.0 e.3 marks (subst (λ ps. MarksFit limit done ps marks) e.1 fit) (subst (λ (x : List Arrival × Ending). IsPrefixOf (render unavailable close) (text done x.0 x.1 marks)) (λ i. (e.1 i, e.2 i)) front))
       alone
 
 -- a request that is told that it could not be decided is not completed
@@ -191,11 +191,11 @@ pub undecided_completes_nothing : (old new : World) (item given : ℕ) (crash : 
 undecided_completes_nothing old new item given crash from r output close keeps here sendable own step outputs told =
     let is : step.from ≡ from = same_element (numbered old.sent item) step.from from step.here here in
     let bytes : step.from.bytes ≡ bytes_of r = ap (λ (x : Sent). x.bytes) is ∙ own in
-    let begins = subst (λ bs. BeginsPlaces (take given bs) step.places step.serves.ending) bytes (serves_begin old.limit old.done (take given step.from.bytes) crash step.places step.marks step.ended step.out step.serves) in
-    let alone = own_front r (posted r sendable) given step.places step.serves.ending begins in
+    let begins = subst (λ bs. BeginsArrivals (take given bs) step.arrivals step.serves.ending) bytes (serves_begin old.limit old.done (take given step.from.bytes) crash step.arrivals step.marks step.ended step.out step.serves) in
+    let alone = own_front r (posted r sendable) given step.arrivals step.serves.ending begins in
     let written : step.out ≡ render unavailable close = ap (λ (o : Output). o.bytes) (last_is old.outputs _ output (sym (ap (λ (w : World). w.outputs) step.becomes) ∙ outputs)) ∙ told in
-    let front = subst (λ bs. IsPrefixOf bs (text old.done step.places step.serves.ending step.marks)) written (serves_front old.limit old.done (take given step.from.bytes) crash step.places step.marks step.ended step.out step.serves) in
-    let nothing = nothing_completed old.limit old.done (omega (arith, keeps.few, keeps.limit)) r close step.places step.serves.ending step.marks alone step.serves.fit front in
+    let front = subst (λ bs. IsPrefixOf bs (text old.done step.arrivals step.serves.ending step.marks)) written (serves_front old.limit old.done (take given step.from.bytes) crash step.arrivals step.marks step.ended step.out step.serves) in
+    let nothing = nothing_completed old.limit old.done (omega (arith, keeps.few, keeps.limit)) r close step.arrivals step.serves.ending step.marks alone step.serves.fit front in
     ap (λ (w : World). w.done) step.becomes ∙ ap (λ more. old.done ++ more) nothing ∙ append_nil old.done
 
 -- ---- of worlds that are reached

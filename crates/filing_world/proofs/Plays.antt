@@ -3,7 +3,7 @@ use Rattle.std.proofs.Common.{◌≡◌, ◌⊎◌, ℕ, ◌<◌, ◌≤◌, Boo
 use Rattle.std.proofs.lemmas.Bool.{both_ways, le-leb}
 use Rattle.std.proofs.lemmas.Grind.{common_steps}
 use Rattle.http_wire.specs.Head.{closes, max_body_len}
-use Rattle.http_wire.specs.Message.{Read, Ending, Rest, HasPlaces, awaits}
+use Rattle.http_wire.specs.Message.{Read, Ending, Rest, HasArrivals, awaits}
 use Rattle.http_wire.specs.Reply.{ReplyParts, render}
 use Rattle.http_wire.specs.Response.{BeginsReply, SpellsReply, GivesReply, IsReadable}
 use Rattle.http_wire.proofs.ReplyRead.{reply-spells}
@@ -18,7 +18,7 @@ use Rattle.filing_model.specs.Outbox.{State, Open, moved, bytes_of, IsSendable}
 use Rattle.filing_model.specs.Stopping.{No, Before, After, ServesUntil}
 use Rattle.filing_model.specs.Text.{RouteFits, requests_of_route, completed, MarksFit, interim_of, reply_text_with, text, text_with}
 use Rattle.filing_model.proofs.Lists.{append_nil, prefix_trans, take_within}
-use Rattle.filing_model.proofs.Stopping.{HasPlaces-begins}
+use Rattle.filing_model.proofs.Stopping.{HasArrivals-begins}
 use Rattle.filing_world.specs.World.{Output, World, Put, Send, Deliver, Hand, RestartOutbox, numbered, renewed, new_outbox}
 use Rattle.filing_world.proofs.Single.{entry_with, outbox_with, sent_by, item_of}
 use Rattle.filing_world.specs.Step.{Step}
@@ -75,12 +75,12 @@ module _ (r : Request) (sendable : IsSendable r) where
   abbrev bytes : List ℕ
   bytes = bytes_of r
 
-  places_whole : HasPlaces bytes (Read is.message ∷ []) Ending.Closed
-  places_whole = (length bytes, is.spells, (λ _. (refl, refl)), λ (open' : closes is.message.head ≡ false). absurd (both_ways _ open' is.closes'))
+  arrivals_whole : HasArrivals bytes (Read is.message ∷ []) Ending.Closed
+  arrivals_whole = (length bytes, is.spells, (λ _. (refl, refl)), λ (open' : closes is.message.head ≡ false). absurd (both_ways _ open' is.closes'))
 
   -- a part that is not the whole holds nothing
-  places_part : (n : ℕ) → n < length bytes → HasPlaces (take n bytes) [] (Rest false)
-  places_part n short = (
+  arrivals_part : (n : ℕ) → n < length bytes → HasArrivals (take n bytes) [] (Rest false)
+  arrivals_part n short = (
     false,
     record { none = never_whole r is n short; refused = never_refused r is n },
     λ parts k h. ap awaits (head_is r is n parts k h) ∙ is.alone.silent,
@@ -117,21 +117,21 @@ module _ (r : Request) (sendable : IsSendable r) where
   serves_done limit done room = record {
     ending = Ending.Closed;
     fit = fit_one limit done room;
-    gives = inl (record { splits = places_whole; all = refl; written = text_one done; end = refl });
+    gives = inl (record { splits = arrivals_whole; all = refl; written = text_one done; end = refl });
   }
 
   serves_after : (limit : ℕ) (done : List Request) → (has_key done r ≡ true) ⊎ (length (firsts done) < limit) → ServesUntil limit done bytes (After 1) (Read is.message ∷ []) (Done ∷ []) None []
   serves_after limit done room = record {
     ending = Ending.Closed;
     fit = fit_one limit done room;
-    gives = inl (record { splits = HasPlaces-begins bytes (Read is.message ∷ []) Ending.Closed places_whole; all = refl; written = text_none done; end = refl });
+    gives = inl (record { splits = HasArrivals-begins bytes (Read is.message ∷ []) Ending.Closed arrivals_whole; all = refl; written = text_none done; end = refl });
   }
 
   serves_before : (limit : ℕ) (done : List Request) → ServesUntil limit done bytes (Before 1) (Read is.message ∷ []) [] None []
   serves_before limit done = record {
     ending = Ending.Closed;
     fit = fit_none limit done;
-    gives = inl (record { splits = HasPlaces-begins bytes (Read is.message ∷ []) Ending.Closed places_whole; all = refl; written = text_none done; end = refl });
+    gives = inl (record { splits = HasArrivals-begins bytes (Read is.message ∷ []) Ending.Closed arrivals_whole; all = refl; written = text_none done; end = refl });
   }
 
   serves_part : (limit : ℕ) (done : List Request) (n : ℕ) → n < length bytes → ServesUntil limit done (take n bytes) No [] [] (Some InputEnded) []
@@ -139,7 +139,7 @@ module _ (r : Request) (sendable : IsSendable r) where
   serves_part limit done n short = record {
     ending = Rest false;
     fit = tt;
-    gives = inl (record { splits = places_part n short; all = refl; written = refl; end = refl });
+    gives = inl (record { splits = arrivals_part n short; all = refl; written = refl; end = refl });
   }
 
 -- ---- deliveries of an entry's request
@@ -186,7 +186,7 @@ module _ (old : World) (item : ℕ) (sender : Option (ℕ × ℕ)) (all : ℕ) (
     up = up;
     from = sent_by sender r;
     here = here;
-    places = Read (is r sendable).message ∷ [];
+    arrivals = Read (is r sendable).message ∷ [];
     marks = Done ∷ [];
     ended = Some Closed;
     out = render (reply_of (answer old.done r)) true;
@@ -203,7 +203,7 @@ module _ (old : World) (item : ℕ) (sender : Option (ℕ × ℕ)) (all : ℕ) (
     up = up;
     from = sent_by sender r;
     here = here;
-    places = Read (is r sendable).message ∷ [];
+    arrivals = Read (is r sendable).message ∷ [];
     marks = Done ∷ [];
     ended = None;
     out = [];
@@ -221,7 +221,7 @@ module _ (old : World) (item : ℕ) (sender : Option (ℕ × ℕ)) (all : ℕ) (
     up = up;
     from = sent_by sender r;
     here = here;
-    places = Read (is r sendable).message ∷ [];
+    arrivals = Read (is r sendable).message ∷ [];
     marks = [];
     ended = None;
     out = [];
@@ -239,7 +239,7 @@ module _ (old : World) (item : ℕ) (sender : Option (ℕ × ℕ)) (all : ℕ) (
     up = up;
     from = sent_by sender r;
     here = here;
-    places = [];
+    arrivals = [];
     marks = [];
     ended = Some InputEnded;
     out = [];

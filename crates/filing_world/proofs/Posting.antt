@@ -1,11 +1,11 @@
--- The front of an entry's request holds no place, or the one that files it.
+-- The front of an entry's request holds no resource, or the one that files it.
 use Rattle.std.proofs.Common.{◌≡◌, ℕ, true, false, List, [], ◌∷◌, ◌++◌, length, take, drop, refl, sym, ap, ◌∙◌, subst, inl, inr, arith, ◌<◌, ◌≤◌, ◌⊎◌}
 use Rattle.std.proofs.lemmas.Bool.{both_ways}
 use Rattle.std.proofs.lemmas.Grind.{common_steps}
 use Rattle.std.proofs.lemmas.List.{take-append-drop}
 use Rattle.http_wire.specs.Head.{RequestParts, closes}
-use Rattle.http_wire.specs.Message.{Place, Read, Refused, Ending, Rest, BeginsHead, BeginsRequest, IsRefused, SpellsRequest, awaits}
-use Rattle.http_wire.specs.Posting.{place_of, post_request}
+use Rattle.http_wire.specs.Message.{Arrival, Read, Refused, Ending, Rest, BeginsHead, BeginsRequest, IsRefused, SpellsRequest, awaits}
+use Rattle.http_wire.specs.Posting.{resource_of, post_request}
 use Rattle.http_wire.specs.Request.{Request as Message}
 use Rattle.http_wire.specs.declared.refusal.Refusal.{Refusal}
 use Rattle.http_wire.proofs.MoreBytes.{BeginsHead-more, BeginsRequest-more, IsRefused-more}
@@ -13,7 +13,7 @@ use Rattle.http_wire.proofs.PostLaws.{post-spells, post_parts-silent, post_parts
 use Rattle.http_wire.proofs.Unique.{BeginsHead-unique, BeginsRequest-unique, IsRefused-excludes}
 use Rattle.filing_model.specs.Request.{Request}
 use Rattle.filing_model.specs.Outbox.{bytes_of, IsSendable}
-use Rattle.filing_model.specs.Serving.{BeginsPlaces}
+use Rattle.filing_model.specs.Serving.{BeginsArrivals}
 use Rattle.filing_model.proofs.Posted.{route-post}
 use Rattle.filing_model.specs.Text.{FileReport, route}
 
@@ -29,28 +29,28 @@ pub record IsPosted (r : Request) : Type 0 where
   pub closes' : closes message.head ≡ true
   pub alone : FilesAlone message r
 
--- no place, or the one that files the request; and nothing asks for an interim response
-abbrev pub IsAlone : List Place → Ending → Request → Type 0
-IsAlone places ending r =
-    ((places ≡ []) × ((ending ≡ Ending.Closed) ⊎ (ending ≡ Ending.Rest false)))
-    ⊎ ((m : Message) × (places ≡ Place.Read m ∷ []) × (ending ≡ Ending.Closed) × FilesAlone m r)
+-- no resource, or the one that files the request; and nothing asks for an interim response
+abbrev pub IsAlone : List Arrival → Ending → Request → Type 0
+IsAlone arrivals ending r =
+    ((arrivals ≡ []) × ((ending ≡ Ending.Closed) ⊎ (ending ≡ Ending.Rest false)))
+    ⊎ ((m : Message) × (arrivals ≡ Arrival.Read m ∷ []) × (ending ≡ Ending.Closed) × FilesAlone m r)
 
 -- the bytes that are sent for a request are one message, which files it
 pub posted : (r : Request) → IsSendable r → IsPosted r
 posted r sendable =
-    let place : List ℕ = place_of r.filer r.target in
+    let resource : List ℕ = resource_of r.filer r.target in
     record {
       message = post_request r.filer r.target r.key r.body;
       spells = post-spells r.filer r.target r.key r.body sendable.filer sendable.target sendable.key sendable.body;
-      closes' = post_parts-closes place r.key (length r.body);
+      closes' = post_parts-closes resource r.key (length r.body);
       alone = record {
         filed = route-post (post_request r.filer r.target r.key r.body) r.filer r.target r.key sendable.filer sendable.target sendable.key (record {
           method = refl;
           path = refl;
-          keys = post_parts-key place r.key (length r.body);
-          uncoded = post_parts-uncoded place r.key (length r.body);
+          keys = post_parts-key resource r.key (length r.body);
+          uncoded = post_parts-uncoded resource r.key (length r.body);
         });
-        silent = post_parts-silent place r.key (length r.body);
+        silent = post_parts-silent resource r.key (length r.body);
       };
     }
 
@@ -85,14 +85,14 @@ module _ (r : Request) (is : IsPosted r) (n : ℕ) where
       let long = subst (λ bytes. IsRefused bytes refusal) whole (IsRefused-more front (drop n (bytes_of r)) refusal refused) in
       IsRefused-excludes (bytes_of r) is.message.head is.spells.head_len refusal is.spells.head long
 
-  pub own_front : (places : List Place) (ending : Ending) → BeginsPlaces front places ending → IsAlone places ending r
+  pub own_front : (arrivals : List Arrival) (ending : Ending) → BeginsArrivals front arrivals ending → IsAlone arrivals ending r
   own_front [] Ending.Closed h = inl (refl, inl refl)
   own_front [] (Rest false) h = inl (refl, inr refl)
   own_front [] (Rest true) h =
       let same = head_is h.0 h.1 h.2 in
       absurd (both_ways _ (ap awaits same ∙ is.alone.silent) h.3)
-  own_front (Refused refusal ∷ places) ending h = absurd (never_refused refusal h.0)
-  own_front (Read m ∷ places) ending h =
+  own_front (Refused refusal ∷ arrivals) ending h = absurd (never_refused refusal h.0)
+  own_front (Read m ∷ arrivals) ending h =
       let same = message_is m h.0 h.1 in
       let last = h.2 (ap (λ (x : Message). closes x.head) same ∙ is.closes') in
       inr (m, ap (λ rest. Read m ∷ rest) last.0, last.1, subst (λ x. FilesAlone x r) (sym same) is.alone)

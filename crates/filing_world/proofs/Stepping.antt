@@ -10,7 +10,7 @@ use Rattle.http_wire.specs.Head.{max_body_len}
 use Rattle.std.proofs.lemmas.Grind.{common_steps}
 use Rattle.std.proofs.lemmas.List.{take-append-drop}
 use Rattle.key_string.specs.Key.{IsKey}
-use Rattle.http_wire.specs.Message.{Place, Ending}
+use Rattle.http_wire.specs.Message.{Arrival, Ending}
 use Rattle.http_wire.specs.Received.{max_reads}
 use Rattle.http_wire.specs.Reply.{ReplyParts}
 use Rattle.http_wire.specs.Request.{Request as Message}
@@ -22,7 +22,7 @@ use Rattle.filing_model.specs.declared.served.Mark.TheVariants.{Done, Unavailabl
 use Rattle.filing_model.specs.declared.served.Ended.{Ended}
 use Rattle.filing_model.specs.Request.{Request}
 use Rattle.filing_model.specs.Outbox.{State, Open, moved, Entry, IsSendable, request_of, bytes_of}
-use Rattle.filing_model.specs.Serving.{BeginsPlaces}
+use Rattle.filing_model.specs.Serving.{BeginsArrivals}
 use Rattle.filing_model.specs.Stopping.{Crash, No, Before, After, marked, IsWhole, IsCut, ServesUntil}
 use Rattle.filing_model.specs.Text.{Route, Reject, ListFilings, FileReport, route, requests_of_route, completed, completed_at}
 use Rattle.filing_model.proofs.Lists.{append_nil, take_take}
@@ -88,20 +88,20 @@ few_of_route (FileReport r) NotFiled = omega arith
 few_of_route (ListFilings filer number) mark = omega arith
 few_of_route (Reject reply) mark = omega arith
 
-few_at : (place : Place) (mark : Mark) → length (completed_at place mark) ≤ 1
-few_at (Place.Read m) mark = few_of_route (route m) mark
-few_at (Place.Refused refusal) mark = omega arith
+few_at : (arrival : Arrival) (mark : Mark) → length (completed_at arrival mark) ≤ 1
+few_at (Arrival.Read m) mark = few_of_route (route m) mark
+few_at (Arrival.Refused refusal) mark = omega arith
 
-few_completed : (places : List Place) (marks : List Mark) → length (completed places marks) ≤ length marks
+few_completed : (arrivals : List Arrival) (marks : List Mark) → length (completed arrivals marks) ≤ length marks
 unfolding completed
 few_completed [] marks = omega arith
-few_completed (place ∷ places) [] = omega arith
-few_completed (place ∷ places) (mark ∷ marks) = omega (arith, few_at place mark, few_completed places marks, length-append (completed_at place mark) (completed places marks))
+few_completed (arrival ∷ arrivals) [] = omega arith
+few_completed (arrival ∷ arrivals) (mark ∷ marks) = omega (arith, few_at arrival mark, few_completed arrivals marks, length-append (completed_at arrival mark) (completed arrivals marks))
 
-few_marks : (limit : ℕ) (done : List Request) (bytes : List ℕ) (crash : Crash) (places : List Place) (marks : List Mark) (ended : Option Ended) (out : List ℕ) → ServesUntil limit done bytes crash places marks ended out → length marks ≤ marked crash (length places)
-few_marks limit done bytes crash places marks ended out serves = ⊎_elim
-    (λ (e : IsWhole done bytes crash places serves.ending marks ended out). omega (arith, e.all))
-    (λ (e : IsCut done bytes crash places serves.ending marks ended out). e.few)
+few_marks : (limit : ℕ) (done : List Request) (bytes : List ℕ) (crash : Crash) (arrivals : List Arrival) (marks : List Mark) (ended : Option Ended) (out : List ℕ) → ServesUntil limit done bytes crash arrivals marks ended out → length marks ≤ marked crash (length arrivals)
+few_marks limit done bytes crash arrivals marks ended out serves = ⊎_elim
+    (λ (e : IsWhole done bytes crash arrivals serves.ending marks ended out). omega (arith, e.all))
+    (λ (e : IsCut done bytes crash arrivals serves.ending marks ended out). e.few)
     serves.gives
 
 marked-before : (j n : ℕ) → marked (Before j) n ≤ j - 1
@@ -110,13 +110,13 @@ marked-before j n = grind (arith, nat_tests)
 marked-after : (j n : ℕ) → marked (After j) n ≤ max 1 j
 marked-after j n = grind (arith, nat_tests)
 
-pub adds_at_most : (old new : World) (item given : ℕ) (crash : Crash) (n : ℕ) → ((places : ℕ) → marked crash places ≤ n) → Step old (Deliver item given crash) new → AddsAtMost n old new
+pub adds_at_most : (old new : World) (item given : ℕ) (crash : Crash) (n : ℕ) → ((arrivals : ℕ) → marked crash arrivals ≤ n) → Step old (Deliver item given crash) new → AddsAtMost n old new
 adds_at_most old new item given crash n bound step = record {
-  more = completed step.places step.marks;
+  more = completed step.arrivals step.marks;
   adds = ap (λ (w : World). w.done) step.becomes;
   few =
-      let marks = few_marks old.limit old.done (take given step.from.bytes) crash step.places step.marks step.ended step.out step.serves in
-      omega (arith, marks, bound (length step.places), few_completed step.places step.marks);
+      let marks = few_marks old.limit old.done (take given step.from.bytes) crash step.arrivals step.marks step.ended step.out step.serves in
+      omega (arith, marks, bound (length step.arrivals), few_completed step.arrivals step.marks);
 }
 
 pub before_at_most : (old new : World) (item given j : ℕ) → Step old (Deliver item given (Before j)) new → AddsAtMost (j - 1) old new
@@ -137,16 +137,16 @@ before_the_first old new item given j first step =
 -- ---- an entry's request
 
 module _ (old new : World) (item given : ℕ) (crash : Crash) (from : Sent) (r : Request) (here : numbered old.sent item ≡ Some from) (sendable : IsSendable r) (own : from.bytes ≡ bytes_of r) (step : Step old (Deliver item given crash) new) where
-  begins : BeginsPlaces (take given (bytes_of r)) step.places step.serves.ending
+  begins : BeginsArrivals (take given (bytes_of r)) step.arrivals step.serves.ending
   begins =
       let is : step.from ≡ from = same_element (numbered old.sent item) step.from from step.here here in
-      subst (λ bytes. BeginsPlaces (take given bytes) step.places step.serves.ending) (ap (λ (x : Sent). x.bytes) is ∙ own)
-      (serves_begin old.limit old.done (take given step.from.bytes) crash step.places step.marks step.ended step.out step.serves)
+      subst (λ bytes. BeginsArrivals (take given bytes) step.arrivals step.serves.ending) (ap (λ (x : Sent). x.bytes) is ∙ own)
+      (serves_begin old.limit old.done (take given step.from.bytes) crash step.arrivals step.marks step.ended step.out step.serves)
 
-  grows : (more : List Request) → completed step.places step.marks ≡ more → new.done ≡ old.done ++ more
+  grows : (more : List Request) → completed step.arrivals step.marks ≡ more → new.done ≡ old.done ++ more
   grows more is = ap (λ (w : World). w.done) step.becomes ∙ ap (λ rest. old.done ++ rest) is
 
-  same : completed step.places step.marks ≡ [] → new.done ≡ old.done
+  same : completed step.arrivals step.marks ≡ [] → new.done ≡ old.done
   same is = grows [] is ∙ append_nil old.done
 
   none_of : (marks : List Mark) → completed [] marks ≡ []
@@ -158,7 +158,7 @@ module _ (old new : World) (item given : ℕ) (crash : Crash) (from : Sent) (r :
   one_or_none Unavailable = inl refl
   one_or_none NotFiled = inl refl
 
-  one_of : (m : Message) → FilesAlone m r → (marks : List Mark) → (completed (Place.Read m ∷ []) marks ≡ []) ⊎ (completed (Place.Read m ∷ []) marks ≡ r ∷ [])
+  one_of : (m : Message) → FilesAlone m r → (marks : List Mark) → (completed (Arrival.Read m ∷ []) marks ≡ []) ⊎ (completed (Arrival.Read m ∷ []) marks ≡ r ∷ [])
   unfolding completed
   one_of m alone [] = inl refl
   one_of m alone (mark ∷ marks) =
@@ -170,25 +170,25 @@ module _ (old new : World) (item given : ℕ) (crash : Crash) (from : Sent) (r :
 
   pub of_an_entry : (new.done ≡ old.done) ⊎ (new.done ≡ old.done ++ r ∷ [])
   of_an_entry = ⊎_elim
-      (λ (e : (step.places ≡ []) × ((step.serves.ending ≡ Ending.Closed) ⊎ (step.serves.ending ≡ Ending.Rest false))). inl (same (ap (λ ps. completed ps step.marks) e.0 ∙ none_of step.marks)))
-      (λ (e : (m : Message) × (step.places ≡ Place.Read m ∷ []) × (step.serves.ending ≡ Ending.Closed) × FilesAlone m r).
+      (λ (e : (step.arrivals ≡ []) × ((step.serves.ending ≡ Ending.Closed) ⊎ (step.serves.ending ≡ Ending.Rest false))). inl (same (ap (λ ps. completed ps step.marks) e.0 ∙ none_of step.marks)))
+      (λ (e : (m : Message) × (step.arrivals ≡ Arrival.Read m ∷ []) × (step.serves.ending ≡ Ending.Closed) × FilesAlone m r).
       let is = ap (λ ps. completed ps step.marks) e.1 in
       ⊎_elim
-      (λ (none : completed (Place.Read e.0 ∷ []) step.marks ≡ []). inl (same (is ∙ none)))
-      (λ (one : completed (Place.Read e.0 ∷ []) step.marks ≡ r ∷ []). inr (grows (r ∷ []) (is ∙ one)))
+      (λ (none : completed (Arrival.Read e.0 ∷ []) step.marks ≡ []). inl (same (is ∙ none)))
+      (λ (one : completed (Arrival.Read e.0 ∷ []) step.marks ≡ r ∷ []). inr (grows (r ∷ []) (is ∙ one)))
       (one_of e.0 e.3 step.marks))
-      (own_front r (posted r sendable) given step.places step.serves.ending begins)
+      (own_front r (posted r sendable) given step.arrivals step.serves.ending begins)
 
   pub of_a_cut : given < length from.bytes → new.done ≡ old.done
-  of_a_cut short = same (by_places step.places step.serves.ending begins)
+  of_a_cut short = same (by_arrivals step.arrivals step.serves.ending begins)
     where
       size : given < length (bytes_of r)
       size = omega (arith, short, ap length own)
 
-      by_places : (places : List Place) (ending : Ending) → BeginsPlaces (take given (bytes_of r)) places ending → completed places step.marks ≡ []
-      by_places [] ending front = none_of step.marks
-      by_places (Place.Read m ∷ places) ending front = absurd (never_whole r (posted r sendable) given size m front.0 front.1)
-      by_places (Place.Refused refusal ∷ places) ending front = absurd (never_refused r (posted r sendable) given refusal front.0)
+      by_arrivals : (arrivals : List Arrival) (ending : Ending) → BeginsArrivals (take given (bytes_of r)) arrivals ending → completed arrivals step.marks ≡ []
+      by_arrivals [] ending front = none_of step.marks
+      by_arrivals (Arrival.Read m ∷ arrivals) ending front = absurd (never_whole r (posted r sendable) given size m front.0 front.1)
+      by_arrivals (Arrival.Refused refusal ∷ arrivals) ending front = absurd (never_refused r (posted r sendable) given refusal front.0)
 
 -- ---- a stop
 
@@ -222,8 +222,8 @@ tells old new item given crash from here step = subst (λ (x : Sent). (output : 
     which = refl;
     came = length-take given step.from.bytes;
     after = refl;
-    places = step.places;
-    serves = subst (λ bytes. ServesUntil old.limit old.done bytes crash step.places step.marks step.ended step.out) (sym (take_take given step.from.bytes)) step.serves;
+    arrivals = step.arrivals;
+    serves = subst (λ bytes. ServesUntil old.limit old.done bytes crash step.arrivals step.marks step.ended step.out) (sym (take_take given step.from.bytes)) step.serves;
     completes = ap (λ (w : World). w.done) step.becomes;
   },
 )

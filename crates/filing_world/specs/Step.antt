@@ -3,7 +3,7 @@ use Rattle.std.specs.Prelude.{◌≡◌, ℕ, ◌≤◌, ◌⊎◌, ◌&&◌, Bo
 use Rattle.std.specs.List.{list_any}
 use Rattle.key_string.specs.Key.{IsKey}
 use Rattle.http_wire.specs.Head.{max_body_len}
-use Rattle.http_wire.specs.Message.{Place}
+use Rattle.http_wire.specs.Message.{Arrival}
 use Rattle.http_wire.specs.Received.{max_reads}
 use Rattle.http_wire.specs.Reply.{ReplyParts}
 use Rattle.http_wire.specs.Response.{GivesReply}
@@ -56,13 +56,13 @@ pub record Delivers (old : World) (item given : ℕ) (crash : Crash) (new : Worl
   pub up : old.up ≡ true
   pub from : Sent
   pub here : numbered old.sent item ≡ Some from
-  pub places : List Place
+  pub arrivals : List Arrival
   pub marks : List Mark
   pub ended : Option Ended
   pub out : List ℕ
-  pub serves : ServesUntil old.limit old.done (take given from.bytes) crash places marks ended out
+  pub serves : ServesUntil old.limit old.done (take given from.bytes) crash arrivals marks ended out
   pub becomes : new ≡ record old {
-    done = old.done ++ completed places marks;
+    done = old.done ++ completed arrivals marks;
     outputs = old.outputs ++ record { item = item; given = length (take given from.bytes); before = length old.done; marks = marks; ended = ended; bytes = out } ∷ [];
     up = is_no crash;
   }

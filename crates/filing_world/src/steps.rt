@@ -1,39 +1,22 @@
 //! Laws over every step. What may live here: functions that do nothing, each with a law as its
 //! contract that holds of a step of any world, reached or not.
 
-ghost use Rattle.std.specs.Prelude.{◌≡◌, ◌≢◌, ◌⊎◌, ◌↔◌, ◌<◌, ◌≤◌, ◌-◌, ℕ, List, Option, [], ◌∷◌, ◌++◌, length, take, max, true, Some, None};
-ghost use Rattle.key_string.specs.Key.{IsKey};
+ghost use Rattle.std.specs.Prelude.{◌≡◌, ◌≢◌, ◌<◌, ◌≤◌, ℕ, List, Option, [], ◌∷◌, ◌++◌, length, take, Some};
 ghost use Rattle.http_wire.specs.Head.{max_body_len};
 ghost use Rattle.http_wire.specs.Received.{max_reads};
 ghost use Rattle.http_wire.specs.Reply.{ReplyParts};
 ghost use Rattle.http_wire.specs.Response.{GivesReply};
-ghost use Rattle.filing_model.specs.Request.{Request};
-ghost use Rattle.http_wire.specs.Posting.{IsTarget};
-ghost use Rattle.filing_model.specs.Outbox.{State, Open, Entry, moved, IsSendable, request_of, bytes_of};
-ghost use Rattle.filing_model.specs.Stopping.{Crash, No, Before, After};
-ghost use Rattle.filing_world.specs.World.{World, Outbox, Output, Sent, Put, Send, Stranger, Deliver, Hand, RestartServer, RestartOutbox, numbered};
-ghost use Rattle.filing_world.specs.Step.{Step, CannotPlay};
+ghost use Rattle.filing_model.specs.Outbox.{State, Open, Entry, moved};
+ghost use Rattle.filing_model.specs.Stopping.{Crash, Before};
+ghost use Rattle.filing_world.specs.World.{World, Outbox, Output, Sent, Put, Deliver, Hand, numbered};
+ghost use Rattle.filing_world.specs.Step.{Step};
 ghost use Rattle.filing_world.specs.Headline.{HasEntry, states};
-ghost use Rattle.filing_world.specs.Laws.{AddsAtMost, IsDelivered, IsAnswerTo, IsDown};
+ghost use Rattle.filing_world.specs.Laws.{IsDelivered, IsAnswerTo, CanPlay, CompletesAtMost, IsUpUnlessStopped};
 
 /// What can be played where its end is up: a key, a target and a body are put, a request is sent for any entry,
 /// whatever its state, and a stranger sends any bytes. An end that is down, or up, is restarted.
 pub fn can_be_played()
-    ensures puts { (old : World) (outbox : ℕ) (box : Outbox) (key : List ℕ) (target : Option ℕ) (body : List ℕ)
-        → numbered old.outboxes outbox ≡ Some box → box.up ≡ true → IsKey key → IsTarget target
-        → (new : World) × Step old (Put outbox key target body) new }
-    ensures sends { (old : World) (outbox number : ℕ) (box : Outbox) (entry : Entry)
-        → numbered old.outboxes outbox ≡ Some box → box.up ≡ true → numbered box.entries number ≡ Some entry
-        → (new : World) × Step old (Send outbox number) new
-        × (new.sent ≡ old.sent ++ record { from = Some (outbox, number); bytes = bytes_of (request_of box.filer entry) }
-        ∷ []) }
-    ensures stranger { (old : World) (bytes : List ℕ)
-        → (new : World) × Step old (Stranger bytes) new
-        × (new.sent ≡ old.sent ++ record { from = None; bytes = bytes } ∷ []) }
-    ensures server { (old : World) → (new : World) × Step old RestartServer new × (new.up ≡ true) }
-    ensures outbox { (old : World) (outbox : ℕ) (box : Outbox) → numbered old.outboxes outbox ≡ Some box
-        → (new : World) × Step old (RestartOutbox outbox) new
-        × (numbered new.outboxes outbox ≡ Some (record box { up = true })) }
+    ensures { (world : World) → CanPlay world }
 {}
 
 /// A report that is put stands behind the entries of its outbox, and is open, unless its body is too
@@ -50,23 +33,11 @@ pub fn adds_what_is_put()
 {}
 
 /// What a delivery completes. Of an entry's request it is that one request or nothing, and nothing
-/// where the delivery is cut before its last byte. Of any bytes, a stop before the first place lets
-/// nothing be completed, one before another place at most the places before it, and one after a place
+/// where the delivery is cut before its last byte. Of any bytes, a stop before the first arrival lets
+/// nothing be completed, one before another arrival at most the arrivals before it, and one after an arrival
 /// at most that one besides.
 pub fn completes_no_more_than_came()
-    ensures of_an_entry { (old new : World) (item given : ℕ) (crash : Crash) (from : Sent) (r : Request)
-        → numbered old.sent item ≡ Some from → IsSendable r → from.bytes ≡ bytes_of r
-        → Step old (Deliver item given crash) new → (new.done ≡ old.done) ⊎ (new.done ≡ old.done ++ r ∷ []) }
-    ensures of_a_cut { (old new : World) (item given : ℕ) (crash : Crash) (from : Sent) (r : Request)
-        → numbered old.sent item ≡ Some from → IsSendable r → from.bytes ≡ bytes_of r → given < length from.bytes
-        → Step old (Deliver item given crash) new
-        → new.done ≡ old.done }
-    ensures before_the_first { (old new : World) (item given j : ℕ)
-        → j ≤ 1 → Step old (Deliver item given (Before j)) new → new.done ≡ old.done }
-    ensures before { (old new : World) (item given j : ℕ) → Step old (Deliver item given (Before j)) new
-        → AddsAtMost (j - 1) old new }
-    ensures after { (old new : World) (item given j : ℕ) → Step old (Deliver item given (After j)) new
-        → AddsAtMost (max 1 j) old new }
+    ensures { (old new : World) (item given : ℕ) → CompletesAtMost old new item given }
 {}
 
 /// A delivery adds one output, which tells what was served: of which item, how many bytes of it came,
@@ -96,15 +67,5 @@ pub fn moves_by_a_whole_reply()
 /// An end is up after its event exactly where it was not stopped. While it is down the intake takes no
 /// delivery, and nothing is put into an outbox, sent from it or handed to it.
 pub fn is_down_after_a_stop()
-    ensures intake { (old new : World) (item given : ℕ) (crash : Crash) → Step old (Deliver item given crash) new
-        → (new.up ≡ true) ↔ (crash ≡ No) }
-    ensures delivers { (old new : World) (item given : ℕ) (crash : Crash)
-        → Step old (Deliver item given crash) new → crash ≢ No
-        → (another more : ℕ) (again : Crash) → CannotPlay new (Deliver another more again) }
-    ensures outbox { (old new : World) (output given outbox number : ℕ) (crash : Crash) (from : Output) (box : Outbox)
-        → IsAnswerTo old output from outbox number → Step old (Hand output given crash) new
-        → numbered new.outboxes outbox ≡ Some box → (box.up ≡ true) ↔ (crash ≡ No) }
-    ensures hands { (old new : World) (output given outbox number : ℕ) (crash : Crash) (from : Output)
-        → IsAnswerTo old output from outbox number → Step old (Hand output given crash) new → crash ≢ No
-        → IsDown new outbox }
+    ensures { (old new : World) (given : ℕ) (crash : Crash) → IsUpUnlessStopped old new given crash }
 {}

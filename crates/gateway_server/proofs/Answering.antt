@@ -1,11 +1,11 @@
--- A place that is decided, marked and answered.
+-- An arrival that is decided, marked and answered.
 use Rattle.std.proofs.Common.{◌≡◌, ℕ, Bool, true, List, [], ◌∷◌, ◌++◌, take, Option, Result, Ok, Err, refl, sym, ap, ◌∙◌, subst, IfOk}
 use Rattle.std.specs.declared.alloc.AllocError.{AllocError}
 use Rattle.std.specs.Io.KnownBytes.{Appends}
 use Rattle.http_wire.specs.declared.refusal.Refusal.{Refusal}
 use Rattle.http_wire.specs.declared.reply.Reply.{Reply}
 use Rattle.http_wire.specs.Head.{closes}
-use Rattle.http_wire.specs.Message.{Place, Read, Refused}
+use Rattle.http_wire.specs.Message.{Arrival, Read, Refused}
 use Rattle.http_wire.specs.Replies.{reply_parts}
 use Rattle.http_wire.specs.Reply.{ReplyParts, render}
 use Rattle.http_wire.specs.Request.{Request as Message}
@@ -48,15 +48,15 @@ IsDecided-refusal limit early before refusal reply old new is marks = record {
 -- ---- what was written of the reply
 
 -- the reply was written
-pub record IsAnswered (limit : ℕ) (early before after : List Request) (place : Place) (old new : List Mark) (from to : Option (List ℕ)) : Type 0 where
-  pub marked : IsMarked limit before after place old new
-  pub written : Appends from to (reply_text_with early before place marked.mark)
+pub record IsAnswered (limit : ℕ) (early before after : List Request) (arrival : Arrival) (old new : List Mark) (from to : Option (List ℕ)) : Type 0 where
+  pub marked : IsMarked limit before after arrival old new
+  pub written : Appends from to (reply_text_with early before arrival marked.mark)
 
 -- a part of it was
-pub record IsPartly (limit : ℕ) (early before after : List Request) (place : Place) (old new : List Mark) (from to : Option (List ℕ)) : Type 0 where
-  pub marked : IsMarked limit before after place old new
+pub record IsPartly (limit : ℕ) (early before after : List Request) (arrival : Arrival) (old new : List Mark) (from to : Option (List ℕ)) : Type 0 where
+  pub marked : IsMarked limit before after arrival old new
   pub sent : ℕ
-  pub written : Appends from to (take sent (reply_text_with early before place marked.mark))
+  pub written : Appends from to (take sent (reply_text_with early before arrival marked.mark))
 
 -- nothing was marked, kept or written
 pub record IsUntouched (before after : List Request) (old new : List Mark) (from to : Option (List ℕ)) : Type 0 where

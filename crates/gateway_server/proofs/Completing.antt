@@ -1,4 +1,4 @@
--- The requests that marked places completed, found one after another.
+-- The requests that marked arrivals completed, found one after another.
 use Rattle.std.proofs.Common.{◌≡◌, ◌≢◌, ℕ, ◌+◌, ◌<◌, ◌≤◌, true, false, List, [], ◌∷◌, ◌++◌, length, take, drop, ◌-◌, refl, sym, ap, ◌∙◌, subst, append_assoc, arith, ⊎_elim}
 use Rattle.std.specs.Prelude.{slice_range}
 use Rattle.std.proofs.lemmas.Grind.{common_steps}
@@ -8,18 +8,18 @@ use Rattle.http_wire.specs.declared.head.HeadFault.TheVariants.{Memory}
 use Rattle.http_wire.specs.declared.refusal.Refusal.TheVariants.{Head}
 use Rattle.http_wire.specs.Block.{EndsAt, IsBlockEnd, IsWholeBlock, skipped_len, from_block}
 use Rattle.http_wire.specs.Head.{RequestParts, IsHead, IsHeadFault, body_length, closes}
-use Rattle.http_wire.specs.Message.{Place, Read, Refused, Ending, BeginsRequest}
+use Rattle.http_wire.specs.Message.{Arrival, Read, Refused, Ending, BeginsRequest}
 use Rattle.http_wire.specs.Request.{Request as Message}
 use Rattle.http_wire.proofs.BlockLemmas.{EndsAt-within}
 use Rattle.http_wire.proofs.MoreBytes.{EndsAt-more, EndsAt-front, IsBlockEnd-within, skipped_len-more, from_block-more, block-more}
 use Rattle.http_wire.proofs.Unique.{BeginsHead-unique, BeginsRequest-unique, IsRefused-excludes}
 use Rattle.filing_model.specs.declared.served.Mark.{Mark}
 use Rattle.filing_model.specs.Request.{Request}
-use Rattle.filing_model.specs.Serving.{BeginsPlaces}
+use Rattle.filing_model.specs.Serving.{BeginsArrivals}
 use Rattle.filing_model.specs.Text.{completed, completed_at}
 use Rattle.filing_model.proofs.Lists.{append_nil}
 
--- ---- one place
+-- ---- one arrival
 
 -- ---- the block that bytes begin with, alone
 
@@ -76,61 +76,61 @@ module _ (bytes : List ℕ) (end : ℕ) (block : IsBlockEnd bytes end) where
 
 -- ---- one after another
 
--- of the requests that were completed these are found, and the other marks are those of the places that the rest begins with
+-- of the requests that were completed these are found, and the other marks are those of the arrivals that the rest begins with
 pub record IsAhead (rest : List ℕ) (marks : List Mark) (all list : List Request) : Type 0 where
-  pub places : List Place
+  pub arrivals : List Arrival
   pub ending : Ending
-  pub begins : BeginsPlaces rest places ending
-  pub few : length marks ≤ length places
-  pub same : all ≡ list ++ completed places marks
+  pub begins : BeginsArrivals rest arrivals ending
+  pub few : length marks ≤ length arrivals
+  pub same : all ≡ list ++ completed arrivals marks
 
-no_marks : (places : List Place) → completed places [] ≡ []
+no_marks : (arrivals : List Arrival) → completed arrivals [] ≡ []
 unfolding completed
 no_marks [] = refl
-no_marks (place ∷ places) = refl
+no_marks (arrival ∷ arrivals) = refl
 
 -- no marks are left
 pub ahead_none : (rest : List ℕ) (all list : List Request) → IsAhead rest [] all list → list ≡ all
-ahead_none rest all list a = sym (a.same ∙ ap (λ more. list ++ more) (no_marks a.places) ∙ append_nil list)
+ahead_none rest all list a = sym (a.same ∙ ap (λ more. list ++ more) (no_marks a.arrivals) ∙ append_nil list)
 
 module _ (rest : List ℕ) (mark : Mark) (marks : List Mark) (all list : List Request) where
   -- the rest begins with no message
   pub ahead_over : IsAhead rest (mark ∷ marks) all list → ((m : Message) (n : ℕ) → ¬ (BeginsRequest rest m n)) → list ≡ all
   unfolding completed
-  ahead_over a none = by_places a.places a.ending a.begins a.few a.same
+  ahead_over a none = by_arrivals a.arrivals a.ending a.begins a.few a.same
     where
-      by_places : (places : List Place) (ending : Ending) → BeginsPlaces rest places ending → length (mark ∷ marks) ≤ length places → all ≡ list ++ completed places (mark ∷ marks) → list ≡ all
-      by_places [] ending begins few same = absurd (omega (arith, few))
-      by_places (Read m ∷ places) ending begins few same = absurd (none m begins.0 begins.1)
-      by_places (Refused refusal ∷ places) ending begins few same = sym (same ∙ ap (λ ps. list ++ completed ps marks) begins.1 ∙ append_nil list)
+      by_arrivals : (arrivals : List Arrival) (ending : Ending) → BeginsArrivals rest arrivals ending → length (mark ∷ marks) ≤ length arrivals → all ≡ list ++ completed arrivals (mark ∷ marks) → list ≡ all
+      by_arrivals [] ending begins few same = absurd (omega (arith, few))
+      by_arrivals (Read m ∷ arrivals) ending begins few same = absurd (none m begins.0 begins.1)
+      by_arrivals (Refused refusal ∷ arrivals) ending begins few same = sym (same ∙ ap (λ ps. list ++ completed ps marks) begins.1 ∙ append_nil list)
 
   -- it begins with this message
   pub ahead_more : IsAhead rest (mark ∷ marks) all list → (m : Message) (n : ℕ) → BeginsRequest rest m n → IsAhead (drop n rest) marks all (list ++ completed_at (Read m) mark)
   unfolding completed
-  ahead_more a m n here = by_places a.places a.ending a.begins a.few a.same
+  ahead_more a m n here = by_arrivals a.arrivals a.ending a.begins a.few a.same
     where
-      by_places : (places : List Place) (ending : Ending) → BeginsPlaces rest places ending → length (mark ∷ marks) ≤ length places → all ≡ list ++ completed places (mark ∷ marks) → IsAhead (drop n rest) marks all (list ++ completed_at (Read m) mark)
-      by_places [] ending begins few same = absurd (omega (arith, few))
-      by_places (Refused refusal ∷ places) ending begins few same = absurd (IsRefused-excludes rest m.head here.head_len refusal here.head begins.0)
-      by_places (Read other ∷ places) ending (k, there, closed, open') few same =
+      by_arrivals : (arrivals : List Arrival) (ending : Ending) → BeginsArrivals rest arrivals ending → length (mark ∷ marks) ≤ length arrivals → all ≡ list ++ completed arrivals (mark ∷ marks) → IsAhead (drop n rest) marks all (list ++ completed_at (Read m) mark)
+      by_arrivals [] ending begins few same = absurd (omega (arith, few))
+      by_arrivals (Refused refusal ∷ arrivals) ending begins few same = absurd (IsRefused-excludes rest m.head here.head_len refusal here.head begins.0)
+      by_arrivals (Read other ∷ arrivals) ending (k, there, closed, open') few same =
           let one = BeginsRequest-unique rest other m k n there here in
-          let step : all ≡ (list ++ completed_at (Read m) mark) ++ completed places marks =
-          same ∙ ap (λ (o : Message). list ++ (completed_at (Read o) mark ++ completed places marks)) one.0 ∙ sym (append_assoc list (completed_at (Read m) mark) (completed places marks)) in
-          let fewer : length marks ≤ length places = omega (arith, few) in
+          let step : all ≡ (list ++ completed_at (Read m) mark) ++ completed arrivals marks =
+          same ∙ ap (λ (o : Message). list ++ (completed_at (Read o) mark ++ completed arrivals marks)) one.0 ∙ sym (append_assoc list (completed_at (Read m) mark) (completed arrivals marks)) in
+          let fewer : length marks ≤ length arrivals = omega (arith, few) in
           ⊎_elim
           (λ (yes : closes other.head ≡ true).
           let last = (closed yes).0 in
           record {
-            places = [];
+            arrivals = [];
             ending = Ending.Closed;
             begins = tt;
-            few = subst (λ (ps : List Place). length marks ≤ length ps) last fewer;
-            same = step ∙ ap (λ (ps : List Place). (list ++ completed_at (Read m) mark) ++ completed ps marks) last;
+            few = subst (λ (ps : List Arrival). length marks ≤ length ps) last fewer;
+            same = step ∙ ap (λ (ps : List Arrival). (list ++ completed_at (Read m) mark) ++ completed ps marks) last;
           })
           (λ (no' : closes other.head ≡ false). record {
-            places = places;
+            arrivals = arrivals;
             ending = ending;
-            begins = subst (λ (j : ℕ). BeginsPlaces (drop j rest) places ending) one.1 (open' no');
+            begins = subst (λ (j : ℕ). BeginsArrivals (drop j rest) arrivals ending) one.1 (open' no');
             few = fewer;
             same = step;
           })

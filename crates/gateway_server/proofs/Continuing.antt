@@ -1,4 +1,4 @@
--- A connection that goes on by one place, or ends.
+-- A connection that goes on by one arrival, or ends.
 use Rattle.std.proofs.Common.{arith, ◌≡◌, ◌≢◌, ℕ, ◌≤◌, Bool, true, false, List, [], ◌++◌, take, drop, length, Option, refl, sym, ap, ◌∙◌, subst, append_assoc, inl, inr, ◌⊎◌}
 use Rattle.std.proofs.lemmas.List.{length-append}
 use Rattle.std.specs.Io.KnownBytes.{Consumes, Appends, IsAtEnd}
@@ -25,7 +25,7 @@ use Rattle.gateway_server.specs.Answered.{IsReplyFault}
 use Rattle.gateway_server.specs.Progress.{Streams, streams, HasServed, GoesOn, HasMessage, HasRefusal, ServesConnection}
 use Rattle.gateway_server.proofs.Answering.{IsAnswered, IsPartly, IsUntouched}
 use Rattle.gateway_server.proofs.Progress.{HasServed-none, HasServed-more, HasServed-end}
-use Rattle.gateway_server.proofs.Places.{served_last, served_push, served_part, served_read, served_asked, served_nothing, served_rest}
+use Rattle.gateway_server.proofs.Arrivals.{served_last, served_push, served_part, served_read, served_asked, served_nothing, served_rest}
 
 -- ---- the limit of reads
 
@@ -105,7 +105,7 @@ module _ (requests : Keeping) (first from to : Streams) (old new : Inbox) (marks
 
 -- ---- what was answered
 
--- a place that was answered, after an interim response
+-- an arrival that was answered, after an interim response
 module _ (requests : Keeping) (first : Streams) (left written : Option (List ℕ)) (inbox : Inbox) (marks : List Mark) (h : HasMessage requests first (streams left written) inbox marks) where
   abbrev lent : Message
   lent = h.lends.request

@@ -4,7 +4,7 @@ pub mod Numbers
 pub mod Statuses
 pub mod Decisions
 pub mod Listed
-pub mod Places
+pub mod Arrivals
 pub mod Answering
 pub mod Continuing
 pub mod Lent

@@ -1,4 +1,4 @@
--- What a connection comes to at one place.
+-- What a connection comes to at one arrival.
 use Rattle.std.proofs.Common.{◌≡◌, ℕ, ◌+◌, Bool, true, List, [], ◌++◌, length, Option, refl, sym, ◌∙◌, subst, inl, inr}
 use Rattle.std.specs.Io.KnownBytes.{Appends}
 use Rattle.http_wire.specs.declared.inbox.Inbox.{Inbox}

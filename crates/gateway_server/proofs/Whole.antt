@@ -3,13 +3,13 @@ use Rattle.std.proofs.Common.{◌≡◌, ◌≢◌, ℕ, ◌-◌, ◌^◌, ◌<�
 use Rattle.std.proofs.lemmas.Bool.Decides.{nat_tests}
 use Rattle.http_wire.specs.declared.refusal.ConnFault.TheVariants.{Read as ReadFault, Write, ReadLimit, Memory}
 use Rattle.http_wire.specs.Device.{HasFailed}
-use Rattle.http_wire.specs.Message.{Place, Ending}
+use Rattle.http_wire.specs.Message.{Arrival, Ending}
 use Rattle.http_wire.specs.Received.{max_reads}
 use Rattle.filing_model.specs.declared.served.Ended.{Ended}
 use Rattle.filing_model.specs.declared.served.Ended.TheVariants.{Closed, InputEnded, Fault}
 use Rattle.filing_model.specs.declared.served.Mark.{Mark}
 use Rattle.filing_model.specs.Request.{Request, firsts}
-use Rattle.filing_model.specs.Serving.{keeping, BeginsPlaces}
+use Rattle.filing_model.specs.Serving.{keeping, BeginsArrivals}
 use Rattle.filing_model.specs.Stopping.{Crash, No, Before, After, IsEndOrStopOf, ServesUntil, marked}
 use Rattle.filing_model.specs.Text.{completed}
 use Rattle.filing_model.proofs.Serving.{carried_until}
@@ -35,7 +35,7 @@ end_until r w w' got left (Some (Fault Memory)) low written at_end limited fine 
 pub serves_until_whole : (limit r w w' : ℕ) (done before after : List Request) (bytes left out : List ℕ) (crash : Crash) (marks : List Mark) (ended : Option Ended) → before ≡ firsts done
     → ServesConnectionUntil (keeping limit [] before after) (streams (Some bytes) (Some [])) (streams (Some left) (Some out)) crash marks ended
     → r < 2 ^ 64 - 1 → ((sent : ℕ) → ended ≢ Some (Fault (Write sent))) → IsEndedOrStoppedBy r r w w' ended
-    → (places : List Place) × ServesUntil limit done bytes crash places marks ended out × (after ≡ firsts (done ++ completed places marks))
+    → (arrivals : List Arrival) × ServesUntil limit done bytes crash arrivals marks ended out × (after ≡ firsts (done ++ completed arrivals marks))
 serves_until_whole limit r w w' done before after bytes left out crash marks ended kept served low written fine =
     let end = end_until r w w' served.got left ended low written served.at_end served.limited fine in
     let whole = carried_until limit done before after kept served.got left crash marks ended served.sent end served.serves in (
@@ -51,12 +51,12 @@ marked_few No n = omega arith
 marked_few (Before j) n = grind (arith, nat_tests)
 marked_few (After j) n = omega arith
 
--- The places that the model names are some with which the bytes begin, and there are no more marks than these. So `completed` of the bytes
+-- The arrivals that the model names are some with which the bytes begin, and there are no more marks than these. So `completed` of the bytes
 -- and the marks is what the model says was completed.
-pub marked_places : (limit : ℕ) (done : List Request) (bytes : List ℕ) (crash : Crash) (places : List Place) (marks : List Mark) (ended : Option Ended) (out : List ℕ) → ServesUntil limit done bytes crash places marks ended out
-    → (ending : Ending) × BeginsPlaces bytes places ending × (length marks ≤ length places)
-marked_places limit done bytes crash places marks ended out s = (
+pub marked_arrivals : (limit : ℕ) (done : List Request) (bytes : List ℕ) (crash : Crash) (arrivals : List Arrival) (marks : List Mark) (ended : Option Ended) (out : List ℕ) → ServesUntil limit done bytes crash arrivals marks ended out
+    → (ending : Ending) × BeginsArrivals bytes arrivals ending × (length marks ≤ length arrivals)
+marked_arrivals limit done bytes crash arrivals marks ended out s = (
   s.ending,
-  serves_begin limit done bytes crash places marks ended out s,
-  ⊎_elim (λ w. omega (arith, w.all, marked_few crash (length places))) (λ c. omega (arith, c.few, marked_few crash (length places))) s.gives,
+  serves_begin limit done bytes crash arrivals marks ended out s,
+  ⊎_elim (λ w. omega (arith, w.all, marked_few crash (length arrivals))) (λ c. omega (arith, c.few, marked_few crash (length arrivals))) s.gives,
 )

@@ -1,4 +1,4 @@
--- What answering one place does. No public clause cites this file.
+-- What answering one arrival does. No public clause cites this file.
 use Rattle.std.specs.Prelude.{◌≡◌, ℕ, Bool, true, List, [], ◌∷◌, ◌++◌, take, Option, Result, IfOk, MatchResult}
 use Rattle.std.specs.declared.alloc.AllocError.{AllocError}
 use Rattle.std.specs.Io.KnownBytes.{Appends}
@@ -6,7 +6,7 @@ use Rattle.http_wire.specs.declared.refusal.ConnFault.{ConnFault}
 use Rattle.http_wire.specs.declared.refusal.ConnFault.TheVariants.{Read as ReadFault, Write, ReadLimit, Memory}
 use Rattle.http_wire.specs.Device.{HasFailed}
 use Rattle.http_wire.specs.Head.{closes}
-use Rattle.http_wire.specs.Message.{Place, Read, Refused}
+use Rattle.http_wire.specs.Message.{Arrival, Read, Refused}
 use Rattle.http_wire.specs.Replies.{reply_parts}
 use Rattle.http_wire.specs.Reply.{render}
 use Rattle.filing_model.specs.declared.served.Mark.{Mark}
@@ -15,27 +15,27 @@ use Rattle.filing_model.specs.Serving.{kept_by}
 use Rattle.filing_model.specs.Text.{MarkFits, completed_at, reply_text_with}
 use Rattle.gateway_server.specs.declared.decide.Decided.{Decided}
 
--- whether the connection closes after the reply to the place
-abbrev pub closes_after : Place → Bool
+-- whether the connection closes after the reply to the arrival
+abbrev pub closes_after : Arrival → Bool
 closes_after (Read message) = closes message.head
 closes_after (Refused refusal) = true
 
--- the place has a mark more, and what is kept follows from it
-pub record IsMarked (limit : ℕ) (before after : List Request) (place : Place) (old new : List Mark) : Type 0 where
+-- the arrival has a mark more, and what is kept follows from it
+pub record IsMarked (limit : ℕ) (before after : List Request) (arrival : Arrival) (old new : List Mark) : Type 0 where
   pub mark : Mark
   pub marks : new ≡ old ++ mark ∷ []
-  pub fit : MarkFits limit before place mark
-  pub kept : after ≡ kept_by before (completed_at place mark)
+  pub fit : MarkFits limit before arrival mark
+  pub kept : after ≡ kept_by before (completed_at arrival mark)
 
--- the place is marked, and the reply that was decided for it, if there was memory for one, is its reply
-pub record IsDecided (limit : ℕ) (early before after : List Request) (place : Place) (old new : List Mark) (d : Decided) : Type 0 where
-  pub marked : IsMarked limit before after place old new
-  pub reply : IfOk d.reply (λ r. render (reply_parts r) (closes_after place) ≡ reply_text_with early before place marked.mark)
+-- the arrival is marked, and the reply that was decided for it, if there was memory for one, is its reply
+pub record IsDecided (limit : ℕ) (early before after : List Request) (arrival : Arrival) (old new : List Mark) (d : Decided) : Type 0 where
+  pub marked : IsMarked limit before after arrival old new
+  pub reply : IfOk d.reply (λ r. render (reply_parts r) (closes_after arrival) ≡ reply_text_with early before arrival marked.mark)
 
--- the place was decided, or nothing was marked and kept
-abbrev pub Marks : ℕ → List Request → List Request → List Request → Place → List Mark → List Mark → Result Decided AllocError → Type 0
-Marks limit early before after place old new result =
-    MatchResult result (λ d. IsDecided limit early before after place old new d) (λ _. (after ≡ before) × (new ≡ old))
+-- the arrival was decided, or nothing was marked and kept
+abbrev pub Marks : ℕ → List Request → List Request → List Request → Arrival → List Mark → List Mark → Result Decided AllocError → Type 0
+Marks limit early before after arrival old new result =
+    MatchResult result (λ d. IsDecided limit early before after arrival old new d) (λ _. (after ≡ before) × (new ≡ old))
 
 -- the text was written, or a part of it
 abbrev pub WritesText : Option (List ℕ) → Option (List ℕ) → List ℕ → Result (Unit {0}) ConnFault → Type 0

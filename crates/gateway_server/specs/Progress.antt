@@ -1,12 +1,13 @@
 -- How far a connection was served, and what serving it to its end does.
 use Rattle.std.specs.Prelude.{◌≡◌, ℕ, ◌+◌, ◌≤◌, false, List, [], ◌∷◌, ◌++◌, length, drop, map, Option}
 use Rattle.std.specs.Io.KnownBytes.{Consumes, Appends, IsAtEnd}
+use Rattle.sqlite.specs.Store.{Ghosts}
 use Rattle.http_wire.specs.declared.inbox.Inbox.{Inbox}
 use Rattle.http_wire.specs.declared.refusal.ConnFault.{ConnFault}
 use Rattle.http_wire.specs.declared.refusal.ConnFault.TheVariants as fault
 use Rattle.http_wire.specs.declared.refusal.Refusal.{Refusal}
 use Rattle.http_wire.specs.Block.{IsUnended}
-use Rattle.http_wire.specs.Calls.{HoldsPlace, interim_if}
+use Rattle.http_wire.specs.Calls.{HoldsArrival, interim_if}
 use Rattle.http_wire.specs.Device.{ReaderFailed, WriterFailed, NoneFailed}
 use Rattle.http_wire.specs.Inbox.{held, unread, reads, is_over, lent_awaits, LendsFirst}
 use Rattle.http_wire.specs.Head.{closes}
@@ -16,8 +17,11 @@ use Rattle.http_wire.specs.Request.{Request as Message}
 use Rattle.filing_model.specs.declared.served.Ended.{Ended}
 use Rattle.filing_model.specs.declared.served.Ended.TheVariants.{InputEnded, Closed, Fault}
 use Rattle.filing_model.specs.declared.served.Mark.{Mark}
-use Rattle.filing_model.specs.Serving.{Keeping, AreMarked, Serves, kept_by}
+use Rattle.filing_model.specs.Serving.{Keeping, keeping, AreMarked, Serves, kept_by}
 use Rattle.filing_model.specs.Text.{completed, text_with}
+use Rattle.intake_core.specs.declared.intake.Intake.{Intake}
+use Rattle.intake_core.specs.Held.{limit_of, IsClean, IsTransition}
+use Rattle.gateway_server.specs.declared.serving.Served.{Served}
 use Rattle.gateway_server.specs.Answered.{IsReplyFault}
 
 -- The two streams of a connection, where they are known: what the reader has left, and what the writer has written.
@@ -56,6 +60,19 @@ IsEndedBy read read' write write' (Fault fault) = IsEndedByFault read read' writ
 -- The limit of reads is said by bytes, since a reader names its bytes and not its reads: so many reads gave at least a byte each.
 abbrev pub IsLimited : Option (List ℕ) → Option (List ℕ) → Ended → Type 0
 IsLimited left left' ended = ended ≡ Fault fault.ReadLimit → (bytes : List ℕ) × Consumes left left' bytes × (max_reads ≤ length bytes)
+
+-- What serving a connection to its end does with a reader, a writer and an intake, and what it came to. First comes what contracts see
+-- of the three, and then each before and after.
+pub record ServesToEnd {R W S : Type 0} (left : R → Option (List ℕ)) (read_failures : R → ℕ) (written : W → Option (List ℕ)) (write_failures : W → ℕ) (g : Ghosts S) (reader reader' : R) (writer writer' : W) (old new : Intake S) (result : Served) : Type 0 where
+  -- where the disk is clean at the end, all that was read and written, marked and kept is what serving these bytes does
+  pub serves : IsTransition g old new (λ early before after. ServesConnection (keeping (limit_of old) early before after) (streams (left reader) (written writer)) (streams (left reader') (written writer')) result.marks.items result.ended)
+  -- a disk that is clean at the end was clean before
+  pub clean : IsClean g new → IsClean g old
+  -- as many keys may be kept as before
+  pub limit : limit_of new ≡ limit_of old
+  -- why it ended, whatever the disk did
+  pub fault : IsEndedBy (read_failures reader) (read_failures reader') (write_failures writer) (write_failures writer') result.ended
+  pub limited : IsLimited (left reader) (left reader') result.ended
 
 -- ---- of a part of a connection, with its inbox; no public clause cites what follows
 
@@ -118,5 +135,5 @@ TellsLimit inbox Closed = Unit {0}
 TellsLimit inbox InputEnded = Unit {0}
 TellsLimit inbox (Fault fault.Read) = Unit {0}
 TellsLimit inbox (Fault (fault.Write sent)) = Unit {0}
-TellsLimit inbox (Fault fault.ReadLimit) = (reads inbox ≡ max_reads) × ¬ (HoldsPlace (held inbox))
+TellsLimit inbox (Fault fault.ReadLimit) = (reads inbox ≡ max_reads) × ¬ (HoldsArrival (held inbox))
 TellsLimit inbox (Fault fault.Memory) = reads inbox ≡ max_reads → ¬ (IsUnended (held inbox))

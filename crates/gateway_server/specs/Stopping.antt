@@ -1,6 +1,7 @@
 -- What serving a connection does that may be stopped at one of its requests.
-use Rattle.std.specs.Prelude.{◌≡◌, ℕ, suc, ◌≤◌, max, Bool, true, false, List, length, take, Option, Some, None}
+use Rattle.std.specs.Prelude.{◌≡◌, ℕ, suc, ◌≤◌, max, Bool, true, false, List, length, take, Option, Some, None, IsSome, IfSome}
 use Rattle.std.specs.Io.KnownBytes.{Consumes, Appends, IsAtEnd}
+use Rattle.sqlite.specs.Store.{Ghosts}
 use Rattle.http_wire.specs.declared.inbox.Inbox.{Inbox}
 use Rattle.http_wire.specs.declared.refusal.ConnFault.TheVariants as fault
 use Rattle.http_wire.specs.Device.{NoneFailed}
@@ -8,13 +9,16 @@ use Rattle.http_wire.specs.Received.{max_reads}
 use Rattle.filing_model.specs.declared.served.Ended.{Ended}
 use Rattle.filing_model.specs.declared.served.Ended.TheVariants as how
 use Rattle.filing_model.specs.declared.served.Mark.{Mark}
-use Rattle.filing_model.specs.Serving.{Keeping}
+use Rattle.filing_model.specs.Serving.{Keeping, keeping}
 use Rattle.filing_model.specs.Stopping.{Crash, No, Before, After, ComeBefore, IsStopped, StopsOrServes}
+use Rattle.intake_core.specs.declared.intake.Intake.{Intake}
+use Rattle.intake_core.specs.Held.{limit_of, IsClean, IsTransition}
+use Rattle.gateway_server.specs.declared.serving.Partly.{Partly}
 use Rattle.gateway_server.specs.declared.serving.Turn.{Turn}
 use Rattle.gateway_server.specs.declared.serving.Turn.TheVariants.{On, Stopped, Ended as Ends}
 use Rattle.gateway_server.specs.declared.stop.Stop.{Stop}
 use Rattle.gateway_server.specs.declared.stop.Stop.TheVariants as stop
-use Rattle.gateway_server.specs.Progress.{Streams, GoesOn, ServesConnection, IsEndedBy, IsEndedByReply, TellsLimit}
+use Rattle.gateway_server.specs.Progress.{Streams, streams, GoesOn, ServesConnection, IsEndedBy, IsLimited, IsEndedByReply, TellsLimit}
 
 -- the stop as the model has it
 abbrev pub view_stop : Stop → Crash
@@ -47,6 +51,22 @@ IsCountUntil crash count (Some ended) = ComeBefore crash count
 abbrev pub IsEndedOrStoppedBy : ℕ → ℕ → ℕ → ℕ → Option Ended → Type 0
 IsEndedOrStoppedBy read read' write write' None = NoneFailed read read' write write'
 IsEndedOrStoppedBy read read' write write' (Some ended) = IsEndedBy read read' write write' ended
+
+-- What serving a connection up to its end or to a stop does with a reader, a writer and an intake, and what it came to. First comes what
+-- contracts see of the three, and then each before and after.
+pub record ServesUpTo {R W S : Type 0} (left : R → Option (List ℕ)) (read_failures : R → ℕ) (written : W → Option (List ℕ)) (write_failures : W → ℕ) (g : Ghosts S) (reader reader' : R) (writer writer' : W) (old new : Intake S) (at : Stop) (result : Partly) : Type 0 where
+  -- where the disk is clean at the end, all that was read and written, marked and kept is what serving these bytes up to the stop does
+  pub serves : IsTransition g old new (λ early before after. ServesConnectionUntil (keeping (limit_of old) early before after) (streams (left reader) (written writer)) (streams (left reader') (written writer')) (view_stop at) result.marks.items result.ended)
+  -- a disk that is clean at the end was clean before
+  pub clean : IsClean g new → IsClean g old
+  -- as many keys may be kept as before
+  pub limit : limit_of new ≡ limit_of old
+  -- why it ended, whatever the disk did
+  pub fault : IsEndedOrStoppedBy (read_failures reader) (read_failures reader') (write_failures writer) (write_failures writer') result.ended
+  pub limited : IfSome result.ended (IsLimited (left reader) (left reader'))
+  -- so many marks there are, whatever the disk did; and where no stop is asked for, it ended
+  pub counted : IsCountUntil (view_stop at) (length result.marks.items) result.ended
+  pub never : at ≡ stop.Never → IsSome result.ended
 
 -- ---- of a part of a connection; no public clause cites what follows
 

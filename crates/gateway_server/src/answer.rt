@@ -1,8 +1,8 @@
-//! One place answered: it is decided and marked, and then its reply is written.
+//! One arrival answered: it is decided and marked, and then its reply is written.
 
 ghost use Rattle.std.specs.Prelude.{◌≡◌, ◌<◌, ◌≤◌, ◌+◌, ℕ, List, length, vec_len, vec_capacity, IfOk, IfErr, OnOk, MatchResult};
 ghost use Rattle.http_wire.specs.Head.{max_body_len};
-ghost use Rattle.http_wire.specs.Message.{Read as ReadPlace, Refused as RefusedPlace};
+ghost use Rattle.http_wire.specs.Message.{Read as ReadArrival, Refused as RefusedArrival};
 ghost use Rattle.http_wire.specs.Replies.{reply_parts};
 ghost use Rattle.http_wire.specs.Reply.{render};
 ghost use Rattle.filing_model.specs.Request.{Request};
@@ -29,7 +29,7 @@ pub(crate) fn mark<S: Alter>(
 ) -> Result<Decided, AllocError>
     requires { length message.now.body.now ≤ max_body_len }
     ensures marked { IsTransition S.Store intake.old intake.new (λ early before after.
-        Marks (limit_of intake.old) early before after (ReadPlace (view_message message.now)) marks.old.items
+        Marks (limit_of intake.old) early before after (ReadArrival (view_message message.now)) marks.old.items
         marks.new.items result) }
     ensures phrase { IfOk result IsPhrased }
     ensures counted { MatchResult result (λ _. vec_len marks.new ≡ vec_len marks.old + 1) (λ _.
@@ -56,7 +56,7 @@ fn mark_route<S: Alter>(
     requires asked { route (view_message message.now) ≡ bare (is_head (view_message message.now))
         (view_route asked message.now.body.now) }
     ensures marked { IsTransition S.Store intake.old intake.new (λ early before after.
-        IsDecided (limit_of intake.old) early before after (ReadPlace (view_message message.now)) marks.old.items
+        IsDecided (limit_of intake.old) early before after (ReadArrival (view_message message.now)) marks.old.items
         marks.new.items result) }
     ensures phrase { IsPhrased result }
     ensures counted { vec_len marks.new ≡ vec_len marks.old + 1 }
@@ -75,7 +75,7 @@ pub(crate) fn mark_refusal(
     marks: &mut Vec<Mark>,
 ) -> Result<Decided, AllocError>
     ensures marked { (limit : ℕ) (early before : List Request)
-        → Marks limit early before before (RefusedPlace refusal) marks.old.items marks.new.items result }
+        → Marks limit early before before (RefusedArrival refusal) marks.old.items marks.new.items result }
     ensures phrase { IfOk result IsPhrased }
     ensures counted { MatchResult result (λ _. vec_len marks.new ≡ vec_len marks.old + 1) (λ _.
         vec_len marks.new ≡ vec_len marks.old) }

@@ -1,9 +1,9 @@
 //! The requests that a connection completed, read again from its bytes.
 
 ghost use Rattle.std.specs.Prelude.{◌≡◌, ◌≤◌, ◌++◌, ℕ, List, length, drop, None, IfOk, IfSome, OnOk};
-ghost use Rattle.http_wire.specs.Message.{Place, Ending, Read, BeginsRequest};
+ghost use Rattle.http_wire.specs.Message.{Arrival, Ending, Read, BeginsRequest};
 ghost use Rattle.http_wire.specs.Request.{Request as Spelled};
-ghost use Rattle.filing_model.specs.Serving.{BeginsPlaces};
+ghost use Rattle.filing_model.specs.Serving.{BeginsArrivals};
 ghost use Rattle.filing_model.specs.Text.{completed, completed_at};
 ghost use Rattle.gateway_server.specs.Route.{view_message};
 
@@ -18,8 +18,8 @@ use std::alloc::{AllocError, Global};
 /// place of one. The bytes are all that were given to the connection, or the first of them.
 pub fn completed(alloc: Global, bytes: &[u8], marks: &[Mark]) -> Result<Vec<Completed>, AllocError>
     ensures { IfOk result (λ list.
-        (places : List Place) (ending : Ending) → BeginsPlaces bytes.now places ending
-        → length marks.now ≤ length places → list.items ≡ completed places marks.now) }
+        (arrivals : List Arrival) (ending : Ending) → BeginsArrivals bytes.now arrivals ending
+        → length marks.now ≤ length arrivals → list.items ≡ completed arrivals marks.now) }
 {
     let mut list = Vec::new(alloc);
     let mut rest = bytes;

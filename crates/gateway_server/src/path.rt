@@ -5,7 +5,7 @@ ghost use Rattle.std.specs.Char.{is_ascii_digit};
 ghost use Rattle.std.specs.List.{list_all};
 ghost use Rattle.key_string.specs.Filer.{is_filer};
 ghost use Rattle.http_wire.specs.Posting.{IsTarget};
-ghost use Rattle.filing_model.specs.Text.{target_in, place_in, place_of_path};
+ghost use Rattle.filing_model.specs.Text.{target_in, resource_in, resource_of_path};
 ghost use Rattle.gateway_server.specs.Path.{view_path, is_decimal};
 
 use http_wire::split_at_first;
@@ -25,7 +25,7 @@ pub(crate) struct FilingsPath<'a> {
 
 /// What the path names, if it is one of filings.
 pub(crate) fn read_path(path: &[u8]) -> Option<FilingsPath<'_>>
-    ensures value { option_map view_path result ≡ place_of_path path.now }
+    ensures value { option_map view_path result ≡ resource_of_path path.now }
     ensures filer { IfSome result (λ named. is_filer named.filer.now ≡ true) }
     ensures number { IfSome result (λ named. IsTarget named.number) }
 {
@@ -34,7 +34,7 @@ pub(crate) fn read_path(path: &[u8]) -> Option<FilingsPath<'_>>
 
 /// A filer's code alone, or with a slash and a number behind it.
 fn read_behind(text: &[u8]) -> Option<FilingsPath<'_>>
-    ensures value { option_map view_path result ≡ place_in text.now }
+    ensures value { option_map view_path result ≡ resource_in text.now }
     ensures filer { IfSome result (λ named. is_filer named.filer.now ≡ true) }
     ensures number { IfSome result (λ named. IsTarget named.number) }
 {

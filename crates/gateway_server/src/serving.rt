@@ -1,6 +1,6 @@
-//! Serving a connection: its places are read one after another and answered.
+//! Serving a connection: its arrivals are read one after another and answered.
 
-ghost use Rattle.std.specs.Prelude.{◌≡◌, ◌≢◌, ◌+◌, ℕ, List, Option, Some, None, IfOk, IfSome, IsSome, false, length, vec_len};
+ghost use Rattle.std.specs.Prelude.{◌≡◌, ◌≢◌, ◌+◌, ℕ, List, Option, Some, None, IfOk, IfSome, false, vec_len};
 ghost use Rattle.http_wire.specs.Inbox.{LendsFirst, is_over};
 ghost use Rattle.http_wire.specs.Replies.{reply_parts};
 ghost use Rattle.http_wire.specs.Reply.{render};
@@ -10,8 +10,8 @@ ghost use Rattle.filing_model.specs.Serving.{Keeping, keeping};
 ghost use Rattle.filing_model.specs.Stopping.{ComeBefore};
 ghost use Rattle.intake_core.specs.Held.{limit_of, IsClean, IsTransition};
 ghost use Rattle.gateway_server.specs.Decided.{IsPhrased};
-ghost use Rattle.gateway_server.specs.Progress.{Streams, streams, GoesOn, HasMessage, HasRefusal, ServesConnection, IsEndedBy, IsLimited, ReadsSome, TellsLimit};
-ghost use Rattle.gateway_server.specs.Stopping.{view_stop, ServesConnectionUntil, IsCountUntil, IsEndedOrStoppedBy, Continues, StopsOrEnds, IsCountAt, IsTurnBy, IsTurnByReply, TellsTurn, Replies, IsStoppedAfter};
+ghost use Rattle.gateway_server.specs.Progress.{Streams, streams, GoesOn, HasMessage, HasRefusal, ReadsSome, TellsLimit, ServesToEnd};
+ghost use Rattle.gateway_server.specs.Stopping.{view_stop, ServesUpTo, IsCountUntil, IsEndedOrStoppedBy, Continues, StopsOrEnds, IsCountAt, IsTurnBy, IsTurnByReply, TellsTurn, Replies, IsStoppedAfter};
 
 use crate::answer::{mark, mark_refusal, write_decided};
 use crate::decide::Decided;
@@ -39,12 +39,12 @@ pub struct Partly {
     pub ended: Option<Ended>,
 }
 
-/// What one place came to.
+/// What one arrival came to.
 #[derive(Drop)]
 enum Turn {
     /// The connection goes on.
     On,
-    /// It was stopped at this place.
+    /// It was stopped at this arrival.
     Stopped,
     Ended(Ended),
 }
@@ -57,15 +57,8 @@ pub fn serve<R: Source, W: Sink, S: Alter>(
     writer: &mut W,
     intake: &mut Intake<S>,
 ) -> Served
-    ensures serves { IsTransition S.Store intake.old intake.new (λ early before after.
-        ServesConnection (keeping (limit_of intake.old) early before after)
-        (streams (R.left reader.old) (W.written writer.old)) (streams (R.left reader.new) (W.written writer.new))
-        result.marks.items result.ended) }
-    ensures clean { IsClean S.Store intake.new → IsClean S.Store intake.old }
-    ensures limit { limit_of intake.new ≡ limit_of intake.old }
-    ensures fault { IsEndedBy (R.read_failures reader.old) (R.read_failures reader.new) (W.write_failures writer.old)
-        (W.write_failures writer.new) result.ended }
-    ensures limited { IsLimited (R.left reader.old) (R.left reader.new) result.ended }
+    ensures { ServesToEnd R.left R.read_failures W.written W.write_failures S.Store reader.old reader.new writer.old
+        writer.new intake.old intake.new result }
 {
     let partly = serve_until(alloc, reader, writer, intake, Stop::Never);
     Served {
@@ -85,22 +78,13 @@ pub fn serve_until<R: Source, W: Sink, S: Alter>(
     intake: &mut Intake<S>,
     stop: Stop,
 ) -> Partly
-    ensures serves { IsTransition S.Store intake.old intake.new (λ early before after.
-        ServesConnectionUntil (keeping (limit_of intake.old) early before after)
-        (streams (R.left reader.old) (W.written writer.old)) (streams (R.left reader.new) (W.written writer.new))
-        (view_stop stop) result.marks.items result.ended) }
-    ensures clean { IsClean S.Store intake.new → IsClean S.Store intake.old }
-    ensures limit { limit_of intake.new ≡ limit_of intake.old }
-    ensures fault { IsEndedOrStoppedBy (R.read_failures reader.old) (R.read_failures reader.new)
-        (W.write_failures writer.old) (W.write_failures writer.new) result.ended }
-    ensures limited { IfSome result.ended (IsLimited (R.left reader.old) (R.left reader.new)) }
-    ensures counted { IsCountUntil (view_stop stop) (length result.marks.items) result.ended }
-    ensures never { stop ≡ Stop.Never → IsSome result.ended }
+    ensures { ServesUpTo R.left R.read_failures W.written W.write_failures S.Store reader.old reader.new writer.old
+        writer.new intake.old intake.new stop result }
 {
     let mut marks = Vec::new(alloc);
     match Inbox::new(alloc) {
         Ok(mut inbox) => {
-            let ended = serve_places(alloc, &mut inbox, reader, writer, intake, stop, &mut marks);
+            let ended = serve_arrivals(alloc, &mut inbox, reader, writer, intake, stop, &mut marks);
             Partly { marks, ended }
         }
         Err(_) => Partly {
@@ -110,8 +94,8 @@ pub fn serve_until<R: Source, W: Sink, S: Alter>(
     }
 }
 
-/// Serves one place after another, and says how the connection ended unless it was stopped.
-fn serve_places<R: Source, W: Sink, S: Alter>(
+/// Serves one arrival after another, and says how the connection ended unless it was stopped.
+fn serve_arrivals<R: Source, W: Sink, S: Alter>(
     alloc: Global,
     inbox: &mut Inbox,
     reader: &mut R,
@@ -136,8 +120,8 @@ fn serve_places<R: Source, W: Sink, S: Alter>(
     ensures read { ReadsSome (R.left reader.old) (R.left reader.new) inbox.old inbox.new }
     ensures told { IfSome result (TellsLimit inbox.new) }
 {
-    'places: loop {
-        match serve_place(alloc, inbox, reader, writer, intake, stop, marks) {
+    'arrivals: loop {
+        match serve_arrival(alloc, inbox, reader, writer, intake, stop, marks) {
             Turn::On => {}
             Turn::Stopped => return None,
             Turn::Ended(ended) => return Some(ended),
@@ -145,8 +129,8 @@ fn serve_places<R: Source, W: Sink, S: Alter>(
     }
 }
 
-/// Serves the next place. Where the connection goes on, there is one mark more.
-fn serve_place<R: Source, W: Sink, S: Alter>(
+/// Serves the next arrival. Where the connection goes on, there is one mark more.
+fn serve_arrival<R: Source, W: Sink, S: Alter>(
     alloc: Global,
     inbox: &mut Inbox,
     reader: &mut R,

@@ -6,18 +6,18 @@ use Rattle.http_wire.specs.contracts.inbox.Phase.{the_type}
 use Rattle.http_wire.specs.declared.inbox.Inbox.{Inbox}
 use Rattle.http_wire.specs.declared.inbox.Phase.{Phase}
 use Rattle.http_wire.specs.declared.inbox.Phase.TheVariants.{Open, Closed, Failed}
-use Rattle.http_wire.specs.declared.place.Parsed.{Parsed}
+use Rattle.http_wire.specs.declared.arrival.Parsed.{Parsed}
 use Rattle.http_wire.specs.Message.{BeginsRequest}
 use Rattle.http_wire.specs.Parsed.{parsed_end, parsed_request, IsParsed}
 use Rattle.http_wire.specs.Received.{ReceivesNothing}
-use Rattle.http_wire.specs.Calls.{HoldsPlace}
+use Rattle.http_wire.specs.Calls.{HoldsArrival}
 use Rattle.http_wire.specs.Inbox.{held, unread, reads, is_over, ReadsNothing, LendsFirst}
 
 -- a call that has nothing to read reads nothing
 pub ReadsNothing-after : {R : Type 0} (a b : R) (old mid new : Inbox) → held mid ≡ unread old → reads mid ≡ reads old
-    → (HoldsPlace (held mid) → ReceivesNothing a b mid.received new.received) → HoldsPlace (unread old) → ReadsNothing a b old new
+    → (HoldsArrival (held mid) → ReceivesNothing a b mid.received new.received) → HoldsArrival (unread old) → ReadsNothing a b old new
 ReadsNothing-after a b old mid new held_is count lazy holds =
-    let none = lazy (subst HoldsPlace (sym held_is) holds) in
+    let none = lazy (subst HoldsArrival (sym held_is) holds) in
     record { reader = none.reader; count = none.reads ∙ count; held_is = none.bytes ∙ held_is }
 
 -- a whole request that was found is lent

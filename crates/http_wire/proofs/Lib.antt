@@ -4,7 +4,7 @@ pub mod BufferLemmas
 pub mod DeviceLemmas
 pub mod DigitLemmas
 pub mod FeedLemmas
-pub mod NextPlaceLemmas
+pub mod NextArrivalLemmas
 pub mod HeadLemmas
 pub mod InboxLemmas
 pub mod LineLemmas

@@ -2,7 +2,7 @@
 use Rattle.std.proofs.Common.{◌≡◌, ℕ, List, ◌++◌, Option, Result, Ok, Err, ◌∙◌, append_assoc}
 use Rattle.std.specs.Prelude.{codes, is_ok, OnOk, if◌then◌else◌}
 use Rattle.http_wire.specs.declared.reply.Kind.{Kind}
-use Rattle.http_wire.specs.Posting.{target_path, place_of, post_line}
+use Rattle.http_wire.specs.Posting.{target_path, resource_of, post_line}
 use Rattle.http_wire.specs.Reply.{line, media_type}
 
 -- where the last piece was appended, the text is what was wanted
@@ -21,6 +21,6 @@ type_line_pieces out kind = type_pieces out (codes "Content-Type: ") (media_type
 post_pieces : (out first filer target last end : List ℕ) → out ++ first ++ filer ++ target ++ (last ++ end) ≡ out ++ (first ++ (filer ++ target) ++ last ++ end)
 post_pieces out first filer target last end = simp append_assoc
 
-pub post_line_pieces : (out filer : List ℕ) (target : Option ℕ) → out ++ codes "POST /filings/" ++ filer ++ target_path target ++ codes " HTTP/1.1\r\n" ≡ out ++ post_line (place_of filer target)
+pub post_line_pieces : (out filer : List ℕ) (target : Option ℕ) → out ++ codes "POST /filings/" ++ filer ++ target_path target ++ codes " HTTP/1.1\r\n" ≡ out ++ post_line (resource_of filer target)
 unfolding post_line
 post_line_pieces out filer target = post_pieces out (codes "POST /filings/") filer (target_path target) (codes " HTTP/1.1") (codes "\r\n")

@@ -18,7 +18,7 @@ use Rattle.http_wire.specs.Head.{ReadsHead, IsHead, lengths, agree, agreed_numbe
 use Rattle.http_wire.specs.Posting.{post_line, key_line, render_post_head, post_parts}
 use Rattle.http_wire.specs.Reply.{line, length_line}
 use Rattle.http_wire.proofs.LineLemmas.{IsLines, IsLines-line, IsLines-join, HasPlainLines-of_lines, BeginsBlock-of_lines}
-use Rattle.http_wire.proofs.PostLemmas.{IsPlace, target_uri, target-uri, target-utf8, place-value, place-length, target-spells, target-written, spelling-value, spelling-length, spelling-field}
+use Rattle.http_wire.proofs.PostLemmas.{IsResource, target_uri, target-uri, target-utf8, resource-value, resource-length, target-spells, target-written, spelling-value, spelling-length, spelling-field}
 use Rattle.http_wire.proofs.ValueLemmas.{decimal-solid, decimal-value, decimal-number, decimal-read, trim_ows-field, comma_parts-solid}
 
 -- a field as the request writes it: a space, and the value
@@ -27,10 +27,10 @@ spaced name value = record { name = name; raw = space ∷ value; end = crlf }
 
 -- the head in the grammar
 pub post_head : List ℕ → List ℕ → ℕ → RequestHead
-post_head place key len = record {
+post_head resource key len = record {
   blank = [];
   method = codes "POST";
-  target = codes "/filings/" ++ place;
+  target = codes "/filings/" ++ resource;
   minor = 1;
   line_end = crlf;
   fields =
@@ -67,11 +67,11 @@ lines-flat : (c₁ f c₂ h c₃ s t c₄ d k e : List ℕ)
 lines-flat c₁ f c₂ h c₃ s t c₄ d k e = simp append_assoc
 
 -- it writes these bytes
-post_head-print : (place key : List ℕ) (len : ℕ) → render_post_head place key len ≡ print_request (post_head place key len)
+post_head-print : (resource key : List ℕ) (len : ℕ) → render_post_head resource key len ≡ print_request (post_head resource key len)
 unfolding post_head render_post_head post_line key_line length_line
-post_head-print place key len =
-    lines-flat (codes "POST /filings/") place (codes " HTTP/1.1") (codes "Host: localhost") (codes "Idempotency-Key: ") (spelling key) (codes "Content-Type: application/json") (codes "Content-Length: ") (decimal len) (codes "Connection: close") (codes "\r\n")
-    ∙ sym (five-print (codes "POST") (codes "/filings/" ++ place) (codes "Host") (codes "localhost") (codes "Idempotency-Key") (spelling key) (codes "Content-Type") (codes "application/json") (codes "Content-Length") (decimal len) (codes "Connection") (codes "close"))
+post_head-print resource key len =
+    lines-flat (codes "POST /filings/") resource (codes " HTTP/1.1") (codes "Host: localhost") (codes "Idempotency-Key: ") (spelling key) (codes "Content-Type: application/json") (codes "Content-Length: ") (decimal len) (codes "Connection: close") (codes "\r\n")
+    ∙ sym (five-print (codes "POST") (codes "/filings/" ++ resource) (codes "Host") (codes "localhost") (codes "Idempotency-Key") (spelling key) (codes "Content-Type") (codes "application/json") (codes "Content-Length") (decimal len) (codes "Connection") (codes "close"))
 
 pub IsField-spaced : (name value : List ℕ) → 0 < length name → AllPass is_token_byte name → AllPass is_value_byte value → IsField (spaced name value)
 IsField-spaced name value some token all = record {
@@ -79,15 +79,15 @@ IsField-spaced name value some token all = record {
   raw = All-cons (λ b. IsTrue (is_value_byte b)) space value refl all;
 }
 
-module _ (place key : List ℕ) (len : ℕ) (place_is : IsPlace place) (key_is : IsKey key) (small : len < 2 ^ 64) where
-  post_head-grammar : IsRequestHead (post_head place key len)
+module _ (resource key : List ℕ) (len : ℕ) (resource_is : IsResource resource) (key_is : IsKey key) (small : len < 2 ^ 64) where
+  post_head-grammar : IsRequestHead (post_head resource key len)
   unfolding post_head is_token_byte
   post_head-grammar = record {
     method = (omega arith, AllPass-from_list_all is_token_byte (codes "POST") refl);
-    target = (omega (arith, length-append (codes "/filings/") place), target-uri place place_is);
-    target_text = target-utf8 place place_is;
+    target = (omega (arith, length-append (codes "/filings/") resource), target-uri resource resource_is);
+    target_text = target-utf8 resource resource_is;
     minor = omega arith;
-    fields = All-from_recursion IsField (post_head place key len).fields (
+    fields = All-from_recursion IsField (post_head resource key len).fields (
       IsField-spaced (codes "Host") (codes "localhost") (omega arith) (AllPass-from_list_all is_token_byte (codes "Host") refl) (AllPass-from_list_all is_value_byte (codes "localhost") refl),
       (
         IsField-spaced (codes "Idempotency-Key") (spelling key) (omega arith) (AllPass-from_list_all is_token_byte (codes "Idempotency-Key") refl) (spelling-value key key_is.printable),
@@ -105,8 +105,8 @@ module _ (place key : List ℕ) (len : ℕ) (place_is : IsPlace place) (key_is :
     );
   }
 
-  post_head-reads : ReadsRequest (render_post_head place key len) (post_head place key len) []
-  post_head-reads = (post_head-grammar, post_head-print place key len ∙ sym (append-nil (print_request (post_head place key len))))
+  post_head-reads : ReadsRequest (render_post_head resource key len) (post_head resource key len) []
+  post_head-reads = (post_head-grammar, post_head-print resource key len ∙ sym (append-nil (print_request (post_head resource key len))))
 
 five : {a b c d e v w x y z : List ℕ × List ℕ} → a ≡ v → b ≡ w → c ≡ x → d ≡ y → e ≡ z → a ∷ b ∷ c ∷ d ∷ e ∷ [] ≡ v ∷ w ∷ x ∷ y ∷ z ∷ []
 five p q r s t = cc
@@ -125,8 +125,8 @@ lines-length c₁ f c₂ h c₃ s t c₄ d k e = simp length-append (omega arith
 
 -- the lines before the empty one
 post_lines : List ℕ → List ℕ → ℕ → List ℕ
-post_lines place key len =
-    line (codes "POST /filings/" ++ place ++ codes " HTTP/1.1")
+post_lines resource key len =
+    line (codes "POST /filings/" ++ resource ++ codes " HTTP/1.1")
     ++ line (codes "Host: localhost")
     ++ line (codes "Idempotency-Key: " ++ spelling key)
     ++ line (codes "Content-Type: application/json")
@@ -136,11 +136,11 @@ post_lines place key len =
 abbrev IsValueByte : ℕ → Type 0
 IsValueByte b = IsTrue (is_value_byte b)
 
-module _ (place key : List ℕ) (len : ℕ) (place_is : IsPlace place) (key_is : IsKey key) (fits : len ≤ max_body_len) where
+module _ (resource key : List ℕ) (len : ℕ) (resource_is : IsResource resource) (key_is : IsKey key) (fits : len ≤ max_body_len) where
   small : len < 2 ^ 64
   small = omega (arith, fits)
 
-  post_lines-are : IsLines (post_lines place key len)
+  post_lines-are : IsLines (post_lines resource key len)
   unfolding post_lines
   post_lines-are =
       let all = λ (text : List ℕ). AllPass-from_list_all is_value_byte text in
@@ -149,63 +149,63 @@ module _ (place key : List ℕ) (len : ℕ) (place_is : IsPlace place) (key_is :
       (IsLines-join _ _
       (IsLines-join _ _
       (IsLines-join _ _
-      (IsLines-line (codes "POST /filings/" ++ place ++ codes " HTTP/1.1") (All-append IsValueByte (codes "POST /filings/" ++ place) (codes " HTTP/1.1") (All-append IsValueByte (codes "POST /filings/") place (all (codes "POST /filings/") refl) (place-value place place_is)) (all (codes " HTTP/1.1") refl)) (omega arith))
+      (IsLines-line (codes "POST /filings/" ++ resource ++ codes " HTTP/1.1") (All-append IsValueByte (codes "POST /filings/" ++ resource) (codes " HTTP/1.1") (All-append IsValueByte (codes "POST /filings/") resource (all (codes "POST /filings/") refl) (resource-value resource resource_is)) (all (codes " HTTP/1.1") refl)) (omega arith))
       (IsLines-line (codes "Host: localhost") (all (codes "Host: localhost") refl) (omega arith)))
       (IsLines-line (codes "Idempotency-Key: " ++ spelling key) (All-append IsValueByte (codes "Idempotency-Key: ") (spelling key) (all (codes "Idempotency-Key: ") refl) (spelling-value key key_is.printable)) (omega arith)))
       (IsLines-line (codes "Content-Type: application/json") (all (codes "Content-Type: application/json") refl) (omega arith)))
       (IsLines-line (codes "Content-Length: " ++ decimal len) (All-append IsValueByte (codes "Content-Length: ") (decimal len) (all (codes "Content-Length: ") refl) (decimal-value len small)) (omega arith)))
       (IsLines-line (codes "Connection: close") (all (codes "Connection: close") refl) (omega arith))
 
-  post_lines-head : render_post_head place key len ≡ post_lines place key len ++ crlf_bytes
+  post_lines-head : render_post_head resource key len ≡ post_lines resource key len ++ crlf_bytes
   unfolding post_lines render_post_head post_line key_line length_line
   post_lines-head = refl
 
-  post_lines-short : length (post_lines place key len) + 2 ≤ 16384
+  post_lines-short : length (post_lines resource key len) + 2 ≤ 16384
   unfolding post_lines
   post_lines-short =
-      let size = lines-length (codes "POST /filings/") place (codes " HTTP/1.1") (codes "Host: localhost") (codes "Idempotency-Key: ") (spelling key) (codes "Content-Type: application/json") (codes "Content-Length: ") (decimal len) (codes "Connection: close") (codes "\r\n") in
+      let size = lines-length (codes "POST /filings/") resource (codes " HTTP/1.1") (codes "Host: localhost") (codes "Idempotency-Key: ") (spelling key) (codes "Content-Type: application/json") (codes "Content-Length: ") (decimal len) (codes "Connection: close") (codes "\r\n") in
       let number = length-decimal-le 7 len (omega arith) (omega (arith, fits)) small in
-      let join = length-append (post_lines place key len) crlf_bytes in
-      omega (arith, size, number, join, place-length place place_is, spelling-length key key_is.printable, key_is.short)
+      let join = length-append (post_lines resource key len) crlf_bytes in
+      omega (arith, size, number, join, resource-length resource resource_is, spelling-length key key_is.printable, key_is.short)
 
   -- the head is one block
-  pub post_head-block : BeginsBlock (render_post_head place key len) (length (render_post_head place key len))
+  pub post_head-block : BeginsBlock (render_post_head resource key len) (length (render_post_head resource key len))
   post_head-block =
-      let size : length (post_lines place key len ++ crlf_bytes) ≡ length (post_lines place key len) + 2 = length-append (post_lines place key len) crlf_bytes in
-      rw (post_lines-head, size) (BeginsBlock-of_lines (post_lines place key len) post_lines-are post_lines-short)
+      let size : length (post_lines resource key len ++ crlf_bytes) ≡ length (post_lines resource key len) + 2 = length-append (post_lines resource key len) crlf_bytes in
+      rw (post_lines-head, size) (BeginsBlock-of_lines (post_lines resource key len) post_lines-are post_lines-short)
 
   -- and it is read
-  post_head-fields : (post_parts place key len).fields ≡ map name_and_value (post_head place key len).fields
+  post_head-fields : (post_parts resource key len).fields ≡ map name_and_value (post_head resource key len).fields
   unfolding post_head trim_ows
   post_head-fields = five refl (ap (λ v. (codes "Idempotency-Key", v)) (sym (spelling-field key))) refl (ap (λ v. (codes "Content-Length", v)) (sym (trim_ows-field (decimal len) (decimal-solid len small)))) refl
 
-  post_head-is_read : ReadsHead (render_post_head place key len) (post_parts place key len)
+  post_head-is_read : ReadsHead (render_post_head resource key len) (post_parts resource key len)
   unfolding post_head
   post_head-is_read = record {
-    lines = rw post_lines-head (HasPlainLines-of_lines (post_lines place key len) post_lines-are);
-    head = post_head place key len;
-    reads = post_head-reads place key len place_is key_is small;
+    lines = rw post_lines-head (HasPlainLines-of_lines (post_lines resource key len) post_lines-are);
+    head = post_head resource key len;
+    reads = post_head-reads resource key len resource_is key_is small;
     few = omega arith;
-    target = target_uri place place_is;
-    spells = target-spells place place_is;
+    target = target_uri resource resource_is;
+    spells = target-spells resource resource_is;
     method = refl;
-    path = target-written place place_is;
+    path = target-written resource resource_is;
     minor = refl;
     fields = post_head-fields;
   }
 
-  post_parts-lengths : lengths (post_parts place key len) ≡ decimal len ∷ []
+  post_parts-lengths : lengths (post_parts resource key len) ≡ decimal len ∷ []
   post_parts-lengths = ap (λ l. l ++ []) (comma_parts-solid (decimal len) (decimal-solid len small))
 
-  pub post_parts-body_length : body_length (post_parts place key len) ≡ len
+  pub post_parts-body_length : body_length (post_parts resource key len) ≡ len
   post_parts-body_length = ap agreed_number post_parts-lengths ∙ decimal-read len small
 
-  post_parts-sound : framing_fault (post_parts place key len) ≡ None
+  post_parts-sound : framing_fault (post_parts resource key len) ≡ None
   post_parts-sound =
-      let agreed : agree (lengths (post_parts place key len)) ≡ true = ap agree post_parts-lengths ∙ agree-one (decimal len) (decimal-number len small) in
-      let length_is : body_length (post_parts place key len) ≡ len = post_parts-body_length in
+      let agreed : agree (lengths (post_parts resource key len)) ≡ true = ap agree post_parts-lengths ∙ agree-one (decimal len) (decimal-number len small) in
+      let length_is : body_length (post_parts resource key len) ≡ len = post_parts-body_length in
       let short : nat_lt max_body_len len ≡ false = grind (arith, nat_tests, fits) in
       rw (agreed, length_is, short) refl
 
-  pub post_head-is : IsHead (render_post_head place key len) (post_parts place key len)
+  pub post_head-is : IsHead (render_post_head resource key len) (post_parts resource key len)
   post_head-is = record { reads = post_head-is_read; sound = post_parts-sound }

@@ -25,7 +25,7 @@ use Rattle.key_string.specs.Filer.{is_filer, is_filer_byte}
 use Rattle.key_string.specs.Key.{spelling, character, is_escaped, is_printable, IsPrintable}
 use Rattle.key_string.proofs.FilerLemmas.{is_filer-IsUtf8}
 use Rattle.http_wire.specs.Head.{written_path, before_query}
-use Rattle.http_wire.specs.Posting.{IsTarget, place_of}
+use Rattle.http_wire.specs.Posting.{IsTarget, resource_of}
 use Rattle.http_wire.proofs.ValueLemmas.{decimal-digits}
 
 -- ---- the filer's code
@@ -67,35 +67,35 @@ written-self target path whole same =
     rw (whole, same, self) refl
 
 abbrev pub target_of : List ℕ → List ℕ
-target_of place = codes "/filings/" ++ place
+target_of resource = codes "/filings/" ++ resource
 
 -- what may stand behind `/filings/`
-pub record IsPlace (place : List ℕ) : Type 0 where
-  some : 0 < length place
-  short : length place ≤ 85
-  path : AllPass is_path_byte place
-  utf8 : IsUtf8 place
+pub record IsResource (resource : List ℕ) : Type 0 where
+  some : 0 < length resource
+  short : length resource ≤ 85
+  path : AllPass is_path_byte resource
+  utf8 : IsUtf8 resource
 
 digit-path : (c : ℕ) → IsTrue (is_ascii_digit c) → IsTrue (is_path_byte c)
 digit-path c h = grind (arith, nat_tests, h)
 
-filer-place : (filer : List ℕ) → is_filer filer ≡ true → (0 < length filer) × (length filer ≤ 64) × AllPass is_path_byte filer × IsUtf8 filer
+filer-resource : (filer : List ℕ) → is_filer filer ≡ true → (0 < length filer) × (length filer ≤ 64) × AllPass is_path_byte filer × IsUtf8 filer
 unfolding is_filer
-filer-place filer is = (
+filer-resource filer is = (
   grind (arith, nat_tests, is),
   grind (arith, nat_tests, is),
   All-weaker (λ c. IsTrue (is_filer_byte c)) (λ c. IsTrue (is_path_byte c)) filer-path filer (AllPass-from_list_all is_filer_byte filer (and_parts _ _ is).1),
   is_filer-IsUtf8 filer is,
 )
 
--- a filer's code is such a place, and so it is with a number behind it
-pub IsPlace-of : (filer : List ℕ) (target : Option ℕ) → is_filer filer ≡ true → IsTarget target → IsPlace (place_of filer target)
-IsPlace-of filer None is target_is =
-    let facts = filer-place filer is in
-    subst IsPlace (sym (append-nil filer)) (record { some = facts.0; short = omega (arith, facts.1); path = facts.2; utf8 = facts.3 })
-IsPlace-of filer (Some n) is target_is =
+-- a filer's code is such a resource, and so it is with a number behind it
+pub IsResource-of : (filer : List ℕ) (target : Option ℕ) → is_filer filer ≡ true → IsTarget target → IsResource (resource_of filer target)
+IsResource-of filer None is target_is =
+    let facts = filer-resource filer is in
+    subst IsResource (sym (append-nil filer)) (record { some = facts.0; short = omega (arith, facts.1); path = facts.2; utf8 = facts.3 })
+IsResource-of filer (Some n) is target_is =
     let small : n < 2 ^ 64 = omega (arith, target_is.1) in
-    let facts = filer-place filer is in
+    let facts = filer-resource filer is in
     let slash : List ℕ = codes "/" in
     let digits : AllPass is_path_byte (decimal n) = All-weaker (λ c. IsTrue (is_ascii_digit c)) (λ c. IsTrue (is_path_byte c)) digit-path (decimal n) (decimal-digits n small) in
     let size = length-decimal-le 20 n (omega arith) (omega (arith, small)) small in
@@ -106,65 +106,65 @@ IsPlace-of filer (Some n) is target_is =
       utf8 = IsUtf8-append filer (slash ++ decimal n) facts.3 (IsUtf8-append slash (decimal n) (IsUtf8-from_ascii slash (ascii-of slash refl)) (IsUtf8-from_ascii (decimal n) (IsAscii-decimal n small)));
     }
 
-module _ (place : List ℕ) (is : IsPlace place) where
-  pub place-length : (0 < length place) × (length place ≤ 85)
-  place-length = (is.some, is.short)
+module _ (resource : List ℕ) (is : IsResource resource) where
+  pub resource-length : (0 < length resource) × (length resource ≤ 85)
+  resource-length = (is.some, is.short)
 
-  target-path : AllPass is_path_byte (target_of place)
-  target-path = All-append (λ c. IsTrue (is_path_byte c)) (codes "/filings/") place (AllPass-from_list_all is_path_byte (codes "/filings/") refl) is.path
+  target-path : AllPass is_path_byte (target_of resource)
+  target-path = All-append (λ c. IsTrue (is_path_byte c)) (codes "/filings/") resource (AllPass-from_list_all is_path_byte (codes "/filings/") refl) is.path
 
-  pub target-uri : AllPass is_uri_byte (target_of place)
-  target-uri = All-weaker (λ c. IsTrue (is_path_byte c)) (λ c. IsTrue (is_uri_byte c)) path-uri (target_of place) target-path
+  pub target-uri : AllPass is_uri_byte (target_of resource)
+  target-uri = All-weaker (λ c. IsTrue (is_path_byte c)) (λ c. IsTrue (is_uri_byte c)) path-uri (target_of resource) target-path
 
-  target-length : length (target_of place) ≡ 9 + length place
-  target-length = length-append (codes "/filings/") place
+  target-length : length (target_of resource) ≡ 9 + length resource
+  target-length = length-append (codes "/filings/") resource
 
-  pub target-utf8 : IsUtf8 (target_of place)
-  target-utf8 = IsUtf8-append (codes "/filings/") place (IsUtf8-from_ascii (codes "/filings/") (ascii-of (codes "/filings/") refl)) is.utf8
+  pub target-utf8 : IsUtf8 (target_of resource)
+  target-utf8 = IsUtf8-append (codes "/filings/") resource (IsUtf8-from_ascii (codes "/filings/") (ascii-of (codes "/filings/") refl)) is.utf8
 
-  pub place-value : AllPass is_value_byte place
-  place-value = All-weaker (λ c. IsTrue (is_path_byte c)) (λ c. IsTrue (is_value_byte c)) path-plain place is.path
+  pub resource-value : AllPass is_value_byte resource
+  resource-value = All-weaker (λ c. IsTrue (is_path_byte c)) (λ c. IsTrue (is_value_byte c)) path-plain resource is.path
 
-  no_hash : AllPass (λ c. not (c == hash_sign)) (target_of place)
-  no_hash = All-weaker (λ c. IsTrue (is_path_byte c)) (λ c. IsTrue (not (c == hash_sign))) path-no_hash (target_of place) target-path
+  no_hash : AllPass (λ c. not (c == hash_sign)) (target_of resource)
+  no_hash = All-weaker (λ c. IsTrue (is_path_byte c)) (λ c. IsTrue (not (c == hash_sign))) path-no_hash (target_of resource) target-path
 
-  no_mark : AllPass (λ c. not (c == question_mark)) (target_of place)
-  no_mark = All-weaker (λ c. IsTrue (is_path_byte c)) (λ c. IsTrue (not (c == question_mark))) path-no_mark (target_of place) target-path
+  no_mark : AllPass (λ c. not (c == question_mark)) (target_of resource)
+  no_mark = All-weaker (λ c. IsTrue (is_path_byte c)) (λ c. IsTrue (not (c == question_mark))) path-no_mark (target_of resource) target-path
 
-  target-unfragmented : without_fragment (target_of place) ≡ target_of place
-  target-unfragmented = front-uncut hash_sign (target_of place) no_hash
+  target-unfragmented : without_fragment (target_of resource) ≡ target_of resource
+  target-unfragmented = front-uncut hash_sign (target_of resource) no_hash
 
-  target-unqueried : split_once_front question_mark (target_of place) ≡ target_of place
-  target-unqueried = front-uncut question_mark (target_of place) no_mark
+  target-unqueried : split_once_front question_mark (target_of resource) ≡ target_of resource
+  target-unqueried = front-uncut question_mark (target_of resource) no_mark
 
-  target-input : IsPathAndQuery (target_of place)
+  target-input : IsPathAndQuery (target_of resource)
   target-input =
-      let whole : (nat_lt (index_of question_mark (target_of place)) (length (target_of place))) ≡ false = let e = uncut question_mark (target_of place) no_mark in grind (arith, nat_tests, e) in
+      let whole : (nat_lt (index_of question_mark (target_of resource)) (length (target_of resource))) ≡ false = let e = uncut question_mark (target_of resource) no_mark in grind (arith, nat_tests, e) in
       record {
         start = inr (inr (inl refl));
         path = subst (AllPass is_path_byte) (sym target-unqueried) target-path;
         query = rw whole tt;
         utf8 = target-utf8;
-        short = omega (arith, target-length, place-length);
+        short = omega (arith, target-length, resource-length);
       }
 
   -- the target, as a URI
   pub target_uri : Uri
-  target_uri = record { scheme = None; authority = None; path_and_query = target_of place; absolute = search rules; authority_alone = search rules }
+  target_uri = record { scheme = None; authority = None; path_and_query = target_of resource; absolute = search rules; authority_alone = search rules }
 
-  pub target-spells : Spells (target_of place) target_uri
+  pub target-spells : Spells (target_of resource) target_uri
   unfolding target_uri
   target-spells =
-      let short : length (target_of place) ≤ 65534 = omega (arith, target-length, place-length) in
+      let short : length (target_of resource) ≤ 65534 = omega (arith, target-length, resource-length) in
       (short, ((inr refl, record { start = inr refl; short = short; kept = subst IsPathAndQuery (sym target-unfragmented) target-input }), sym target-unfragmented))
 
   -- and its path
-  pub target-written : target_of place ≡ written_path (target_of place) (uri_path target_uri)
+  pub target-written : target_of resource ≡ written_path (target_of resource) (uri_path target_uri)
   unfolding target_uri
   target-written =
-      let whole : before_query (target_of place) ≡ target_of place = ap (split_once_front question_mark) target-unfragmented ∙ target-unqueried in
-      let path : uri_path target_uri ≡ target_of place = let some : (length (target_of place) == 0) ≡ false = let size = target-length in grind (arith, nat_tests, size) in simp (some, target-unqueried) in
-      written-self (target_of place) (uri_path target_uri) whole path
+      let whole : before_query (target_of resource) ≡ target_of resource = ap (split_once_front question_mark) target-unfragmented ∙ target-unqueried in
+      let path : uri_path target_uri ≡ target_of resource = let some : (length (target_of resource) == 0) ≡ false = let size = target-length in grind (arith, nat_tests, size) in simp (some, target-unqueried) in
+      written-self (target_of resource) (uri_path target_uri) whole path
 
 -- ---- the key
 

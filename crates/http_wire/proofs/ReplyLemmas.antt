@@ -127,21 +127,21 @@ HasSkipped-head first mid after old new head s t is =
 
 -- ---- failures
 
-skipped_place : (first after : Option (List ℕ)) (r : Received) (s : HasSkipped first after r) → drop (length s.taken) (s.taken ++ held_bytes r) ≡ held_bytes r
-skipped_place first after r s = drop-own s.taken (held_bytes r)
+skipped_arrival : (first after : Option (List ℕ)) (r : Received) (s : HasSkipped first after r) → drop (length s.taken) (s.taken ++ held_bytes r) ≡ held_bytes r
+skipped_arrival first after r s = drop-own s.taken (held_bytes r)
 
 -- no head was read
 pub head_failure : (first mid after : Option (List ℕ)) (a b : ℕ) (old new : Received) (fault : ReplyFault) → HasSkipped first mid old → IsHeadFailure mid after a b old new fault → IsReplyFailure first after a b fault
 head_failure first mid after a b old new Cut s f =
     let m = HasSkipped-more first mid after old new s f.1 in
-    (f.0, f.3, (m.taken ++ held_bytes new, m.given, IsCutReply-unended _ (length m.taken) m.interims (rw (skipped_place first after new m) f.2)))
+    (f.0, f.3, (m.taken ++ held_bytes new, m.given, IsCutReply-unended _ (length m.taken) m.interims (rw (skipped_arrival first after new m) f.2)))
 head_failure first mid after a b old new Malformed s f =
     let m = HasSkipped-more first mid after old new s f.1 in
-    (f.0, (m.taken ++ held_bytes new, m.given, (length m.taken, m.interims, inl (rw (skipped_place first after new m) f.2))))
+    (f.0, (m.taken ++ held_bytes new, m.given, (length m.taken, m.interims, inl (rw (skipped_arrival first after new m) f.2))))
 head_failure first mid after a b old new NoLength s f = absurd f
 head_failure first mid after a b old new TooLarge s f =
     let m = HasSkipped-more first mid after old new s f.1 in
-    (f.0, (m.taken ++ held_bytes new, m.given, (length m.taken, m.interims, inl (rw (skipped_place first after new m) f.2))))
+    (f.0, (m.taken ++ held_bytes new, m.given, (length m.taken, m.interims, inl (rw (skipped_arrival first after new m) f.2))))
 head_failure first mid after a b old new Read s f = f
 head_failure first mid after a b old new ReadLimit s f =
     let m = HasSkipped-more first mid after old new s f.1 in

@@ -11,8 +11,8 @@ use Rattle.http_wire.specs.Received.{max_reads}
 use Rattle.http_wire.specs.Request.{Request}
 
 -- the bytes begin with a request or a refusal
-abbrev pub HoldsPlace : List ℕ → Type 0
-HoldsPlace bytes =
+abbrev pub HoldsArrival : List ℕ → Type 0
+HoldsArrival bytes =
     ((request : Request) × (n : ℕ) × BeginsRequest bytes request n) ⊎ ((refusal : Refusal) × IsRefused bytes refusal)
 
 -- the interim response, where one is asked for
@@ -34,7 +34,7 @@ WritesUpTo before after bytes Memory = WritesAsked before after bytes ⊎ Append
 -- held: a read that was wanted failed, or a write did; or neither failed, and all reads were made that may give bytes where one more was
 -- wanted, or there was no memory. Where no read may give bytes any more, memory is wanted for the head of a block that is held.
 abbrev pub IsFault : ℕ → ℕ → ℕ → ℕ → ℕ → List ℕ → ConnFault → Type 0
-IsFault read read' write write' reads held Read = ReaderFailed read read' write write' × ¬ (HoldsPlace held)
+IsFault read read' write write' reads held Read = ReaderFailed read read' write write' × ¬ (HoldsArrival held)
 IsFault read read' write write' reads held (Write sent) = WriterFailed read read' write write'
-IsFault read read' write write' reads held ReadLimit = NoneFailed read read' write write' × (reads ≡ max_reads) × ¬ (HoldsPlace held)
+IsFault read read' write write' reads held ReadLimit = NoneFailed read read' write write' × (reads ≡ max_reads) × ¬ (HoldsArrival held)
 IsFault read read' write write' reads held Memory = NoneFailed read read' write write' × (reads ≡ max_reads → HoldsBlock held)

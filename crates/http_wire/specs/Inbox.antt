@@ -46,7 +46,7 @@ has_failed Open = false
 has_failed Closed = false
 has_failed Failed = true
 
--- no place comes any more
+-- nothing arrives any more
 abbrev pub is_over : Inbox → Bool
 is_over i = not (is_open i.phase) || option_map_or (λ p. p.framing.closes) i.lent false
 

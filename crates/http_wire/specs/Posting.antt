@@ -3,7 +3,7 @@ use Rattle.std.specs.Prelude.{◌≡◌, ℕ, ◌<◌, ◌≤◌, ◌^◌, ◌�
 use Rattle.std.specs.Fmt.{decimal}
 use Rattle.key_string.specs.Key.{spelling}
 use Rattle.http_wire.specs.Head.{RequestParts}
-use Rattle.http_wire.specs.Message.{Place, Read, Ending, Closed, Rest}
+use Rattle.http_wire.specs.Message.{Arrival, Read, Ending, Closed, Rest}
 use Rattle.http_wire.specs.Reply.{line, length_line}
 use Rattle.http_wire.specs.Request.{Request}
 
@@ -18,22 +18,22 @@ target_path None = []
 target_path (Some n) = codes "/" ++ decimal n
 
 -- what stands behind `/filings/`
-abbrev pub place_of : List ℕ → Option ℕ → List ℕ
-place_of filer target = filer ++ target_path target
+abbrev pub resource_of : List ℕ → Option ℕ → List ℕ
+resource_of filer target = filer ++ target_path target
 
--- request-line (RFC 9112, section 3): the place is in the path
+-- request-line (RFC 9112, section 3): the resource is in the path
 unfoldable pub post_line : List ℕ → List ℕ
-post_line place = line (codes "POST /filings/" ++ place ++ codes " HTTP/1.1")
+post_line resource = line (codes "POST /filings/" ++ resource ++ codes " HTTP/1.1")
 
 -- the key as a String (RFC 8941, section 3.3.3)
 unfoldable pub key_line : List ℕ → List ℕ
 key_line key = line (codes "Idempotency-Key: " ++ spelling key)
 
--- The head of the request: the place in the path, the key as a String, and the length of the report. The connection is closed
+-- The head of the request: the resource in the path, the key as a String, and the length of the report. The connection is closed
 -- after the reply. This order of lines is an own rule.
 unfoldable pub render_post_head : List ℕ → List ℕ → ℕ → List ℕ
-render_post_head place key len =
-    post_line place
+render_post_head resource key len =
+    post_line resource
     ++ line (codes "Host: localhost")
     ++ key_line key
     ++ line (codes "Content-Type: application/json")
@@ -43,13 +43,13 @@ render_post_head place key len =
 
 -- the bytes of the request
 unfoldable pub render_post : List ℕ → Option ℕ → List ℕ → List ℕ → List ℕ
-render_post filer target key body = render_post_head (place_of filer target) key (length body) ++ body
+render_post filer target key body = render_post_head (resource_of filer target) key (length body) ++ body
 
 -- the parts of this head
 abbrev pub post_parts : List ℕ → List ℕ → ℕ → RequestParts
-post_parts place key len = record {
+post_parts resource key len = record {
   method = codes "POST";
-  path = codes "/filings/" ++ place;
+  path = codes "/filings/" ++ resource;
   minor = 1;
   fields =
       (codes "Host", codes "localhost")
@@ -62,8 +62,8 @@ post_parts place key len = record {
 
 -- the request
 abbrev pub post_request : List ℕ → Option ℕ → List ℕ → List ℕ → Request
-post_request filer target key body = record { head = post_parts (place_of filer target) key (length body); body = body }
+post_request filer target key body = record { head = post_parts (resource_of filer target) key (length body); body = body }
 
--- no place yet, and no interim response is asked for; or this request alone, after which the connection closes
-abbrev pub HoldsAlone : Request → List Place → Ending → Type 0
-HoldsAlone request places ending = ((places ≡ []) × (ending ≡ Rest false)) ⊎ ((places ≡ Read request ∷ []) × (ending ≡ Closed))
+-- no resource yet, and no interim response is asked for; or this request alone, after which the connection closes
+abbrev pub HoldsAlone : Request → List Arrival → Ending → Type 0
+HoldsAlone request arrivals ending = ((arrivals ≡ []) × (ending ≡ Rest false)) ⊎ ((arrivals ≡ Read request ∷ []) × (ending ≡ Closed))

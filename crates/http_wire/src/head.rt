@@ -57,22 +57,22 @@ pub(crate) struct HeadSpans {
     pub(crate) fields: Vec<HeaderSpan>,
 }
 
-/// The places of a head's parts: its own, or those that are kept with the bytes that it lends.
+/// The spans that a head holds: its own, or those that it was lent with its block.
 #[derive(Drop)]
-pub(crate) enum Places<'a> {
+pub(crate) enum HeldSpans<'a> {
     Own(HeadSpans),
-    Kept(&'a HeadSpans),
+    Lent(&'a HeadSpans),
 }
 
-impl<'a> Places<'a> {
-    ghost use Rattle.http_wire.specs.Places.{spans_of};
+impl<'a> HeldSpans<'a> {
+    ghost use Rattle.http_wire.specs.HeldSpans.{spans_of};
 
-    fn spans(&self) -> &HeadSpans
+    fn get(&self) -> &HeadSpans
         ensures { result.now ≡ spans_of self.now }
     {
         match self {
-            Places::Own(spans) => spans,
-            Places::Kept(spans) => spans,
+            HeldSpans::Own(spans) => spans,
+            HeldSpans::Lent(spans) => spans,
         }
     }
 }
@@ -90,7 +90,7 @@ pub(crate) struct Framing {
 #[derive(Drop)]
 pub struct Head<'a> {
     block: &'a [u8],
-    places: Places<'a>,
+    spans: HeldSpans<'a>,
     framing: Framing,
 }
 
@@ -100,25 +100,25 @@ impl<'a> Model for Head<'a> {
     ghost Value = { RequestParts };
 
     ghost use Rattle.http_wire.specs.FieldsNamed.{values_left};
-    ghost use Rattle.http_wire.specs.Places.{spans_of};
+    ghost use Rattle.http_wire.specs.HeldSpans.{spans_of};
     ghost use Rattle.http_wire.specs.Spans.{parts_at, IsHeadAt};
 
-    ghost view = { λ head. parts_at head.block.now (spans_of head.places) };
+    ghost view = { λ head. parts_at head.block.now (spans_of head.spans) };
 
-    ghost invariant = { λ head. IsHeadAt head.block.now (spans_of head.places) head.framing };
+    ghost invariant = { λ head. IsHeadAt head.block.now (spans_of head.spans) head.framing };
 }
 
 impl<'a> Head<'a> {
-    ghost use Rattle.http_wire.specs.Places.{spans_of};
+    ghost use Rattle.http_wire.specs.HeldSpans.{spans_of};
 
-    /// The head in a block whose places and framing are known.
-    pub(crate) fn at(block: &'a [u8], places: Places<'a>, framing: Framing) -> Head<'a>
-        requires { IsHeadAt block.now (spans_of places) framing }
-        ensures { result ≡ parts_at block.now (spans_of places.entry) }
+    /// The head in a block whose spans and framing are known.
+    pub(crate) fn at(block: &'a [u8], spans: HeldSpans<'a>, framing: Framing) -> Head<'a>
+        requires { IsHeadAt block.now (spans_of spans) framing }
+        ensures { result ≡ parts_at block.now (spans_of spans.entry) }
     {
         Head {
             block,
-            places,
+            spans,
             framing,
         }
     }
@@ -127,7 +127,7 @@ impl<'a> Head<'a> {
     pub fn method(&self) -> &'a [u8]
         ensures { result.now ≡ self.now.method }
     {
-        self.places.spans().method.of(self.block)
+        self.spans.get().method.of(self.block)
     }
 
     /// The path of the target, as it was written, without its query. It is empty where the target
@@ -135,7 +135,7 @@ impl<'a> Head<'a> {
     pub fn path(&self) -> &'a [u8]
         ensures { result.now ≡ self.now.path }
     {
-        self.places.spans().path.of(self.block)
+        self.spans.get().path.of(self.block)
     }
 
     /// The values of the fields of this name, in order. Names are compared without case.
@@ -143,7 +143,7 @@ impl<'a> Head<'a> {
         ensures values { values_left result ≡ values_named name.now self.now.fields }
         ensures few { length (values_left result) ≤ 64 }
     {
-        FieldsNamed::new(self.block, self.places.spans(), name)
+        FieldsNamed::new(self.block, self.spans.get(), name)
     }
 
     /// The declared length of the body in bytes, 0 without Content-Length (RFC 9112, section 6.3).
@@ -182,7 +182,7 @@ pub fn read_head(alloc: Global, bytes: &[u8]) -> Result<Head<'_>, HeadFault>
         Block::End(end) if end == bytes.len() => {
             let block = &bytes[skipped_len(bytes)..];
             let (spans, framing) = read_parts(alloc, block)?;
-            Ok(Head::at(block, Places::Own(spans), framing))
+            Ok(Head::at(block, HeldSpans::Own(spans), framing))
         }
         Block::End(_) | Block::TooLong | Block::More => Err(HeadFault::Malformed),
     }

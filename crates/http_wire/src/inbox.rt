@@ -1,13 +1,12 @@
 //! The requests of a connection, which are read one after another into one buffer.
-ghost use Rattle.std.specs.Prelude.{◌≡◌, ◌||◌, ◌≤◌, length, Some, None, IsSome, true, IfOk, IfErr, OnOk, OnErr, is_err};
+ghost use Rattle.std.specs.Prelude.{◌≡◌, ◌||◌, Some, None, IsSome, IfOk};
 ghost use Rattle.std.specs.Option.{ForSome};
-ghost use Rattle.http_wire.specs.Calls.{HoldsPlace, IsFault, WritesUpTo};
 ghost use Rattle.http_wire.specs.Parsed.{IsParsed};
 ghost use Rattle.http_wire.specs.Received.{held_bytes};
 
+use crate::arrival::{NextArrival, Parsed, find_arrival};
 use crate::device::{Sink, Source};
-use crate::head::{Head, Places};
-use crate::place::{NextPlace, Parsed, find_place};
+use crate::head::{Head, HeldSpans};
 use crate::received::Received;
 use crate::refusal::{ConnFault, Next};
 use std::alloc::{AllocError, Global};
@@ -42,7 +41,8 @@ pub struct Message<'a> {
 }
 
 impl Inbox {
-    ghost use Rattle.http_wire.specs.Inbox.{held, unread, lent_request, is_over, is_failed, reads, IsNew, ReadsOn, ReadsNothing, KeepsBytes, IsNext, WritesInterim};
+    ghost use Rattle.http_wire.specs.Inbox.{held, unread, lent_request, is_over, is_failed, reads, IsNew, KeepsBytes};
+    ghost use Rattle.http_wire.specs.ReadingOn.{FindsNext};
 
     /// An inbox for a connection of which nothing was read. It takes 16,384 bytes of memory at once,
     /// and later as much as the longest request needs.
@@ -65,44 +65,23 @@ impl Inbox {
         reader: &mut R,
         writer: &mut W,
     ) -> Result<Next, ConnFault>
-        // What was read follows what was held.
-        ensures reads { ReadsOn (R.left reader.old) (R.left reader.new) self.old self.new }
-        ensures lazy { HoldsPlace (unread self.old) → ReadsNothing reader.old reader.new self.old self.new }
-
-        ensures bound { length (held self.new) ≤ 1064962 }
-
-        // What stands next in it.
-        ensures place { IfOk result (IsNext (R.left reader.new) self.old self.new) }
-        ensures over { is_over self.old ≡ true
-            → (result ≡ Ok Next.End) × (writer.new ≡ writer.old)
-            × ReadsNothing reader.old reader.new self.old self.new }
-
-        // What was written.
-        ensures interim { IfOk result (WritesInterim (W.written writer.old) (W.written writer.new) self.old self.new) }
-        ensures part { IfErr result (WritesUpTo (W.written writer.old) (W.written writer.new) (held self.new)) }
-
-        // Why it failed, and what then.
-        ensures fine { OnOk result ((R.read_failures reader.new ≡ R.read_failures reader.old)
-            × (W.write_failures writer.new ≡ W.write_failures writer.old)) }
-        ensures fault { IfErr result (IsFault (R.read_failures reader.old) (R.read_failures reader.new)
-            (W.write_failures writer.old) (W.write_failures writer.new) (reads self.new) (held self.new)) }
-        ensures failed { is_failed self.new ≡ (is_failed self.old || is_err result) }
-        ensures closed { OnErr result (is_over self.new ≡ true) }
+        ensures { FindsNext R.left R.read_failures W.written W.write_failures reader.old reader.new writer.old
+            writer.new self.old self.new result }
     {
         self.drop_message();
         if self.phase != Phase::Open {
             return Ok(Next::End);
         }
-        match find_place(&mut self.received, reader, writer) {
-            Ok(NextPlace::Request(parsed)) => {
+        match find_arrival(&mut self.received, reader, writer) {
+            Ok(NextArrival::Request(parsed)) => {
                 self.lent = Some(parsed);
                 Ok(Next::Message)
             }
-            Ok(NextPlace::Refused(refusal)) => {
+            Ok(NextArrival::Refused(refusal)) => {
                 self.phase = Phase::Closed;
                 Ok(Next::Refuse(refusal))
             }
-            Ok(NextPlace::Rest) => {
+            Ok(NextArrival::Rest) => {
                 self.phase = Phase::Closed;
                 Ok(Next::End)
             }
@@ -126,7 +105,7 @@ impl Inbox {
         Message {
             head: Head::at(
                 &bytes[parsed.start..parsed.end],
-                Places::Kept(&parsed.spans),
+                HeldSpans::Lent(&parsed.spans),
                 parsed.framing,
             ),
             body: &bytes[parsed.end..body_end],

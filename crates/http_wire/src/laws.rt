@@ -6,7 +6,7 @@ ghost use Rattle.std.specs.Prelude.{◌≡◌, ◌≤◌, ℕ, Bool, true, List,
 ghost use Rattle.key_string.specs.Filer.{is_filer};
 ghost use Rattle.key_string.specs.Key.{IsKey};
 ghost use Rattle.http_wire.specs.Head.{max_body_len};
-ghost use Rattle.http_wire.specs.Message.{Place, Ending, HasPlaces, SpellsRequest};
+ghost use Rattle.http_wire.specs.Message.{Arrival, Ending, HasArrivals, SpellsRequest};
 ghost use Rattle.http_wire.specs.Posting.{IsTarget, render_post, post_request, HoldsAlone};
 ghost use Rattle.http_wire.specs.Reply.{ReplyParts, render};
 ghost use Rattle.http_wire.specs.ReplyFaults.{HasGiven, IsRefusedReply, IsReplyFailure, IsOfReader};
@@ -14,10 +14,10 @@ ghost use Rattle.http_wire.specs.Request.{Request};
 ghost use Rattle.http_wire.specs.Response.{BeginsReply, SpellsReply, GivesReply, IsReadable};
 ghost use Rattle.http_wire.specs.declared.refusal.ReplyFault.{ReplyFault};
 
-/// Bytes have one list of places, and one ending.
-pub fn bytes_have_one_list_of_places()
-    ensures { (bytes : List ℕ) (places others : List Place) (ending other : Ending) → HasPlaces bytes places ending
-        → HasPlaces bytes others other → (others ≡ places) × (other ≡ ending) }
+/// Bytes have one list of arrivals, and one ending.
+pub fn bytes_have_one_list_of_arrivals()
+    ensures { (bytes : List ℕ) (arrivals others : List Arrival) (ending other : Ending) → HasArrivals bytes arrivals ending
+        → HasArrivals bytes others other → (others ≡ arrivals) × (other ≡ ending) }
 {}
 
 /// No spelling of a request is the beginning of another's, nor of its own with more behind it.
@@ -34,13 +34,13 @@ pub fn post_is_read()
         → SpellsRequest (render_post filer target key body) (post_request filer target key body) }
 {}
 
-/// However it is cut, nothing else is read in it: what arrives of a filer's request holds no place and
+/// However it is cut, nothing else is read in it: what comes of a filer's request holds no arrival and
 /// asks for nothing, or it is the whole request, after which the connection closes.
 pub fn cut_post_is_nothing_or_whole()
     ensures { (filer : List ℕ) (target : Option ℕ) (key body : List ℕ) → is_filer filer ≡ true → IsTarget target
-        → IsKey key → length body ≤ max_body_len → (n : ℕ) (places : List Place) (ending : Ending)
-        → HasPlaces (take n (render_post filer target key body)) places ending
-        → HoldsAlone (post_request filer target key body) places ending }
+        → IsKey key → length body ≤ max_body_len → (n : ℕ) (arrivals : List Arrival) (ending : Ending)
+        → HasArrivals (take n (render_post filer target key body)) arrivals ending
+        → HoldsAlone (post_request filer target key body) arrivals ending }
 {}
 
 /// What the intake writes of a final reply with content is read as this reply.
@@ -54,7 +54,7 @@ pub fn cut_reply_is_no_other()
         → SpellsReply (take n (render reply close)) other → other ≡ reply }
 {}
 
-/// No bytes begin with two replies, or with one that ends in two places.
+/// No bytes begin with two replies, or with one of two lengths.
 pub fn bytes_begin_with_one_reply()
     ensures { (bytes : List ℕ) (reply other : ReplyParts) (n m : ℕ) → BeginsReply bytes reply n
         → BeginsReply bytes other m → (other ≡ reply) × (m ≡ n) }

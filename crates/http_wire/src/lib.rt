@@ -2,6 +2,7 @@
 //! and writer.
 #![tactic(auto)]
 
+mod arrival;
 mod block;
 mod buffer;
 mod coding;
@@ -14,7 +15,6 @@ mod inbox;
 pub mod laws;
 mod lists;
 mod parts;
-mod place;
 mod posting;
 mod received;
 mod refusal;

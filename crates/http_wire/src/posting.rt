@@ -1,7 +1,7 @@
 //! The request by which a filer files a report (RFC 9110 and RFC 9112).
 ghost use Rattle.std.specs.Prelude.{◌≡◌, ◌≤◌, ◌++◌, length, true, IfOk, OnOk, OnErr};
 ghost use Rattle.key_string.specs.Filer.{is_filer};
-ghost use Rattle.http_wire.specs.Posting.{IsTarget, target_path, place_of, post_line, key_line, render_post, render_post_head};
+ghost use Rattle.http_wire.specs.Posting.{IsTarget, target_path, resource_of, post_line, key_line, render_post, render_post_head};
 
 use crate::head::MAX_BODY_LEN;
 use crate::reply::push_length;
@@ -44,7 +44,7 @@ fn request_head(
     key: &KeyText,
     len: usize,
 ) -> Result<Vec<u8>, AllocError>
-    ensures { IfOk result (λ head. head.items ≡ render_post_head (place_of filer.now target) key.now len) }
+    ensures { IfOk result (λ head. head.items ≡ render_post_head (resource_of filer.now target) key.now len) }
 {
     let mut head = Vec::new(alloc);
     push_request_line(filer, target, &mut head)?;
@@ -58,7 +58,7 @@ fn request_head(
 }
 
 fn push_request_line(filer: &str, target: Option<u64>, out: &mut Vec<u8>) -> Result<(), AllocError>
-    ensures { OnOk result (out.new.items ≡ out.old.items ++ post_line (place_of filer.now target)) }
+    ensures { OnOk result (out.new.items ≡ out.old.items ++ post_line (resource_of filer.now target)) }
 {
     out.extend_from_slice(b"POST /filings/")?;
     out.extend_from_slice(filer.as_bytes())?;

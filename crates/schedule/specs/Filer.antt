@@ -6,17 +6,17 @@ use Rattle.filing_model.specs.Outbox.{Entry}
 use Rattle.outbox_core.specs.OutboxParts.{HasEntries}
 use Rattle.outbox_core.specs.Entries.{contents_of}
 use Rattle.outbox_core.specs.Files.{HoldOutbox}
-use Rattle.schedule.specs.declared.filer.OutboxPlace.{OutboxPlace}
-use Rattle.schedule.specs.declared.filer.OutboxPlace.TheVariants.{Up, Down, Gone}
+use Rattle.schedule.specs.declared.filer.OutboxProcess.{OutboxProcess}
+use Rattle.schedule.specs.declared.filer.OutboxProcess.TheVariants.{Up, Down, Gone}
 
 -- whether the outbox can be lent
-abbrev pub is_up : {D : Type 0} {g : Ghosts D} → OutboxPlace D g → Bool
+abbrev pub is_up : {D : Type 0} {g : Ghosts D} → OutboxProcess D g → Bool
 is_up (Up outbox) = true
 is_up (Down files) = false
 is_up Gone = false
 
 -- The outbox, open or in files, is this filer's and has these entries. What a fault took says nothing.
-abbrev pub Keeps : {D : Type 0} {g : Ghosts D} → OutboxPlace D g → List ℕ → List Entry → Type 0
+abbrev pub Keeps : {D : Type 0} {g : Ghosts D} → OutboxProcess D g → List ℕ → List Entry → Type 0
 Keeps (Up outbox) filer entries = HasEntries over_files outbox entries × (outbox.filer ≡ filer)
 Keeps {D} {g} (Down files) filer entries = HoldOutbox g files (contents_of filer entries)
 Keeps Gone filer entries = Unit {0}

@@ -5,4 +5,5 @@ pub mod Filer
 pub mod Listed
 pub mod Outboxes
 pub mod Played
+pub mod Playing
 pub mod Server

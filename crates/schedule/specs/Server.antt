@@ -7,11 +7,11 @@ use Rattle.filing_model.specs.Request.{Request}
 use Rattle.register_store.specs.Files.{HoldRegister}
 use Rattle.intake_core.specs.declared.intake.Intake.{Intake}
 use Rattle.intake_core.specs.Held.{HoldsRequests, limit_of, early_in}
-use Rattle.schedule.specs.declared.server.Place.{Place}
-use Rattle.schedule.specs.declared.server.Place.TheVariants.{Up, Down, Gone}
+use Rattle.schedule.specs.declared.server.IntakeProcess.{IntakeProcess}
+use Rattle.schedule.specs.declared.server.IntakeProcess.TheVariants.{Up, Down, Gone}
 
 -- whether the intake can be lent
-abbrev pub is_up : {D : Type 0} {g : Ghosts D} → Place D g → Bool
+abbrev pub is_up : {D : Type 0} {g : Ghosts D} → IntakeProcess D g → Bool
 is_up (Up intake) = true
 is_up (Down files) = false
 is_up Gone = false
@@ -21,7 +21,7 @@ abbrev pub HoldsNew : {S : Type 0} → database.Ghosts S → Intake S → List R
 HoldsNew g intake F = HoldsRequests g intake F × (early_in intake F ≡ [])
 
 -- The register has these requests and the intake this limit, or the files hold the register. What a fault took says nothing.
-abbrev pub Keeps : {D : Type 0} {g : Ghosts D} → Place D g → ℕ → List Request → Type 0
+abbrev pub Keeps : {D : Type 0} {g : Ghosts D} → IntakeProcess D g → ℕ → List Request → Type 0
 Keeps (Up intake) limit F = HoldsNew over_files intake F × (limit_of intake ≡ limit)
 Keeps {D} {g} (Down files) limit F = HoldRegister g files 0 F
 Keeps Gone limit F = Unit {0}

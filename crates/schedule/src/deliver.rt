@@ -6,7 +6,7 @@ ghost use Rattle.filing_world.specs.World.{Outbox, Deliver};
 ghost use Rattle.filing_world.specs.Step.{Delivers, CannotPlay};
 ghost use Rattle.schedule.specs.Played.{world_of};
 
-use crate::element::{first, place_of};
+use crate::element::{first, index_of};
 use crate::fault::Cause;
 use crate::honest::Honest;
 use crate::lists::{Output, Sent};
@@ -30,7 +30,7 @@ pub(crate) fn deliver<D: Honest>(
     if !server.is_up() {
         return Err(Cause::NoSuch);
     }
-    let Some(at) = place_of(item, sent.len()) else {
+    let Some(at) = index_of(item, sent.len()) else {
         return Err(Cause::NoSuch);
     };
     outputs.reserve(1)?;

@@ -13,7 +13,7 @@ use outbox_core::Outbox;
 use sqlite::FileStore;
 
 /// The place of the element of this number, where there are so many.
-pub(crate) fn place_of(number: u64, count: usize) -> Option<usize>
+pub(crate) fn index_of(number: u64, count: usize) -> Option<usize>
     ensures some { IfSome result (λ at. (number ≡ suc at) × (at < count)) }
     ensures none { result ≡ None → (number ≡ 0) ⊎ (count < number) }
 {
@@ -30,7 +30,7 @@ pub(crate) fn up_at<D: Honest>(filers: &[Filer<D>], outbox: u64) -> Option<usize
         × (box : Ours) × (slice_get filers.now at ≡ Some box) × (box.up ≡ true) × (at < length filers.now)) }
     ensures none { result ≡ None → IsAway filers.now outbox }
 {
-    let at = place_of(outbox, filers.len())?;
+    let at = index_of(outbox, filers.len())?;
     if filers[at].is_up() { Some(at) } else { None }
 }
 
@@ -42,7 +42,7 @@ pub(crate) fn outbox_at<D: Honest>(
     ensures lent { IfSome result (λ it. IsLent filers.now outbox it.now) }
     ensures none { result ≡ None → IsAway filers.now outbox }
 {
-    let at = place_of(outbox, filers.len())?;
+    let at = index_of(outbox, filers.len())?;
     let filer = &filers[at];
     filer.outbox()
 }
@@ -52,7 +52,7 @@ pub(crate) fn sender_of(sent: &[Sent], item: u64) -> Result<(u64, u64), Cause>
     ensures some { IfOk result (λ from. (it : Item) × (numbered sent.now item ≡ Some it) × (it.from ≡ Some from)) }
     ensures stranger { result ≡ Err Cause.NoSuch → (it : Item) × (numbered sent.now item ≡ Some it) × (it.from ≡ None) }
 {
-    let Some(at) = place_of(item, sent.len()) else {
+    let Some(at) = index_of(item, sent.len()) else {
         return Err(Cause::Store);
     };
     let from = &sent[at];

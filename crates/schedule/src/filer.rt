@@ -33,52 +33,52 @@ use std::alloc::Global;
 use std::marker::Model;
 use std::mem;
 
-/// Where an outbox is.
-pub(crate) enum OutboxPlace<D: Disk + Drop> {
+/// The process that an outbox runs in: up, with the outbox open, or down, with its files alone.
+pub(crate) enum OutboxProcess<D: Disk + Drop> {
     Up(Outbox<FileStore<D>>),
     Down(Files<D>),
     /// A fault took it, after which nothing is played.
     Gone,
 }
 
-impl<D: Disk + Drop> Drop for OutboxPlace<D> {
+impl<D: Disk + Drop> Drop for OutboxProcess<D> {
     fn drop(self) {
         match self {
-            OutboxPlace::Up(_outbox) => {}
-            OutboxPlace::Down(_files) => {}
-            OutboxPlace::Gone => {}
+            OutboxProcess::Up(_outbox) => {}
+            OutboxProcess::Down(_files) => {}
+            OutboxProcess::Gone => {}
         }
     }
 }
 
-impl<D: Honest> OutboxPlace<D> {
+impl<D: Honest> OutboxProcess<D> {
     ghost use Rattle.schedule.specs.Filer.{Keeps, is_up};
 
     /// The files in the place of the outbox.
-    fn stopped(self) -> Result<OutboxPlace<D>, Cause>
+    fn stopped(self) -> Result<OutboxProcess<D>, Cause>
         ensures kept { (filer : List ℕ) (entries : List Item) → Keeps self filer entries
-            → IfOk result (λ place. Keeps place filer entries) }
-        ensures down { IfOk result (λ place. is_up place ≡ false) }
+            → IfOk result (λ process. Keeps process filer entries) }
+        ensures down { IfOk result (λ process. is_up process ≡ false) }
         ensures other { result ≢ Err Cause.NoSuch }
     {
         match self {
-            OutboxPlace::Up(outbox) => Ok(OutboxPlace::Down(files_of_outbox(outbox)?)),
-            OutboxPlace::Down(files) => Ok(OutboxPlace::Down(files)),
-            OutboxPlace::Gone => Err(Cause::Reopen),
+            OutboxProcess::Up(outbox) => Ok(OutboxProcess::Down(files_of_outbox(outbox)?)),
+            OutboxProcess::Down(files) => Ok(OutboxProcess::Down(files)),
+            OutboxProcess::Gone => Err(Cause::Reopen),
         }
     }
 
     /// The outbox in the place of its files.
-    fn started(self, alloc: Global) -> Result<OutboxPlace<D>, Cause>
+    fn started(self, alloc: Global) -> Result<OutboxProcess<D>, Cause>
         ensures kept { (filer : List ℕ) (entries : List Item) → Keeps self filer entries
-            → IfOk result (λ place. Keeps place filer entries) }
-        ensures up { IfOk result (λ place. is_up place ≡ true) }
+            → IfOk result (λ process. Keeps process filer entries) }
+        ensures up { IfOk result (λ process. is_up process ≡ true) }
         ensures other { result ≢ Err Cause.NoSuch }
     {
         match self {
-            OutboxPlace::Up(outbox) => Ok(OutboxPlace::Up(outbox)),
-            OutboxPlace::Down(files) => Ok(OutboxPlace::Up(outbox_in(alloc, files)?)),
-            OutboxPlace::Gone => Err(Cause::Reopen),
+            OutboxProcess::Up(outbox) => Ok(OutboxProcess::Up(outbox)),
+            OutboxProcess::Down(files) => Ok(OutboxProcess::Up(outbox_in(alloc, files)?)),
+            OutboxProcess::Gone => Err(Cause::Reopen),
         }
     }
 }
@@ -88,7 +88,7 @@ pub(crate) struct Filer<D: Honest> {
     alloc: Global,
     code: String,
     entries: Vec<Report>,
-    place: OutboxPlace<D>,
+    process: OutboxProcess<D>,
 }
 
 impl<D: Honest> Model for Filer<D> {
@@ -98,9 +98,9 @@ impl<D: Honest> Model for Filer<D> {
 
     ghost Value = { Box };
 
-    ghost view = { λ f. record { filer = string_bytes f.code; entries = f.entries.items; up = is_up f.place } };
+    ghost view = { λ f. record { filer = string_bytes f.code; entries = f.entries.items; up = is_up f.process } };
 
-    ghost invariant = { λ f. Keeps f.place (string_bytes f.code) f.entries.items };
+    ghost invariant = { λ f. Keeps f.process (string_bytes f.code) f.entries.items };
 }
 
 impl<D: Honest> Drop for Filer<D> {
@@ -109,7 +109,7 @@ impl<D: Honest> Drop for Filer<D> {
             alloc: _,
             code: _,
             entries: _,
-            place: _,
+            process: _,
         } = self;
     }
 }
@@ -126,7 +126,7 @@ impl<D: Honest> Filer<D> {
             alloc,
             code: String::from_str(alloc, code)?,
             entries: Vec::new(alloc),
-            place: OutboxPlace::Up(make_outbox(alloc, open(alloc, new_files(alloc))?, code)?),
+            process: OutboxProcess::Up(make_outbox(alloc, open(alloc, new_files(alloc))?, code)?),
         })
     }
 
@@ -134,7 +134,7 @@ impl<D: Honest> Filer<D> {
     pub(crate) fn is_up(&self) -> bool
         ensures { result ≡ self.now.up }
     {
-        matches!(self.place, OutboxPlace::Up(_))
+        matches!(self.process, OutboxProcess::Up(_))
     }
 
     /// Puts a report into the outbox. One whose body is too long, or whose key is used, is not taken, and
@@ -153,7 +153,7 @@ impl<D: Honest> Filer<D> {
     {
         let report = Report::open(self.alloc, key, target, body)?;
         self.entries.reserve(1)?;
-        let OutboxPlace::Up(outbox) = &mut self.place else {
+        let OutboxProcess::Up(outbox) = &mut self.process else {
             return Err(Cause::Store);
         };
         if put_into(self.alloc, outbox, key, target, body)? {
@@ -170,7 +170,7 @@ impl<D: Honest> Filer<D> {
         ensures same { OnOk result (self.new ≡ self.old) }
         ensures no_such { result ≡ Err Cause.NoSuch → numbered self.old.entries entry ≡ None }
     {
-        let OutboxPlace::Up(outbox) = &mut self.place else {
+        let OutboxProcess::Up(outbox) = &mut self.process else {
             return Err(Cause::Store);
         };
         request_from(self.alloc, outbox, entry)
@@ -204,7 +204,7 @@ impl<D: Honest> Filer<D> {
             × (self.new ≡ box_after self.old entry what heard No)) }
         ensures other { result ≢ Err Cause.NoSuch }
     {
-        let OutboxPlace::Up(outbox) = &mut self.place else {
+        let OutboxProcess::Up(outbox) = &mut self.process else {
             return Err(Cause::Store);
         };
         if let Some(state) = hear_in(self.alloc, outbox, entry, bytes)? {
@@ -219,8 +219,8 @@ impl<D: Honest> Filer<D> {
         ensures down { OnOk result (self.new ≡ record self.old { up = false }) }
         ensures other { result ≢ Err Cause.NoSuch }
     {
-        let place = mem::replace(&mut self.place, OutboxPlace::Gone);
-        self.place = place.stopped()?;
+        let process = mem::replace(&mut self.process, OutboxProcess::Gone);
+        self.process = process.stopped()?;
         Ok(())
     }
 
@@ -230,8 +230,8 @@ impl<D: Honest> Filer<D> {
         ensures restarted { OnOk result (self.new ≡ record self.old { up = true }) }
         ensures other { result ≢ Err Cause.NoSuch }
     {
-        let place = mem::replace(&mut self.place, OutboxPlace::Gone);
-        self.place = place.stopped()?.started(self.alloc)?;
+        let process = mem::replace(&mut self.process, OutboxProcess::Gone);
+        self.process = process.stopped()?.started(self.alloc)?;
         Ok(())
     }
 
@@ -242,7 +242,7 @@ impl<D: Honest> Filer<D> {
             (number : ℕ) → map (listed number) s.items ≡ states_of number 1 self.old.entries) }
         ensures down { self.old.up ≡ false → result ≡ Err StoreFault.Store }
     {
-        let OutboxPlace::Up(outbox) = &mut self.place else {
+        let OutboxProcess::Up(outbox) = &mut self.process else {
             return Err(StoreFault::Store);
         };
         states_in(outbox)
@@ -254,9 +254,9 @@ impl<D: Honest> Filer<D> {
         ensures keeps { IfSome result (λ b.
             HasEntries over_files b.now self.now.entries × (b.now.filer ≡ self.now.filer)) }
     {
-        match &self.place {
-            OutboxPlace::Up(outbox) => Some(outbox),
-            OutboxPlace::Down(_) | OutboxPlace::Gone => None,
+        match &self.process {
+            OutboxProcess::Up(outbox) => Some(outbox),
+            OutboxProcess::Down(_) | OutboxProcess::Gone => None,
         }
     }
 }

@@ -1,13 +1,13 @@
 //! The first bytes of an output arrive at the outbox whose entry's request it answers.
 
-ghost use Rattle.std.specs.Prelude.{◌≡◌, List, OnOk, Err};
+ghost use Rattle.std.specs.Prelude.{◌≡◌, OnOk, Err};
 ghost use Rattle.event_script.specs.Events.{view_crash};
 ghost use Rattle.filing_world.specs.World.{Hand};
 ghost use Rattle.filing_world.specs.Step.{Hands, CannotPlay};
 ghost use Rattle.filing_world.specs.Invariant.{AllOwn};
 ghost use Rattle.schedule.specs.Played.{Served, world_of};
 
-use crate::element::{first, place_of, sender_of, up_at};
+use crate::element::{first, index_of, sender_of, up_at};
 use crate::fault::Cause;
 use crate::filer::Filer;
 use crate::honest::Honest;
@@ -29,13 +29,13 @@ pub(crate) fn hand<D: Honest>(
     ensures no_such { result ≡ Err Cause.NoSuch → (server : Served)
         → CannotPlay (world_of server sent.now outputs.now filers.old.items) (Hand output bytes (view_crash crash)) }
 {
-    let Some(at) = place_of(output, outputs.len()) else {
+    let Some(at) = index_of(output, outputs.len()) else {
         return Err(Cause::NoSuch);
     };
     let from = &outputs[at];
     let (outbox, entry) = sender_of(sent, from.item)?;
-    let Some(place) = up_at(filers.as_slice(), outbox) else {
+    let Some(index) = up_at(filers.as_slice(), outbox) else {
         return Err(Cause::NoSuch);
     };
-    filers[place].hand(entry, first(from.bytes.as_slice(), bytes), crash)
+    filers[index].hand(entry, first(from.bytes.as_slice(), bytes), crash)
 }

@@ -1,7 +1,7 @@
 //! The calls on a register and an intake, one to a function.
 
 ghost use Rattle.std.specs.Prelude.{◌≡◌, ◌≢◌, ◌≤◌, ◌^◌, ◌++◌, [], ℕ, List, Some, None, IfOk, Err, true, false};
-ghost use Rattle.http_wire.specs.Message.{Place as Spot};
+ghost use Rattle.http_wire.specs.Message.{Arrival};
 ghost use Rattle.http_wire.specs.declared.refusal.ConnFault.TheVariants.{Write};
 ghost use Rattle.filing_model.specs.declared.served.Ended.TheVariants.{Fault};
 ghost use Rattle.filing_model.specs.Request.{Request, firsts};
@@ -128,9 +128,9 @@ pub(crate) fn serve_on<S: Faithful>(
     stop: Stop,
 ) -> Result<Answered, Cause>
     ensures serves { (done : List Request) → HoldsNew S.Store intake.old (firsts done)
-        → IfOk result (λ a. (places : List Spot)
-        × ServesUntil (limit_of intake.old) done bytes.now (view_stop stop) places a.marks.items a.ended a.text.items
-        × HoldsNew S.Store intake.new (firsts (done ++ completed places a.marks.items))) }
+        → IfOk result (λ a. (arrivals : List Arrival)
+        × ServesUntil (limit_of intake.old) done bytes.now (view_stop stop) arrivals a.marks.items a.ended a.text.items
+        × HoldsNew S.Store intake.new (firsts (done ++ completed arrivals a.marks.items))) }
     ensures limit { limit_of intake.new ≡ limit_of intake.old }
     ensures other { result ≢ Err Cause.NoSuch }
 {

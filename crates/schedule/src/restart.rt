@@ -5,7 +5,7 @@ ghost use Rattle.filing_world.specs.World.{Sent as Item, Output as Left, Restart
 ghost use Rattle.filing_world.specs.Step.{Restarts, CannotPlay};
 ghost use Rattle.schedule.specs.Played.{Served, world_of};
 
-use crate::element::place_of;
+use crate::element::index_of;
 use crate::fault::Cause;
 use crate::filer::Filer;
 use crate::honest::Honest;
@@ -20,7 +20,7 @@ pub(crate) fn restart_outbox<D: Honest>(
     ensures no_such { result ≡ Err Cause.NoSuch → (server : Served) (sent : List Item) (outputs : List Left)
         → CannotPlay (world_of server sent outputs filers.old.items) (RestartOutbox outbox) }
 {
-    let Some(at) = place_of(outbox, filers.len()) else {
+    let Some(at) = index_of(outbox, filers.len()) else {
         return Err(Cause::NoSuch);
     };
     filers[at].restart()

@@ -1,11 +1,11 @@
 //! The intake's end: an intake over a register in files, or these files where it is down.
 
 ghost use Rattle.std.specs.Prelude.{◌≡◌, ◌≢◌, ◌≤◌, ◌^◌, ◌++◌, ◌↔◌, [], ℕ, List, true, false, Some, IsSome, IfOk, IfSome, OnOk, Err, length};
-ghost use Rattle.http_wire.specs.Message.{Place as Spot, Ending};
+ghost use Rattle.http_wire.specs.Message.{Arrival, Ending};
 ghost use Rattle.event_script.specs.Events.{view_crash};
 ghost use Rattle.filing_model.specs.Request.{Request, firsts};
 ghost use Rattle.filing_model.specs.Register.{register};
-ghost use Rattle.filing_model.specs.Serving.{BeginsPlaces};
+ghost use Rattle.filing_model.specs.Serving.{BeginsArrivals};
 ghost use Rattle.filing_model.specs.Stopping.{ServesUntil};
 ghost use Rattle.filing_model.specs.Text.{completed};
 ghost use Rattle.filing_world.specs.Step.{is_no};
@@ -28,20 +28,20 @@ use std::alloc::{AllocError, Global};
 use std::marker::Model;
 use std::mem;
 
-/// Where the register is.
-pub(crate) enum Place<D: Honest> {
+/// The process that the intake runs in: up, with its register open, or down, with its files alone.
+pub(crate) enum IntakeProcess<D: Honest> {
     Up(Intake<FileStore<D>>),
     Down(Files<D>),
     /// A fault took it, after which nothing is played.
     Gone,
 }
 
-impl<D: Honest> Drop for Place<D> {
+impl<D: Honest> Drop for IntakeProcess<D> {
     fn drop(self) {
         match self {
-            Place::Up(_intake) => {}
-            Place::Down(_files) => {}
-            Place::Gone => {}
+            IntakeProcess::Up(_intake) => {}
+            IntakeProcess::Down(_files) => {}
+            IntakeProcess::Gone => {}
         }
     }
 }
@@ -51,7 +51,7 @@ pub(crate) struct Server<D: Honest> {
     alloc: Global,
     limit: u64,
     done: Vec<Completed>,
-    place: Place<D>,
+    process: IntakeProcess<D>,
 }
 
 impl<D: Honest> Model for Server<D> {
@@ -62,9 +62,9 @@ impl<D: Honest> Model for Server<D> {
 
     ghost Value = { Served };
 
-    ghost view = { λ s. record { limit = s.limit; done = s.done.items; up = is_up s.place } };
+    ghost view = { λ s. record { limit = s.limit; done = s.done.items; up = is_up s.process } };
 
-    ghost invariant = { λ s. (s.limit ≤ 2 ^ 62) × Keeps s.place s.limit (firsts s.done.items) };
+    ghost invariant = { λ s. (s.limit ≤ 2 ^ 62) × Keeps s.process s.limit (firsts s.done.items) };
 }
 
 impl<D: Honest> Drop for Server<D> {
@@ -73,7 +73,7 @@ impl<D: Honest> Drop for Server<D> {
             alloc: _,
             limit: _,
             done: _,
-            place: _,
+            process: _,
         } = self;
     }
 }
@@ -98,55 +98,60 @@ fn stop_of(crash: Crash) -> Stop
     }
 }
 
-impl<D: Honest> Place<D> {
+impl<D: Honest> IntakeProcess<D> {
     /// An intake over an empty register.
-    fn new(alloc: Global, limit: u64) -> Result<Place<D>, Cause>
+    fn new(alloc: Global, limit: u64) -> Result<IntakeProcess<D>, Cause>
         requires { limit ≤ 2 ^ 62 }
-        ensures kept { IfOk result (λ place. Keeps place limit (firsts [])) }
-        ensures up { IfOk result (λ place. is_up place ≡ true) }
+        ensures kept { IfOk result (λ process. Keeps process limit (firsts [])) }
+        ensures up { IfOk result (λ process. is_up process ≡ true) }
         ensures other { result ≢ Err Cause.NoSuch }
     {
-        Ok(Place::Up(make_intake(alloc, open(alloc, new_files(alloc))?, limit)?))
+        Ok(IntakeProcess::Up(make_intake(alloc, open(alloc, new_files(alloc))?, limit)?))
     }
 
-    /// What serving these bytes came to, and the place after it.
-    fn serve(self, alloc: Global, bytes: &[u8], stop: Stop) -> Result<(Answered, Place<D>), Cause>
+    /// What serving these bytes came to, and the process after it.
+    fn serve(
+        self,
+        alloc: Global,
+        bytes: &[u8],
+        stop: Stop,
+    ) -> Result<(Answered, IntakeProcess<D>), Cause>
         ensures serves { (limit : ℕ) (done : List Request) → Keeps self limit (firsts done) → is_up self ≡ true
-            → IfOk result (λ t. (places : List Spot)
-            × ServesUntil limit done bytes.now (view_stop stop) places t.0.marks.items t.0.ended t.0.text.items
-            × Keeps t.1 limit (firsts (done ++ completed places t.0.marks.items))) }
+            → IfOk result (λ t. (arrivals : List Arrival)
+            × ServesUntil limit done bytes.now (view_stop stop) arrivals t.0.marks.items t.0.ended t.0.text.items
+            × Keeps t.1 limit (firsts (done ++ completed arrivals t.0.marks.items))) }
         ensures up { IfOk result (λ t. is_up t.1 ≡ true) }
         ensures other { result ≢ Err Cause.NoSuch }
     {
         match self {
-            Place::Up(mut intake) => {
+            IntakeProcess::Up(mut intake) => {
                 let answered = serve_on(alloc, &mut intake, bytes, stop)?;
-                Ok((answered, Place::Up(intake)))
+                Ok((answered, IntakeProcess::Up(intake)))
             }
-            Place::Down(_files) => Err(Cause::Store),
-            Place::Gone => Err(Cause::Store),
+            IntakeProcess::Down(_files) => Err(Cause::Store),
+            IntakeProcess::Gone => Err(Cause::Store),
         }
     }
 
     /// The files in the place of the register.
-    fn stopped(self) -> Result<Place<D>, Cause>
+    fn stopped(self) -> Result<IntakeProcess<D>, Cause>
         ensures kept { (limit : ℕ) (F : List Request) → Keeps self limit F
-            → IfOk result (λ place. Keeps place limit F) }
-        ensures down { IfOk result (λ place. is_up place ≡ false) }
+            → IfOk result (λ process. Keeps process limit F) }
+        ensures down { IfOk result (λ process. is_up process ≡ false) }
         ensures other { result ≢ Err Cause.NoSuch }
     {
         match self {
-            Place::Up(intake) => Ok(Place::Down(files_of_intake(intake)?)),
-            Place::Down(files) => Ok(Place::Down(files)),
-            Place::Gone => Err(Cause::Store),
+            IntakeProcess::Up(intake) => Ok(IntakeProcess::Down(files_of_intake(intake)?)),
+            IntakeProcess::Down(files) => Ok(IntakeProcess::Down(files)),
+            IntakeProcess::Gone => Err(Cause::Store),
         }
     }
 
-    /// The place after a delivery: with a crash the files, and else the place itself.
-    fn after(self, crash: Crash) -> Result<Place<D>, Cause>
+    /// The process after a delivery: with a crash the files, and else the process itself.
+    fn after(self, crash: Crash) -> Result<IntakeProcess<D>, Cause>
         ensures kept { (limit : ℕ) (F : List Request) → Keeps self limit F
-            → IfOk result (λ place. Keeps place limit F) }
-        ensures up { is_up self ≡ true → IfOk result (λ place. is_up place ≡ is_no (view_crash crash)) }
+            → IfOk result (λ process. Keeps process limit F) }
+        ensures up { is_up self ≡ true → IfOk result (λ process. is_up process ≡ is_no (view_crash crash)) }
         ensures other { result ≢ Err Cause.NoSuch }
     {
         match crash {
@@ -157,17 +162,17 @@ impl<D: Honest> Place<D> {
     }
 
     /// The register in the place of the files.
-    fn started(self, alloc: Global, limit: u64) -> Result<Place<D>, Cause>
+    fn started(self, alloc: Global, limit: u64) -> Result<IntakeProcess<D>, Cause>
         requires { limit ≤ 2 ^ 62 }
         ensures kept { (F : List Request) → firsts F ≡ F → Keeps self limit F
-            → IfOk result (λ place. Keeps place limit F) }
-        ensures up { IfOk result (λ place. is_up place ≡ true) }
+            → IfOk result (λ process. Keeps process limit F) }
+        ensures up { IfOk result (λ process. is_up process ≡ true) }
         ensures other { result ≢ Err Cause.NoSuch }
     {
         match self {
-            Place::Up(intake) => Ok(Place::Up(intake)),
-            Place::Down(files) => Ok(Place::Up(intake_in(alloc, files, limit)?)),
-            Place::Gone => Err(Cause::Store),
+            IntakeProcess::Up(intake) => Ok(IntakeProcess::Up(intake)),
+            IntakeProcess::Down(files) => Ok(IntakeProcess::Up(intake_in(alloc, files, limit)?)),
+            IntakeProcess::Gone => Err(Cause::Store),
         }
     }
 
@@ -180,9 +185,9 @@ impl<D: Honest> Place<D> {
         ensures down { is_up self.old ≡ false → result ≡ Err Unavailable.Down }
     {
         match self {
-            Place::Up(intake) => register_of(intake),
-            Place::Down(_files) => Err(Unavailable::Down),
-            Place::Gone => Err(Unavailable::Down),
+            IntakeProcess::Up(intake) => register_of(intake),
+            IntakeProcess::Down(_files) => Err(Unavailable::Down),
+            IntakeProcess::Gone => Err(Unavailable::Down),
         }
     }
 }
@@ -194,9 +199,9 @@ fn append_completed(
     bytes: &[u8],
     marks: &[Mark],
 ) -> Result<(), AllocError>
-    ensures { OnOk result ((places : List Spot) (ending : Ending)
-        → BeginsPlaces bytes.now places ending → length marks.now ≤ length places
-        → done.new.items ≡ done.old.items ++ completed places marks.now) }
+    ensures { OnOk result ((arrivals : List Arrival) (ending : Ending)
+        → BeginsArrivals bytes.now arrivals ending → length marks.now ≤ length arrivals
+        → done.new.items ≡ done.old.items ++ completed arrivals marks.now) }
 {
     for request in completed(alloc, bytes, marks)? {
         done.reserve(1)?;
@@ -216,14 +221,14 @@ impl<D: Honest> Server<D> {
             alloc,
             limit,
             done: Vec::new(alloc),
-            place: Place::new(alloc, limit)?,
+            process: IntakeProcess::new(alloc, limit)?,
         })
     }
 
     pub(crate) fn is_up(&self) -> bool
         ensures { result ≡ self.now.up }
     {
-        matches!(self.place, Place::Up(_))
+        matches!(self.process, IntakeProcess::Up(_))
     }
 
     /// The requests that were completed so far.
@@ -238,10 +243,10 @@ impl<D: Honest> Server<D> {
         ensures lent { IsSome result ↔ (self.now.up ≡ true) }
         ensures keeps { IfSome result (λ intake. HoldsRequests over_files intake.now (firsts self.now.done)) }
     {
-        match &self.place {
-            Place::Up(intake) => Some(intake),
-            Place::Down(_files) => None,
-            Place::Gone => None,
+        match &self.process {
+            IntakeProcess::Up(intake) => Some(intake),
+            IntakeProcess::Down(_files) => None,
+            IntakeProcess::Gone => None,
         }
     }
 
@@ -250,21 +255,21 @@ impl<D: Honest> Server<D> {
         requires { self.old.up ≡ true }
         ensures before { IfOk result (λ d. d.before ≡ length self.old.done) }
         ensures serves { IfOk result (λ d.
-            (places : List Spot)
-            × ServesUntil self.old.limit self.old.done bytes.now (view_crash crash) places d.marks.items d.ended
+            (arrivals : List Arrival)
+            × ServesUntil self.old.limit self.old.done bytes.now (view_crash crash) arrivals d.marks.items d.ended
             d.text.items
             × (self.new ≡ record self.old {
-              done = self.old.done ++ completed places d.marks.items;
+              done = self.old.done ++ completed arrivals d.marks.items;
               up = is_no (view_crash crash);
             })) }
         ensures other { result ≢ Err Cause.NoSuch }
     {
         let before = self.done.len();
-        let place = mem::replace(&mut self.place, Place::Gone);
-        let (answered, served) = place.serve(self.alloc, bytes, stop_of(crash))?;
+        let process = mem::replace(&mut self.process, IntakeProcess::Gone);
+        let (answered, served) = process.serve(self.alloc, bytes, stop_of(crash))?;
         append_completed(self.alloc, &mut self.done, bytes, answered.marks.as_slice())?;
         let after = served.after(crash)?;
-        self.place = after;
+        self.process = after;
         let Answered { marks, ended, text } = answered;
         Ok(Delivered {
             before,
@@ -279,10 +284,10 @@ impl<D: Honest> Server<D> {
         ensures restarted { OnOk result (self.new ≡ record self.old { up = true }) }
         ensures other { result ≢ Err Cause.NoSuch }
     {
-        let place = mem::replace(&mut self.place, Place::Gone);
-        let files = place.stopped()?;
+        let process = mem::replace(&mut self.process, IntakeProcess::Gone);
+        let files = process.stopped()?;
         let opened = files.started(self.alloc, self.limit)?;
-        self.place = opened;
+        self.process = opened;
         Ok(())
     }
 
@@ -292,6 +297,6 @@ impl<D: Honest> Server<D> {
         ensures down { self.old.up ≡ false → result ≡ Err Unavailable.Down }
         ensures same { self.new ≡ self.old }
     {
-        self.place.register()
+        self.process.register()
     }
 }

@@ -10,7 +10,8 @@ ghost use Rattle.filing_world.specs.Invariant.{AllOwn};
 ghost use Rattle.filing_world.specs.Headline.{AreFilers, Holds, start, states, confirmed};
 ghost use Rattle.sqlite.specs.Files.{over_files};
 ghost use Rattle.intake_core.specs.Held.{HoldsRequests as Lends};
-ghost use Rattle.schedule.specs.Played.{world_of, next_number, Tells, EndsBy, IsLent};
+ghost use Rattle.schedule.specs.Played.{world_of, Tells, EndsBy, IsLent};
+ghost use Rattle.schedule.specs.Playing.{Plays};
 ghost use Rattle.schedule.specs.Listed.{view_listed, are_up};
 
 use crate::deliver::deliver;
@@ -177,15 +178,7 @@ impl<D: Honest> World<D> {
     /// Plays the next event. Its fault tells its number. After a fault each later call answers it again.
     pub fn play(&mut self, event: &Event) -> Result<(), Fault>
         requires { HasTarget (view_event event.now) }
-        ensures step { OnOk result (Step self.old.world (view_event event.now) self.new.world) }
-        ensures holds { OnOk result (Holds self.new.world) }
-        ensures no_such { (n : ℕ) → result ≡ Err (Fault.NoSuch n) → self.old.fault ≡ None
-            → CannotPlay self.old.world (view_event event.now) }
-        ensures counts { self.old.fault ≡ None → self.new.events ≡ next_number self.old.events }
-        ensures numbered { self.old.fault ≡ None → IfErr result (Tells self.new.events) }
-        ensures ended { (fault : Fault) → self.old.fault ≡ Some fault → (result ≡ Err fault) × (self.new ≡ self.old) }
-        ensures stops { IfErr result (λ fault. self.new.fault ≡ Some fault) }
-        ensures goes_on { OnOk result ((self.old.fault ≡ None) × (self.new.fault ≡ None)) }
+        ensures { Plays self.old self.new (view_event event.now) result }
     {
         if let Some(fault) = self.fault {
             return Err(fault);

@@ -2,7 +2,7 @@
 
 ghost use Rattle.std.specs.Prelude.{◌≡◌, None, false};
 
-use crate::database::{Cache, Left, Opening, Place, Work, on_database};
+use crate::database::{Cache, FileSystem, Left, Opening, Work, on_database};
 use crate::intake::calls;
 use crate::intake::fault::Fault;
 use crate::intake::options::DEFAULT_LIMIT;
@@ -63,9 +63,9 @@ impl<'a, O: Write> Work for Visit<'a, '_, O> {
 
 /// Does an errand to the register of the file with this name. What came of it stays whether or not the files are then closed: where they
 /// are not, this is told.
-pub fn run_errand<'a, D: Disk + Drop, P: Place<D>, O: Write, E: Write>(
+pub fn run_errand<'a, D: Disk + Drop, F: FileSystem<D>, O: Write, E: Write>(
     rt: &HostRuntime,
-    place: &P,
+    system: &F,
     name: &'a str,
     errand: Errand<'a>,
     output: &mut O,
@@ -76,7 +76,7 @@ pub fn run_errand<'a, D: Disk + Drop, P: Place<D>, O: Write, E: Write>(
         errand,
         output,
     };
-    match on_database(rt, place, name, Opening::Found(Cache::OfTheFile), work) {
+    match on_database(rt, system, name, Opening::Found(Cache::OfTheFile), work) {
         Ok(visited) => {
             tell_close(visited.closed, name, errors);
             visited.answer

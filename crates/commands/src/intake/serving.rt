@@ -2,7 +2,7 @@
 
 ghost use Rattle.std.specs.Prelude.{◌≡◌, None, false};
 
-use crate::database::{Cache, Left, Opening, Place, Work, on_database};
+use crate::database::{Cache, FileSystem, Left, Opening, Work, on_database};
 use crate::intake::calls;
 use crate::intake::fault::Fault;
 use crate::intake::limit::Limit;
@@ -206,10 +206,10 @@ impl<'a> Port<'a> {
     }
 
     /// Serves the connections that are left while there is no register. For each the register is opened again, and then serves more.
-    fn serve_down<D: Disk + Drop, P: Place<D>, O: Write, E: Write>(
+    fn serve_down<D: Disk + Drop, F: FileSystem<D>, O: Write, E: Write>(
         &mut self,
         rt: &HostRuntime,
-        place: &P,
+        system: &F,
         output: &mut O,
         errors: &mut E,
     ) -> Result<(), Fault<'a>> {
@@ -219,7 +219,7 @@ impl<'a> Port<'a> {
             }
             self.taken += 1;
             if let Some(stream) = self.accept()? {
-                self.serve_again(rt, place, stream, output, errors)?;
+                self.serve_again(rt, system, stream, output, errors)?;
             }
         }
         Ok(())
@@ -227,10 +227,10 @@ impl<'a> Port<'a> {
 
     /// Opens the register again, which serves this connection and those that are left. Where it is not opened the connection is
     /// turned away.
-    fn serve_again<D: Disk + Drop, P: Place<D>, O: Write, E: Write>(
+    fn serve_again<D: Disk + Drop, F: FileSystem<D>, O: Write, E: Write>(
         &mut self,
         rt: &HostRuntime,
-        place: &P,
+        system: &F,
         stream: TcpStream,
         output: &mut O,
         errors: &mut E,
@@ -243,7 +243,7 @@ impl<'a> Port<'a> {
             output: &mut *output,
             errors: &mut *errors,
         };
-        let served = match on_database(rt, place, name, Opening::Found(Cache::Largest), work) {
+        let served = match on_database(rt, system, name, Opening::Found(Cache::Largest), work) {
             Ok(visited) => {
                 tell_close(visited.closed, name, errors);
                 visited.answer
@@ -433,16 +433,16 @@ impl<'a, O: Write, E: Write> Work for Resumed<'a, '_, O, E> {
 }
 
 /// Serves connections of a port on the register of a file. It says when it is ready and when it ends.
-pub fn serve_file<'a, D: Disk + Drop, P: Place<D>, O: Write, E: Write>(
+pub fn serve_file<'a, D: Disk + Drop, F: FileSystem<D>, O: Write, E: Write>(
     rt: &HostRuntime,
-    place: &P,
+    system: &F,
     serving: Serving<'a>,
     output: &mut O,
     errors: &mut E,
 ) -> Result<(), Fault<'a>> {
     let limit = Limit::new(serving.limit)?;
-    if let Some(mut port) = begin(rt, place, serving, limit, output, errors)? {
-        port.serve_down(rt, place, output, errors)?;
+    if let Some(mut port) = begin(rt, system, serving, limit, output, errors)? {
+        port.serve_down(rt, system, output, errors)?;
     }
     let connections = serving.connections;
     Note::Served { connections }.tell(errors);
@@ -450,9 +450,9 @@ pub fn serve_file<'a, D: Disk + Drop, P: Place<D>, O: Write, E: Write>(
 }
 
 /// Makes the register of the file or opens it, and serves by it.
-fn begin<'a, D: Disk + Drop, P: Place<D>, O: Write, E: Write>(
+fn begin<'a, D: Disk + Drop, F: FileSystem<D>, O: Write, E: Write>(
     rt: &HostRuntime,
-    place: &P,
+    system: &F,
     serving: Serving<'a>,
     limit: Limit,
     output: &mut O,
@@ -471,7 +471,7 @@ fn begin<'a, D: Disk + Drop, P: Place<D>, O: Write, E: Write>(
         output: &mut *output,
         errors: &mut *errors,
     };
-    match on_database(rt, place, name, opening, work) {
+    match on_database(rt, system, name, opening, work) {
         Ok(visited) => {
             tell_close(visited.closed, name, errors);
             visited.answer

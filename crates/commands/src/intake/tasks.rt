@@ -1,6 +1,6 @@
 //! Performs a task, and says how the program ends.
 
-use crate::database::{Place, SystemFiles};
+use crate::database::{FileSystem, SystemFiles};
 use crate::intake::fault::Fault;
 use crate::intake::limit::Limit;
 use crate::intake::options::Task;
@@ -63,9 +63,9 @@ fn show_fault<'a, O: Write>(
 }
 
 /// Does an errand to the register of a file. Where that is to judge the register, what is wrong with it goes to the output too.
-fn perform_errand<'a, D: Disk + Drop, P: Place<D>, O: Write, E: Write>(
+fn perform_errand<'a, D: Disk + Drop, F: FileSystem<D>, O: Write, E: Write>(
     rt: &HostRuntime,
-    place: &P,
+    system: &F,
     name: &'a str,
     errand: Errand<'a>,
     output: &mut O,
@@ -74,11 +74,11 @@ fn perform_errand<'a, D: Disk + Drop, P: Place<D>, O: Write, E: Write>(
     match errand {
         Errand::List { filer: code } => {
             filer(code)?;
-            run_errand(rt, place, name, errand, output, errors)
+            run_errand(rt, system, name, errand, output, errors)
         }
-        Errand::Show { .. } => run_errand(rt, place, name, errand, output, errors),
+        Errand::Show { .. } => run_errand(rt, system, name, errand, output, errors),
         Errand::Check | Errand::Migrate => {
-            match run_errand(rt, place, name, errand, output, errors) {
+            match run_errand(rt, system, name, errand, output, errors) {
                 Ok(()) => Ok(()),
                 Err(fault) => show_fault(rt.alloc(), fault, output),
             }
@@ -131,9 +131,9 @@ fn lint<'a, O: Write>(
 }
 
 /// Performs a task, and answers the status.
-fn perform_task<'a, D: Disk + Drop, P: Place<D>, R: Read, O: Write, E: Write>(
+fn perform_task<'a, D: Disk + Drop, F: FileSystem<D>, R: Read, O: Write, E: Write>(
     rt: &HostRuntime,
-    place: &P,
+    system: &F,
     task: &Task<'a>,
     input: &mut R,
     output: &mut O,
@@ -141,9 +141,9 @@ fn perform_task<'a, D: Disk + Drop, P: Place<D>, R: Read, O: Write, E: Write>(
 ) -> Result<u8, Fault<'a>> {
     match task {
         Task::Run { limit } => run(rt.alloc(), *limit, input, output)?,
-        Task::Serve(serving) => serve_file(rt, place, *serving, output, errors)?,
+        Task::Serve(serving) => serve_file(rt, system, *serving, output, errors)?,
         Task::Visit { database, errand } => {
-            perform_errand(rt, place, database, *errand, output, errors)?
+            perform_errand(rt, system, database, *errand, output, errors)?
         }
         Task::Lint { filer, files } => return lint(rt, filer, files, output),
     }
@@ -151,32 +151,32 @@ fn perform_task<'a, D: Disk + Drop, P: Place<D>, R: Read, O: Write, E: Write>(
 }
 
 /// Performs what these words ask for, and answers the status.
-fn perform_words<'a, D: Disk + Drop, P: Place<D>, R: Read, O: Write, E: Write>(
+fn perform_words<'a, D: Disk + Drop, F: FileSystem<D>, R: Read, O: Write, E: Write>(
     rt: &HostRuntime,
-    place: &P,
+    system: &F,
     words: &'a [String],
     input: &mut R,
     output: &mut O,
     errors: &mut E,
 ) -> Result<u8, Fault<'a>> {
     match options::read(rt.alloc(), words) {
-        Ok(Some(task)) => perform_task(rt, place, &task, input, output, errors),
+        Ok(Some(task)) => perform_task(rt, system, &task, input, output, errors),
         Ok(None) => Err(CommandFault::NoTask.into()),
         Err(error) => Ok(show_refusal(&error, output, errors)?),
     }
 }
 
-/// Performs what these words ask for, the program's name first, over the databases of a place, and answers the status. A
+/// Performs what these words ask for, the program's name first, over the databases of a file system, and answers the status. A
 /// fault's text goes to `errors`.
-pub fn perform<D: Disk + Drop, P: Place<D>, R: Read, O: Write, E: Write>(
+pub fn perform<D: Disk + Drop, F: FileSystem<D>, R: Read, O: Write, E: Write>(
     rt: &HostRuntime,
-    place: &P,
+    system: &F,
     words: &[String],
     input: &mut R,
     output: &mut O,
     errors: &mut E,
 ) -> u8 {
-    match perform_words(rt, place, words, input, output, errors) {
+    match perform_words(rt, system, words, input, output, errors) {
         Ok(status) => status,
         Err(fault) => fault.tell(errors),
     }

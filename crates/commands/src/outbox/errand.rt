@@ -2,7 +2,7 @@
 
 ghost use Rattle.std.specs.Prelude.{◌≡◌, None, false};
 
-use crate::database::{Cache, Left, Opening, Place, Work, on_database};
+use crate::database::{Cache, FileSystem, Left, Opening, Work, on_database};
 use crate::outbox::calls;
 use crate::outbox::fault::Fault;
 use crate::outbox::line::{EntryLine, LongLine};
@@ -90,9 +90,9 @@ impl<'a, O: Write> Work for Visit<'a, '_, O> {
 
 /// Does an errand to the outbox of the file with this name. What was told stays whether or not the files are then closed: where they
 /// are not, this is told.
-pub fn run_errand<'a, D: Disk + Drop, P: Place<D>, O: Write, E: Write>(
+pub fn run_errand<'a, D: Disk + Drop, F: FileSystem<D>, O: Write, E: Write>(
     rt: &HostRuntime,
-    place: &P,
+    system: &F,
     name: &'a str,
     errand: Errand<'a>,
     output: &mut O,
@@ -104,7 +104,7 @@ pub fn run_errand<'a, D: Disk + Drop, P: Place<D>, O: Write, E: Write>(
         errand,
         output,
     };
-    match on_database(rt, place, name, opening, work) {
+    match on_database(rt, system, name, opening, work) {
         Ok(visited) => {
             tell_close(visited.closed, name, errors);
             visited.answer

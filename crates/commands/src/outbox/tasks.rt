@@ -1,6 +1,6 @@
 //! Performs a task, and says how the program ends.
 
-use crate::database::{Place, SystemFiles};
+use crate::database::{FileSystem, SystemFiles};
 use crate::outbox::errand::{Errand, run_errand};
 use crate::outbox::fault::Fault;
 use crate::outbox::options;
@@ -37,25 +37,25 @@ fn key<'a>(rt: &HostRuntime, text: Option<&str>) -> Result<KeyText, Fault<'a>> {
 }
 
 /// Makes an outbox of this filer.
-fn init<'a, D: Disk + Drop, P: Place<D>, O: Write, E: Write>(
+fn init<'a, D: Disk + Drop, F: FileSystem<D>, O: Write, E: Write>(
     rt: &HostRuntime,
-    place: &P,
+    system: &F,
     name: &'a str,
     filer: &'a str,
     output: &mut O,
     errors: &mut E,
 ) -> Result<(), Fault<'a>> {
     if is_filer(filer) {
-        run_errand(rt, place, name, Errand::Init { filer }, output, errors)
+        run_errand(rt, system, name, Errand::Init { filer }, output, errors)
     } else {
         Err(CommandFault::Filer.into())
     }
 }
 
 /// Puts a report in. The key and the report are looked at before the outbox is.
-fn put<'a, D: Disk + Drop, P: Place<D>, O: Write, E: Write>(
+fn put<'a, D: Disk + Drop, F: FileSystem<D>, O: Write, E: Write>(
     rt: &HostRuntime,
-    place: &P,
+    system: &F,
     name: &'a str,
     body_name: &'a str,
     key_text: Option<&str>,
@@ -66,7 +66,7 @@ fn put<'a, D: Disk + Drop, P: Place<D>, O: Write, E: Write>(
     let key = key(rt, key_text)?;
     let body = report(rt, body_name)?;
     let errand = Errand::Put { key, target, body };
-    run_errand(rt, place, name, errand, output, errors)
+    run_errand(rt, system, name, errand, output, errors)
 }
 
 /// Prints what the fault says of the outbox, where it says something, and gives it back.
@@ -82,43 +82,43 @@ fn show_fault<'a, O: Write>(
 }
 
 /// Makes an outbox of an earlier version one of this version, and prints that it is; or why it is none.
-fn migrate<'a, D: Disk + Drop, P: Place<D>, O: Write, E: Write>(
+fn migrate<'a, D: Disk + Drop, F: FileSystem<D>, O: Write, E: Write>(
     rt: &HostRuntime,
-    place: &P,
+    system: &F,
     name: &'a str,
     output: &mut O,
     errors: &mut E,
 ) -> Result<(), Fault<'a>> {
-    match run_errand(rt, place, name, Errand::Migrate, output, errors) {
+    match run_errand(rt, system, name, Errand::Migrate, output, errors) {
         Ok(()) => Ok(()),
         Err(fault) => show_fault(rt.alloc(), fault, output),
     }
 }
 
 /// Performs a task.
-fn perform_task<'a, D: Disk + Drop, P: Place<D>, O: Write, E: Write>(
+fn perform_task<'a, D: Disk + Drop, F: FileSystem<D>, O: Write, E: Write>(
     rt: &HostRuntime,
-    place: &P,
+    system: &F,
     task: Task<'a>,
     output: &mut O,
     errors: &mut E,
 ) -> Result<(), Fault<'a>> {
     match task {
-        Task::Init { database, filer } => init(rt, place, database, filer, output, errors),
+        Task::Init { database, filer } => init(rt, system, database, filer, output, errors),
         Task::Put {
             database,
             body,
             key,
             target,
-        } => put(rt, place, database, body, key, target, output, errors),
-        Task::Migrate { database } => migrate(rt, place, database, output, errors),
+        } => put(rt, system, database, body, key, target, output, errors),
+        Task::Migrate { database } => migrate(rt, system, database, output, errors),
         Task::Send {
             database,
             port,
             which,
         } => run_errand(
             rt,
-            place,
+            system,
             database,
             Errand::Send { port, which },
             output,
@@ -126,29 +126,29 @@ fn perform_task<'a, D: Disk + Drop, P: Place<D>, O: Write, E: Write>(
         ),
         Task::Status { database } => run_errand(
             rt,
-            place,
+            system,
             database,
             Errand::Status,
             output,
             errors,
         ),
         Task::Show { database, entry } => {
-            run_errand(rt, place, database, Errand::Show { entry }, output, errors)
+            run_errand(rt, system, database, Errand::Show { entry }, output, errors)
         }
     }
 }
 
 /// Performs what these words ask for, and answers the status.
-fn perform_words<'a, D: Disk + Drop, P: Place<D>, O: Write, E: Write>(
+fn perform_words<'a, D: Disk + Drop, F: FileSystem<D>, O: Write, E: Write>(
     rt: &HostRuntime,
-    place: &P,
+    system: &F,
     words: &'a [String],
     output: &mut O,
     errors: &mut E,
 ) -> Result<u8, Fault<'a>> {
     match options::read(rt.alloc(), words) {
         Ok(Some(task)) => {
-            perform_task(rt, place, task, output, errors)?;
+            perform_task(rt, system, task, output, errors)?;
             Ok(DONE)
         }
         Ok(None) => Err(CommandFault::NoTask.into()),
@@ -156,16 +156,16 @@ fn perform_words<'a, D: Disk + Drop, P: Place<D>, O: Write, E: Write>(
     }
 }
 
-/// Performs what these words ask for, the program's name first, over the databases of a place, and answers the status. A
+/// Performs what these words ask for, the program's name first, over the databases of a file system, and answers the status. A
 /// fault's text goes to `errors`.
-pub fn perform<D: Disk + Drop, P: Place<D>, O: Write, E: Write>(
+pub fn perform<D: Disk + Drop, F: FileSystem<D>, O: Write, E: Write>(
     rt: &HostRuntime,
-    place: &P,
+    system: &F,
     words: &[String],
     output: &mut O,
     errors: &mut E,
 ) -> u8 {
-    match perform_words(rt, place, words, output, errors) {
+    match perform_words(rt, system, words, output, errors) {
         Ok(status) => status,
         Err(fault) => fault.tell(errors),
     }

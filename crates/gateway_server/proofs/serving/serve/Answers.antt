@@ -1,4 +1,4 @@
-use Rattle.std.proofs.Common.{Option, subst}
+use Rattle.std.proofs.Common.{Option, subst, rules}
 use Rattle.filing_model.specs.declared.served.Ended.{Ended}
 use Rattle.filing_model.specs.Serving.{keeping}
 use Rattle.filing_model.specs.Stopping.{No}
@@ -8,12 +8,18 @@ use Rattle.gateway_server.specs.Stopping.{ServesConnectionUntil}
 use Rattle.gateway_server.proofs.Stopping.{ServesConnection-ended}
 use Rattle.gateway_server.proofs.serving.serve.Goals as goal
 
-pub returns-clause-serves : goal.returns-clause-serves
-returns-clause-serves g c = λ clean before h.
-    let old = streams (g.R.Source.left c.args.reader.now) (g.W.Sink.written c.args.writer.now) in
-    let new = streams (g.R.Source.left c.serve_until-partly.new.reader) (g.W.Sink.written c.serve_until-partly.new.writer) in
-    let marks = c.serve_until-partly.result.marks.items in
-    let served = c.serve_until-partly.ensures.serves clean before h in
-    let requests = keeping (limit_of c.args.intake.now) (early_in c.args.intake.now before) before served.0 in
-    let ended = subst (λ (how : Option Ended). ServesConnectionUntil requests old new No marks how) c.unwrap.ensures served.3 in
-    (served.0, served.1, served.2, ServesConnection-ended requests old new No marks c.unwrap.result ended)
+pub returns : goal.returns
+returns g c = record {
+  serves = λ clean before h.
+      let old = streams (g.R.Source.left c.args.reader.now) (g.W.Sink.written c.args.writer.now) in
+      let new = streams (g.R.Source.left c.serve_until-partly.new.reader) (g.W.Sink.written c.serve_until-partly.new.writer) in
+      let marks = c.serve_until-partly.result.marks.items in
+      let served = c.serve_until-partly.ensures.serves clean before h in
+      let requests = keeping (limit_of c.args.intake.now) (early_in c.args.intake.now before) before served.0 in
+      let ended = subst (λ (how : Option Ended). ServesConnectionUntil requests old new No marks how) c.unwrap.ensures served.3 in
+      (served.0, served.1, served.2, ServesConnection-ended requests old new No marks c.unwrap.result ended);
+  clean = search rules;
+  limit = search rules;
+  fault = search rules;
+  limited = search rules;
+}

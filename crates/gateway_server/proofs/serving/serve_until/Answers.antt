@@ -1,6 +1,6 @@
 use Rattle.filing_model.specs.declared.served.Ended.TheVariants.{Fault}
 use Rattle.http_wire.specs.declared.refusal.ConnFault.TheVariants.{Memory}
-use Rattle.std.proofs.Common.{Some, length, refl, sym, subst}
+use Rattle.std.proofs.Common.{Some, length, refl, sym, subst, rules}
 use Rattle.filing_model.specs.Serving.{keeping}
 use Rattle.filing_model.specs.Stopping.{ComeBefore}
 use Rattle.intake_core.specs.Held.{limit_of, early_in}
@@ -10,27 +10,43 @@ use Rattle.gateway_server.proofs.Continuing.{GoesOn-new, Serves-none}
 use Rattle.gateway_server.proofs.Stopping.{ComeBefore-none, ServesConnectionUntil-either}
 use Rattle.gateway_server.proofs.serving.serve_until.Goals as goal
 
-pub returns-in-Ok-clause-serves : goal.returns-in-Ok-clause-serves
-returns-in-Ok-clause-serves g c = λ clean before h.
-    let old = streams (g.R.Source.left c.args.reader.now) (g.W.Sink.written c.args.writer.now) in
-    let new = streams (g.R.Source.left c.serve_places-ended.new.reader) (g.W.Sink.written c.serve_places-ended.new.writer) in
-    let served = c.serve_places-ended.ensures.serves clean before h in
-    let requests = keeping (limit_of c.args.intake.now) (early_in c.args.intake.now before) before served.0 in
-    let came = served.3 before old (GoesOn-new (limit_of c.args.intake.now) (early_in c.args.intake.now before) before old c.in-Ok.inbox c.new-marks.result.items c.in-Ok.ensures c.new-marks.ensures.items) in (
-      served.0,
-      served.1,
-      served.2,
-      ServesConnectionUntil-either requests old new (view_stop c.args.stop) c.serve_places-ended.new.marks.items c.serve_places-ended.result
-          (subst (λ n. IsCountUntil (view_stop c.args.stop) n c.serve_places-ended.result) c.serve_places-ended.new.marks.ok.0 c.serve_places-ended.ensures.counted) came,
-    )
+pub returns-in-Ok : goal.returns-in-Ok
+returns-in-Ok g c = record {
+  serves = λ clean before h.
+      let old = streams (g.R.Source.left c.args.reader.now) (g.W.Sink.written c.args.writer.now) in
+      let new = streams (g.R.Source.left c.serve_arrivals-ended.new.reader) (g.W.Sink.written c.serve_arrivals-ended.new.writer) in
+      let served = c.serve_arrivals-ended.ensures.serves clean before h in
+      let requests = keeping (limit_of c.args.intake.now) (early_in c.args.intake.now before) before served.0 in
+      let came = served.3 before old (GoesOn-new (limit_of c.args.intake.now) (early_in c.args.intake.now before) before old c.in-Ok.inbox c.new-marks.result.items c.in-Ok.ensures c.new-marks.ensures.items) in (
+        served.0,
+        served.1,
+        served.2,
+        ServesConnectionUntil-either requests old new (view_stop c.args.stop) c.serve_arrivals-ended.new.marks.items c.serve_arrivals-ended.result
+            (subst (λ n. IsCountUntil (view_stop c.args.stop) n c.serve_arrivals-ended.result) c.serve_arrivals-ended.new.marks.ok.0 c.serve_arrivals-ended.ensures.counted) came,
+      );
+  clean = search rules;
+  limit = search rules;
+  fault = search rules;
+  limited = search rules;
+  counted = search rules;
+  never = search rules;
+}
 
-pub returns-in-Err-clause-serves : goal.returns-in-Err-clause-serves
-returns-in-Err-clause-serves g c = λ clean before h.
-    let old = streams (g.R.Source.left c.args.reader.now) (g.W.Sink.written c.args.writer.now) in
-    let requests = keeping (limit_of c.args.intake.now) (early_in c.args.intake.now before) before before in (
-      before,
-      h,
-      refl,
-      ServesConnectionUntil-either requests old old (view_stop c.args.stop) c.new-marks.result.items (Some (Fault Memory))
-          (subst (λ ms. ComeBefore (view_stop c.args.stop) (length ms)) (sym c.new-marks.ensures.items) (ComeBefore-none (view_stop c.args.stop))) (Serves-none (limit_of c.args.intake.now) (early_in c.args.intake.now before) before old c.new-marks.result.items c.new-marks.ensures.items),
-    )
+pub returns-in-Err : goal.returns-in-Err
+returns-in-Err g c = record {
+  serves = λ clean before h.
+      let old = streams (g.R.Source.left c.args.reader.now) (g.W.Sink.written c.args.writer.now) in
+      let requests = keeping (limit_of c.args.intake.now) (early_in c.args.intake.now before) before before in (
+        before,
+        h,
+        refl,
+        ServesConnectionUntil-either requests old old (view_stop c.args.stop) c.new-marks.result.items (Some (Fault Memory))
+            (subst (λ ms. ComeBefore (view_stop c.args.stop) (length ms)) (sym c.new-marks.ensures.items) (ComeBefore-none (view_stop c.args.stop))) (Serves-none (limit_of c.args.intake.now) (early_in c.args.intake.now before) before old c.new-marks.result.items c.new-marks.ensures.items),
+      );
+  clean = search rules;
+  limit = search rules;
+  fault = search rules;
+  limited = search rules;
+  counted = search rules;
+  never = search rules;
+}

@@ -12,25 +12,25 @@ returns-clause-step g c =
     let from = c.index-outputs-at.result in
     let sender = c.in_ok-outbox.ensures.some in
     let up = c.in-Some-up_at.ensures.some in
-    let there : slice_get boxes c.in-Some-up_at.place ≡ Some up.1 = subst (λ bs. slice_get bs c.in-Some-up_at.place ≡ Some up.1) c.as_slice.ensures.value up.2 in
+    let there : slice_get boxes c.in-Some-up_at.index ≡ Some up.1 = subst (λ bs. slice_get bs c.in-Some-up_at.index ≡ Some up.1) c.as_slice.ensures.value up.2 in
     let box = c.index_mut.result.now in
-    let same : box ≡ up.1 = element_is boxes c.in-Some-up_at.place up.1 box there c.index_mut.ensures.value in
+    let same : box ≡ up.1 = element_is boxes c.in-Some-up_at.index up.1 box there c.index_mut.ensures.value in
     let here = named c.args.outputs.now c.args.output c.in-Some.at from c.in-Some.ensures.some.0 (element_at c.args.outputs.now c.in-Some.at from c.in-Some.ensures.some.1 c.index-outputs-at.is) in
     let given : c.first.result.now ≡ take c.args.bytes from.bytes = grind (arith, common_steps, c.first.ensures, c.as_slice-2.ensures.value, c.from.view_is) in
     let item_is : c.from.inside.item ≡ from.item = grind (arith, common_steps, c.from.view_is) in
     let item_here = subst (λ n. numbered c.args.sent.now n ≡ Some sender.0) item_is sender.1 in
-    hand_step boxes c.in-Some-up_at.place c.in_ok-outbox.outbox up.0 box (rw same there) (rw same up.3) c.args.sent.now c.args.outputs.now c.args.output c.args.bytes c.in_ok-outbox.entry (view_crash c.args.crash) from sender.0 here item_here sender.2
+    hand_step boxes c.in-Some-up_at.index c.in_ok-outbox.outbox up.0 box (rw same there) (rw same up.3) c.args.sent.now c.args.outputs.now c.args.output c.args.bytes c.in_ok-outbox.entry (view_crash c.args.crash) from sender.0 here item_here sender.2
     c.hand.new.self c.hand.result (rw given at c.hand.ensures.heard)
 
 pub index_mut-requires : goal.index_mut-requires
-index_mut-requires g c = subst (λ n. c.in-Some-up_at.place < n) c.as_slice.ensures.len c.in-Some-up_at.ensures.some.4
+index_mut-requires g c = subst (λ n. c.in-Some-up_at.index < n) c.as_slice.ensures.len c.in-Some-up_at.ensures.some.4
 
 pub hand-requires : goal.hand-requires
 hand-requires g c =
     let boxes = c.args.filers.now.items in
     let up = c.in-Some-up_at.ensures.some in
-    let there : slice_get boxes c.in-Some-up_at.place ≡ Some up.1 = subst (λ bs. slice_get bs c.in-Some-up_at.place ≡ Some up.1) c.as_slice.ensures.value up.2 in
-    let same : c.index_mut.result.now ≡ up.1 = element_is boxes c.in-Some-up_at.place up.1 c.index_mut.result.now there c.index_mut.ensures.value in
+    let there : slice_get boxes c.in-Some-up_at.index ≡ Some up.1 = subst (λ bs. slice_get bs c.in-Some-up_at.index ≡ Some up.1) c.as_slice.ensures.value up.2 in
+    let same : c.index_mut.result.now ≡ up.1 = element_is boxes c.in-Some-up_at.index up.1 c.index_mut.result.now there c.index_mut.ensures.value in
     rw same up.3
 
 pub returns-in_default-up_at-clause-no_such : goal.returns-in_default-up_at-clause-no_such

@@ -8,5 +8,5 @@ pub invariant_of-self-2 : goal.invariant_of-self-2
 invariant_of-self-2 g c =
     let limit = c.self.inside.limit in
     let F = firsts c.self.inside.done.items in
-    let keeps : Keeps c.replace-place.result limit F = subst (λ p. Keeps p limit F) (sym c.replace-place.ensures.value) c.self.invariant.1 in
+    let keeps : Keeps c.replace-process.result limit F = subst (λ p. Keeps p limit F) (sym c.replace-process.ensures.value) c.self.invariant.1 in
     (c.self.invariant.0, c.in_ok-opened.ensures.kept F (firsts-firsts c.self.inside.done.items) (c.in_ok-files.ensures.kept limit F keeps))
