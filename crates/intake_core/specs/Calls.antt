@@ -4,7 +4,7 @@ use Rattle.sqlite.specs.Store.{Ghosts}
 use Rattle.filing_model.specs.declared.answer.Answer.{Answer}
 use Rattle.filing_model.specs.Request.{Request, has_key}
 use Rattle.table_rows.specs.Standing.{CommitsNothing}
-use Rattle.register_store.specs.Store.{LeavesRegister}
+use Rattle.register_opening.specs.Registers.{LeavesRegister}
 use Rattle.intake_core.specs.declared.intake.Intake.{Intake}
 use Rattle.intake_core.specs.declared.intake.Unavailable.{Unavailable}
 use Rattle.intake_core.specs.declared.intake.Unavailable.TheVariants.{Down, Full, Store}

@@ -11,7 +11,8 @@ ghost use Rattle.filing_model.specs.Answer.{answer_from};
 ghost use Rattle.filing_model.specs.Style.{style_of, HasStyle};
 ghost use Rattle.filing_model.specs.Views.{view_answer, view_row, the_request};
 ghost use Rattle.register_store.specs.Outcomes.{view_outcome, kept_as};
-ghost use Rattle.register_store.specs.Store.{HasRequests, LeavesRegister};
+ghost use Rattle.register_store.specs.Store.{HasRequests};
+ghost use Rattle.register_opening.specs.Registers.{LeavesRegister};
 ghost use Rattle.intake_core.specs.declared.intake.Unavailable.TheVariants.{Down, Full, Memory, Store as StoreFailed};
 ghost use Rattle.table_rows.specs.Standing.{CommitsNothing};
 

@@ -11,9 +11,10 @@ use Rattle.filing_model.specs.Register.{Outcome, Kept}
 use Rattle.filing_model.specs.Views.{the_request}
 use Rattle.table_rows.specs.Rows.{counted_from}
 use Rattle.table_rows.proofs.GainLemmas.{still_declared}
-use Rattle.register_store.specs.Schema.{register_tables, kept_table, finding_table, filing_table, fact_table, amends_table}
-use Rattle.register_store.specs.Register.{HasRows, kept_row, finding_row, finding_rows, filing_rows, fact_row, fact_rows, amends_rows, amends_rows_by}
-use Rattle.register_store.specs.Changes.{GainsRows, AddsInside}
+use Rattle.register_rows.specs.Schema.{register_tables, kept_table, finding_table, filing_table, fact_table, amends_table}
+use Rattle.register_rows.specs.Register.{HasRows, kept_row, finding_row, finding_rows, filing_rows, fact_row, fact_rows, amends_rows, amends_rows_by}
+use Rattle.register_opening.specs.Gains.{GainsRows}
+use Rattle.register_store.specs.Changes.{AddsInside}
 use Rattle.register_store.proofs.Growing.{kept_grows, finding_grows, filing_grows, fact_grows, amends_grows}
 
 -- no row more

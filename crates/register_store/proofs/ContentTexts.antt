@@ -1,5 +1,5 @@
 -- The contents of replies, piece by piece.
-use Rattle.std.proofs.Common.{◌≡◌, ℕ, false, List, ◌++◌, refl}
+use Rattle.std.proofs.Common.{◌≡◌, ℕ, false, ◌++◌, refl}
 use Rattle.std.specs.Prelude.{codes, decimal}
 use Rattle.serde_json.specs.Written.{compact_text}
 use Rattle.json.specs.Print.{escape_byte}

@@ -12,36 +12,23 @@ use Rattle.sqlite.specs.State.{State}
 use Rattle.xbrl_report.specs.FactRecord.{FactRecord}
 use Rattle.xbrl_report.specs.ReportParts.{facts}
 use Rattle.filing_model.specs.Request.{Request}
-use Rattle.filing_model.specs.Register.{Outcome, Kept, Filing, filings, kept, register}
-use Rattle.filing_model.specs.Register.Outcome.{Registered, Refused}
+use Rattle.filing_model.specs.Register.{Filing, kept, register}
 use Rattle.filing_model.proofs.Lists.{length-map}
 use Rattle.filing_model.proofs.Keeping.{register_numbered}
 use Rattle.table_rows.specs.Rows.{counted_from}
 use Rattle.table_rows.specs.Reading.{RisesBy, ReadsRows}
 use Rattle.table_rows.specs.Standing.{HasCommitted}
 use Rattle.table_rows.proofs.OrderLemmas.{counted_rise, same_number, and_true}
-use Rattle.register_store.specs.Columns.{maybe_bytes_in, integer_in, fact_in}
+use Rattle.register_rows.specs.Columns.{maybe_bytes_in, integer_in, fact_in}
 use Rattle.register_store.specs.Numbered.{filing_numbered, facts_numbered}
-use Rattle.register_store.specs.Reads.{by_second, place_alone, said}
+use Rattle.register_opening.specs.Reads.{by_second}
+use Rattle.register_store.specs.Reads.{place_alone, said}
 use Rattle.table_rows.specs.Picking.{has_number}
-use Rattle.register_store.specs.Register.{fact_row, fact_rows, joined_from}
-use Rattle.register_store.specs.Schema.{fact_table}
-use Rattle.register_store.specs.Store.{IsRegisterOf}
-use Rattle.register_store.proofs.SegmentLemmas.{length_counted}
-
--- the rows of a filing's facts
-abbrev pub rows_of : Filing → List Row
-rows_of f = counted_from (fact_row f.number) 1 (facts f.request.body)
-
--- the table of facts is that of the filings
-pub table_is : (at : ℕ) (ks : List Kept) → joined_from fact_rows at ks ≡ flat_map rows_of (filings ks)
-unfolding filings
-table_is at [] = refl
-table_is at (k ∷ ks) = go k.outcome (table_is (at + 1) ks)
-  where
-    go : (o : Outcome) → joined_from fact_rows (at + 1) ks ≡ flat_map rows_of (filings ks) → joined_from fact_rows at (record { request = k.request; outcome = o } ∷ ks) ≡ flat_map rows_of (filings (record { request = k.request; outcome = o } ∷ ks))
-    go (Registered number) h = ap (λ l. counted_from (fact_row number) 1 (facts k.request.body) ++ l) h
-    go (Refused findings) h = h
+use Rattle.register_rows.specs.Register.{fact_row, fact_rows, joined_from}
+use Rattle.register_rows.specs.Schema.{fact_table}
+use Rattle.register_opening.specs.Registers.{IsRegisterOf}
+use Rattle.register_rows.proofs.SegmentLemmas.{length_counted}
+use Rattle.register_rows.proofs.FactRows.{rows_of, table_is}
 
 module _ (n : ℕ) where
   its : (m at : ℕ) (x : FactRecord) → has_number n (fact_row m at x) ≡ nat_eq m n

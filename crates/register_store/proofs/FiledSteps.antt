@@ -3,12 +3,12 @@ use Rattle.std.proofs.Common.{◌≡◌, ℕ, ◌+◌, List, [], ◌∷◌, ◌+
 use Rattle.std.specs.Prelude.{option_map}
 use Rattle.sqlite.specs.Order.{Row, column}
 use Rattle.filing_model.specs.Request.{Request}
-use Rattle.filing_model.specs.Register.{Outcome, Kept, Filing, filing_of, filings, kept}
+use Rattle.filing_model.specs.Register.{Outcome, Kept, Filing, filing_of, filings}
 use Rattle.filing_model.specs.Register.Outcome.{Registered, Refused}
 use Rattle.filing_model.proofs.Keeping.{filings-append}
-use Rattle.register_store.specs.Columns.{number_in, request_in}
-use Rattle.register_store.specs.Register.{kept_row}
-use Rattle.register_store.proofs.StepsOfTargets.{IsStep}
+use Rattle.register_rows.specs.Columns.{number_in, request_in}
+use Rattle.register_rows.specs.Register.{kept_row}
+use Rattle.register_rows.proofs.StepsOfTargets.{IsStep}
 
 -- the request of a step as it is read
 pub request_read : (ks : List Kept) (at place : ℕ) (row : Row) (target : Option ℕ) (tail : List Row) → (s : IsStep ks at place row target tail) → request_in target row ≡ s.k.request

@@ -1,6 +1,6 @@
 -- What the look-ups find of the requests that the rows stand for.
 use Rattle.std.proofs.Common.{◌≡◌, ◌⊎◌, inl, inr, ◌<◌, ◌≤◌, ℕ, ◌+◌, zero, suc, pos, cond, take, true, false, List, [], ◌∷◌, ◌++◌, map, filter, length, Option, Some, None, refl, sym, ap, ap₂, subst, ◌∙◌, IsPermutation, nat_eq, arith, append-nil, ⊎_elim}
-use Rattle.std.specs.Prelude.{bytes_eq, find, nat_lt, nat_le}
+use Rattle.std.specs.Prelude.{find, nat_lt, nat_le}
 use Rattle.std.proofs.lemmas.Bool.{cases_Bool, and_parts}
 use Rattle.std.proofs.lemmas.Bool.Decides.{nat_tests}
 use Rattle.std.proofs.lemmas.Slice.Eq.{bytes_eq-Decides}
@@ -26,23 +26,21 @@ use Rattle.filing_model.proofs.Lists.{filter-map, length-map}
 use Rattle.table_rows.specs.Rows.{counted_from}
 use Rattle.table_rows.specs.Reading.{RisesBy, ReadsRows}
 use Rattle.table_rows.specs.Standing.{HasCommitted}
-use Rattle.table_rows.proofs.OrderLemmas.{counted_rise, same_text, same_number, and_true}
-use Rattle.register_store.specs.Schema.{kept_table, finding_table, amends_table}
-use Rattle.register_store.specs.Register.{kept_row, finding_row, finding_rows, findings_of, amends_rows, amends_rows_by, joined_from}
-use Rattle.register_store.specs.Reads.{by_second}
-use Rattle.register_store.specs.Found.{has_texts, has_seq, unsorted, found_in, pair_in, found_row, finding_in, target_alone, code_in, IsPlaced, IsReading, IsLookUp}
+use Rattle.table_rows.proofs.OrderLemmas.{counted_rise, same_number, and_true}
+use Rattle.register_rows.specs.Schema.{kept_table, finding_table, amends_table}
+use Rattle.register_rows.specs.Register.{kept_row, finding_row, finding_rows, findings_of, amends_rows, amends_rows_by, joined_from}
+use Rattle.register_opening.specs.Reads.{by_second, has_texts}
+use Rattle.register_store.specs.Found.{has_seq, unsorted, found_in, pair_in, found_row, finding_in, target_alone, code_in, IsPlaced, IsReading, IsLookUp}
 use Rattle.register_store.specs.Outcomes.{style_at}
 use Rattle.register_store.specs.declared.select.found.FoundRow.{FoundRow}
-use Rattle.register_store.specs.Store.{IsRegisterOf}
+use Rattle.register_opening.specs.Registers.{IsRegisterOf}
+use Rattle.register_opening.proofs.WalkLemmas.{has_its}
 
 -- ---- the row of a filer and key
 
 module _ (filer key : List ℕ) (target : Option ℕ) (body : List ℕ) where
   abbrev r : Request
   r = the_request filer key target body
-
-  pub has_its : (at : ℕ) (k : Kept) → has_texts filer key (kept_row at k) ≡ same_key k.request r
-  has_its at k = rw (same_text k.request.filer filer, same_text k.request.key key, and_true (bytes_eq k.request.key key)) refl
 
   -- at most one of these is so
   abbrev Few : List Kept → Type 0
@@ -52,7 +50,7 @@ module _ (filer key : List ℕ) (target : Option ℕ) (body : List ℕ) where
   none_of_them at [] none = refl
   none_of_them at (k ∷ ks) none = ⊎_elim
       (λ (is : same_key k.request r ≡ true). absurd (let some : suc (length (filter (λ k. same_key k.request r) ks)) ≡ 0 = rw is at none in omega (arith, some)))
-      (λ (is : same_key k.request r ≡ false). rw (has_its at k ∙ is) (none_of_them (at + 1) ks (rw is at none)))
+      (λ (is : same_key k.request r ≡ false). rw (has_its filer key target body at k ∙ is) (none_of_them (at + 1) ks (rw is at none)))
       (cases_Bool (same_key k.request r))
 
   -- the row of the one that has the key, or none
@@ -82,11 +80,11 @@ module _ (filer key : List ℕ) (target : Option ℕ) (body : List ℕ) where
       here is =
           let some : suc (length (filter (λ k. same_key k.request r) ks)) ≤ 1 = rw is at few in
           let none = none_of_them (at + 1) ks (omega (arith, some)) in
-          inr (record { seq = at; k = k; placed = inl (refl, refl); is = rw is refl; so = is; rows_are = rw (has_its at k ∙ is) (ap (λ l. kept_row at k ∷ l) none) })
+          inr (record { seq = at; k = k; placed = inl (refl, refl); is = rw is refl; so = is; rows_are = rw (has_its filer key target body at k ∙ is) (ap (λ l. kept_row at k ∷ l) none) })
 
       further : same_key k.request r ≡ false → IsNone ks rest ⊎ IsOnly (at + 1) ks rest → IsNone (k ∷ ks) all ⊎ IsOnly at (k ∷ ks) all
-      further is (inl none) = inl (record { is = rw is none.is; rows_are = rw (has_its at k ∙ is) none.rows_are })
-      further is (inr one) = inr (record { seq = one.seq; k = one.k; placed = inr one.placed; is = rw is one.is; so = one.so; rows_are = rw (has_its at k ∙ is) one.rows_are })
+      further is (inl none) = inl (record { is = rw is none.is; rows_are = rw (has_its filer key target body at k ∙ is) none.rows_are })
+      further is (inr one) = inr (record { seq = one.seq; k = one.k; placed = inr one.placed; is = rw is one.is; so = one.so; rows_are = rw (has_its filer key target body at k ∙ is) one.rows_are })
 
 few_kept : (F : List Request) (r : Request) → length (filter (λ k. same_key k.request r) (kept F)) ≤ 1
 few_kept F r =

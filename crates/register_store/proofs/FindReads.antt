@@ -6,11 +6,12 @@ use Rattle.sqlite.specs.Term.{col}
 use Rattle.sqlite.specs.State.{State, Shown}
 use Rattle.table_rows.specs.Reading.{ReadsRows}
 use Rattle.table_rows.proofs.ReadingLemmas.{reads_rows}
-use Rattle.register_store.specs.Schema.{common_tables, kept_table, finding_table}
-use Rattle.register_store.specs.Reads.{Knows, by_second}
-use Rattle.register_store.specs.Found.{has_texts, has_seq, unsorted, found_in, pair_in}
-use Rattle.register_store.proofs.ReadTexts.{columns, equals}
-use Rattle.register_store.proofs.FindTexts.{find_text, found_text, same_filer_and_key, asks_key, asks_seq}
+use Rattle.register_rows.specs.Schema.{common_tables, kept_table, finding_table}
+use Rattle.register_opening.specs.Reads.{Knows, by_second, has_texts}
+use Rattle.register_store.specs.Found.{has_seq, unsorted, found_in, pair_in}
+use Rattle.register_opening.proofs.ReadTexts.{columns, equals}
+use Rattle.register_store.proofs.FindTexts.{find_text, found_text, asks_key, asks_seq}
+use Rattle.register_opening.proofs.PickTexts.{same_filer_and_key}
 
 module _ (old new : State) (knows : Knows old) (rows : List Row) where
   pub reads_key : (filer key : List ℕ) → Shown find_text (Text filer ∷ Text key ∷ []) old new rows → ReadsRows kept_table (has_texts filer key) unsorted found_in rows old new

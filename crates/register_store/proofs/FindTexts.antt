@@ -4,10 +4,7 @@ use Rattle.sqlite_schema.specs.declared.schema.Index.{Index}
 use Rattle.sqlite_schema.specs.declared.schema.View.{View}
 use Rattle.sqlite.specs.Table.{Table}
 use Rattle.sqlite.specs.Schema.{Schema}
-use Rattle.sqlite.specs.Collation.TheVariants.{Binary}
-use Rattle.sqlite.specs.Term.{Term, col, op2}
-use Rattle.sqlite_sql.specs.declared.ops.BinaryOp.TheVariants.{Compare}
-use Rattle.sqlite_sql.specs.declared.ops.CompareOp.TheVariants.{Eq}
+use Rattle.sqlite.specs.Term.{col}
 use Rattle.sqlite_tied.specs.Compute.{everything}
 use Rattle.sqlite.specs.Listing.{understood}
 use Rattle.table_rows.specs.Tables.{schema_with}
@@ -15,8 +12,9 @@ use Rattle.table_rows.proofs.SelectLemmas.{one_table}
 use Rattle.table_rows.proofs.ReadingLemmas.{by_each}
 use Rattle.table_rows.proofs.QueryLemmas.{Asks}
 use Rattle.table_rows.proofs.TextLemmas.{IsQueryText}
-use Rattle.register_store.specs.Schema.{common_tables, HasCommon}
-use Rattle.register_store.proofs.ReadTexts.{columns, equals}
+use Rattle.register_rows.specs.Schema.{common_tables, HasCommon}
+use Rattle.register_opening.proofs.ReadTexts.{columns, equals}
+use Rattle.register_opening.proofs.PickTexts.{same_filer_and_key}
 
 abbrev pub find_text : List ℕ
 find_text = codes "SELECT seq, body, number FROM kept WHERE filer = ?1 AND idem = ?2"
@@ -31,10 +29,6 @@ query_key = refl
 pub query_seq : IsQueryText found_text
 unfolding everything
 query_seq = refl
-
--- the filer and the key equal the parameters
-abbrev pub same_filer_and_key : List Term
-same_filer_and_key = op2 (Compare Eq Binary) (col 1 2) (col 0 0) ∷ op2 (Compare Eq Binary) (col 1 3) (col 0 1) ∷ []
 
 module _ (tables : List Table) (indexes : List Index) (views : List View) where
   abbrev schema : Schema

@@ -4,8 +4,8 @@ use Rattle.sqlite.specs.Order.{Row}
 use Rattle.sqlite.specs.Effect.{Database}
 use Rattle.table_rows.specs.Rows.{Gains}
 use Rattle.table_rows.proofs.GainLemmas.{holds_more, same_rows, still_declared}
-use Rattle.register_store.specs.Schema.{register_tables, meta_table, kept_table, finding_table, filing_table, fact_table, migrated_table, amends_table}
-use Rattle.register_store.specs.Register.{HasRows}
+use Rattle.register_rows.specs.Schema.{register_tables, meta_table, kept_table, finding_table, filing_table, fact_table, migrated_table, amends_table}
+use Rattle.register_rows.specs.Register.{HasRows}
 
 module _ (old new : Database) (early : ℕ) (ks fs gs hs ts rows : List Row) (has : HasRows old early ks fs gs hs ts) where
   pub kept_grows : Gains register_tables kept_table rows old new → HasRows new early (ks ++ rows) fs gs hs ts

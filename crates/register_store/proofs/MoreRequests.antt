@@ -1,22 +1,17 @@
 -- The rows of a list of requests with one more.
-use Rattle.std.proofs.Common.{◌≡◌, ◌<◌, ℕ, ◌+◌, suc, false, List, [], ◌∷◌, ◌++◌, append-nil, append_assoc, length, length-append, refl, sym, ap, ◌∙◌, arith}
+use Rattle.std.proofs.Common.{◌≡◌, ℕ, ◌+◌, suc, false, List, [], ◌∷◌, ◌++◌, append-nil, append_assoc, length, length-append, sym, ap, ◌∙◌, arith}
 use Rattle.sqlite.specs.Order.{Row}
 use Rattle.sqlite.specs.Effect.{Database}
-use Rattle.xbrl_report.specs.Pair.{Pair}
-use Rattle.xbrl_report.specs.Judgement.{IsAmendmentJudgement}
-use Rattle.xbrl_report.specs.declared.judging.Judged.{Judged}
-use Rattle.xbrl_report.specs.declared.judging.Judged.TheVariants.{Valid, Refused}
-use Rattle.filing_model.specs.Request.{Request, firsts, has_key}
-use Rattle.filing_model.specs.Register.{Outcome, Kept, filings, verdict, outcome_by, is_free, judged, kept, register}
+use Rattle.filing_model.specs.Request.{Request, has_key}
+use Rattle.filing_model.specs.Register.{Kept, judged, kept, register}
 use Rattle.filing_model.proofs.Firsts.{firsts_new}
-use Rattle.filing_model.proofs.Lists.{length-map}
-use Rattle.filing_model.proofs.Keeping.{kept_new, requests_of_kept, filings-append, all_push}
+use Rattle.filing_model.proofs.Keeping.{kept_new, all_push}
 use Rattle.table_rows.specs.Rows.{counted_from}
 use Rattle.table_rows.proofs.StepLemmas.{counted_push}
-use Rattle.register_store.specs.Outcomes.{outcome_of, filings_by}
-use Rattle.register_store.specs.Register.{IsCompleted, StandsFor, kept_row, finding_rows, filing_rows, fact_rows, amends_rows, joined_from}
+use Rattle.register_rows.specs.Register.{IsCompleted, StandsFor, kept_row, finding_rows, filing_rows, fact_rows, amends_rows, joined_from}
 use Rattle.register_store.specs.Changes.{AddsRows}
-use Rattle.register_store.specs.Store.{IsRegisterOf}
+use Rattle.register_opening.specs.Registers.{IsRegisterOf}
+use Rattle.register_rows.proofs.MoreRequests.{kept_length}
 
 joined_push : (rows : ℕ → Kept → List Row) (at : ℕ) (ks : List Kept) (k : Kept) → joined_from rows at (ks ++ k ∷ []) ≡ joined_from rows at ks ++ rows (at + length ks) k
 joined_push rows at [] k = append-nil (rows at k) ∙ ap (λ n. rows n k) (omega arith)
@@ -24,33 +19,6 @@ joined_push rows at (x ∷ ks) k =
     ap (λ l. rows at x ++ l) (joined_push rows (at + 1) ks k)
     ∙ sym (append_assoc (rows at x) (joined_from rows (at + 1) ks) (rows (at + 1 + length ks) k))
     ∙ ap (λ n. (rows at x ++ joined_from rows (at + 1) ks) ++ rows n k) (omega arith)
-
--- as many are kept as there are firsts
-pub kept_length : (F : List Request) → firsts F ≡ F → length (kept F) ≡ length F
-kept_length F once = sym (length-map (λ (k : Kept). k.request) (kept F)) ∙ ap length (requests_of_kept F ∙ once)
-
--- what becomes of a request that was judged
-pub judged_as : (before : List Kept) (r : Request) (j : Judged) → IsAmendmentJudgement r.filer r.body (is_free (filings before) r.filer r.target) j → (judged before r).outcome ≡ outcome_of (suc (length (filings before))) j
-unfolding verdict
-judged_as before r (Valid report) is = ap (λ found. outcome_by found (suc (length (filings before)))) is.0
-judged_as before r (Refused list) is = sym (ap (λ found. outcome_by found (suc (length (filings before)))) is.0) ∙ refused list is.1
-  where
-    refused : (found : List Pair) → 0 < length found → outcome_by found (suc (length (filings before))) ≡ Outcome.Refused found
-    refused [] some = absurd (omega arith)
-    refused (f ∷ found) some = refl
-
--- how many filings there are then
-pub registered_more : (F : List Request) (r : Request) → has_key F r ≡ false → length (register (F ++ r ∷ [])) ≡ length (register F) + filings_by (judged (kept F) r).outcome
-unfolding filings
-registered_more F r new =
-    ap (λ ks. length (filings ks)) (kept_new F r new)
-    ∙ ap length (filings-append (kept F) (judged (kept F) r ∷ []))
-    ∙ length-append (filings (kept F)) (filings (judged (kept F) r ∷ []))
-    ∙ ap (λ n. length (filings (kept F)) + n) (one r (judged (kept F) r).outcome)
-  where
-    one : (r : Request) (o : Outcome) → length (filings (record { request = r; outcome = o } ∷ [])) ≡ filings_by o
-    one r (Outcome.Registered number) = refl
-    one r (Outcome.Refused found) = refl
 
 module _ (early : ℕ) (F : List Request) (r : Request) (new : has_key F r ≡ false) (completed : IsCompleted r) where
   pub stands_for_more : (old after : Database) → StandsFor old early F → AddsRows (suc (length F)) (judged (kept F) r) old after → StandsFor after early (F ++ r ∷ [])

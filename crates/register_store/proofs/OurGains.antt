@@ -1,19 +1,16 @@
 -- What each INSERT of ours adds.
-use Rattle.std.proofs.Common.{◌≡◌, ℕ, ℤ, pos, List, [], ◌∷◌, Option, Some, None, Ok, refl}
+use Rattle.std.proofs.Common.{◌≡◌, ℕ, ℤ, List, [], ◌∷◌, Option, Some, None, Ok, refl}
 use Rattle.std.specs.Prelude.{option_map}
 use Rattle.sqlite.specs.declared.types.Value.{Value}
 use Rattle.sqlite.specs.declared.types.Value.TheVariants.{Int, Text, Blob}
 use Rattle.sqlite.specs.Values.{or_null}
-use Rattle.sqlite.specs.Effect.{IsDatabase}
 use Rattle.sqlite.specs.State.{State, ExecutesInside}
 use Rattle.table_rows.specs.Tables.{schema_with}
 use Rattle.table_rows.proofs.GainLemmas.{inside, gained, cast_int, cast_null, cast_maybe}
 use Rattle.table_rows.proofs.InsertLemmas.{inserts}
-use Rattle.register_store.specs.Schema.{register_tables, IsDeclared, meta_table, kept_table, finding_table, filing_table, fact_table, migrated_table, amends_table}
-use Rattle.register_store.specs.Register.{meta_row, migrated_row}
-use Rattle.register_store.specs.Changes.{GainsRows}
-use Rattle.register_store.specs.Making.{insert_meta, insert_none_early}
-use Rattle.register_store.proofs.Texts.{insert_kept, insert_finding, insert_filing, insert_fact, insert_amends, inserts_amends, inserts_meta, inserts_kept, inserts_finding, inserts_filing, inserts_fact, inserts_none_early, plain_inserts}
+use Rattle.register_rows.specs.Schema.{register_tables, kept_table, finding_table, filing_table, fact_table, amends_table}
+use Rattle.register_opening.specs.Gains.{GainsRows}
+use Rattle.register_store.proofs.Texts.{insert_kept, insert_finding, insert_filing, insert_fact, insert_amends, inserts_amends, inserts_kept, inserts_finding, inserts_filing, inserts_fact, plain_inserts}
 
 module _ (old new : State) where
   pub filing_gains : (number seq : ℤ) (count : ℕ) → ExecutesInside 0 insert_filing (Int number ∷ Int seq ∷ []) old new (Ok count) → GainsRows filing_table ((Int number ∷ Int seq ∷ []) ∷ []) old new
@@ -51,21 +48,6 @@ module _ (old new : State) where
       let means = inserts_amends d.tables d.indexes d.views in
       let i = inserts (schema_with register_tables d.tables d.indexes d.views) 6 _ _ _ _ _ _ _ refl _ 3 (λ _. refl) insert_amends _ old new count d.is means.0 means.1 ran in
       gained register_tables amends_table _ (Int seq ∷ Int target ∷ []) old.now new.now d i (λ row is. rw (is, cast_int seq, cast_int target) refl))
-
-  -- the row of the database itself; what SQLite's files can have comes of it
-  pub meta_gains : (count : ℕ) → IsDeclared old.now.schema → ExecutesInside 0 insert_meta [] old new (Ok count) → GainsRows meta_table (meta_row ∷ []) old new × IsDatabase new.now
-  meta_gains count d h =
-      let means = inserts_meta d.tables d.indexes d.views in
-      let i = inserts (schema_with register_tables d.tables d.indexes d.views) 0 _ _ _ _ _ _ _ refl _ 4 (λ _. refl) insert_meta _ old new count d.is means.0 means.1 h.0 in
-      let g = gained register_tables meta_table _ meta_row old.now new.now d i (λ row is. rw (is, cast_int (pos 1), cast_int (pos 4)) refl) in
-      (record { gains = λ _. g; inside = h.1.mode; committed = h.1.committed_is }, i.sound)
-
-  -- the row that says that no request was kept before there were problem details
-  pub none_early_gains : (count : ℕ) → ExecutesInside 0 insert_none_early [] old new (Ok count) → GainsRows migrated_table (migrated_row 0 ∷ []) old new
-  none_early_gains count = inside register_tables migrated_table _ insert_none_early _ old new count (λ ran d.
-      let means = inserts_none_early d.tables d.indexes d.views in
-      let i = inserts (schema_with register_tables d.tables d.indexes d.views) 5 _ _ _ _ _ _ _ refl _ 3 (λ _. refl) insert_none_early _ old new count d.is means.0 means.1 ran in
-      gained register_tables migrated_table _ (migrated_row 0) old.now new.now d i (λ row is. rw (is, cast_int (pos 1), cast_int (pos 0)) refl))
 
 -- a value that may be absent, as a row has it
 pub held_as : {A B : Type 0} (value : B → Value) (f : A → B) (o : Option A) → or_null (λ x. value (f x)) o ≡ or_null value (option_map f o)

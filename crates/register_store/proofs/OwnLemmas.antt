@@ -25,7 +25,7 @@ use Rattle.filing_model.proofs.Lists.{append_nil, length-map}
 use Rattle.register_store.specs.declared.select.counts.Own.{Own}
 use Rattle.register_store.specs.Numbered.{facts_numbered, filing_numbered}
 use Rattle.register_store.specs.Own.{is_filers, own_filings}
-use Rattle.register_store.proofs.Filings.{CountFrom, first_counts, first_replaced, none_outside, other_number, own_number, replaced_as_before, still_replaced}
+use Rattle.register_rows.proofs.Filings.{CountFrom, first_counts, first_replaced, none_outside, other_number, own_number, replaced_as_before, still_replaced}
 
 -- ---- what a filing replaces is one of its filer
 

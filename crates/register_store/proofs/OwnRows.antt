@@ -20,10 +20,11 @@ use Rattle.table_rows.proofs.OrderLemmas.{counted_rise, same_number, same_text, 
 use Rattle.register_store.specs.declared.select.counts.Own.{Own}
 use Rattle.register_store.specs.Found.{IsPlaced}
 use Rattle.register_store.specs.Own.{is_filers, own_of}
-use Rattle.register_store.specs.Reads.{by_first, has_filer, has_place}
-use Rattle.register_store.specs.Register.{kept_row, filing_rows, filing_rows_by, joined_from, number_of}
-use Rattle.register_store.specs.Schema.{kept_table, filing_table}
-use Rattle.register_store.specs.Store.{IsRegisterOf}
+use Rattle.register_opening.specs.Reads.{by_first}
+use Rattle.register_store.specs.Reads.{has_filer, has_place}
+use Rattle.register_rows.specs.Register.{kept_row, filing_rows, filing_rows_by, joined_from, number_of}
+use Rattle.register_rows.specs.Schema.{kept_table, filing_table}
+use Rattle.register_opening.specs.Registers.{IsRegisterOf}
 use Rattle.register_store.proofs.FiledSteps.{filing_list, filings_step}
 use Rattle.register_store.proofs.FindLemmas.{nothing, placed_from}
 use Rattle.register_store.proofs.ReplaceLemmas.{AreAt, behind, no_kept}

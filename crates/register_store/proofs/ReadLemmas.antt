@@ -6,17 +6,15 @@ use Rattle.sqlite.specs.Term.{col}
 use Rattle.sqlite.specs.State.{State, Shown}
 use Rattle.table_rows.specs.Reading.{ReadsRows}
 use Rattle.table_rows.proofs.ReadingLemmas.{reads_rows}
-use Rattle.register_store.specs.Schema.{common_tables, register_tables, kept_table, filing_table, fact_table, amends_table}
-use Rattle.register_store.specs.Opening.{all_kept, all_amends}
+use Rattle.register_rows.specs.Schema.{common_tables, register_tables, kept_table, filing_table, fact_table, amends_table}
 use Rattle.register_store.specs.Found.{has_seq, unsorted, target_alone}
-use Rattle.register_store.specs.Reads.{Knows, KnowsAll, every, whole, by_first, by_second, has_filer, has_place, has_second, filer_alone, number_alone, second_alone, place_alone, said}
-use Rattle.register_store.proofs.ReadTexts.{columns, equals, places_of, filing_at, place_of_filing, filer_at, number_at, places_with_target, target_at, fact_places, facts_said, asks_kept, asks_places_of, asks_filing_at, asks_place, asks_filer, asks_number, asks_with_target, asks_target, asks_amends, asks_places, asks_said}
+use Rattle.register_opening.specs.Reads.{Knows, KnowsAll, by_first, by_second}
+use Rattle.register_store.specs.Reads.{has_filer, has_place, has_second, filer_alone, number_alone, second_alone, place_alone, said}
+use Rattle.register_opening.proofs.ReadTexts.{columns, equals}
+use Rattle.register_store.proofs.ReadTexts.{places_of, filing_at, place_of_filing, filer_at, number_at, places_with_target, target_at, fact_places, facts_said, asks_places_of, asks_filing_at, asks_place, asks_filer, asks_number, asks_with_target, asks_target, asks_places, asks_said}
 use Rattle.table_rows.specs.Picking.{has_number}
 
 module _ (old new : State) (knows : Knows old) (rows : List Row) where
-  pub reads_kept : Shown all_kept [] old new rows → ReadsRows kept_table every by_first whole rows old new
-  reads_kept h = reads_rows common_tables kept_table all_kept [] (columns (0 ∷ 2 ∷ 3 ∷ 4 ∷ 5 ∷ [])) (col 1 0 ∷ []) asks_kept [] old new knows every (λ _. refl) by_first (λ _. refl) whole (λ _. refl) (λ _. refl) rows h
-
   pub reads_places_of : (filer : List ℕ) → Shown places_of (Text filer ∷ []) old new rows → ReadsRows kept_table (has_filer filer) by_first by_first rows old new
   reads_places_of filer h =
       reads_rows common_tables kept_table places_of (equals 2) (columns (0 ∷ [])) (col 1 0 ∷ []) asks_places_of (Text filer ∷ []) old new knows (has_filer filer) (λ _. refl) by_first (λ _. refl) by_first
@@ -53,9 +51,6 @@ module _ (old new : State) (knows : Knows old) (rows : List Row) where
       said (λ _. refl) (λ _. refl) rows h
 
 module _ (old new : State) (knows : KnowsAll old) (rows : List Row) where
-  pub reads_amends : Shown all_amends [] old new rows → ReadsRows amends_table every by_first whole rows old new
-  reads_amends h = reads_rows register_tables amends_table all_amends [] (columns (0 ∷ 2 ∷ [])) (col 1 0 ∷ []) asks_amends [] old new knows every (λ _. refl) by_first (λ _. refl) whole (λ _. refl) (λ _. refl) rows h
-
   pub reads_with_target : (target : ℕ) → Shown places_with_target (Int (pos target) ∷ []) old new rows → ReadsRows amends_table (has_second target) by_first by_first rows old new
   reads_with_target target h =
       reads_rows register_tables amends_table places_with_target (equals 2) (columns (0 ∷ [])) (col 1 0 ∷ []) asks_with_target (Int (pos target) ∷ []) old new knows (has_second target) (λ _. refl) by_first (λ _. refl)

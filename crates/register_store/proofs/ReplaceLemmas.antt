@@ -17,16 +17,17 @@ use Rattle.table_rows.specs.Rows.{counted_from}
 use Rattle.table_rows.specs.Reading.{RisesBy, ReadsRows}
 use Rattle.table_rows.specs.Standing.{HasCommitted}
 use Rattle.table_rows.proofs.OrderLemmas.{counted_rise, same_number, and_true}
-use Rattle.register_store.specs.Columns.{request_in}
+use Rattle.register_rows.specs.Columns.{request_in}
 use Rattle.register_store.specs.Found.{IsPlaced, IsPlaceOf, has_seq}
-use Rattle.register_store.specs.Reads.{by_first, has_second, second_alone}
+use Rattle.register_opening.specs.Reads.{by_first}
+use Rattle.register_store.specs.Reads.{has_second, second_alone}
 use Rattle.table_rows.specs.Picking.{has_number}
-use Rattle.register_store.specs.Register.{kept_row, filing_rows, filing_rows_by, amends_rows, amends_rows_by, joined_from, number_of}
-use Rattle.register_store.specs.Schema.{kept_table, filing_table, amends_table}
-use Rattle.register_store.specs.Store.{IsRegisterOf}
-use Rattle.register_store.proofs.Filings.{CountFrom, first_counts, none_outside, other_number, own_number}
+use Rattle.register_rows.specs.Register.{kept_row, filing_rows, filing_rows_by, amends_rows, amends_rows_by, joined_from, number_of}
+use Rattle.register_rows.specs.Schema.{kept_table, filing_table, amends_table}
+use Rattle.register_opening.specs.Registers.{IsRegisterOf}
+use Rattle.register_rows.proofs.Filings.{CountFrom, first_counts, none_outside, other_number, own_number}
 use Rattle.register_store.proofs.FindLemmas.{placed_from}
-use Rattle.register_store.proofs.ListLemmas.{amends_rise}
+use Rattle.register_opening.proofs.ListLemmas.{amends_rise}
 
 -- ---- the kept row at a place
 

@@ -10,11 +10,13 @@ use Rattle.xbrl_report.specs.declared.judging.Judged.{Judged}
 use Rattle.filing_model.specs.Request.{Request, has_key}
 use Rattle.filing_model.specs.Register.{Outcome, Kept, is_free, judged, kept, register}
 use Rattle.table_rows.specs.Standing.{HasCommitted}
-use Rattle.register_store.specs.Outcomes.{outcome_of, filings_by}
-use Rattle.register_store.specs.Register.{IsCompleted}
+use Rattle.register_rows.specs.Outcomes.{outcome_of, filings_by}
+use Rattle.register_rows.specs.Register.{IsCompleted}
 use Rattle.register_store.specs.Changes.{AddsRows, Adds, AddsTo}
-use Rattle.register_store.specs.Store.{StoreParts, shows, HasRequests, IsRegisterOf, LeavesRegister}
-use Rattle.register_store.proofs.MoreRequests.{judged_as, registered_more, register_of_more}
+use Rattle.register_store.specs.Store.{StoreParts, shows, HasRequests}
+use Rattle.register_opening.specs.Registers.{IsRegisterOf, LeavesRegister}
+use Rattle.register_rows.proofs.MoreRequests.{judged_as, registered_more}
+use Rattle.register_store.proofs.MoreRequests.{register_of_more}
 
 -- while the store is open, a crash leaves the requests that stand
 pub leaves : (early : ℕ) (F : List Request) (s : State) → HasCommitted (IsRegisterOf early F) s → IsTrue s.is_open → (trees : Trees) → trees ≡ s.committed.trees → LeavesRegister early F trees

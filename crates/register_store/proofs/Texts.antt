@@ -1,10 +1,10 @@
 -- What the texts on the rows mean under the declared tables.
-use Rattle.std.proofs.Common.{◌≡◌, List, [], ◌∷◌, codes, ℕ, refl, pos}
+use Rattle.std.proofs.Common.{◌≡◌, List, [], ◌∷◌, codes, ℕ, refl}
 use Rattle.sqlite.specs.Table.{Table}
 use Rattle.sqlite_schema.specs.declared.schema.Index.{Index}
 use Rattle.sqlite_schema.specs.declared.schema.View.{View}
 use Rattle.sqlite.specs.Schema.{Schema}
-use Rattle.sqlite.specs.declared.types.Value.TheVariants.{Null, Int, Text}
+use Rattle.sqlite.specs.declared.types.Value.TheVariants.{Null}
 use Rattle.sqlite.specs.Term.{lit, col}
 use Rattle.sqlite.specs.Source.TheVariants.{Values}
 use Rattle.sqlite.specs.Command.TheVariants.{Insert}
@@ -12,8 +12,7 @@ use Rattle.sqlite_tied.specs.Compute.{everything}
 use Rattle.sqlite.specs.Listing.{understood}
 use Rattle.sqlite.proofs.Callers.{IsPlain, command_of}
 use Rattle.table_rows.specs.Tables.{schema_with}
-use Rattle.register_store.specs.Making.{insert_meta, insert_none_early}
-use Rattle.register_store.specs.Schema.{register_tables}
+use Rattle.register_rows.specs.Schema.{register_tables}
 
 abbrev pub insert_kept : List ℕ
 insert_kept = codes "INSERT INTO kept VALUES (?1, ?2, ?3, ?4, ?5)"
@@ -53,14 +52,6 @@ module _ (tables : List Table) (indexes : List Index) (views : List View) where
   pub plain_inserts : IsPlain (understood schema insert_kept) × IsPlain (understood schema insert_finding) × IsPlain (understood schema insert_filing) × IsPlain (understood schema insert_fact)
   unfolding understood everything
   plain_inserts = ((refl, refl), (refl, refl), (refl, refl), (refl, refl))
-
-  pub inserts_meta : (command_of (understood schema insert_meta) ≡ Insert 0 (Values (lit (Int (pos 1)) ∷ lit Null ∷ lit (Text (codes "register")) ∷ lit (Int (pos 4)) ∷ []) 4)) × IsPlain (understood schema insert_meta)
-  unfolding understood everything
-  inserts_meta = (refl, (refl, refl))
-
-  pub inserts_none_early : (command_of (understood schema insert_none_early) ≡ Insert 5 (Values (lit (Int (pos 1)) ∷ lit Null ∷ lit (Int (pos 0)) ∷ []) 3)) × IsPlain (understood schema insert_none_early)
-  unfolding understood everything
-  inserts_none_early = (refl, (refl, refl))
 
   pub inserts_amends : (command_of (understood schema insert_amends) ≡ Insert 6 (Values (col 0 0 ∷ lit Null ∷ col 0 1 ∷ []) 3)) × IsPlain (understood schema insert_amends)
   unfolding understood everything

@@ -10,19 +10,20 @@ use Rattle.filing_model.specs.Style.{style_of}
 use Rattle.filing_model.specs.Views.{the_request}
 use Rattle.table_rows.specs.Tables.{no_schema}
 use Rattle.table_rows.specs.Standing.{CommitsNothing}
-use Rattle.register_store.specs.declared.fault.CreateFault.{CreateFault}
-use Rattle.register_store.specs.declared.fault.CreateFault.TheVariants.{Taken}
-use Rattle.register_store.specs.declared.fault.OpenFault.{OpenFault}
+use Rattle.register_opening.specs.declared.fault.CreateFault.{CreateFault}
+use Rattle.register_opening.specs.declared.fault.CreateFault.TheVariants.{Taken}
+use Rattle.register_opening.specs.declared.fault.OpenFault.{OpenFault}
 use Rattle.register_store.specs.declared.fault.StoreFault.{StoreFault}
-use Rattle.register_store.specs.declared.migrate.earlier.Earlier.{Earlier}
+use Rattle.register_opening.specs.declared.migrate.earlier.Earlier.{Earlier}
 use Rattle.register_store.specs.declared.outcome.KeptRow.{KeptRow}
 use Rattle.register_store.specs.declared.outcome.NewRow.{NewRow}
 use Rattle.register_store.specs.declared.outcome.Outcome.{Outcome}
-use Rattle.register_store.specs.Earlier.{IsAlone, IsEarlierOf, ForEarlier}
+use Rattle.register_opening.specs.Earlier.{IsAlone, IsEarlierOf, ForEarlier}
 use Rattle.register_store.specs.Outcomes.{view_outcome, kept_as}
-use Rattle.register_store.specs.Refusals.{GivesUpMaking, GivesUpMigrating, GivesUpOpening}
-use Rattle.register_store.specs.Schema.{is_taken, IsDeclared}
-use Rattle.register_store.specs.Store.{StoreParts, shows, ForNew, ForRequests, ForRows, HandsOut, HasRequests, IsDurableAs, IsRegisterOf, LeavesRegister, SurvivesAs}
+use Rattle.register_opening.specs.Refusals.{GivesUpMaking, GivesUpMigrating, GivesUpOpening}
+use Rattle.register_rows.specs.Schema.{is_taken, IsDeclared}
+use Rattle.register_store.specs.Store.{StoreParts, shows, ForNew, ForRequests, HandsOut, HasRequests, IsDurableAs, SurvivesAs}
+use Rattle.register_opening.specs.Registers.{ForRows, IsRegisterOf, LeavesRegister}
 
 -- ---- a store is handed out
 

@@ -11,16 +11,12 @@ use Rattle.sqlite.specs.Effect.{Database, IsDatabase}
 use Rattle.sqlite.specs.State.{State, HasCleanDisk, Survives}
 use Rattle.key_string.specs.Key.{IsKey}
 use Rattle.filing_model.specs.Register.{Kept}
-use Rattle.table_rows.specs.Rows.{GainsInside}
 use Rattle.table_rows.specs.Standing.{CommitsNothing, IsLasting, StaysCommitted}
 use Rattle.register_store.specs.declared.outcome.NewRow.{NewRow}
 use Rattle.register_store.specs.Outcomes.{kept_new}
-use Rattle.register_store.specs.Schema.{IsDeclared, register_tables}
-use Rattle.register_store.specs.Register.{HasRows, kept_row, finding_rows, filing_rows, fact_rows, amends_rows}
-
--- a table of ours gains these rows inside a transaction, and the others stay
-abbrev pub GainsRows : Table → List Row → State → State → Type 0
-GainsRows = GainsInside register_tables
+use Rattle.register_rows.specs.Schema.{IsDeclared}
+use Rattle.register_rows.specs.Register.{HasRows, kept_row, finding_rows, filing_rows, fact_rows, amends_rows}
+use Rattle.register_opening.specs.Gains.{GainsRows, AddsNothing}
 
 -- the tables gain the rows of the kept request at this place, whatever their rows were
 pub record AddsRows (seq : ℕ) (k : Kept) (old new : Database) : Type 0 where
@@ -46,12 +42,6 @@ pub record AddsTo (seq : ℕ) (k : Kept) (old : Database) (trees : Trees) : Type
   pub db : Database
   pub adds : AddsRows seq k old db
   pub is : trees ≡ db.trees
-
--- nothing was written: while the store is open, it is as the last commit left it
-pub record AddsNothing (old new : State) : Type 0 where
-  pub was_open : IsTrue new.is_open → IsTrue old.is_open
-  pub now : IsTrue new.is_open → new.now ≡ old.committed
-  pub committed : IsTrue new.is_open → new.committed ≡ old.committed
 
 -- What the writing of one row inside a transaction does.
 pub record InsertsRow {S : Type 0} (g : Ghosts S) (table : Table) (row : Row) (old new : MutBor (Held S)) (result : Result (Unit {0}) Error) : Type 0 where

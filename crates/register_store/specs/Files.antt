@@ -16,7 +16,7 @@ use Rattle.filing_model.specs.Request.{Request}
 use Rattle.table_rows.specs.Files.{HoldsDatabase, AreUsable}
 use Rattle.register_store.specs.Faults.{store_fault}
 use Rattle.register_store.specs.declared.fault.StoreFault.{StoreFault}
-use Rattle.register_store.specs.Store.{IsRegisterOf}
+use Rattle.register_opening.specs.Registers.{IsRegisterOf}
 
 -- the files hold the register of these requests, in the database file alone as well, and can be opened
 pub record HoldRegister {D : Type 0} (g : Ghosts D) (files : Files D) (early : ℕ) (F : List Request) : Type 0 where

@@ -1,7 +1,7 @@
 -- What the look-ups of a request's rows find.
 use Rattle.std.specs.Prelude.{◌≡◌, ◌⊎◌, ◌&&◌, ◌+◌, ℕ, ℤ, pos, Bool, true, false, nat_eq, find, take, unwrap_or, option_map, ◌≢◌, List, [], ◌∷◌, Option, None, Some, Result, IfOk, IfSome}
 use Rattle.sqlite.specs.declared.types.Value.{Value}
-use Rattle.sqlite.specs.declared.types.Value.TheVariants.{Int, Text, Blob}
+use Rattle.sqlite.specs.declared.types.Value.TheVariants.{Int, Blob}
 use Rattle.sqlite.specs.Order.{Row, column}
 use Rattle.sqlite.specs.Store.{Ghosts}
 use Rattle.sqlite.specs.Held.{Held, state}
@@ -24,14 +24,11 @@ use Rattle.table_rows.specs.Standing.{HasCommitted, CommitsNothing, StaysAutocom
 use Rattle.register_store.specs.declared.fault.StoreFault.{StoreFault}
 use Rattle.register_store.specs.declared.outcome.KeptRow.{KeptRow}
 use Rattle.register_store.specs.declared.select.found.FoundRow.{FoundRow}
-use Rattle.register_store.specs.Columns.{bytes_in}
+use Rattle.register_rows.specs.Columns.{bytes_in}
 use Rattle.register_store.specs.Outcomes.{kept_as}
-use Rattle.register_store.specs.Register.{number_of}
-use Rattle.register_store.specs.Store.{IsRegisterOf, AnswersOpen, KeepsRegister, ForRegister}
-
--- the columns `filer` and `idem` of `kept` equal these texts, as SQL compares
-abbrev pub has_texts : List ℕ → List ℕ → Row → Bool
-has_texts filer key row = is_true (binary (Compare Eq Binary) (column row 1) (Text filer)) && (is_true (binary (Compare Eq Binary) (column row 2) (Text key)) && true)
+use Rattle.register_rows.specs.Register.{number_of}
+use Rattle.register_opening.specs.Registers.{IsRegisterOf}
+use Rattle.register_store.specs.Store.{AnswersOpen, KeepsRegister, ForRegister}
 
 -- the column `seq` of `finding` or of `amends` equals this number, as SQL compares
 abbrev pub has_seq : ℤ → Row → Bool

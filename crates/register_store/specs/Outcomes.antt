@@ -1,7 +1,6 @@
 -- Outcomes and kept rows without where they lie in memory.
 use Rattle.std.specs.Prelude.{ℕ, List, nat_le, if◌then◌else◌}
-use Rattle.xbrl_report.specs.declared.judging.Judged.{Judged}
-use Rattle.xbrl_report.specs.declared.judging.Judged.TheVariants.{Valid, Refused}
+use Rattle.xbrl_report.specs.declared.judging.Judged.TheVariants.{Refused}
 use Rattle.filing_model.specs.declared.served.Style.{Style}
 use Rattle.filing_model.specs.declared.served.Style.TheVariants.{Old, Problem}
 use Rattle.filing_model.specs.Register.{Outcome, Kept}
@@ -9,6 +8,7 @@ use Rattle.filing_model.specs.Views.{the_request}
 use Rattle.register_store.specs.declared.outcome.Outcome.{Outcome as Stored}
 use Rattle.register_store.specs.declared.outcome.KeptRow.{KeptRow}
 use Rattle.register_store.specs.declared.outcome.NewRow.{NewRow}
+use Rattle.register_rows.specs.Outcomes.{outcome_of}
 
 -- an outcome
 abbrev pub view_outcome : Stored → Outcome
@@ -19,19 +19,9 @@ view_outcome (Stored.Refused findings) = Outcome.Refused findings
 abbrev pub kept_as : List ℕ → List ℕ → KeptRow → Kept
 kept_as filer key row = record { request = the_request filer key row.target row.body; outcome = view_outcome row.outcome }
 
--- what becomes of a report that was judged so, where the next filing has this number
-abbrev pub outcome_of : ℕ → Judged → Outcome
-outcome_of number (Valid report) = Outcome.Registered number
-outcome_of number (Refused findings) = Outcome.Refused findings
-
 -- what is kept of a request that was judged so, where the next filing has this number
 abbrev pub kept_new : ℕ → NewRow → Kept
 kept_new number row = record { request = the_request row.filer.now row.key.now row.target row.body.now; outcome = outcome_of number row.judged.now }
-
--- how many filings an outcome is
-abbrev pub filings_by : Outcome → ℕ
-filings_by (Outcome.Registered number) = 1
-filings_by (Outcome.Refused findings) = 0
 
 -- the style in which the kept request at this place is answered, where the first so many were kept before there were problem details
 abbrev pub style_at : ℕ → ℕ → Style

@@ -1,33 +1,11 @@
 -- What the SELECTs of a register read.
-use Rattle.std.specs.Prelude.{Bool, true, pos, ℕ, ℤ, ◌&&◌, List, [], ◌∷◌, IsTrue}
+use Rattle.std.specs.Prelude.{Bool, true, pos, ℕ, ℤ, ◌&&◌, List, [], ◌∷◌}
 use Rattle.sqlite.specs.declared.types.Value.TheVariants.{Int, Text}
 use Rattle.sqlite.specs.Collation.TheVariants.{Binary}
 use Rattle.sqlite.specs.Order.{Row, column}
 use Rattle.sqlite.specs.Ops.{binary, is_true}
 use Rattle.sqlite_sql.specs.declared.ops.BinaryOp.TheVariants.{Compare}
 use Rattle.sqlite_sql.specs.declared.ops.CompareOp.TheVariants.{Eq}
-use Rattle.sqlite.specs.State.{State}
-use Rattle.register_store.specs.Schema.{IsDeclared, HasCommon}
-
--- while the connection is open, the tables of every form are declared as ours
-abbrev pub Knows : State → Type 0
-Knows s = IsTrue s.is_open → HasCommon s.now.schema
-
--- so is `amends`
-abbrev pub KnowsAll : State → Type 0
-KnowsAll s = IsTrue s.is_open → IsDeclared s.now.schema
-
-abbrev pub every : Row → Bool
-every _ = true
-
-abbrev pub whole : Row → Row
-whole row = row
-
-abbrev pub by_first : Row → Row
-by_first row = column row 0 ∷ []
-
-abbrev pub by_second : Row → Row
-by_second row = column row 1 ∷ []
 
 -- the second column equals this number, as SQL compares
 abbrev pub has_second : ℕ → Row → Bool

@@ -3,7 +3,6 @@ use Rattle.std.specs.Prelude.{◌≡◌, ◌≤◌, ◌^◌, ℕ, false, List, l
 use Rattle.std.specs.Coded.{Coded, code_by, coded×, coded_ℕ}
 use Rattle.sqlite.specs.Store.{Ghosts}
 use Rattle.sqlite.specs.Held.{Held, held_code, state}
-use Rattle.sqlite.specs.Effect.{Database, IsDatabase}
 use Rattle.sqlite.specs.State.{State, HasCleanDisk, Survives}
 use Rattle.sqlite.specs.Tree.{Trees}
 use Rattle.xbrl_report.specs.declared.judging.Judged.{Judged}
@@ -11,7 +10,7 @@ use Rattle.xbrl_report.specs.Judgement.{IsAmendmentJudgement}
 use Rattle.filing_model.specs.Request.{Request, has_key}
 use Rattle.filing_model.specs.Register.{is_free, register}
 use Rattle.table_rows.specs.Standing.{HasCommitted}
-use Rattle.register_store.specs.Register.{StandsFor}
+use Rattle.register_opening.specs.Registers.{IsRegisterOf, LeavesOnly}
 
 -- a connection, how many requests are kept, how many of them are filings, and how many were kept before there were problem details
 pub record StoreParts (S : Type 0) : Type 0 where
@@ -37,12 +36,6 @@ pub record IsIdle {S : Type 0} (conn : Held S) (kept filings early : ℕ) : Type
 abbrev pub shows : {S : Type 0} → Ghosts S → StoreParts S → State
 shows g store = state g store.conn
 
--- a database, as SQLite's files have one, whose rows stand for these requests, the first `early` of them kept before there were
--- problem details
-pub record IsRegisterOf (early : ℕ) (F : List Request) (db : Database) : Type 0 where
-  pub sound : IsDatabase db
-  pub rows : StandsFor db early F
-
 -- While it is open, the store's rows stand for these requests, and are committed. One that a fault of the disk shut says
 -- nothing of its rows.
 pub record HasRequests {S : Type 0} (g : Ghosts S) (store : StoreParts S) (F : List Request) : Type 0 where
@@ -50,12 +43,6 @@ pub record HasRequests {S : Type 0} (g : Ghosts S) (store : StoreParts S) (F : L
   pub kept_is : store.kept ≡ length F
   pub filings_is : store.filings ≡ length (register F)
   pub within : store.early ≤ length F
-
--- an open after a crash that left these trees finds the rows of these requests
-pub record LeavesRegister (early : ℕ) (F : List Request) (trees : Trees) : Type 0 where
-  pub db : Database
-  pub is : trees ≡ db.trees
-  pub register : IsRegisterOf early F db
 
 -- Where the disk is clean at the end, the rows that stood for requests stand for them still, and are committed.
 abbrev pub KeepsRegister : State → State → Type 0
@@ -73,10 +60,6 @@ AnswersOpen old new result = HasCleanDisk new → (early : ℕ) (F : List Reques
 abbrev pub ForRequests : {S : Type 0} → Ghosts S → StoreParts S → StoreParts S → (List Request → Type 0) → Type 0
 ForRequests g old new Holds = HasCleanDisk (shows g new) → (F : List Request) → HasRequests g old F → Holds F
 
--- Whatever requests the rows stand for, this holds of them.
-abbrev pub ForRows : {S : Type 0} → Ghosts S → Held S → (ℕ → List Request → Type 0) → Type 0
-ForRows g conn Holds = (early : ℕ) (F : List Request) → IsRegisterOf early F (state g conn).now → Holds early F
-
 -- This holds of the store that a call hands out, where its disk is clean.
 abbrev pub HandsOut : {S E : Type 0} → Ghosts S → Result (StoreParts S) E → (StoreParts S → Type 0) → Type 0
 HandsOut g result Holds = IfOk result (λ store. HasCleanDisk (shows g store) → Holds store)
@@ -85,10 +68,6 @@ HandsOut g result Holds = IfOk result (λ store. HasCleanDisk (shows g store) �
 -- is free after them, this holds of the request.
 abbrev pub ForNew : List Request → Request → Judged → (Request → Type 0) → Type 0
 ForNew F r judged Holds = has_key F r ≡ false → IsAmendmentJudgement r.filer r.body (is_free (register F) r.filer r.target) judged → Holds r
-
--- a crash now leaves the rows of these requests, and no others
-abbrev pub LeavesOnly : State → ℕ → List Request → Type 0
-LeavesOnly s early F = (trees : Trees) → s.may_leave trees → LeavesRegister early F trees
 
 -- it is open, and a crash now leaves the rows of these requests, and no others
 abbrev pub IsDurableAs : {S : Type 0} → Ghosts S → StoreParts S → ℕ → List Request → Type 0

@@ -1,5 +1,4 @@
-//! How rows read as requests, filings and facts, and are held against values.
+//! How rows read as requests, filings and facts.
 
-pub(crate) mod cells;
 pub(crate) mod completed;
 pub(crate) mod facts;

@@ -3,7 +3,7 @@
 ghost use Rattle.std.specs.Prelude.{◌≡◌, IfOk};
 ghost use Rattle.sqlite_value.specs.Value.{owned};
 ghost use Rattle.sqlite.specs.Order.{column};
-ghost use Rattle.register_store.specs.Columns.{bytes_in};
+ghost use Rattle.register_rows.specs.Columns.{bytes_in};
 
 use crate::fault::StoreFault;
 use sqlite::Row;
@@ -19,7 +19,7 @@ pub struct KeptBody {
 impl Model for KeptBody {
     ghost use Rattle.std.specs.Prelude.{ℕ, List};
     ghost use Rattle.sqlite.specs.Order.{column};
-    ghost use Rattle.register_store.specs.Columns.{bytes_in};
+    ghost use Rattle.register_rows.specs.Columns.{bytes_in};
 
     ghost Value = { List ℕ };
 

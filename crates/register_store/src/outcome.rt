@@ -1,7 +1,8 @@
 //! What becomes of the first request of a filer and key, and what is kept of it.
 
 ghost use Rattle.std.specs.Prelude.{◌≡◌, IfOk};
-ghost use Rattle.register_store.specs.Outcomes.{view_outcome, outcome_of, filings_by};
+ghost use Rattle.register_store.specs.Outcomes.{view_outcome};
+ghost use Rattle.register_rows.specs.Outcomes.{outcome_of, filings_by};
 
 use crate::kept_body::KeptBody;
 use filing_model::Style;

@@ -8,12 +8,13 @@ ghost use Rattle.sqlite.specs.State.{HasCleanDisk};
 ghost use Rattle.table_rows.specs.Rows.{counted_from};
 ghost use Rattle.table_rows.specs.Reading.{ReadsRows};
 ghost use Rattle.table_rows.specs.Standing.{Keeps, CommitsNothing, StaysAutocommit, StaysCommitted};
-ghost use Rattle.register_store.specs.Reads.{Knows, KnowsAll, by_second};
-ghost use Rattle.register_store.specs.Found.{has_texts, has_seq, unsorted, found_in, pair_in, target_alone};
-ghost use Rattle.register_store.specs.Schema.{kept_table, finding_table, filing_table, fact_table, amends_table};
+ghost use Rattle.register_opening.specs.Reads.{Knows, KnowsAll, by_second, has_texts};
+ghost use Rattle.register_store.specs.Found.{has_seq, unsorted, found_in, pair_in, target_alone};
+ghost use Rattle.register_rows.specs.Schema.{kept_table, finding_table, filing_table, fact_table, amends_table};
 ghost use Rattle.key_string.specs.Key.{IsKey};
-ghost use Rattle.register_store.specs.Changes.{GainsRows, InsertsRow};
-ghost use Rattle.register_store.specs.Register.{finding_row, fact_row};
+ghost use Rattle.register_opening.specs.Gains.{GainsRows};
+ghost use Rattle.register_store.specs.Changes.{InsertsRow};
+ghost use Rattle.register_rows.specs.Register.{finding_row, fact_row};
 
 use crate::outcome::NewRow;
 use sqlite::{Alter, Connection, Error, Row, Transaction, params};

@@ -3,6 +3,5 @@
 pub(crate) mod counts;
 pub(crate) mod found;
 pub(crate) mod lists;
-pub(crate) mod picks;
 pub(crate) mod reads;
 pub(crate) mod replaceable;

@@ -9,15 +9,14 @@ ghost use Rattle.register_store.specs.Calls.{AddsRequest, CreatesStore, FindsRow
 
 pub(crate) mod files;
 
-use crate::fault::{CreateFault, OpenFault, StoreFault};
-use crate::migrate::migrate_register;
-use crate::opening::watch::Unwatched;
-use crate::opening::{Counts, read_register};
+use crate::fault::StoreFault;
 use crate::outcome::{KeptRow, NewRow, Outcome};
-use crate::schema::create::make_register;
 use crate::select::found::find_kept;
 use crate::write::keep;
 use key_string::KeyText;
+use register_opening::{
+    Counts, CreateFault, OpenFault, Unwatched, make_register, migrate_register, read_register,
+};
 use sqlite::{Alter, Connection};
 use std::alloc::Global;
 use std::marker::Model;

@@ -9,7 +9,7 @@ ghost use Rattle.xbrl_report.specs.Judgement.{HasFacts};
 ghost use Rattle.xbrl_report.specs.ReportParts.{facts as facts_of};
 ghost use Rattle.filing_model.specs.Register.{Outcome};
 ghost use Rattle.filing_model.specs.Views.{the_request};
-ghost use Rattle.register_store.specs.Outcomes.{outcome_of};
+ghost use Rattle.register_rows.specs.Outcomes.{outcome_of};
 ghost use Rattle.register_store.specs.Changes.{AddsInside, KeepsRequest};
 ghost use Rattle.table_rows.specs.Standing.{CommitsNothing, StaysCommitted};
 

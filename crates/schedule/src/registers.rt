@@ -10,7 +10,7 @@ ghost use Rattle.filing_model.specs.Stopping.{ServesUntil};
 ghost use Rattle.filing_model.specs.Text.{completed};
 ghost use Rattle.sqlite.specs.Files.{over_files};
 ghost use Rattle.sqlite.specs.Held.{state};
-ghost use Rattle.register_store.specs.Store.{IsRegisterOf};
+ghost use Rattle.register_opening.specs.Registers.{IsRegisterOf};
 ghost use Rattle.register_store.specs.Files.{HoldRegister};
 ghost use Rattle.intake_core.specs.Held.{limit_of, early_of};
 ghost use Rattle.gateway_server.specs.Stopping.{view_stop};

@@ -4,11 +4,11 @@ ghost use Rattle.std.specs.Prelude.{◌≡◌, List, map, option_map, IfOk};
 ghost use Rattle.filing_model.specs.Register.{Kept, filings};
 ghost use Rattle.sqlite.specs.Order.{column};
 ghost use Rattle.table_rows.specs.Rows.{counted_from};
-ghost use Rattle.register_store.specs.Register.{kept_row, amends_rows, joined_from};
-ghost use Rattle.register_store.specs.Columns.{request_in, number_in};
+ghost use Rattle.register_rows.specs.Register.{kept_row, amends_rows, joined_from};
+ghost use Rattle.register_rows.specs.Columns.{request_in, number_in};
 
 use crate::fault::StoreFault;
-use crate::opening::segments::target_of;
+use register_rows::target_of;
 use sqlite::Row;
 use std::alloc::Global;
 use std::marker::Model;

@@ -2,7 +2,7 @@
 
 ghost use Rattle.std.specs.Prelude.{◌≡◌, map, option_map, string_bytes, IfOk};
 ghost use Rattle.sqlite.specs.Order.{column};
-ghost use Rattle.register_store.specs.Columns.{bytes_in, maybe_bytes_in, fact_in};
+ghost use Rattle.register_rows.specs.Columns.{bytes_in, maybe_bytes_in, fact_in};
 
 use crate::fault::StoreFault;
 use sqlite::Row;

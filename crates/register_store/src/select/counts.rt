@@ -13,8 +13,9 @@ ghost use Rattle.table_rows.specs.Standing.{CommitsNothing, StaysAutocommit};
 ghost use Rattle.register_store.specs.Found.{IsPlaced};
 ghost use Rattle.register_store.specs.Numbered.{facts_numbered};
 ghost use Rattle.register_store.specs.Own.{own_filings, own_of};
-ghost use Rattle.register_store.specs.Reads.{by_first, has_filer};
-ghost use Rattle.register_store.specs.Register.{kept_row, filing_rows_by, number_of};
+ghost use Rattle.register_opening.specs.Reads.{by_first};
+ghost use Rattle.register_store.specs.Reads.{has_filer};
+ghost use Rattle.register_rows.specs.Register.{kept_row, filing_rows_by, number_of};
 ghost use Rattle.register_store.specs.Store.{AnswersOpen, KeepsRegister, ForRegister};
 
 use crate::fault::StoreFault;

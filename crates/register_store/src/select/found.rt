@@ -6,9 +6,10 @@ ghost use Rattle.sqlite.specs.State.{HasCleanDisk};
 ghost use Rattle.filing_model.specs.Request.{Request};
 ghost use Rattle.filing_model.specs.Register.{Kept, kept};
 ghost use Rattle.table_rows.specs.Standing.{HasCommitted, CommitsNothing, StaysAutocommit};
-ghost use Rattle.register_store.specs.Register.{amends_rows_by, findings_of, number_of};
+ghost use Rattle.register_rows.specs.Register.{amends_rows_by, findings_of, number_of};
 ghost use Rattle.xbrl_report.specs.CodeNumber.{number_of as code_number};
-ghost use Rattle.register_store.specs.Store.{IsRegisterOf, AnswersOpen, KeepsRegister, ForRegister};
+ghost use Rattle.register_opening.specs.Registers.{IsRegisterOf};
+ghost use Rattle.register_store.specs.Store.{AnswersOpen, KeepsRegister, ForRegister};
 ghost use Rattle.register_store.specs.Outcomes.{kept_as, style_at};
 ghost use Rattle.register_store.specs.Found.{FindsKept, IsFound, IsLookUp, IsPlaced, IsReading, found_row, finding_in, target_alone};
 

@@ -8,9 +8,10 @@ ghost use Rattle.filing_model.specs.Register.{kept, register};
 ghost use Rattle.sqlite.specs.Held.{state};
 ghost use Rattle.table_rows.specs.Rows.{counted_from};
 ghost use Rattle.table_rows.specs.Standing.{CommitsNothing, StaysAutocommit};
-ghost use Rattle.register_store.specs.Register.{kept_row, amends_rows, joined_from};
+ghost use Rattle.register_rows.specs.Register.{kept_row, amends_rows, joined_from};
 ghost use Rattle.register_store.specs.Numbered.{facts_numbered};
-ghost use Rattle.register_store.specs.Store.{shows, HasRequests, AnswersOpen, KeepsRegister, ForRequests, IsDurableAs, LeavesOnly, ForRegister};
+ghost use Rattle.register_store.specs.Store.{shows, HasRequests, AnswersOpen, KeepsRegister, ForRequests, IsDurableAs, ForRegister};
+ghost use Rattle.register_opening.specs.Registers.{LeavesOnly};
 
 use crate::decode::completed::{Completed, Registered, read_filings, read_requests};
 use crate::decode::facts::read_facts;
@@ -19,6 +20,7 @@ use crate::select::counts::filings_of;
 use crate::select::reads;
 use crate::store::Store;
 use filing_model::FilingRow;
+use register_opening::{amends_rows, kept_rows};
 use sqlite::{Alter, Connection, Row};
 use xbrl_report::Fact;
 
@@ -39,8 +41,8 @@ fn read_both<S: Alter>(conn: &mut Connection<S>) -> Result<Both, StoreFault>
     ensures mode { StaysAutocommit conn.old conn.new }
     ensures survives { CommitsNothing (state S.Store conn.old) (state S.Store conn.new) }
 {
-    match reads::kept_rows(conn) {
-        Ok(kept) => match reads::amends_rows(conn) {
+    match kept_rows(conn) {
+        Ok(kept) => match amends_rows(conn) {
             Ok(amends) => Ok(Both { kept, amends }),
             Err(error) => Err(StoreFault::from(error)),
         },

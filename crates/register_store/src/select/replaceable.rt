@@ -6,17 +6,18 @@ ghost use Rattle.filing_model.specs.Register.{Kept, is_amendment_of, is_filing_o
 ghost use Rattle.sqlite.specs.Held.{state};
 ghost use Rattle.table_rows.specs.Standing.{CommitsNothing, StaysAutocommit};
 ghost use Rattle.register_store.specs.Found.{IsPlaced, IsPlaceOf};
-ghost use Rattle.register_store.specs.Reads.{by_first, has_second};
-ghost use Rattle.register_store.specs.Register.{amends_rows, joined_from, number_of};
+ghost use Rattle.register_opening.specs.Reads.{by_first};
+ghost use Rattle.register_store.specs.Reads.{has_second};
+ghost use Rattle.register_rows.specs.Register.{amends_rows, joined_from, number_of};
 ghost use Rattle.sqlite.specs.declared.types.Value.TheVariants.{Int, Text};
 ghost use Rattle.sqlite.specs.Values.{or_null};
 ghost use Rattle.register_store.specs.Store.{shows, HasRequests, AnswersOpen, KeepsRegister, ForRequests, IsDurableAs, ForRegister};
 
 use crate::fault::StoreFault;
-use crate::opening::audit::text_at;
 use crate::select::counts::MAX_NUMBER;
 use crate::select::reads;
 use crate::store::Store;
+use register_rows::text_at;
 use sqlite::{Alter, Connection, Row};
 
 /// The place in the one column of the first row, if there is a row.

@@ -4,9 +4,9 @@ use Rattle.sqlite.specs.Held.{state}
 use Rattle.sqlite.specs.State.{HasCleanDisk}
 use Rattle.table_rows.specs.Rows.{counted_from}
 use Rattle.table_rows.proofs.StepLemmas.{begins, goes_on, keeps_then, nothing_left, nothing_yet, counted_more}
-use Rattle.register_store.specs.Schema.{register_tables, finding_table}
-use Rattle.register_store.specs.Changes.{GainsRows}
-use Rattle.register_store.specs.Register.{finding_row}
+use Rattle.register_rows.specs.Schema.{register_tables, finding_table}
+use Rattle.register_opening.specs.Gains.{GainsRows}
+use Rattle.register_rows.specs.Register.{finding_row}
 use Rattle.register_store.proofs.rows.insert_findings.Goals as goal
 
 pub findings-preserved : goal.findings-preserved

@@ -2,9 +2,9 @@ use Rattle.std.proofs.Common.{◌≡◌, take, IsTrue}
 use Rattle.sqlite.specs.Held.{state}
 use Rattle.sqlite.specs.State.{HasCleanDisk, KeepsCommit, Survives}
 use Rattle.table_rows.specs.Rows.{counted_from}
-use Rattle.register_store.specs.Schema.{finding_table}
-use Rattle.register_store.specs.Changes.{GainsRows}
-use Rattle.register_store.specs.Register.{finding_row}
+use Rattle.register_rows.specs.Schema.{finding_table}
+use Rattle.register_opening.specs.Gains.{GainsRows}
+use Rattle.register_rows.specs.Register.{finding_row}
 use Rattle.register_store.proofs.rows.insert_findings.Given as goal
 
 -- the rows of the first ones are gained

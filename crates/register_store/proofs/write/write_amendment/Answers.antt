@@ -2,7 +2,7 @@ use Rattle.std.proofs.Common.{arith}
 use Rattle.std.proofs.lemmas.Result.{IfOk-weaker}
 use Rattle.sqlite.specs.Held.{state}
 use Rattle.sqlite.specs.State.{HasCleanDisk}
-use Rattle.register_store.specs.Outcomes.{outcome_of}
+use Rattle.register_rows.specs.Outcomes.{outcome_of}
 use Rattle.register_store.proofs.Adding.{adds_amends}
 use Rattle.register_store.proofs.write.write_amendment.Goals as goal
 

@@ -1,5 +1,5 @@
 use Rattle.std.proofs.Common.{subst, sym}
-use Rattle.register_store.specs.Store.{IsRegisterOf}
+use Rattle.register_opening.specs.Registers.{IsRegisterOf}
 use Rattle.schedule.proofs.registers.intake_in.Goals as goal
 
 pub returns-clause-opened : goal.returns-clause-opened

@@ -11,7 +11,8 @@ use Rattle.filing_model.specs.Views.{the_request}
 use Rattle.filing_model.proofs.Answers.{answer_kept}
 use Rattle.filing_model.proofs.Keeping.{kept_has_key}
 use Rattle.register_store.specs.Outcomes.{kept_as}
-use Rattle.register_store.specs.Store.{shows, LeavesRegister}
+use Rattle.register_store.specs.Store.{shows}
+use Rattle.register_opening.specs.Registers.{LeavesRegister}
 use Rattle.intake_core.specs.Answered.{IsAnswerTo}
 use Rattle.intake_core.specs.Held.{early_of, early_in}
 use Rattle.intake_core.proofs.Deciding.{has_key-none, firsts-more, HoldsRequests-asked, HoldsRequests-repeat, HoldsRequests-new}

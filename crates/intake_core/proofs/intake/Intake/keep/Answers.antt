@@ -2,7 +2,7 @@ use Rattle.std.proofs.Common.{◌++◌, ◌∷◌, [], subst}
 use Rattle.sqlite.proofs.StateLemmas.{survives_then}
 use Rattle.filing_model.specs.Request.{Request}
 use Rattle.filing_model.specs.Views.{the_request}
-use Rattle.register_store.specs.Store.{LeavesRegister}
+use Rattle.register_opening.specs.Registers.{LeavesRegister}
 use Rattle.intake_core.specs.Held.{shows}
 use Rattle.intake_core.proofs.intake.Intake.keep.Goals as goal
 

@@ -4,7 +4,8 @@ use Rattle.sqlite.proofs.StateLemmas.{survives_weaker}
 use Rattle.filing_model.specs.Request.{Request, firsts}
 use Rattle.filing_model.specs.Views.{the_request}
 use Rattle.filing_model.proofs.Firsts.{firsts_repeat}
-use Rattle.register_store.specs.Store.{shows, LeavesRegister}
+use Rattle.register_store.specs.Store.{shows}
+use Rattle.register_opening.specs.Registers.{LeavesRegister}
 use Rattle.register_store.proofs.StoreLemmas.{leaves}
 use Rattle.intake_core.specs.Held.{HoldsRequests, early_of}
 use Rattle.intake_core.proofs.Deciding.{HoldsRequests-repeat}

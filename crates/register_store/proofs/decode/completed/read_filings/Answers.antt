@@ -1,9 +1,9 @@
 use Rattle.std.proofs.Common.{◌≡◌, ◌<◌, ◌≤◌, ◌+◌, ◌∷◌, ◌++◌, [], append-nil, suc, length, drop, take, get_or, ap, subst, sym, ◌∙◌, arith}
 use Rattle.filing_model.specs.Register.{filings}
 use Rattle.table_rows.specs.Rows.{counted_from}
-use Rattle.register_store.specs.Register.{kept_row, amends_rows, joined_from}
+use Rattle.register_rows.specs.Register.{kept_row, amends_rows, joined_from}
 use Rattle.register_store.proofs.FiledSteps.{filing_list, filing_read, filings_step}
-use Rattle.register_store.proofs.StepsOfTargets.{step, all_taken}
+use Rattle.register_rows.proofs.StepsOfTargets.{step, all_taken}
 use Rattle.register_store.proofs.decode.completed.read_filings.Goals.{in-Some+in_ok-push, in_default}
 use Rattle.register_store.proofs.decode.completed.read_filings.Goals as goal
 

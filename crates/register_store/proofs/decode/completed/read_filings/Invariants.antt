@@ -1,7 +1,7 @@
 use Rattle.std.proofs.Common.{◌≡◌, ◌+◌, List, take, drop}
 use Rattle.filing_model.specs.Register.{Kept, filings}
 use Rattle.table_rows.specs.Rows.{counted_from}
-use Rattle.register_store.specs.Register.{kept_row, amends_rows, joined_from}
+use Rattle.register_rows.specs.Register.{kept_row, amends_rows, joined_from}
 use Rattle.register_store.proofs.decode.completed.read_filings.Given as goal
 
 abbrev pub invariant-loop-at : goal.invariant-loop-at

@@ -1,8 +1,8 @@
 use Rattle.std.proofs.Common.{◌≡◌, ◌<◌, ◌≤◌, ◌+◌, suc, length, map, drop, get_or, ap, subst, ◌∙◌, arith}
 use Rattle.filing_model.specs.Register.{Kept}
 use Rattle.table_rows.specs.Rows.{counted_from}
-use Rattle.register_store.specs.Register.{kept_row, amends_rows, joined_from}
-use Rattle.register_store.proofs.StepsOfTargets.{step, requests_step, all_taken}
+use Rattle.register_rows.specs.Register.{kept_row, amends_rows, joined_from}
+use Rattle.register_rows.proofs.StepsOfTargets.{step, requests_step, all_taken}
 use Rattle.register_store.proofs.decode.completed.read_requests.Goals as goal
 
 pub loop-at-preserved : goal.loop-at-preserved

@@ -1,5 +1,5 @@
 use Rattle.std.proofs.Common.{◌≡◌, map, take}
-use Rattle.register_store.specs.Columns.{fact_in}
+use Rattle.register_rows.specs.Columns.{fact_in}
 use Rattle.register_store.proofs.decode.facts.read_facts.Given as goal
 
 abbrev pub invariant-loop-row : goal.invariant-loop-row

@@ -13,7 +13,7 @@ use Rattle.table_rows.proofs.StepLemmas.{nothing_left}
 use Rattle.register_store.specs.declared.select.counts.Own.{Own}
 use Rattle.register_store.specs.Numbered.{facts_numbered}
 use Rattle.register_store.specs.Own.{own_filings, own_of}
-use Rattle.register_store.proofs.Filings.{no_filing}
+use Rattle.register_rows.proofs.Filings.{no_filing}
 use Rattle.register_store.proofs.OwnLemmas.{facts_own, listings_own, no_own}
 use Rattle.register_store.proofs.select.counts.list_each.Goals as goal
 

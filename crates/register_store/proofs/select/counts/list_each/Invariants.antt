@@ -8,7 +8,7 @@ use Rattle.filing_model.specs.Request.{Request}
 use Rattle.filing_model.specs.Views.{view_row}
 use Rattle.table_rows.specs.Standing.{HasCommitted}
 use Rattle.register_store.specs.Own.{own_filings, own_of}
-use Rattle.register_store.specs.Store.{IsRegisterOf}
+use Rattle.register_opening.specs.Registers.{IsRegisterOf}
 use Rattle.register_store.proofs.select.counts.list_each.Given as goal
 
 abbrev pub invariant-loop-filing : goal.invariant-loop-filing

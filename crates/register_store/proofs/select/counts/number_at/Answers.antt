@@ -3,8 +3,9 @@ use Rattle.std.proofs.lemmas.Int.{to_z-of_z}
 use Rattle.std.proofs.lemmas.Result.{IfOk-weaker}
 use Rattle.sqlite.specs.Held.{state}
 use Rattle.table_rows.specs.Reading.{ReadsRows}
-use Rattle.register_store.specs.Reads.{by_first, has_place}
-use Rattle.register_store.specs.Schema.{filing_table}
+use Rattle.register_opening.specs.Reads.{by_first}
+use Rattle.register_store.specs.Reads.{has_place}
+use Rattle.register_rows.specs.Schema.{filing_table}
 use Rattle.register_store.proofs.ListLemmas.{knows}
 use Rattle.register_store.proofs.OwnRows.{number_shown}
 use Rattle.register_store.proofs.select.counts.number_at.Goals as goal

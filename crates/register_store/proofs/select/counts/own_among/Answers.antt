@@ -5,7 +5,7 @@ use Rattle.sqlite.specs.State.{HasCleanDisk}
 use Rattle.filing_model.specs.Register.{filings, kept}
 use Rattle.table_rows.proofs.StepLemmas.{nothing_left, nothing_yet}
 use Rattle.register_store.specs.Own.{is_filers, own_of}
-use Rattle.register_store.proofs.Filings.{own_default}
+use Rattle.register_rows.proofs.Filings.{own_default}
 use Rattle.register_store.proofs.OwnRows.{are_own, own_step}
 use Rattle.register_store.proofs.ReplaceLemmas.{AreAt, as_many_at, at_place, no_kept}
 use Rattle.register_store.proofs.select.counts.own_among.Goals.{in-Some+in_ok-push, in_default}

@@ -7,9 +7,10 @@ use Rattle.filing_model.specs.Register.{filings, kept}
 use Rattle.table_rows.specs.Rows.{counted_from}
 use Rattle.table_rows.specs.Standing.{HasCommitted}
 use Rattle.register_store.specs.Own.{is_filers, own_of}
-use Rattle.register_store.specs.Reads.{by_first, has_filer}
-use Rattle.register_store.specs.Register.{kept_row}
-use Rattle.register_store.specs.Store.{IsRegisterOf}
+use Rattle.register_opening.specs.Reads.{by_first}
+use Rattle.register_store.specs.Reads.{has_filer}
+use Rattle.register_rows.specs.Register.{kept_row}
+use Rattle.register_opening.specs.Registers.{IsRegisterOf}
 use Rattle.register_store.proofs.select.counts.own_among.Given as goal
 
 abbrev pub invariant-loop-place : goal.invariant-loop-place

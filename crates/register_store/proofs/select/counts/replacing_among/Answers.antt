@@ -7,7 +7,7 @@ use Rattle.filing_model.specs.Listing.{replacing}
 use Rattle.filing_model.proofs.Lists.{length-map}
 use Rattle.register_store.specs.declared.select.counts.Own.{Own}
 use Rattle.register_store.specs.Own.{own_of}
-use Rattle.register_store.proofs.Filings.{no_filing}
+use Rattle.register_rows.proofs.Filings.{no_filing}
 use Rattle.register_store.proofs.OwnLemmas.{no_own, none_replaced, replaced_before, replaced_now}
 use Rattle.register_store.proofs.select.counts.replacing_among.Goals.{in-Some+then-not-contains_key+in_ok-insert, in-Some+else-not-contains_key, in_default}
 use Rattle.register_store.proofs.select.counts.replacing_among.Goals as goal

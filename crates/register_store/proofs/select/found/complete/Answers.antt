@@ -3,7 +3,7 @@ use Rattle.xbrl_report.specs.Pair.{Pair}
 use Rattle.filing_model.specs.Request.{Request}
 use Rattle.filing_model.specs.Register.{Outcome, Kept}
 use Rattle.filing_model.specs.Views.{the_request}
-use Rattle.register_store.specs.Register.{number_of, findings_of}
+use Rattle.register_rows.specs.Register.{number_of, findings_of}
 use Rattle.register_store.proofs.select.found.complete.Goals as goal
 
 -- one without a number was refused, for its findings

@@ -3,8 +3,8 @@ use Rattle.std.proofs.lemmas.Int.{to_z-of_z}
 use Rattle.std.proofs.lemmas.Result.{IfOk-weaker}
 use Rattle.sqlite.specs.Held.{state}
 use Rattle.table_rows.specs.Reading.{ReadsRows}
-use Rattle.register_store.specs.Schema.{finding_table}
-use Rattle.register_store.specs.Reads.{by_second}
+use Rattle.register_rows.specs.Schema.{finding_table}
+use Rattle.register_opening.specs.Reads.{by_second}
 use Rattle.register_store.specs.Found.{finding_in, has_seq, pair_in}
 use Rattle.register_store.proofs.ListLemmas.{knows}
 use Rattle.register_store.proofs.FindLemmas.{findings_read}

@@ -3,7 +3,7 @@ use Rattle.std.proofs.lemmas.Int.{to_z-of_z}
 use Rattle.std.proofs.lemmas.Result.{IfOk-weaker}
 use Rattle.sqlite.specs.Held.{state}
 use Rattle.table_rows.specs.Reading.{ReadsRows}
-use Rattle.register_store.specs.Schema.{amends_table}
+use Rattle.register_rows.specs.Schema.{amends_table}
 use Rattle.register_store.specs.Found.{has_seq, unsorted, target_alone}
 use Rattle.register_store.proofs.ListLemmas.{knows_all}
 use Rattle.register_store.proofs.FindLemmas.{target_read}

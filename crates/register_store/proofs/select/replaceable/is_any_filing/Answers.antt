@@ -7,8 +7,8 @@ use Rattle.sqlite.specs.Held.{state}
 use Rattle.sqlite.specs.State.{HasCleanDisk}
 use Rattle.filing_model.specs.Register.{Kept, kept}
 use Rattle.table_rows.proofs.StepLemmas.{nothing_left}
-use Rattle.register_store.specs.Register.{number_of}
-use Rattle.register_store.proofs.Filings.{own_default}
+use Rattle.register_rows.specs.Register.{number_of}
+use Rattle.register_rows.proofs.Filings.{own_default}
 use Rattle.register_store.proofs.ReplaceLemmas.{AreAt, any_filing, no_kept, are_at, as_many_at, at_place, replacers}
 use Rattle.register_store.proofs.select.replaceable.is_any_filing.Goals as goal
 

@@ -6,9 +6,10 @@ use Rattle.sqlite.specs.State.{HasCleanDisk, Survives}
 use Rattle.filing_model.specs.Request.{Request}
 use Rattle.filing_model.specs.Register.{Kept, kept}
 use Rattle.table_rows.specs.Standing.{HasCommitted}
-use Rattle.register_store.specs.Reads.{by_first, has_second}
-use Rattle.register_store.specs.Register.{amends_rows, joined_from, number_of}
-use Rattle.register_store.specs.Store.{IsRegisterOf}
+use Rattle.register_opening.specs.Reads.{by_first}
+use Rattle.register_store.specs.Reads.{has_second}
+use Rattle.register_rows.specs.Register.{amends_rows, joined_from, number_of}
+use Rattle.register_opening.specs.Registers.{IsRegisterOf}
 use Rattle.register_store.proofs.ReplaceLemmas.{replacers}
 use Rattle.register_store.proofs.select.replaceable.is_any_filing.Given as goal
 

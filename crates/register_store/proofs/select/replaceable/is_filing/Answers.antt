@@ -1,7 +1,7 @@
 use Rattle.std.proofs.Common.{◌∙◌, w64}
 use Rattle.std.proofs.lemmas.Int.{to_z-of_z}
 use Rattle.std.proofs.lemmas.Result.{IfOk-weaker}
-use Rattle.register_store.specs.Register.{number_of}
+use Rattle.register_rows.specs.Register.{number_of}
 use Rattle.register_store.specs.Reads.{number_alone}
 use Rattle.register_store.proofs.ListLemmas.{knows}
 use Rattle.register_store.proofs.ReplaceLemmas.{kept_shown}

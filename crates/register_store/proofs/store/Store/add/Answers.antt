@@ -2,7 +2,7 @@ use Rattle.std.proofs.Common.{◌++◌, [], ◌∷◌, ◌∙◌, rules}
 use Rattle.sqlite.specs.Held.{state}
 use Rattle.filing_model.specs.Request.{Request}
 use Rattle.filing_model.specs.Views.{the_request}
-use Rattle.register_store.specs.Register.{IsCompleted}
+use Rattle.register_rows.specs.Register.{IsCompleted}
 use Rattle.register_store.specs.Store.{StoreParts}
 use Rattle.register_store.proofs.StoreLemmas.{leaves, outcome_is, stands_more, kept_more, filings_more, within_more, crash_more}
 use Rattle.register_store.proofs.store.Store.add.Goals as goal

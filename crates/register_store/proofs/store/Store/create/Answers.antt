@@ -1,7 +1,7 @@
 use Rattle.std.proofs.Common.{refl, rules, arith}
 use Rattle.sqlite.specs.Held.{state}
 use Rattle.sqlite.proofs.StateLemmas.{survives_weaker}
-use Rattle.register_store.proofs.Making.{none_registered, leaves_empty}
+use Rattle.register_opening.proofs.Making.{none_registered, leaves_empty}
 use Rattle.register_store.proofs.store.Store.create.Goals as goal
 
 pub returns-in-Ok : goal.returns-in-Ok

@@ -3,7 +3,7 @@ use Rattle.sqlite.specs.Held.{state}
 use Rattle.xbrl_report.specs.ReportParts.{facts}
 use Rattle.filing_model.specs.Register.{Filing, register}
 use Rattle.filing_model.proofs.Keeping.{register_numbered}
-use Rattle.register_store.specs.Columns.{fact_in}
+use Rattle.register_rows.specs.Columns.{fact_in}
 use Rattle.register_store.specs.Numbered.{filing_numbered}
 use Rattle.std.specs.Prelude.{option_map}
 use Rattle.register_store.proofs.ListLemmas.{knows}

@@ -2,8 +2,8 @@ use Rattle.std.proofs.Common.{sym, subst, rules}
 use Rattle.sqlite.specs.Held.{state}
 use Rattle.sqlite.proofs.StateLemmas.{survives_weaker}
 use Rattle.table_rows.specs.Standing.{HasCommitted}
-use Rattle.register_store.specs.Store.{IsRegisterOf}
-use Rattle.register_store.proofs.Surveyed.{early_within, leaves_migrated}
+use Rattle.register_opening.specs.Registers.{IsRegisterOf}
+use Rattle.register_opening.proofs.Surveyed.{early_within, leaves_migrated}
 use Rattle.register_store.proofs.store.Store.migrate.Goals as goal
 
 pub returns-in-Ok : goal.returns-in-Ok

@@ -1,6 +1,6 @@
 use Rattle.std.proofs.Common.{◌≤◌, length, sym, subst, rules}
 use Rattle.table_rows.specs.Standing.{HasCommitted}
-use Rattle.register_store.specs.Store.{IsRegisterOf}
+use Rattle.register_opening.specs.Registers.{IsRegisterOf}
 use Rattle.sqlite.specs.Held.{state}
 use Rattle.register_store.proofs.StoreLemmas.{leaves}
 use Rattle.register_store.proofs.store.Store.open.Goals as goal

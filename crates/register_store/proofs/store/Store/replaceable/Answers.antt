@@ -1,7 +1,7 @@
 use Rattle.std.proofs.Common.{◌≡◌, inl, inr, ap, sym, ◌∙◌, arith}
 use Rattle.filing_model.specs.Register.{is_replaceable, register}
 use Rattle.filing_model.proofs.Keeping.{register_numbered}
-use Rattle.register_store.proofs.Filings.{none_there}
+use Rattle.register_rows.proofs.Filings.{none_there}
 use Rattle.register_store.proofs.store.Store.replaceable.Goals.{then-number-gt-MAX_NUMBER, else-number-gt-MAX_NUMBER}
 use Rattle.std.proofs.lemmas.Result.{IfOk-weaker}
 use Rattle.sqlite.specs.Held.{state}

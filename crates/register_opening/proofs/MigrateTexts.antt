@@ -1,0 +1,177 @@
+-- What the statements of a migration mean, and what each of them makes.
+use Rattle.std.proofs.Common.{◌≡◌, ℕ, pos, not, false, true, List, [], ◌∷◌, codes, map, filter, Ok, refl, sym, ap, subst, ◌∙◌, arith, is_eq, Bool, IsPermutation}
+use Rattle.std.specs.Prelude.{None}
+use Rattle.std.specs.List.{AllByRecursion, list_all}
+use Rattle.std.proofs.lemmas.List.Sorted.{IsPermutation-refl, length_permutation}
+use Rattle.sqlite_schema.specs.declared.schema.Index.{Index}
+use Rattle.sqlite_schema.specs.declared.schema.View.{View}
+use Rattle.sqlite.specs.declared.types.Value.{Value}
+use Rattle.sqlite.specs.declared.types.Value.TheVariants.{Null, Int, Text}
+use Rattle.sqlite.specs.Order.{Row, column}
+use Rattle.sqlite.specs.Table.{Table}
+use Rattle.sqlite.specs.Schema.{Schema}
+use Rattle.sqlite.specs.Tree.{Trees}
+use Rattle.sqlite.specs.Term.{Term, lit, col, op2}
+use Rattle.sqlite.specs.Query.{Query, Output}
+use Rattle.sqlite.specs.Program.{overlay}
+use Rattle.sqlite.specs.Source.TheVariants.{Values}
+use Rattle.sqlite.specs.Command.{Command}
+use Rattle.sqlite.specs.Command.TheVariants.{Insert, Update, CreateTable}
+use Rattle.sqlite.specs.Change.{created, next_tree}
+use Rattle.sqlite.specs.Cast.{cast_row}
+use Rattle.sqlite.specs.Effect.{Database, IsDatabase}
+use Rattle.sqlite.specs.Does.{Tally, lacks_sequence}
+use Rattle.sqlite.specs.Listing.{understood}
+use Rattle.sqlite.specs.State.{State, Writes, Executes, ExecutesInside}
+use Rattle.sqlite.proofs.Callers.{IsPlain, command_of, runs_as, statement_of, one_permutation}
+use Rattle.sqlite_sql.specs.Ops.{binary, is_true}
+use Rattle.sqlite_sql.specs.Query.{IsSureAnswer}
+use Rattle.sqlite_sql.specs.declared.ops.BinaryOp.TheVariants.{Compare}
+use Rattle.sqlite_sql.specs.declared.ops.CompareOp.TheVariants.{Eq}
+use Rattle.sqlite_value.specs.declared.keys.Collation.TheVariants.{Binary}
+use Rattle.sqlite_value.specs.Order.{value_cmp}
+use Rattle.sqlite_value.proofs.OrderLemmas.{value_cmp-Int}
+use Rattle.sqlite_keyed.proofs.ListLemmas.{filter-map, IsPermutation-filter}
+use Rattle.sqlite_tied.specs.Compute.{everything}
+use Rattle.sqlite_typed.proofs.TestLemmas.{at_ints, last_term}
+use Rattle.table_rows.specs.Tables.{schema_with}
+use Rattle.table_rows.specs.Rows.{shown, TableHas, KeepsOthers}
+use Rattle.table_rows.proofs.CreateLemmas.{IsCreation}
+use Rattle.table_rows.proofs.GainLemmas.{inside, gained, cast_int, cast_null}
+use Rattle.table_rows.proofs.InsertLemmas.{inserts}
+use Rattle.table_rows.proofs.PartLemmas.{went, same_value}
+use Rattle.table_rows.proofs.SelectLemmas.{one_table, selects}
+use Rattle.table_rows.proofs.UpdateLemmas.{other_rows, updated}
+use Rattle.register_rows.specs.Schema.{register_tables, meta_table, migrated_table}
+use Rattle.register_rows.specs.Register.{form_row, meta_row, migrated_row}
+use Rattle.register_opening.specs.Gains.{GainsRows}
+use Rattle.register_opening.specs.Migrating.{insert_early, raise_form}
+use Rattle.register_opening.proofs.CreateTexts.{own_indexes}
+
+-- ---- a table beside others
+
+-- it is made, with no row, and the rows of the others stay
+pub record IsBeside (before : Schema) (table : Table) (old new : Database) : Type 0 where
+  pub schema_is : new.schema ≡ created before table
+  pub others : AllByRecursion (λ t. new.trees t.tree ≡ old.trees t.tree) before.tables
+  pub empty : new.trees (next_tree before) ≡ []
+
+pub creates_beside : (before : Schema) (text : List ℕ) (table : Table) (old new : State) (count : ℕ) → IsCreation before text table → lacks_sequence (created before table) ≡ false
+    → old.now.schema ≡ before → Executes text [] old new (Ok count) → IsBeside before table old.now new.now
+creates_beside before text table old new count is plain was h =
+    let w = subst (λ t. Writes old new None CreateTable t [] count) is.statement (runs_as text [] old new before was CreateTable is.command is.plain count h) in
+    let all = went w.changed in
+    let first = went all.1 in
+    let made = first.1 in
+    let both : Ok made.table ≡ Ok table = sym made.defined ∙ is.defined in
+    let same : made.table ≡ table = cc in
+    let schema : first.0.schema ≡ created before table = made.is ∙ ap (λ s. created s made.table) was ∙ ap (created before) same in
+    let none : lacks_sequence first.0.schema ≡ false = ap lacks_sequence schema ∙ plain in
+    let now : new.now ≡ first.0 = ap (λ (p : Tally × Database). p.1) (same_value all.2) ∙ same_value (rw none at first.2) in
+    let trees = ap (λ (d : Database). d.trees) now in
+    record {
+      schema_is = ap (λ (d : Database). d.schema) now ∙ schema;
+      others = subst (λ (n : Trees). AllByRecursion (λ t. n t.tree ≡ old.now.trees t.tree) before.tables) (sym trees)
+          (subst (λ s. AllByRecursion (λ t. first.0.trees t.tree ≡ old.now.trees t.tree) s.tables) was made.others);
+      empty = ap (λ (n : Trees). n (next_tree before)) trees ∙ subst (λ s. first.0.trees (next_tree s) ≡ []) was made.empty;
+    }
+
+-- ---- the row of `migrated`
+
+module _ (tables : List Table) (indexes : List Index) (views : List View) where
+  abbrev schema : Schema
+  schema = schema_with register_tables tables indexes views
+
+  inserts_early : (command_of (understood schema insert_early) ≡ Insert 5 (Values (lit (Int (pos 1)) ∷ lit Null ∷ col 0 0 ∷ []) 3)) × IsPlain (understood schema insert_early)
+  unfolding understood everything
+  inserts_early = (refl, (refl, refl))
+
+pub early_gains : (old new : State) (early count : ℕ) → ExecutesInside 0 insert_early (Int (pos early) ∷ []) old new (Ok count) → GainsRows migrated_table (migrated_row early ∷ []) old new
+early_gains old new early count = inside register_tables migrated_table _ insert_early _ old new count (λ ran d.
+    let means = inserts_early d.tables d.indexes d.views in
+    let i = inserts (schema_with register_tables d.tables d.indexes d.views) 5 _ _ _ _ _ _ _ refl _ 3 (λ _. refl) insert_early _ old new count d.is means.0 means.1 ran in
+    gained register_tables migrated_table _ (migrated_row early) old.now new.now d i (λ row is. rw (is, cast_int (pos 1), cast_int (pos early)) refl))
+
+-- ---- the form in the row of `intake_meta`
+
+-- what is declared once all tables are made, where there were no others
+abbrev pub whole_schema : Schema
+whole_schema = schema_with register_tables [] own_indexes []
+
+abbrev is_first : List Term
+is_first = op2 (Compare Eq Binary) (col 1 0) (lit (Int (pos 1))) ∷ []
+
+-- its rowid, and then the row as it becomes
+abbrev raised_columns : List Term
+raised_columns = col 1 0 ∷ col 1 0 ∷ lit Null ∷ col 1 2 ∷ lit (Int (pos 4)) ∷ []
+
+abbrev raise_query : Query
+raise_query = one_table 0 is_first raised_columns []
+
+abbrev raise_command : Command
+raise_command = Update 0 (record { lets = []; body = raise_query })
+
+raise_is : command_of (understood whole_schema raise_form) ≡ raise_command
+unfolding understood everything
+raise_is = refl
+
+raise_plain : IsPlain (understood whole_schema raise_form)
+unfolding understood everything
+raise_plain = (refl, refl)
+
+abbrev matches : Row → Bool
+matches w = list_all (λ (v : Value). is_true v) (binary (Compare Eq Binary) (column w 0) (Int (pos 1)) ∷ [])
+
+matches_it : (form : ℕ) → matches (form_row form) ≡ true
+matches_it form = last_term (at_ints false Eq (pos 1) (pos 1))
+
+abbrev change : Row → Output
+change w = ([], column w 0 ∷ column w 0 ∷ Null ∷ column w 1 ∷ Int (pos 4) ∷ [])
+
+abbrev became : Row
+became = Null ∷ Text (codes "register") ∷ Int (pos 4) ∷ []
+
+abbrev stored : Row
+stored = Int (pos 1) ∷ became
+
+abbrev other : Row → Bool
+other w = not (is_eq (value_cmp (column w 0) (Int (pos 1))))
+
+no_other : (form : ℕ) → other (form_row form) ≡ false
+no_other form = let same : is_eq (value_cmp (Int (pos 1)) (Int (pos 1))) ≡ true = rw (value_cmp-Int (pos 1) (pos 1)) refl in ap not same
+
+none_left : (rows : List Row) → IsPermutation [] (map (shown meta_table) rows) → rows ≡ []
+none_left [] h = refl
+none_left (r ∷ rows) h = absurd (omega (arith, length_permutation _ _ h))
+
+module _ (form : ℕ) (trees : Trees) (held : IsPermutation (form_row form ∷ []) (map (shown meta_table) (trees 0))) where
+  one_row : (rows : List Row) → IsSureAnswer raise_query (overlay trees []) [] rows → rows ≡ (Int (pos 1) ∷ Int (pos 1) ∷ became) ∷ []
+  one_row rows answer =
+      let moved = selects 0 is_first raised_columns [] trees [] rows answer (shown meta_table) (form_row form ∷ []) held matches (λ r. refl) change (λ r. refl) in
+      one_permutation (Int (pos 1) ∷ Int (pos 1) ∷ became) rows (rw (matches_it form) at moved)
+
+  left_none : other_rows 1 (trees 0) ≡ []
+  left_none =
+      let kept : IsPermutation (filter other (form_row form ∷ [])) (filter other (map (shown meta_table) (trees 0))) = IsPermutation-filter other (form_row form ∷ []) (map (shown meta_table) (trees 0)) held in
+      let none : filter other (form_row form ∷ []) ≡ [] = rw (no_other form) refl in
+      none_left (other_rows 1 (trees 0)) (subst (IsPermutation []) (filter-map other (shown meta_table) (trees 0)) (subst (λ l. IsPermutation l (filter other (map (shown meta_table) (trees 0)))) none kept))
+
+-- the row tells the present form, and the other tables stay
+pub record IsRaised (old new : Database) : Type 0 where
+  pub schema_is : new.schema ≡ whole_schema
+  pub sound : IsDatabase new
+  pub meta_is : TableHas new meta_table (meta_row ∷ [])
+  pub others : KeepsOthers register_tables meta_table old new
+
+pub raises : (form : ℕ) (old new : State) (count : ℕ) → old.now.schema ≡ whole_schema → TableHas old.now meta_table (form_row form ∷ []) → Executes raise_form [] old new (Ok count) → IsRaised old.now new.now
+raises form old new count has held h =
+    let w = runs_as raise_form [] old new whole_schema has raise_command raise_is raise_plain count h in
+    let u = updated whole_schema 0 meta_table refl (refl, (refl, (refl, (refl, (refl, (refl, (refl, tt))))))) raise_query [] old (statement_of raise_form (understood whole_schema raise_form)) w.tally new.now has w.changed 1 became (one_row form old.now.trees held) in
+    let cast_is : cast_row meta_table (Int (pos 1) ∷ became) ≡ stored = rw (cast_int (pos 1), cast_int (pos 4), cast_null) refl in
+    let rows : new.now.trees 0 ≡ stored ∷ [] = rw (cast_is, left_none form old.now.trees held) at u.rows in
+    record {
+      schema_is = u.schema_is;
+      sound = w.sound;
+      meta_is = rw rows (IsPermutation-refl _);
+      others = u.others;
+    }

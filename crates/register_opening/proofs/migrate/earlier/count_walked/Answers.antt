@@ -1,0 +1,18 @@
+use Rattle.std.proofs.Common.{inl, sym, subst}
+use Rattle.table_rows.specs.declared.cause.Cause.{Cause}
+use Rattle.table_rows.specs.declared.cause.Cause.TheVariants as cause
+use Rattle.register_opening.specs.Opening.{row_texts, StopsFor}
+use Rattle.register_opening.proofs.WalkOpens.{stops_for}
+use Rattle.register_opening.proofs.migrate.earlier.count_walked.Goals as goal
+
+pub returns-in-Memory-clause-refused : goal.returns-in-Memory-clause-refused
+returns-in-Memory-clause-refused g c clean =
+    let is = sym c.in-Memory.ensures in
+    inl (subst (λ (w : Cause). StopsFor g.S.Store w row_texts c.args.conn.now c.count_by_walk.new.conn) is
+    (stops_for g.S.Store c.args.conn.now c.count_by_walk.new.conn c.in-Err.error cause.Memory (λ e. cc) is (c.in-Err.ensures.stopped clean)))
+
+pub returns-in-Disk-clause-refused : goal.returns-in-Disk-clause-refused
+returns-in-Disk-clause-refused g c clean =
+    let is = sym c.in-Disk.ensures in
+    subst (λ (w : Cause). StopsFor g.S.Store w row_texts c.args.conn.now c.count_by_walk.new.conn) is
+    (stops_for g.S.Store c.args.conn.now c.count_by_walk.new.conn c.in-Err.error cause.Disk (λ e. cc) is (c.in-Err.ensures.stopped clean))

@@ -1,0 +1,15 @@
+use Rattle.std.proofs.Common.{sym, ap}
+use Rattle.table_rows.specs.declared.cause.Cause.TheVariants as cause
+use Rattle.register_opening.specs.Faults.{table_fault_by}
+use Rattle.register_opening.proofs.WalkOpens.{stops_for}
+use Rattle.register_opening.proofs.opening.count_one_by_one.Goals as goal
+
+pub returns-in-Memory-clause-failed : goal.returns-in-Memory-clause-failed
+returns-in-Memory-clause-failed g c clean =
+    let is = sym c.in-Memory.ensures in
+    (c.in-Err.error, sym (ap table_fault_by is), stops_for g.S.Store c.args.conn.now c.count_by_walk.new.conn c.in-Err.error cause.Memory (λ e. cc) is (c.in-Err.ensures.stopped clean))
+
+pub returns-in-Disk-clause-failed : goal.returns-in-Disk-clause-failed
+returns-in-Disk-clause-failed g c clean =
+    let is = sym c.in-Disk.ensures in
+    (c.in-Err.error, sym (ap table_fault_by is), stops_for g.S.Store c.args.conn.now c.count_by_walk.new.conn c.in-Err.error cause.Disk (λ e. cc) is (c.in-Err.ensures.stopped clean))

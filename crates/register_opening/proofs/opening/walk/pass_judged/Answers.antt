@@ -1,0 +1,16 @@
+use Rattle.std.proofs.Common.{refl, rules}
+use Rattle.sqlite.specs.Held.{state}
+use Rattle.sqlite.specs.State.{HasCleanDisk}
+use Rattle.http_wire.specs.Posting.{IsTarget}
+use Rattle.register_opening.proofs.WalkLemmas.{judged_passes}
+use Rattle.register_opening.proofs.opening.walk.pass_judged.Goals as goal
+
+pub returns-clause-row : goal.returns-clause-row
+returns-clause-row g c F held number =
+    let left = c.args.left in
+    let target = c.target_of-target.result.0 in
+    let behind = record left { amends = c.target_of-target.result.1 } in
+    let fits : IsTarget target = c.is_target.ensures.0 (search rules) in
+    judged_passes F c.args.seq left c.args.row.now c.pass_filed.new.filed (HasCleanDisk (state g.S.Store c.pass_filed.new.conn)) (state g.S.Store c.args.conn.now).now
+    target behind (refl, refl, refl, refl) (c.in-Some.ensures target fits).1 c.target_of-target.ensures.begins c.pass_filed.result
+    (c.pass_filed.ensures.row F held number) (λ clean d. c.pass_filed.ensures.beyond clean d F held number) c.pass_filed.ensures.rest

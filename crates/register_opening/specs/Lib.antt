@@ -1,0 +1,10 @@
+pub mod Earlier
+pub mod Faults
+pub mod Gains
+pub mod Making
+pub mod Migrating
+pub mod Opening
+pub mod Reads
+pub mod Refusals
+pub mod Registers
+pub mod Walk

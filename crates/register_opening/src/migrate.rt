@@ -1,0 +1,156 @@
+//! A register in an earlier form is brought into the present one.
+
+ghost use Rattle.std.specs.Prelude.{◌≡◌, ◌<◌, ◌^◌, ◌∷◌, ℕ, [], pos, false, None, Ok, Err, IsTrue, IfErr, OnOk, OnErr};
+ghost use Rattle.sqlite.specs.Held.{state};
+ghost use Rattle.sqlite.specs.declared.error.Error.{Error};
+ghost use Rattle.sqlite.specs.declared.types.Value.TheVariants.{Int};
+ghost use Rattle.sqlite.specs.State.{HasCleanDisk, Survives, ExecutesInside};
+ghost use Rattle.table_rows.specs.Standing.{CommitsNothing, IsLasting, StaysCommitted};
+ghost use Rattle.register_opening.specs.Gains.{AddsNothing};
+ghost use Rattle.register_opening.specs.Earlier.{is_blocked};
+ghost use Rattle.register_opening.specs.Migrating.{insert_early, write_fault, migrating, AreDone, StopsAt, AreCommitted, AreUndone, AreTreesOf, MigratesRegister};
+
+pub(crate) mod earlier;
+
+use crate::fault::OpenFault;
+use crate::migrate::earlier::{Earlier, read_earlier};
+use crate::opening::{Counts, is_settled};
+use crate::schema::create::run;
+use crate::schema::names;
+use sqlite::{Alter, Connection, Error, Transaction, params};
+use std::alloc::Global;
+use table_rows::Cause;
+
+fn write_fault(error: Error) -> OpenFault
+    ensures { result ≡ write_fault error }
+{
+    match Cause::from(error) {
+        Cause::Memory => OpenFault::Memory,
+        Cause::Disk | Cause::Other => OpenFault::Disk,
+    }
+}
+
+/// Writes the row that says how many requests were kept before there were problem details.
+fn tell_early<S: Alter>(tx: &mut Transaction<'_, S>, early: u64) -> Result<(), Error>
+    requires { early < 2 ^ 63 }
+    ensures same_reference { tx.new.conn.ghost_name ≡ tx.old.conn.ghost_name }
+    ensures ran { HasCleanDisk (state S.Store tx.new.conn.now)
+        → OnOk result ((count : ℕ)
+        × ExecutesInside 0 insert_early (Int (pos early) ∷ []) (state S.Store tx.old.conn.now)
+        (state S.Store tx.new.conn.now) (Ok count)) }
+    ensures failed { HasCleanDisk (state S.Store tx.new.conn.now)
+        → IsTrue (state S.Store tx.old.conn.now).in_transaction
+        → IfErr result (λ error.
+        ExecutesInside 0 insert_early (Int (pos early) ∷ []) (state S.Store tx.old.conn.now)
+        (state S.Store tx.new.conn.now) (Err error)) }
+    ensures keeps { StaysCommitted S.Store tx.old.conn.now tx.new.conn.now }
+    ensures survives { CommitsNothing (state S.Store tx.old.conn.now) (state S.Store tx.new.conn.now) }
+{
+    tx.execute("INSERT INTO migrated VALUES (1, ?1)", params![early as i64])?;
+    Ok(())
+}
+
+/// Writes what a register of the second form has not.
+fn write_second<S: Alter>(tx: &mut Transaction<'_, S>, early: u64) -> Result<(), Error>
+    requires { early < 2 ^ 63 }
+    ensures same_reference { tx.new.conn.ghost_name ≡ tx.old.conn.ghost_name }
+    ensures done { HasCleanDisk (state S.Store tx.new.conn.now)
+        → OnOk result (AreDone S.Store (migrating Earlier.Second early) tx.old.conn.now tx.new.conn.now) }
+    ensures stopped { HasCleanDisk (state S.Store tx.new.conn.now)
+        → IsTrue (state S.Store tx.old.conn.now).in_transaction
+        → IfErr result (λ error.
+        StopsAt S.Store error (migrating Earlier.Second early) tx.old.conn.now tx.new.conn.now) }
+    ensures keeps { StaysCommitted S.Store tx.old.conn.now tx.new.conn.now }
+    ensures survives { CommitsNothing (state S.Store tx.old.conn.now) (state S.Store tx.new.conn.now) }
+{
+    run(
+        tx,
+        "CREATE TABLE migrated (id INTEGER PRIMARY KEY, last INTEGER NOT NULL) STRICT",
+    )?;
+    run(
+        tx,
+        "CREATE TABLE amends (seq INTEGER PRIMARY KEY, target INTEGER NOT NULL) STRICT",
+    )?;
+    tell_early(tx, early)?;
+    run(tx, "UPDATE intake_meta SET form = 4 WHERE id = 1")
+}
+
+/// Writes what a register of the third form has not.
+fn write_third<S: Alter>(tx: &mut Transaction<'_, S>) -> Result<(), Error>
+    ensures same_reference { tx.new.conn.ghost_name ≡ tx.old.conn.ghost_name }
+    ensures done { HasCleanDisk (state S.Store tx.new.conn.now)
+        → OnOk result (AreDone S.Store (migrating Earlier.Third 0) tx.old.conn.now tx.new.conn.now) }
+    ensures stopped { HasCleanDisk (state S.Store tx.new.conn.now)
+        → IsTrue (state S.Store tx.old.conn.now).in_transaction
+        → IfErr result (λ error. StopsAt S.Store error (migrating Earlier.Third 0) tx.old.conn.now tx.new.conn.now) }
+    ensures keeps { StaysCommitted S.Store tx.old.conn.now tx.new.conn.now }
+    ensures survives { CommitsNothing (state S.Store tx.old.conn.now) (state S.Store tx.new.conn.now) }
+{
+    run(
+        tx,
+        "CREATE TABLE amends (seq INTEGER PRIMARY KEY, target INTEGER NOT NULL) STRICT",
+    )?;
+    run(tx, "UPDATE intake_meta SET form = 4 WHERE id = 1")
+}
+
+fn write_all<S: Alter>(tx: &mut Transaction<'_, S>, form: Earlier, early: u64) -> Result<(), Error>
+    requires { early < 2 ^ 63 }
+    ensures same_reference { tx.new.conn.ghost_name ≡ tx.old.conn.ghost_name }
+    ensures done { HasCleanDisk (state S.Store tx.new.conn.now)
+        → OnOk result (AreDone S.Store (migrating form early) tx.old.conn.now tx.new.conn.now) }
+    ensures stopped { HasCleanDisk (state S.Store tx.new.conn.now)
+        → IsTrue (state S.Store tx.old.conn.now).in_transaction
+        → IfErr result (λ error. StopsAt S.Store error (migrating form early) tx.old.conn.now tx.new.conn.now) }
+    ensures keeps { StaysCommitted S.Store tx.old.conn.now tx.new.conn.now }
+    ensures survives { CommitsNothing (state S.Store tx.old.conn.now) (state S.Store tx.new.conn.now) }
+{
+    match form {
+        Earlier::Second => write_second(tx, early),
+        Earlier::Third => write_third(tx),
+    }
+}
+
+/// Writes it in one transaction.
+fn write<S: Alter>(conn: &mut Connection<S>, form: Earlier, early: u64) -> Result<(), Error>
+    requires autocommit { conn.old.in_transaction ≡ false }
+    requires early { early < 2 ^ 63 }
+    ensures autocommit { conn.new.in_transaction ≡ false }
+    ensures written { HasCleanDisk (state S.Store conn.new)
+        → OnOk result (AreCommitted S.Store (migrating form early) conn.old conn.new) }
+    ensures durable { HasCleanDisk (state S.Store conn.new) → OnOk result (IsLasting (state S.Store conn.new)) }
+    ensures undone { HasCleanDisk (state S.Store conn.new)
+        → IfErr result (λ error. AreUndone S.Store error (migrating form early) conn.old conn.new) }
+    ensures neither { HasCleanDisk (state S.Store conn.new)
+        → OnErr result (AddsNothing (state S.Store conn.old) (state S.Store conn.new)) }
+    ensures crash { Survives (state S.Store conn.old) (state S.Store conn.new)
+        (AreTreesOf S.Store (migrating form early) conn.old) }
+{
+    let mut tx = conn.transaction();
+    write_all(&mut tx, form, early)?;
+    tx.commit()
+}
+
+/// Brings a register in an earlier form into the present one, in one transaction. What is said of the new rows holds where
+/// the database has no other tables.
+pub fn migrate_register<S: Alter>(
+    alloc: Global,
+    conn: &mut Connection<S>,
+) -> Result<Counts, OpenFault>
+    requires autocommit { conn.old.in_transaction ≡ false }
+    requires unlimited { conn.old.step_limit ≡ None }
+    ensures { MigratesRegister S.Store conn.old conn.new result }
+{
+    prove!(is_settled(conn));
+    match read_earlier(alloc, conn) {
+        Ok(found) => {
+            if names::is_blocked(conn.schema(), found.form) {
+                return Err(OpenFault::NotOurs);
+            }
+            match write(conn, found.form, found.counts.early) {
+                Ok(()) => Ok(found.counts),
+                Err(error) => Err(write_fault(error)),
+            }
+        }
+        Err(fault) => Err(fault),
+    }
+}

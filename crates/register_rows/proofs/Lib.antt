@@ -1,0 +1,14 @@
+pub mod AuditLemmas
+pub mod AuditRefutes
+pub mod AuditSteps
+pub mod CellLemmas
+pub mod DamageLemmas
+pub mod FactRows
+pub mod FiledLemmas
+pub mod Filings
+pub mod MoreRequests
+pub mod NextLemmas
+pub mod SeenLemmas
+pub mod SegmentLemmas
+pub mod SpanLemmas
+pub mod StepsOfTargets

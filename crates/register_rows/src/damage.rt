@@ -1,0 +1,302 @@
+//! Which kept row is told of a register whose rows stand for no requests. Each kept row is held against all rows of the other
+//! tables that have its place or its number, in any order of these tables; where they lie is looked up once for all.
+
+ghost use Rattle.std.specs.Prelude.{◌≡◌, ◌↔◌, ◌<◌, ◌≤◌, ◌^◌, ◌+◌, ℕ, suc, pos, List, [], ◌∷◌, ◌++◌, length, IsTrue, IfOk, IfSome, MatchOption, Option, None, vec_len};
+ghost use Rattle.sqlite.specs.Order.{column};
+ghost use Rattle.sqlite.specs.declared.types.Value.TheVariants.{Int};
+ghost use Rattle.xbrl_report.specs.ReportParts.{facts as facts_of};
+ghost use Rattle.xbrl_report.specs.Judgement.{HasFacts};
+ghost use Rattle.filing_model.specs.Register.{Outcome, filings, judged, kept, register};
+ghost use Rattle.filing_model.specs.Request.{Request};
+ghost use Rattle.http_wire.specs.Posting.{IsTarget};
+ghost use Rattle.table_rows.specs.Rows.{counted_from};
+ghost use Rattle.register_rows.specs.Audit.{IsKeptAs, IsTold, is_number, with_number, view_other_tables, request_outcome};
+ghost use Rattle.register_rows.specs.Filed.{AreFiled};
+ghost use Rattle.register_rows.specs.Columns.{request_in};
+ghost use Rattle.register_rows.specs.Outcomes.{outcome_of, filings_by};
+ghost use Rattle.register_rows.specs.Register.{IsCompleted, finding_row, fact_row, amends_rows_by};
+ghost use Rattle.register_rows.specs.Spans.{AreSpansOf, AgreeAt};
+
+use crate::cells::{Cell, is_row};
+use crate::columns::bytes_at;
+use crate::filed::Filed;
+use crate::segments::{is_fact_row, is_finding_row, target_of};
+use crate::spans::{Span, spans_of};
+use crate::verdict::{filer_of, first_repeated, is_kept_row, is_target};
+use sqlite::Row;
+use sqlite::types::ValueRef;
+use std::alloc::{AllocError, Global};
+use xbrl_report::{Fact, Finding, Judged};
+
+/// The rows of the tables beside `kept`.
+#[derive(Clone, Copy)]
+pub(crate) struct OtherTables<'a> {
+    pub(crate) findings: &'a [Row],
+    pub(crate) filings: &'a [Row],
+    pub(crate) facts: &'a [Row],
+    pub(crate) amends: &'a [Row],
+}
+
+/// Where the rows with each place and with each number lie in the tables beside `kept`.
+#[derive(Drop)]
+struct Spans {
+    findings: Vec<Span>,
+    filings: Vec<Span>,
+    facts: Vec<Span>,
+    amends: Vec<Span>,
+}
+
+impl Spans {
+    /// Those of the places and numbers below `count`. It fails where memory runs out.
+    fn of(alloc: Global, beside: OtherTables<'_>, count: usize) -> Result<Spans, AllocError>
+        requires { count < 2 ^ 63 }
+        ensures long { IfOk result (λ spans. (vec_len spans.findings ≡ count) × (vec_len spans.filings ≡ count)
+            × (vec_len spans.facts ≡ count) × (vec_len spans.amends ≡ count)) }
+        ensures covers { IfOk result (AreSpansOf (view_other_tables beside.entry)) }
+    {
+        Ok(Spans {
+            findings: spans_of(alloc, beside.findings, 0, count)?,
+            filings: spans_of(alloc, beside.filings, 1, count)?,
+            facts: spans_of(alloc, beside.facts, 0, count)?,
+            amends: spans_of(alloc, beside.amends, 0, count)?,
+        })
+    }
+
+    /// Rows among which are all that have the place or the number; in the order of the keys, these alone.
+    fn part_of<'a>(&self, beside: OtherTables<'a>, seq: u64, number: u64) -> OtherTables<'a>
+        requires seq { (seq < vec_len self.now.findings) × (seq < vec_len self.now.filings)
+            × (seq < vec_len self.now.amends) }
+        requires number { number < vec_len self.now.facts }
+        requires covers { AreSpansOf (view_other_tables beside) self.now }
+        ensures { AgreeAt seq number (view_other_tables result) (view_other_tables beside.entry) }
+    {
+        OtherTables {
+            findings: self.findings[seq as usize].part_of(beside.findings),
+            filings: self.filings[seq as usize].part_of(beside.filings),
+            facts: self.facts[number as usize].part_of(beside.facts),
+            amends: self.amends[seq as usize].part_of(beside.amends),
+        }
+    }
+}
+
+/// Whether the row has this number in the column.
+fn has_number(row: &Row, at: usize, number: u64) -> bool
+    requires { number < 2 ^ 63 }
+    ensures { result ≡ is_number number (column row.now at) }
+{
+    match row.get_ref(at) {
+        Ok(ValueRef::Int(found)) => found == number as i64,
+        _ => false,
+    }
+}
+
+/// Whether the rows of the request at this place are those of the findings, in order.
+fn has_findings(rows: &[Row], seq: u64, findings: &[Finding]) -> bool
+    requires { seq < 2 ^ 63 }
+    ensures { IsTrue result ↔ (with_number 0 seq rows.now ≡ counted_from (finding_row seq) 1 findings.now) }
+{
+    let mut found = 0;
+    for at in 0..rows.len() {
+        let row = &rows[at];
+        if has_number(row, 0, seq) {
+            if found >= findings.len() {
+                return false;
+            }
+            if !is_finding_row(row, seq, found as u64 + 1, &findings[found]) {
+                return false;
+            }
+            found += 1;
+        }
+    }
+    found == findings.len()
+}
+
+/// Whether the rows of the filing are those of the facts, in order.
+fn has_facts(rows: &[Row], number: u64, facts: &[Fact]) -> bool
+    requires { number < 2 ^ 63 }
+    ensures { IsTrue result ↔ (with_number 0 number rows.now ≡ counted_from (fact_row number) 1 facts.now) }
+{
+    let mut found = 0;
+    for at in 0..rows.len() {
+        let row = &rows[at];
+        if has_number(row, 0, number) {
+            if found >= facts.len() {
+                return false;
+            }
+            if !is_fact_row(row, number, found as u64 + 1, &facts[found]) {
+                return false;
+            }
+            found += 1;
+        }
+    }
+    found == facts.len()
+}
+
+/// Whether the row is that of the filing under this number.
+fn is_filing_row(row: &Row, number: &i64, seq: u64) -> bool
+    requires { seq < 2 ^ 63 }
+    ensures { IsTrue result ↔ (row.now ≡ Int number.now ∷ Int (pos seq) ∷ []) }
+{
+    is_row(row, &[Cell::Int(*number), Cell::Int(seq as i64)])
+}
+
+/// Whether the filings of the request at this place have these numbers, in order.
+fn has_filings(rows: &[Row], seq: u64, numbers: &[i64]) -> bool
+    requires { seq < 2 ^ 63 }
+    ensures { IsTrue result
+        ↔ (with_number 1 seq rows.now ≡ counted_from (λ _ n. Int n ∷ Int (pos seq) ∷ []) 1 numbers.now) }
+{
+    let mut found = 0;
+    for at in 0..rows.len() {
+        let row = &rows[at];
+        if has_number(row, 1, seq) {
+            if found >= numbers.len() {
+                return false;
+            }
+            if !is_filing_row(row, &numbers[found], seq) {
+                return false;
+            }
+            found += 1;
+        }
+    }
+    found == numbers.len()
+}
+
+/// The filing that the request at this place is to replace, if any, or `None` where its rows say no such thing.
+fn target_at(rows: &[Row], seq: u64) -> Option<Option<u64>>
+    requires { seq < 2 ^ 63 }
+    ensures some { IfSome result (λ target.
+        IsTarget target × (with_number 0 seq rows.now ≡ amends_rows_by seq target)) }
+    ensures none { result ≡ None → (target : Option ℕ) → IsTarget target
+        → with_number 0 seq rows.now ≡ amends_rows_by seq target → ⊥ }
+{
+    let mut found = None;
+    for at in 0..rows.len() {
+        if has_number(&rows[at], 0, seq) {
+            let (target, _) = target_of(&rows[at..], seq);
+            if found.is_some() || target.is_none() || !is_target(target) {
+                return None;
+            }
+            found = target;
+        }
+    }
+    Some(found)
+}
+
+/// Whether the row and those of the other tables are those of a refused request.
+fn is_refused(row: &Row, seq: u64, findings: &[Finding], beside: OtherTables<'_>) -> bool
+    requires { seq < 2 ^ 63 }
+    ensures { (target : Option ℕ) → with_number 0 seq beside.entry.amends.now ≡ amends_rows_by seq target
+        → IsTrue result
+        ↔ IsKeptAs seq (request_outcome (request_in target row.now) (Outcome.Refused findings.now)) row.now
+        (view_other_tables beside.entry) }
+{
+    is_kept_row(row, seq, None)
+        && has_findings(beside.findings, seq, findings)
+        && has_filings(beside.filings, seq, &[])
+}
+
+/// Whether the row and those of the other tables are those of a request registered under the number.
+fn is_registered(row: &Row, seq: u64, number: u64, facts: &[Fact], beside: OtherTables<'_>) -> bool
+    requires seq { seq < 2 ^ 63 }
+    requires number { number < 2 ^ 63 }
+    requires facts { facts.now ≡ facts_of (request_in None row.now).body }
+    ensures { (target : Option ℕ) → with_number 0 seq beside.entry.amends.now ≡ amends_rows_by seq target
+        → IsTrue result
+        ↔ IsKeptAs seq (request_outcome (request_in target row.now) (Outcome.Registered number)) row.now
+        (view_other_tables beside.entry) }
+{
+    is_kept_row(row, seq, Some(number))
+        && has_findings(beside.findings, seq, &[])
+        && has_filings(beside.filings, seq, &[number as i64])
+        && has_facts(beside.facts, number, facts)
+}
+
+/// Whether the row and those of the other tables are those of a request that was judged so, where those of `amends` are.
+fn is_kept_as(row: &Row, seq: u64, number: u64, judged: &Judged, beside: OtherTables<'_>) -> bool
+    requires seq { seq < 2 ^ 63 }
+    requires number { number < 2 ^ 63 }
+    requires facts { HasFacts (request_in None row.now).body judged.now }
+    ensures { (target : Option ℕ) → with_number 0 seq beside.entry.amends.now ≡ amends_rows_by seq target
+        → IsTrue result
+        ↔ IsKeptAs seq (request_outcome (request_in target row.now) (outcome_of number judged.now)) row.now
+        (view_other_tables beside.entry) }
+{
+    match judged {
+        Judged::Valid(report) => is_registered(row, seq, number, report.facts(), beside),
+        Judged::Refused(findings) => is_refused(row, seq, findings.list(), beside),
+    }
+}
+
+/// How many filings a report is that was judged so.
+fn filings_as_judged(judged: &Judged) -> u64
+    ensures { (number : ℕ) → result ≡ filings_by (outcome_of number judged.now) }
+{
+    match judged {
+        Judged::Valid(_) => 1,
+        Judged::Refused(_) => 0,
+    }
+}
+
+/// How many filings the request of the kept row is, which is to replace this filing, if any, or `None` where the row, whatever its
+/// filer and key are, is not sound. It fails where memory runs out.
+fn filings_if_sound(
+    alloc: Global,
+    filed: &mut Filed,
+    row: &Row,
+    seq: u64,
+    number: u64,
+    beside: OtherTables<'_>,
+) -> Result<Option<u64>, AllocError>
+    requires seq { seq < 2 ^ 63 }
+    requires number { number < 2 ^ 63 }
+    ensures { (F : List Request) → AreFiled (register F) filed.old → number ≡ suc (length (register F))
+        → IfOk result (λ found.
+        MatchOption found
+        ((r : Request) → IsCompleted r → IsKeptAs seq (judged (kept F) r) row.now (view_other_tables beside.entry)
+        → ⊥)
+        (λ more.
+        (r : Request) × IsCompleted r × IsKeptAs seq (judged (kept F) r) row.now (view_other_tables beside.entry)
+        × AreFiled (filings (kept F ++ judged (kept F) r ∷ [])) filed.new
+        × (more ≡ filings_by (judged (kept F) r).outcome))) }
+{
+    let Some(target) = target_at(beside.amends, seq) else {
+        return Ok(None);
+    };
+    let Some(filer) = filer_of(row) else {
+        return Ok(None);
+    };
+    let judged = filed.judge(alloc, filer, target, bytes_at(row, 3))?;
+    if !is_kept_as(row, seq, number, &judged, beside) {
+        return Ok(None);
+    }
+    filed.note(alloc, filer, target, &judged)?;
+    Ok(Some(filings_as_judged(&judged)))
+}
+
+/// The place, from 1, of the first kept row that is not sound, or 0 where each one is. It fails where memory runs out.
+pub(crate) fn first_unsound(
+    alloc: Global,
+    kept: &[Row],
+    beside: OtherTables<'_>,
+) -> Result<u64, AllocError>
+    requires { length kept.now ≤ 2 ^ 62 }
+    ensures { IfOk result (λ row. IsTold kept.now (view_other_tables beside.entry) row) }
+{
+    let first = first_repeated(alloc, kept)?;
+    let spans = Spans::of(alloc, beside, kept.len() + 1)?;
+    let mut filed = Filed::new(alloc);
+    let mut number = 1;
+    for at in 0..kept.len() {
+        let seq = at as u64 + 1;
+        if at == first {
+            return Ok(seq);
+        }
+        let part = spans.part_of(beside, seq, number);
+        match filings_if_sound(alloc, &mut filed, &kept[at], seq, number, part)? {
+            Some(filings) => number += filings,
+            None => return Ok(seq),
+        }
+    }
+    Ok(0)
+}

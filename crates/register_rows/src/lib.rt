@@ -1,0 +1,17 @@
+//! What the rows of a register's tables stand for. What may live here: how the tables are declared, the rows that a kept
+//! request puts into each, and whether rows that were read are those of a list of requests. No statement is known here.
+#![tactic(auto)]
+
+mod cells;
+mod columns;
+mod damage;
+mod filed;
+mod segments;
+mod spans;
+mod verdict;
+
+pub use cells::{Cell, is_row};
+pub use columns::{bytes_at, last_in, text_at};
+pub use filed::Filed;
+pub use segments::{after_facts, after_filing, after_findings, target_of};
+pub use verdict::{MAX_KEPT, Verdict, audit, filer_of, is_kept_row, is_target};

@@ -1,0 +1,402 @@
+//! Whether the rows of a register's tables stand for a list of requests. No SQL is known here.
+
+ghost use Rattle.std.specs.Prelude.{◌≡◌, ◌↔◌, ◌<◌, ◌≤◌, ◌^◌, ◌+◌, ◌&&◌, ℕ, suc, pos, List, [], ◌∷◌, ◌++◌, length, Option, Some, None, true, false, IsTrue, IfOk, IfSome, MatchOption};
+ghost use Rattle.sqlite.specs.declared.types.Value.TheVariants.{Int, Text, Blob};
+ghost use Rattle.sqlite.specs.Values.{or_null};
+ghost use Rattle.xbrl_report.specs.ReportParts.{facts as facts_of};
+ghost use Rattle.http_wire.specs.Posting.{IsTarget};
+ghost use Rattle.xbrl_report.specs.Judgement.{HasFacts};
+ghost use Rattle.filing_model.specs.Register.{Outcome, register};
+ghost use Rattle.filing_model.specs.Request.{Request, has_key};
+ghost use Rattle.register_rows.specs.Audit.{OtherRows, AreRowsOf, IsAfter, IsNext, IsVerdict, StandForNone, is_repeated_at, begins_with, has_more, view_rows_left, with_target};
+ghost use Rattle.register_rows.specs.Filed.{AreFiled};
+ghost use Rattle.register_rows.specs.Cells.{value_of};
+ghost use Rattle.register_rows.specs.Columns.{request_in};
+ghost use Rattle.register_rows.specs.Outcomes.{outcome_of};
+ghost use Rattle.register_rows.specs.Register.{IsCompleted};
+
+use crate::cells::{Cell, is_row};
+use crate::columns::{bytes_at, text_at};
+use crate::damage::{OtherTables, first_unsound};
+use crate::filed::Filed;
+use crate::segments::{after_facts, after_filing, after_findings, target_of};
+use http_wire::MAX_BODY_LEN;
+use key_string::{is_key, read_filer};
+use sqlite::Row;
+use sqlite::types::ValueRef;
+use std::alloc::{AllocError, Global};
+use std::collections::BTreeSet;
+use xbrl_report::{Fact, Finding, Judged};
+
+/// The most requests that a register keeps.
+pub const MAX_KEPT: u64 = 1 << 62;
+
+/// The greatest number that a column holds.
+const MAX_TARGET: u64 = i64::MAX as u64;
+
+/// The rows of the tables beside `kept` that no kept row has accounted for, and the number of the next filing.
+#[derive(Clone, Copy)]
+pub(crate) struct RowsLeft<'a> {
+    pub(crate) findings: &'a [Row],
+    pub(crate) filings: &'a [Row],
+    pub(crate) facts: &'a [Row],
+    pub(crate) amends: &'a [Row],
+    pub(crate) number: u64,
+}
+
+/// What an audit found.
+#[derive(Clone, Copy)]
+pub enum Verdict {
+    /// The rows stand for a list of requests, of which so many are registered.
+    Sound { filings: u64 },
+    /// They stand for none: the kept row at this place, counted from 1, is the first that is not sound, or at 0 each one is,
+    /// and rows of the other tables are left over.
+    Damaged { row: u64 },
+}
+
+/// The place, from 0, of the first row whose filer and key an earlier one has, or how many rows there are. It fails
+/// where memory runs out.
+pub(crate) fn first_repeated(alloc: Global, kept: &[Row]) -> Result<usize, AllocError>
+    ensures { IfOk result (λ first.
+        (first ≤ length kept.now) × ((at : ℕ) → at < first → is_repeated_at kept.now at ≡ false)
+        × (first < length kept.now → is_repeated_at kept.now first ≡ true)) }
+{
+    let mut seen = BTreeSet::new(alloc);
+    for at in 0..kept.len() {
+        let row = &kept[at];
+        if !seen.insert((text_at(row, 1), text_at(row, 2)))? {
+            return Ok(at);
+        }
+    }
+    Ok(kept.len())
+}
+
+/// The number of a filing as a column holds it.
+fn number_cell(number: Option<u64>) -> Cell<'static>
+    requires { IfSome number (λ n. n < 2 ^ 63) }
+    ensures { value_of result ≡ or_null (λ n. Int (pos n)) number }
+{
+    match number {
+        Some(number) => Cell::Int(number as i64),
+        None => Cell::Null,
+    }
+}
+
+/// Whether the row has this place and this number beside its own request.
+pub fn is_kept_row(row: &Row, seq: u64, number: Option<u64>) -> bool
+    requires seq { seq < 2 ^ 63 }
+    requires number { IfSome number (λ n. n < 2 ^ 63) }
+    ensures { IsTrue result
+        ↔ (row.now ≡ Int (pos seq) ∷ Text (request_in None row.now).filer ∷ Text (request_in None row.now).key ∷ Blob
+        (request_in None row.now).body ∷ or_null (λ n. Int (pos n)) number ∷ []) }
+{
+    is_row(
+        row,
+        &[
+            Cell::Int(seq as i64),
+            Cell::Text(text_at(row, 1)),
+            Cell::Text(text_at(row, 2)),
+            Cell::Blob(bytes_at(row, 3)),
+            number_cell(number),
+        ],
+    )
+}
+
+/// What is left behind the rows of a refused request, if they are there.
+fn after_refused<'a>(
+    row: &Row,
+    seq: u64,
+    findings: &[Finding],
+    rest: RowsLeft<'a>,
+) -> Option<RowsLeft<'a>>
+    requires { seq < 2 ^ 63 }
+    ensures { (target : Option ℕ) → IsAfter seq row.now target (Outcome.Refused findings.now) rest.entry result }
+{
+    if !is_kept_row(row, seq, None) {
+        return None;
+    }
+    let findings = after_findings(rest.findings, seq, findings)?;
+    Some(RowsLeft { findings, ..rest })
+}
+
+/// What is left behind the rows of a registered request, if they are there.
+fn after_valid<'a>(row: &Row, seq: u64, facts: &[Fact], rest: RowsLeft<'a>) -> Option<RowsLeft<'a>>
+    requires seq { seq < 2 ^ 63 }
+    requires number { rest.number < 2 ^ 63 }
+    requires facts { facts.now ≡ facts_of (request_in None row.now).body }
+    ensures { (target : Option ℕ)
+        → IsAfter seq row.now target (Outcome.Registered rest.entry.number) rest.entry result }
+{
+    if !is_kept_row(row, seq, Some(rest.number)) {
+        return None;
+    }
+    let filings = after_filing(rest.filings, rest.number, seq)?;
+    let facts = after_facts(rest.facts, rest.number, facts)?;
+    Some(RowsLeft {
+        findings: rest.findings,
+        filings,
+        facts,
+        amends: rest.amends,
+        number: rest.number + 1,
+    })
+}
+
+/// What is left behind the rows of a request that was judged so, if they are there.
+fn after_judged<'a>(
+    row: &Row,
+    seq: u64,
+    judged: &Judged,
+    rest: RowsLeft<'a>,
+) -> Option<RowsLeft<'a>>
+    requires seq { seq < 2 ^ 63 }
+    requires number { rest.number < 2 ^ 63 }
+    requires facts { HasFacts (request_in None row.now).body judged.now }
+    ensures { (target : Option ℕ)
+        → IsAfter seq row.now target (outcome_of rest.entry.number judged.now) rest.entry result }
+{
+    match judged {
+        Judged::Valid(report) => after_valid(row, seq, report.facts(), rest),
+        Judged::Refused(findings) => after_refused(row, seq, findings.list(), rest),
+    }
+}
+
+/// Whether the first of the rows has this number in the column.
+fn begins_with(rows: &[Row], at: usize, number: u64) -> bool
+    requires { number < 2 ^ 63 }
+    ensures { result ≡ begins_with at number rows.now }
+{
+    match rows {
+        [row, ..] => match row.get_ref(at) {
+            Ok(ValueRef::Int(found)) => found == number as i64,
+            _ => false,
+        },
+        [] => false,
+    }
+}
+
+/// Whether what is left begins with another row of the request at this place, which was judged so.
+fn has_more(seq: u64, judged: &Judged, number: u64, rest: RowsLeft<'_>) -> bool
+    requires seq { seq < 2 ^ 63 }
+    requires number { number < 2 ^ 63 }
+    ensures { result ≡ has_more seq (outcome_of number judged.now) (view_rows_left rest.entry) }
+{
+    begins_with(rest.findings, 0, seq)
+        || begins_with(rest.filings, 1, seq)
+        || match judged {
+            Judged::Valid(_) => begins_with(rest.facts, 0, number),
+            Judged::Refused(_) => false,
+        }
+        || begins_with(rest.amends, 0, seq)
+}
+
+/// Whether there is no number, or one that a filing may have.
+pub fn is_target(target: Option<u64>) -> bool
+    ensures { IsTrue result ↔ IsTarget target }
+{
+    match target {
+        Some(number) => 1 <= number && number <= MAX_TARGET,
+        None => true,
+    }
+}
+
+/// The filer of a row whose request may be completed, where it is to replace such a filing.
+pub fn filer_of<'a>(row: &'a Row) -> Option<&'a str>
+    ensures { (target : Option ℕ) → IsTarget target
+        → MatchOption result (IsCompleted (request_in target row.now) → ⊥) (λ filer.
+        (filer.now ≡ (request_in None row.now).filer) × IsCompleted (request_in target row.now)) }
+{
+    let key = text_at(row, 2);
+    let Some(filer) = read_filer(text_at(row, 1)) else {
+        return None;
+    };
+    if !is_key(key) {
+        return None;
+    }
+    if bytes_at(row, 3).len() > MAX_BODY_LEN {
+        return None;
+    }
+    Some(filer)
+}
+
+/// What is left behind the rows of a kept row of this filer, with the target read, or `None`. It fails where memory runs out.
+fn check_filed<'a>(
+    alloc: Global,
+    filed: &mut Filed,
+    filer: &str,
+    target: Option<u64>,
+    row: &Row,
+    seq: u64,
+    rest: RowsLeft<'a>,
+) -> Result<Option<RowsLeft<'a>>, AllocError>
+    requires seq { seq < 2 ^ 63 }
+    requires number { rest.number < 2 ^ 63 }
+    requires filer { filer.now ≡ (request_in None row.now).filer }
+    ensures { (F : List Request) → AreFiled (register F) filed.old → rest.entry.number ≡ suc (length (register F))
+        → IsCompleted (request_in target row.now) → has_key F (request_in target row.now) ≡ false
+        → IfOk result (λ next.
+        MatchOption next
+        ((tail : OtherRows) → IsNext F seq row.now target (with_target seq target (view_rows_left rest.entry)) tail → ⊥)
+        (λ tail.
+        IsNext F seq row.now target (with_target seq target (view_rows_left rest.entry)) (view_rows_left tail)
+        × AreFiled (register (F ++ request_in target row.now ∷ [])) filed.new
+        × (tail.number ≡ suc (length (register (F ++ request_in target row.now ∷ [])))))) }
+{
+    let judged = filed.judge(alloc, filer, target, bytes_at(row, 3))?;
+    match after_judged(row, seq, &judged, rest) {
+        Some(tail) => {
+            if has_more(seq, &judged, rest.number, tail) {
+                Ok(None)
+            } else {
+                filed.note(alloc, filer, target, &judged)?;
+                Ok(Some(tail))
+            }
+        }
+        None => Ok(None),
+    }
+}
+
+/// Whether the kept row may come next after those before it: what is left behind its rows in the other tables, or `None`.
+/// It fails where memory runs out.
+fn check_next<'a>(
+    alloc: Global,
+    filed: &mut Filed,
+    is_repeated: bool,
+    row: &Row,
+    seq: u64,
+    rest: RowsLeft<'a>,
+) -> Result<Option<RowsLeft<'a>>, AllocError>
+    requires seq { seq < 2 ^ 63 }
+    requires number { rest.number < 2 ^ 63 }
+    ensures { (F : List Request) → AreFiled (register F) filed.old → rest.entry.number ≡ suc (length (register F))
+        → is_repeated ≡ has_key F (request_in None row.now)
+        → IfOk result (λ next.
+        MatchOption next
+        ((target : Option ℕ) (tail : OtherRows) → IsNext F seq row.now target (view_rows_left rest.entry) tail → ⊥)
+        (λ tail.
+        (target : Option ℕ) × IsNext F seq row.now target (view_rows_left rest.entry) (view_rows_left tail)
+        × AreFiled (register (F ++ request_in target row.now ∷ [])) filed.new
+        × (tail.number ≡ suc (length (register (F ++ request_in target row.now ∷ [])))))) }
+{
+    if is_repeated {
+        return Ok(None);
+    }
+    let (target, amends) = target_of(rest.amends, seq);
+    if !is_target(target) {
+        return Ok(None);
+    }
+    let Some(filer) = filer_of(row) else {
+        return Ok(None);
+    };
+    check_filed(
+        alloc,
+        filed,
+        filer,
+        target,
+        row,
+        seq,
+        RowsLeft { amends, ..rest },
+    )
+}
+
+/// Audits one kept row after the other, as the tables are in the order of their keys: how many filings the requests are that
+/// the rows stand for, or `None` where they stand for none. It fails where memory runs out.
+fn audit_in_order(
+    alloc: Global,
+    kept: &[Row],
+    findings: &[Row],
+    filings: &[Row],
+    facts: &[Row],
+    amends: &[Row],
+) -> Result<Option<u64>, AllocError>
+    requires { length kept.now ≤ 2 ^ 62 }
+    ensures found { IfOk result (λ found.
+        MatchOption found
+        (StandForNone kept.now (record {
+          finding = findings.now;
+          filing = filings.now;
+          fact = facts.now;
+          amends = amends.now;
+        }))
+        (λ filings_are.
+        IsVerdict kept.now
+        (record { finding = findings.now; filing = filings.now; fact = facts.now; amends = amends.now })
+        (Verdict.Sound filings_are)
+        × (filings_are ≤ length kept.now))) }
+{
+    let mut rest = RowsLeft {
+        findings,
+        filings,
+        facts,
+        amends,
+        number: 1,
+    };
+    let mut filed = Filed::new(alloc);
+    let first = first_repeated(alloc, kept)?;
+    for at in 0..kept.len() {
+        let seq = at as u64 + 1;
+        match check_next(alloc, &mut filed, at == first, &kept[at], seq, rest)? {
+            Some(next) => rest = next,
+            None => return Ok(None),
+        }
+    }
+    if rest.findings.is_empty()
+        && rest.filings.is_empty()
+        && rest.facts.is_empty()
+        && rest.amends.is_empty()
+    {
+        Ok(Some(rest.number - 1))
+    } else {
+        Ok(None)
+    }
+}
+
+/// Audits the rows of `kept`, by `seq`, with those of the other tables, each in the order of its key. It fails
+/// where memory runs out.
+pub fn audit(
+    alloc: Global,
+    kept: &[Row],
+    findings: &[Row],
+    filings: &[Row],
+    facts: &[Row],
+    amends: &[Row],
+) -> Result<Verdict, AllocError>
+    ensures verdict { IfOk result (λ verdict.
+        IsVerdict kept.now (record {
+          finding = findings.now;
+          filing = filings.now;
+          fact = facts.now;
+          amends = amends.now;
+        }) verdict) }
+    ensures complete { IfOk result (λ verdict.
+        (F : List Request)
+        → AreRowsOf kept.now (record {
+          finding = findings.now;
+          filing = filings.now;
+          fact = facts.now;
+          amends = amends.now;
+        }) F
+        → verdict ≡ Verdict.Sound (length (register F))) }
+    ensures few { IfOk result (λ verdict.
+        (filings : ℕ) → verdict ≡ Verdict.Sound filings
+        → (filings ≤ length kept.now) × (length kept.now ≤ 2 ^ 62)) }
+{
+    if kept.len() as u64 > MAX_KEPT {
+        return Err(AllocError);
+    }
+    match audit_in_order(alloc, kept, findings, filings, facts, amends)? {
+        Some(filings) => Ok(Verdict::Sound { filings }),
+        None => {
+            let row = first_unsound(
+                alloc,
+                kept,
+                OtherTables {
+                    findings,
+                    filings,
+                    facts,
+                    amends,
+                },
+            )?;
+            Ok(Verdict::Damaged { row })
+        }
+    }
+}

@@ -1,9 +1,0 @@
-use Rattle.std.proofs.Common.{◌≡◌, map, take, length}
-use Rattle.register_store.specs.Cells.{value_of}
-use Rattle.register_store.proofs.decode.cells.is_row.Given as goal
-
-abbrev pub invariant-loop-at : goal.invariant-loop-at
-invariant-loop-at l = record {
-  same : take l.at l.row ≡ map value_of (take l.at l.cells);
-  long : length l.row ≡ length l.cells;
-}
