@@ -25,3 +25,4 @@ pub mod Measures
 pub mod Plain
 pub mod FactOrder
 pub mod NamedDimensions
+pub mod Known

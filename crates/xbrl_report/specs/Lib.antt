@@ -11,6 +11,7 @@ pub mod InOrder
 pub mod Findings
 pub mod ReportParts
 pub mod Walk
+pub mod Known
 pub mod Gathers
 pub mod Judgement
 pub mod Ordered
