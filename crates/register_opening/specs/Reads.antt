@@ -1,4 +1,4 @@
--- What the SELECTs of a register read.
+-- What the SELECTs of an opening read.
 use Rattle.std.specs.Prelude.{Bool, true, ℕ, ◌&&◌, List, [], ◌∷◌, IsTrue, Result, IfErr}
 use Rattle.sqlite.specs.declared.types.Value.TheVariants.{Text}
 use Rattle.sqlite.specs.Collation.TheVariants.{Binary}

@@ -1,7 +1,7 @@
 //! Which kept row is told of a register whose rows stand for no requests. Each kept row is held against all rows of the other
 //! tables that have its place or its number, in any order of these tables; where they lie is looked up once for all.
 
-ghost use Rattle.std.specs.Prelude.{◌≡◌, ◌↔◌, ◌<◌, ◌≤◌, ◌^◌, ◌+◌, ℕ, suc, pos, List, [], ◌∷◌, ◌++◌, length, IsTrue, IfOk, IfSome, MatchOption, Option, None, vec_len};
+ghost use Rattle.std.specs.Prelude.{◌≡◌, ◌↔◌, ◌<◌, ◌≤◌, ◌^◌, ◌+◌, ℕ, suc, List, [], ◌∷◌, ◌++◌, length, IsTrue, IfOk, IfSome, MatchOption, Option, None, vec_len};
 ghost use Rattle.sqlite.specs.Order.{column};
 ghost use Rattle.sqlite.specs.declared.types.Value.TheVariants.{Int};
 ghost use Rattle.xbrl_report.specs.ReportParts.{facts as facts_of};
@@ -14,13 +14,14 @@ ghost use Rattle.register_rows.specs.Audit.{IsKeptAs, IsTold, is_number, with_nu
 ghost use Rattle.register_rows.specs.Filed.{AreFiled};
 ghost use Rattle.register_rows.specs.Columns.{request_in};
 ghost use Rattle.register_rows.specs.Outcomes.{outcome_of, filings_by};
-ghost use Rattle.register_rows.specs.Register.{IsCompleted, finding_row, fact_row, amends_rows_by};
+ghost use Rattle.register_rows.specs.Register.{IsCompleted, amends_rows_by};
 ghost use Rattle.register_rows.specs.Spans.{AreSpansOf, AgreeAt};
 
 use crate::cells::{Cell, is_row};
 use crate::columns::bytes_at;
 use crate::filed::Filed;
-use crate::segments::{is_fact_row, is_finding_row, target_of};
+use crate::items::RowItem;
+use crate::segments::target_of;
 use crate::spans::{Span, spans_of};
 use crate::verdict::{filer_of, first_repeated, is_kept_row, is_target};
 use sqlite::Row;
@@ -90,76 +91,25 @@ fn has_number(row: &Row, at: usize, number: u64) -> bool
     }
 }
 
-/// Whether the rows of the request at this place are those of the findings, in order.
-fn has_findings(rows: &[Row], seq: u64, findings: &[Finding]) -> bool
-    requires { seq < 2 ^ 63 }
-    ensures { IsTrue result ↔ (with_number 0 seq rows.now ≡ counted_from (finding_row seq) 1 findings.now) }
-{
-    let mut found = 0;
-    for at in 0..rows.len() {
-        let row = &rows[at];
-        if has_number(row, 0, seq) {
-            if found >= findings.len() {
-                return false;
-            }
-            if !is_finding_row(row, seq, found as u64 + 1, &findings[found]) {
-                return false;
-            }
-            found += 1;
-        }
-    }
-    found == findings.len()
-}
-
-/// Whether the rows of the filing are those of the facts, in order.
-fn has_facts(rows: &[Row], number: u64, facts: &[Fact]) -> bool
+/// Whether the rows with this number in this column are those of the items, in order.
+fn has_items<T: RowItem>(rows: &[Row], column: usize, number: u64, items: &[T]) -> bool
     requires { number < 2 ^ 63 }
-    ensures { IsTrue result ↔ (with_number 0 number rows.now ≡ counted_from (fact_row number) 1 facts.now) }
+    ensures { IsTrue result ↔ (with_number column number rows.now ≡ counted_from (T.row_of number) 1 items.now) }
 {
     let mut found = 0;
     for at in 0..rows.len() {
         let row = &rows[at];
-        if has_number(row, 0, number) {
-            if found >= facts.len() {
+        if has_number(row, column, number) {
+            if found >= items.len() {
                 return false;
             }
-            if !is_fact_row(row, number, found as u64 + 1, &facts[found]) {
+            if !items[found].is_said_by(row, number, found as u64 + 1) {
                 return false;
             }
             found += 1;
         }
     }
-    found == facts.len()
-}
-
-/// Whether the row is that of the filing under this number.
-fn is_filing_row(row: &Row, number: &i64, seq: u64) -> bool
-    requires { seq < 2 ^ 63 }
-    ensures { IsTrue result ↔ (row.now ≡ Int number.now ∷ Int (pos seq) ∷ []) }
-{
-    is_row(row, &[Cell::Int(*number), Cell::Int(seq as i64)])
-}
-
-/// Whether the filings of the request at this place have these numbers, in order.
-fn has_filings(rows: &[Row], seq: u64, numbers: &[i64]) -> bool
-    requires { seq < 2 ^ 63 }
-    ensures { IsTrue result
-        ↔ (with_number 1 seq rows.now ≡ counted_from (λ _ n. Int n ∷ Int (pos seq) ∷ []) 1 numbers.now) }
-{
-    let mut found = 0;
-    for at in 0..rows.len() {
-        let row = &rows[at];
-        if has_number(row, 1, seq) {
-            if found >= numbers.len() {
-                return false;
-            }
-            if !is_filing_row(row, &numbers[found], seq) {
-                return false;
-            }
-            found += 1;
-        }
-    }
-    found == numbers.len()
+    found == items.len()
 }
 
 /// The filing that the request at this place is to replace, if any, or `None` where its rows say no such thing.
@@ -192,8 +142,8 @@ fn is_refused(row: &Row, seq: u64, findings: &[Finding], beside: OtherTables<'_>
         (view_other_tables beside.entry) }
 {
     is_kept_row(row, seq, None)
-        && has_findings(beside.findings, seq, findings)
-        && has_filings(beside.filings, seq, &[])
+        && has_items(beside.findings, 0, seq, findings)
+        && has_items::<i64>(beside.filings, 1, seq, &[])
 }
 
 /// Whether the row and those of the other tables are those of a request registered under the number.
@@ -207,9 +157,9 @@ fn is_registered(row: &Row, seq: u64, number: u64, facts: &[Fact], beside: Other
         (view_other_tables beside.entry) }
 {
     is_kept_row(row, seq, Some(number))
-        && has_findings(beside.findings, seq, &[])
-        && has_filings(beside.filings, seq, &[number as i64])
-        && has_facts(beside.facts, number, facts)
+        && has_items::<Finding>(beside.findings, 0, seq, &[])
+        && has_items(beside.filings, 1, seq, &[number as i64])
+        && has_items(beside.facts, 0, number, facts)
 }
 
 /// Whether the row and those of the other tables are those of a request that was judged so, where those of `amends` are.

@@ -19,7 +19,7 @@ use crate::cells::{Cell, is_row};
 use crate::columns::{bytes_at, text_at};
 use crate::damage::{OtherTables, first_unsound};
 use crate::filed::Filed;
-use crate::segments::{after_facts, after_filing, after_findings, target_of};
+use crate::segments::{after_filing, after_items, target_of};
 use http_wire::MAX_BODY_LEN;
 use key_string::{is_key, read_filer};
 use sqlite::Row;
@@ -115,7 +115,7 @@ fn after_refused<'a>(
     if !is_kept_row(row, seq, None) {
         return None;
     }
-    let findings = after_findings(rest.findings, seq, findings)?;
+    let findings = after_items(rest.findings, seq, findings)?;
     Some(RowsLeft { findings, ..rest })
 }
 
@@ -131,7 +131,7 @@ fn after_valid<'a>(row: &Row, seq: u64, facts: &[Fact], rest: RowsLeft<'a>) -> O
         return None;
     }
     let filings = after_filing(rest.filings, rest.number, seq)?;
-    let facts = after_facts(rest.facts, rest.number, facts)?;
+    let facts = after_items(rest.facts, rest.number, facts)?;
     Some(RowsLeft {
         findings: rest.findings,
         filings,

@@ -1,5 +1,5 @@
 -- What is written for a request that is to be kept.
-use Rattle.std.specs.Prelude.{◌≡◌, ℕ, false, List, [], ◌∷◌, ◌++◌, Result, IsTrue, OnOk, OnErr}
+use Rattle.std.specs.Prelude.{◌≡◌, ℕ, false, Option, List, [], ◌∷◌, ◌++◌, Result, IsTrue, OnOk, OnErr}
 use Rattle.std.specs.Borrow.{MutBor}
 use Rattle.sqlite.specs.Store.{Ghosts}
 use Rattle.sqlite.specs.Held.{Held, state}
@@ -10,7 +10,8 @@ use Rattle.sqlite.specs.Tree.{Trees}
 use Rattle.sqlite.specs.Effect.{Database, IsDatabase}
 use Rattle.sqlite.specs.State.{State, HasCleanDisk, Survives}
 use Rattle.key_string.specs.Key.{IsKey}
-use Rattle.filing_model.specs.Register.{Kept}
+use Rattle.filing_model.specs.Register.{Outcome, Kept}
+use Rattle.filing_model.specs.Views.{the_request}
 use Rattle.table_rows.specs.Standing.{CommitsNothing, IsLasting, StaysCommitted}
 use Rattle.register_store.specs.declared.outcome.NewRow.{NewRow}
 use Rattle.register_store.specs.Outcomes.{kept_new}
@@ -29,6 +30,11 @@ pub record AddsInside (seq : ℕ) (k : Kept) (old new : State) : Type 0 where
   pub adds : AddsRows seq k old.now new.now
   pub inside : IsTrue new.in_transaction
   pub committed : new.committed ≡ old.committed
+
+-- where the disk is clean at the end, that is what an answer says of a request that is to be kept, with this target and this outcome
+abbrev pub AddsAs : {X E : Type 0} → ℕ → Option ℕ → NewRow → Outcome → State → State → Result X E → Type 0
+AddsAs seq target row outcome old new result =
+    HasCleanDisk new → OnOk result (AddsInside seq (record { request = the_request row.filer.now row.key.now target row.body.now; outcome = outcome }) old new)
 
 -- so they did, and it is committed
 pub record Adds (seq : ℕ) (k : Kept) (old new : State) : Type 0 where

@@ -1,4 +1,4 @@
--- What the SELECTs of a register read.
+-- What the SELECTs of an open register read.
 use Rattle.std.specs.Prelude.{Bool, true, pos, ℕ, ℤ, ◌&&◌, List, [], ◌∷◌}
 use Rattle.sqlite.specs.declared.types.Value.TheVariants.{Int, Text}
 use Rattle.sqlite.specs.Collation.TheVariants.{Binary}

@@ -1,10 +1,11 @@
 //! The statements on the tables, one in each function. What may live here: texts of SQL, and their parameters.
 
-ghost use Rattle.std.specs.Prelude.{◌≡◌, ◌<◌, ◌^◌, pos, [], ◌∷◌, option_map, string_bytes, IsTrue, IfOk, IfSome, OnOk};
+ghost use Rattle.std.specs.Prelude.{◌≡◌, ◌<◌, ◌^◌, pos, length, [], ◌∷◌, option_map, string_bytes, IsTrue, IfOk, IfSome, OnOk};
 ghost use Rattle.sqlite.specs.declared.types.Value.TheVariants.{Int, Text, Blob};
 ghost use Rattle.sqlite.specs.Values.{or_null};
 ghost use Rattle.sqlite.specs.Held.{state};
 ghost use Rattle.sqlite.specs.State.{HasCleanDisk};
+ghost use Rattle.sqlite.specs.Table.{Table};
 ghost use Rattle.table_rows.specs.Rows.{counted_from};
 ghost use Rattle.table_rows.specs.Reading.{ReadsRows};
 ghost use Rattle.table_rows.specs.Standing.{Keeps, CommitsNothing, StaysAutocommit, StaysCommitted};
@@ -14,9 +15,9 @@ ghost use Rattle.register_rows.specs.Schema.{kept_table, finding_table, filing_t
 ghost use Rattle.key_string.specs.Key.{IsKey};
 ghost use Rattle.register_opening.specs.Gains.{GainsRows};
 ghost use Rattle.register_store.specs.Changes.{InsertsRow};
-ghost use Rattle.register_rows.specs.Register.{finding_row, fact_row};
 
 use crate::outcome::NewRow;
+use register_rows::RowItem;
 use sqlite::{Alter, Connection, Error, Row, Transaction, params};
 use xbrl_report::{Fact, Finding};
 
@@ -89,47 +90,69 @@ pub fn insert_amends<S: Alter>(
     Ok(())
 }
 
-/// Adds the row of a finding, the `at`-th of the request at this place.
-fn insert_finding<S: Alter>(
-    tx: &mut Transaction<'_, S>,
-    seq: u64,
-    at: u64,
-    finding: &Finding,
-) -> Result<(), Error>
-    requires seq { seq < 2 ^ 63 }
-    requires at { at < 2 ^ 63 }
-    ensures { InsertsRow S.Store finding_table (finding_row seq at finding.now) tx.old.conn tx.new.conn result }
-{
-    let code = u32::from(finding.code.number());
-    let place = finding.place.as_bytes();
-    tx.execute(
-        "INSERT INTO finding VALUES (?1, ?2, ?3, ?4)",
-        params![seq as i64, at as i64, code, place],
-    )?;
-    Ok(())
+/// What has a row of its own in a table.
+pub trait InsertItem: RowItem {
+    // The table that has it.
+    ghost table: { Table };
+
+    /// Adds its row; `number` is that of its request or filing, and so many of its kind come up to it.
+    fn insert<S: Alter>(
+        &self,
+        tx: &mut Transaction<'_, S>,
+        number: u64,
+        at: u64,
+    ) -> Result<(), Error>
+        requires number { number < 2 ^ 63 }
+        requires at { at < 2 ^ 63 }
+        ensures { InsertsRow S.Store table (Self.RowItem.row_of number at self.now) tx.old.conn tx.new.conn result };
 }
 
-/// Adds the rows of the findings of the request at this place.
-pub fn insert_findings<S: Alter>(
-    tx: &mut Transaction<'_, S>,
-    seq: u64,
-    findings: &[Finding],
-) -> Result<(), Error>
-    requires { seq < 2 ^ 63 }
-    ensures same_reference { tx.new.conn.ghost_name ≡ tx.old.conn.ghost_name }
-    ensures gains { HasCleanDisk (state S.Store tx.new.conn.now) → IsTrue (state S.Store tx.old.conn.now).in_transaction
-        → OnOk result
-        (GainsRows finding_table (counted_from (finding_row seq) 1 findings.now) (state S.Store tx.old.conn.now)
-        (state S.Store tx.new.conn.now)) }
-    ensures keeps { StaysCommitted S.Store tx.old.conn.now tx.new.conn.now }
-    ensures survives { CommitsNothing (state S.Store tx.old.conn.now) (state S.Store tx.new.conn.now) }
-{
-    let mut at = 0u64;
-    'findings: for finding in findings {
-        at += 1;
-        insert_finding(tx, seq, at, finding)?;
+impl InsertItem for Finding {
+    ghost table = { finding_table };
+
+    fn insert<S: Alter>(
+        &self,
+        tx: &mut Transaction<'_, S>,
+        number: u64,
+        at: u64,
+    ) -> Result<(), Error> {
+        let code = u32::from(self.code.number());
+        let place = self.place.as_bytes();
+        tx.execute(
+            "INSERT INTO finding VALUES (?1, ?2, ?3, ?4)",
+            params![number as i64, at as i64, code, place],
+        )?;
+        Ok(())
     }
-    Ok(())
+}
+
+impl InsertItem for Fact {
+    ghost table = { fact_table };
+
+    fn insert<S: Alter>(
+        &self,
+        tx: &mut Transaction<'_, S>,
+        number: u64,
+        at: u64,
+    ) -> Result<(), Error> {
+        let id = self.id.as_bytes();
+        let concept = self.concept.as_bytes();
+        let dimensions = self.dimensions.as_bytes();
+        let value = bytes_of(&self.value);
+        tx.execute(
+            "INSERT INTO fact VALUES (?1, ?2, ?3, ?4, ?5, ?6, ?7)",
+            params![
+                number as i64,
+                at as i64,
+                id,
+                concept,
+                dimensions,
+                value,
+                self.decimals
+            ],
+        )?;
+        Ok(())
+    }
 }
 
 /// The bytes of a text, if there is one.
@@ -142,55 +165,26 @@ fn bytes_of(text: &Option<String>) -> Option<&[u8]>
     }
 }
 
-/// Adds the row of a fact, the `at`-th of the filing of this number.
-fn insert_fact<S: Alter>(
+/// Adds the rows of the items of the request or filing of this number.
+pub fn insert_items<S: Alter, T: InsertItem>(
     tx: &mut Transaction<'_, S>,
     number: u64,
-    at: u64,
-    fact: &Fact,
+    items: &[T],
 ) -> Result<(), Error>
     requires number { number < 2 ^ 63 }
-    requires at { at < 2 ^ 63 }
-    ensures { InsertsRow S.Store fact_table (fact_row number at fact.now) tx.old.conn tx.new.conn result }
-{
-    let id = fact.id.as_bytes();
-    let concept = fact.concept.as_bytes();
-    let dimensions = fact.dimensions.as_bytes();
-    let value = bytes_of(&fact.value);
-    tx.execute(
-        "INSERT INTO fact VALUES (?1, ?2, ?3, ?4, ?5, ?6, ?7)",
-        params![
-            number as i64,
-            at as i64,
-            id,
-            concept,
-            dimensions,
-            value,
-            fact.decimals
-        ],
-    )?;
-    Ok(())
-}
-
-/// Adds the rows of the facts of the filing of this number.
-pub fn insert_facts<S: Alter>(
-    tx: &mut Transaction<'_, S>,
-    number: u64,
-    facts: &[Fact],
-) -> Result<(), Error>
-    requires { number < 2 ^ 63 }
+    requires few { length items.now < 2 ^ 63 }
     ensures same_reference { tx.new.conn.ghost_name ≡ tx.old.conn.ghost_name }
     ensures gains { HasCleanDisk (state S.Store tx.new.conn.now) → IsTrue (state S.Store tx.old.conn.now).in_transaction
         → OnOk result
-        (GainsRows fact_table (counted_from (fact_row number) 1 facts.now) (state S.Store tx.old.conn.now)
+        (GainsRows T.table (counted_from (T.row_of number) 1 items.now) (state S.Store tx.old.conn.now)
         (state S.Store tx.new.conn.now)) }
     ensures keeps { StaysCommitted S.Store tx.old.conn.now tx.new.conn.now }
     ensures survives { CommitsNothing (state S.Store tx.old.conn.now) (state S.Store tx.new.conn.now) }
 {
     let mut at = 0u64;
-    'facts: for fact in facts {
+    'items: for item in items {
         at += 1;
-        insert_fact(tx, number, at, fact)?;
+        item.insert(tx, number, at)?;
     }
     Ok(())
 }

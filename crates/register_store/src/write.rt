@@ -1,20 +1,18 @@
 //! A request is kept: its row, and those of its findings or of its filing and its facts, in one transaction.
 
-ghost use Rattle.std.specs.Prelude.{◌≡◌, ◌<◌, ◌^◌, ◌-◌, false, None, Some, OnOk};
+ghost use Rattle.std.specs.Prelude.{◌≡◌, ◌<◌, ◌^◌, ◌-◌, false, None, Some};
 ghost use Rattle.sqlite.specs.Held.{state};
-ghost use Rattle.sqlite.specs.State.{HasCleanDisk};
 ghost use Rattle.key_string.specs.Key.{IsKey};
 ghost use Rattle.http_wire.specs.Posting.{IsTarget};
 ghost use Rattle.xbrl_report.specs.Judgement.{HasFacts};
 ghost use Rattle.xbrl_report.specs.ReportParts.{facts as facts_of};
 ghost use Rattle.filing_model.specs.Register.{Outcome};
-ghost use Rattle.filing_model.specs.Views.{the_request};
 ghost use Rattle.register_rows.specs.Outcomes.{outcome_of};
-ghost use Rattle.register_store.specs.Changes.{AddsInside, KeepsRequest};
+ghost use Rattle.register_store.specs.Changes.{AddsAs, KeepsRequest};
 ghost use Rattle.table_rows.specs.Standing.{CommitsNothing, StaysCommitted};
 
 use crate::outcome::NewRow;
-use crate::rows::{insert_amends, insert_facts, insert_filing, insert_findings, insert_kept};
+use crate::rows::{insert_amends, insert_filing, insert_items, insert_kept};
 use sqlite::{Alter, Connection, Error, Transaction};
 use xbrl_report::{Fact, Finding, Judged};
 
@@ -28,19 +26,13 @@ fn write_refused<S: Alter>(
     requires { seq < 2 ^ 63 }
     ensures key { IsKey row.now.key.now }
     ensures same_reference { tx.new.conn.ghost_name ≡ tx.old.conn.ghost_name }
-    ensures adds { HasCleanDisk (state S.Store tx.new.conn.now)
-        → OnOk result
-        (AddsInside seq
-        (record {
-          request = the_request row.now.filer.now row.now.key.now None row.now.body.now;
-          outcome = Outcome.Refused findings.now;
-        })
-        (state S.Store tx.old.conn.now) (state S.Store tx.new.conn.now)) }
+    ensures adds { AddsAs seq None row.now (Outcome.Refused findings.now)
+        (state S.Store tx.old.conn.now) (state S.Store tx.new.conn.now) result }
     ensures keeps { StaysCommitted S.Store tx.old.conn.now tx.new.conn.now }
     ensures survives { CommitsNothing (state S.Store tx.old.conn.now) (state S.Store tx.new.conn.now) }
 {
     insert_kept(tx, seq, row, None)?;
-    insert_findings(tx, seq, findings)
+    insert_items(tx, seq, findings)
 }
 
 /// Writes a registered request at its place, with its filing of this number and the facts of its report, beside the filing that it is
@@ -57,20 +49,14 @@ fn write_accepted<S: Alter>(
     requires facts { facts.now ≡ facts_of row.now.body.now }
     ensures key { IsKey row.now.key.now }
     ensures same_reference { tx.new.conn.ghost_name ≡ tx.old.conn.ghost_name }
-    ensures adds { HasCleanDisk (state S.Store tx.new.conn.now)
-        → OnOk result
-        (AddsInside seq
-        (record {
-          request = the_request row.now.filer.now row.now.key.now None row.now.body.now;
-          outcome = Outcome.Registered number;
-        })
-        (state S.Store tx.old.conn.now) (state S.Store tx.new.conn.now)) }
+    ensures adds { AddsAs seq None row.now (Outcome.Registered number)
+        (state S.Store tx.old.conn.now) (state S.Store tx.new.conn.now) result }
     ensures keeps { StaysCommitted S.Store tx.old.conn.now tx.new.conn.now }
     ensures survives { CommitsNothing (state S.Store tx.old.conn.now) (state S.Store tx.new.conn.now) }
 {
     insert_kept(tx, seq, row, Some(number))?;
     insert_filing(tx, number, seq)?;
-    insert_facts(tx, number, facts)
+    insert_items(tx, number, facts)
 }
 
 /// Writes a request as it was judged, beside the filing that it is to replace; `number` is that of the next filing.
@@ -85,14 +71,8 @@ fn write_judged<S: Alter>(
     requires facts { HasFacts row.now.body.now row.now.judged.now }
     ensures key { IsKey row.now.key.now }
     ensures same_reference { tx.new.conn.ghost_name ≡ tx.old.conn.ghost_name }
-    ensures adds { HasCleanDisk (state S.Store tx.new.conn.now)
-        → OnOk result
-        (AddsInside seq
-        (record {
-          request = the_request row.now.filer.now row.now.key.now None row.now.body.now;
-          outcome = outcome_of number row.now.judged.now;
-        })
-        (state S.Store tx.old.conn.now) (state S.Store tx.new.conn.now)) }
+    ensures adds { AddsAs seq None row.now (outcome_of number row.now.judged.now)
+        (state S.Store tx.old.conn.now) (state S.Store tx.new.conn.now) result }
     ensures keeps { StaysCommitted S.Store tx.old.conn.now tx.new.conn.now }
     ensures survives { CommitsNothing (state S.Store tx.old.conn.now) (state S.Store tx.new.conn.now) }
 {
@@ -116,14 +96,8 @@ fn write_amendment<S: Alter>(
     requires facts { HasFacts row.now.body.now row.now.judged.now }
     ensures key { IsKey row.now.key.now }
     ensures same_reference { tx.new.conn.ghost_name ≡ tx.old.conn.ghost_name }
-    ensures adds { HasCleanDisk (state S.Store tx.new.conn.now)
-        → OnOk result
-        (AddsInside seq
-        (record {
-          request = the_request row.now.filer.now row.now.key.now (Some target) row.now.body.now;
-          outcome = outcome_of number row.now.judged.now;
-        })
-        (state S.Store tx.old.conn.now) (state S.Store tx.new.conn.now)) }
+    ensures adds { AddsAs seq (Some target) row.now (outcome_of number row.now.judged.now)
+        (state S.Store tx.old.conn.now) (state S.Store tx.new.conn.now) result }
     ensures keeps { StaysCommitted S.Store tx.old.conn.now tx.new.conn.now }
     ensures survives { CommitsNothing (state S.Store tx.old.conn.now) (state S.Store tx.new.conn.now) }
 {
@@ -145,14 +119,8 @@ fn write<S: Alter>(
     requires facts { HasFacts row.now.body.now row.now.judged.now }
     ensures key { IsKey row.now.key.now }
     ensures same_reference { tx.new.conn.ghost_name ≡ tx.old.conn.ghost_name }
-    ensures adds { HasCleanDisk (state S.Store tx.new.conn.now)
-        → OnOk result
-        (AddsInside seq
-        (record {
-          request = the_request row.now.filer.now row.now.key.now row.now.target row.now.body.now;
-          outcome = outcome_of number row.now.judged.now;
-        })
-        (state S.Store tx.old.conn.now) (state S.Store tx.new.conn.now)) }
+    ensures adds { AddsAs seq row.now.target row.now (outcome_of number row.now.judged.now)
+        (state S.Store tx.old.conn.now) (state S.Store tx.new.conn.now) result }
     ensures keeps { StaysCommitted S.Store tx.old.conn.now tx.new.conn.now }
     ensures survives { CommitsNothing (state S.Store tx.old.conn.now) (state S.Store tx.new.conn.now) }
 {

@@ -23,7 +23,7 @@ ghost use Rattle.table_rows.specs.Standing.{CommitsNothing, StaysAutocommit, Sta
 use crate::opening::watch::Watch;
 use crate::select::picks;
 use register_rows::{
-    Filed, MAX_KEPT, after_facts, after_filing, after_findings, bytes_at, filer_of, is_kept_row,
+    Filed, MAX_KEPT, RowItem, after_filing, after_items, bytes_at, filer_of, is_kept_row,
     is_target, target_of, text_at,
 };
 use sqlite::{Alter, Connection, Error, Row};
@@ -41,21 +41,11 @@ pub(crate) struct Left<'a> {
     pub(crate) number: u64,
 }
 
-fn are_findings(rows: &[Row], seq: u64, findings: &[Finding]) -> bool
-    requires { seq < 2 ^ 63 }
-    ensures { IsTrue result → rows.now ≡ counted_from (finding_row seq) 1 findings.now }
-{
-    match after_findings(rows, seq, findings) {
-        Some(rest) => rest.is_empty(),
-        None => false,
-    }
-}
-
-fn are_facts(rows: &[Row], number: u64, facts: &[Fact]) -> bool
+fn are_items<T: RowItem>(rows: &[Row], number: u64, items: &[T]) -> bool
     requires { number < 2 ^ 63 }
-    ensures { IsTrue result → rows.now ≡ counted_from (fact_row number) 1 facts.now }
+    ensures { IsTrue result → rows.now ≡ counted_from (T.row_of number) 1 items.now }
 {
-    match after_facts(rows, number, facts) {
+    match after_items(rows, number, items) {
         Some(rest) => rest.is_empty(),
         None => false,
     }
@@ -90,7 +80,7 @@ fn has_findings<S: Alter>(
     ensures survives { CommitsNothing (state S.Store conn.old) (state S.Store conn.new) }
 {
     match picks::findings_at(conn, seq) {
-        Ok(rows) => Ok(are_findings(&rows, seq, findings)),
+        Ok(rows) => Ok(are_items(&rows, seq, findings)),
         Err(error) => Err(error),
     }
 }
@@ -129,7 +119,7 @@ fn has_facts<S: Alter>(conn: &mut Connection<S>, number: u64, facts: &[Fact]) ->
     ensures survives { CommitsNothing (state S.Store conn.old) (state S.Store conn.new) }
 {
     match picks::facts_numbered(conn, number) {
-        Ok(rows) => Ok(are_facts(&rows, number, facts)),
+        Ok(rows) => Ok(are_items(&rows, number, facts)),
         Err(error) => Err(error),
     }
 }

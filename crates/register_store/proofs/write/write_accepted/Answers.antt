@@ -11,11 +11,11 @@ returns-clause-adds g c clean =
     let first = state g.S.Store c.args.tx.now.conn.now in
     let mid = state g.S.Store c.insert_kept.new.tx.conn.now in
     let next = state g.S.Store c.insert_filing.new.tx.conn.now in
-    let last = state g.S.Store c.insert_facts.new.tx.conn.now in
+    let last = state g.S.Store c.insert_items.new.tx.conn.now in
     let row = c.args.row.now in
-    let late : HasCleanDisk next = omega (arith, c.insert_facts.ensures.survives.clean) in
+    let late : HasCleanDisk next = omega (arith, c.insert_items.ensures.survives.clean) in
     let early : HasCleanDisk mid = omega (arith, c.insert_filing.ensures.survives.clean, late) in
     let one = c.in_ok-insert_kept.ensures.inserts.gains early in
     let two = c.in_ok-insert_filing.ensures.gains late in
-    IfOk-weaker c.insert_facts.result _ _ (λ _ three. adds_accepted c.args.seq (the_request row.filer.now row.key.now None row.body.now) refl c.args.number first mid next last one two (rw c.requires.facts at three))
-    (c.insert_facts.ensures.gains clean two.inside)
+    IfOk-weaker c.insert_items.result _ _ (λ _ three. adds_accepted c.args.seq (the_request row.filer.now row.key.now None row.body.now) refl c.args.number first mid next last one two (rw c.requires.facts at three))
+    (c.insert_items.ensures.gains clean two.inside)

@@ -10,9 +10,9 @@ pub returns-clause-adds : goal.returns-clause-adds
 returns-clause-adds g c clean =
     let first = state g.S.Store c.args.tx.now.conn.now in
     let mid = state g.S.Store c.insert_kept.new.tx.conn.now in
-    let last = state g.S.Store c.insert_findings.new.tx.conn.now in
+    let last = state g.S.Store c.insert_items.new.tx.conn.now in
     let row = c.args.row.now in
-    let early : HasCleanDisk mid = omega (arith, c.insert_findings.ensures.survives.clean) in
+    let early : HasCleanDisk mid = omega (arith, c.insert_items.ensures.survives.clean) in
     let one = c.in_ok-insert_kept.ensures.inserts.gains early in
-    IfOk-weaker c.insert_findings.result _ _ (λ _ two. adds_refused c.args.seq (the_request row.filer.now row.key.now None row.body.now) refl c.args.findings.now first mid last one two)
-    (c.insert_findings.ensures.gains clean one.inside)
+    IfOk-weaker c.insert_items.result _ _ (λ _ two. adds_refused c.args.seq (the_request row.filer.now row.key.now None row.body.now) refl c.args.findings.now first mid last one two)
+    (c.insert_items.ensures.gains clean one.inside)

@@ -2,19 +2,17 @@ use Rattle.std.proofs.Common.{◌≡◌, take, IsTrue}
 use Rattle.sqlite.specs.Held.{state}
 use Rattle.sqlite.specs.State.{HasCleanDisk, KeepsCommit, Survives}
 use Rattle.table_rows.specs.Rows.{counted_from}
-use Rattle.register_rows.specs.Schema.{fact_table}
 use Rattle.register_opening.specs.Gains.{GainsRows}
-use Rattle.register_rows.specs.Register.{fact_row}
-use Rattle.register_store.proofs.rows.insert_facts.Given as goal
+use Rattle.register_store.proofs.rows.insert_items.Given as goal
 
 -- the rows of the first ones are gained
-abbrev pub invariant-facts : goal.invariant-facts
-invariant-facts g l =
+abbrev pub invariant-items : goal.invariant-items
+invariant-items g l =
     let old = state g.S.Store l.fn.tx.conn.now in
     let now = state g.S.Store l.tx.conn.now in record {
-      count : l.at ≡ l.fact-index;
+      count : l.at ≡ l.item-index;
       same : l.tx.conn.ghost_name ≡ l.fn.tx.conn.ghost_name;
-      gains : HasCleanDisk now → IsTrue old.in_transaction → GainsRows fact_table (counted_from (fact_row l.number) 1 (take l.fact-index l.facts)) old now;
+      gains : HasCleanDisk now → IsTrue old.in_transaction → GainsRows g.T.InsertItem.table (counted_from (g.T.RowItem.row_of l.number) 1 (take l.item-index l.items)) old now;
       keeps : HasCleanDisk now → KeepsCommit old now;
       survives : Survives old now (λ _. ⊥);
     }
