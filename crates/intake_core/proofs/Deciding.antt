@@ -1,5 +1,5 @@
 -- What an intake holds after a new request, and after a repeat.
-use Rattle.std.proofs.Common.{◌≡◌, ◌⊎◌, ℕ, zero, suc, Bool, true, false, List, [], ◌∷◌, ◌++◌, take, inl, inr, Option, Some, None, Result, Ok, Err, IfOk, refl, sym, ap, ◌∙◌, subst, ⊎_elim}
+use Rattle.std.proofs.Common.{◌≡◌, ◌⊎◌, ℕ, zero, suc, Bool, true, false, List, [], ◌∷◌, ◌++◌, take, inl, inr, Option, Some, None, Result, Ok, Err, IfOk, IfSome, refl, sym, ap, ◌∙◌, subst, ⊎_elim}
 use Rattle.std.proofs.lemmas.Bool.{cases_Bool}
 use Rattle.std.proofs.lemmas.List.{take-append-le}
 use Rattle.std.proofs.lemmas.List.Folds.{find-append}
@@ -16,18 +16,18 @@ use Rattle.filing_model.proofs.Keeping.{kept_new, kept_none, kept_found}
 use Rattle.register_store.specs.Store.{HasRequests}
 use Rattle.intake_core.specs.declared.cache.Cache.{Cache}
 use Rattle.intake_core.specs.declared.intake.Intake.{Intake}
-use Rattle.intake_core.specs.Cache.{IsKeptIn, RemembersIfAny, Remembers}
+use Rattle.intake_core.specs.Cache.{IsKeptIn, RemembersIfAny}
 use Rattle.intake_core.specs.Held.{HoldsRequests, early_of, early_in}
 use Rattle.intake_core.proofs.CacheLemmas.{IsKeptIn-more}
 
--- a new cache remembers nothing
-pub RemembersIfAny-new : {E : Type 0} (early requests : List Request) (made : Result Cache E) → IfOk made (Remembers early requests) → RemembersIfAny early requests (result_ok made)
-RemembersIfAny-new early requests (Ok c) h = h
-RemembersIfAny-new early requests (Err e) h = tt
+-- what holds of what was made holds of it where it is there
+pub IfSome-made : {X E : Type 0} (made : Result X E) (P : X → Type 0) → IfOk made P → IfSome (result_ok made) P
+IfSome-made (Ok x) P h = h
+IfSome-made (Err e) P h = tt
 
 RemembersIfAny-more : (early old new : List Request) (c : Option Cache) → RemembersIfAny early old c → RemembersIfAny early (old ++ new) c
 RemembersIfAny-more early old new None h = tt
-RemembersIfAny-more early old new (Some c) h = λ e within. (IsKeptIn-more old new _ (h e within).0, (h e within).1)
+RemembersIfAny-more early old new (Some c) h = λ e within filer key named. let known = h e within filer key named in (IsKeptIn-more old new _ known.0, known.1)
 
 -- a filer and key of which nothing is kept are new
 pub has_key-none : (requests : List Request) (r : Request) → kept_for (kept requests) r ≡ None → has_key requests r ≡ false

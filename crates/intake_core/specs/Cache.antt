@@ -1,5 +1,7 @@
 -- What a cache of answers remembers.
-use Rattle.std.specs.Prelude.{◌≡◌, List, Option, Some, None, Contains, string_bytes}
+use Rattle.std.specs.Prelude.{◌≡◌, ℕ, ◌∷◌, ◌++◌, List, Option, Some, Contains, IfSome, String, string_bytes}
+use Rattle.std.specs.declared.alloc.Global.{Global}
+use Rattle.key_string.specs.Key.{IsKey}
 use Rattle.filing_model.specs.Request.{Request}
 use Rattle.filing_model.specs.Register.{Kept, kept}
 use Rattle.filing_model.specs.Answer.{kept_for}
@@ -9,22 +11,32 @@ use Rattle.register_store.specs.Outcomes.{view_outcome}
 use Rattle.intake_core.specs.declared.cache.Cache.{Cache}
 use Rattle.intake_core.specs.declared.cache.Remembered.{Remembered}
 
--- a request with its outcome
-abbrev pub kept_of : Remembered → Kept
-kept_of r = record { request = the_request (string_bytes r.filer) (string_bytes r.key) r.target r.body.items; outcome = view_outcome r.outcome }
+-- The name of a filer's key: the key, a line feed, which no key has, and the filer.
+pub record IsNameOf (filer key name : List ℕ) : Type 0 where
+  pub key' : IsKey key
+  pub joined : name ≡ key ++ 10 ∷ filer
+
+-- a name that may be there is that of this filer's key
+abbrev pub IsNameIfAny : List ℕ → List ℕ → Option (String Global) → Type 0
+IsNameIfAny filer key name = IfSome name (λ text. IsNameOf filer key (string_bytes text))
+
+-- a request of this filer and key with its outcome
+abbrev pub kept_of : List ℕ → List ℕ → Remembered → Kept
+kept_of filer key r = record { request = the_request filer key r.target r.body.items; outcome = view_outcome r.outcome }
 
 -- after these requests it is what is kept for its filer and key
 abbrev pub IsKeptIn : List Request → Kept → Type 0
 IsKeptIn requests k = kept_for (kept requests) k.request ≡ Some k
 
--- It is what is kept after these requests, with the style of its filer and key; the early requests were kept before there were
--- problem details.
-abbrev pub IsKnownIn : List Request → List Request → Remembered → Type 0
-IsKnownIn early requests r = IsKeptIn requests (kept_of r) × (r.style ≡ style_of early (kept_of r).request)
+-- It is what is kept after these requests for the filer's key of this name, with its style; the early requests were kept before
+-- there were problem details.
+abbrev pub IsKnownIn : List Request → List Request → List ℕ → Remembered → Type 0
+IsKnownIn early requests name r =
+    (filer key : List ℕ) → IsNameOf filer key name → IsKeptIn requests (kept_of filer key r) × (r.style ≡ style_of early (kept_of filer key r).request)
 
--- each of the entries is, whatever it is found under
-abbrev pub AreKnownIn : {K : Type 0} → List Request → List Request → List (K × Remembered) → Type 0
-AreKnownIn {K} early requests es = (e : K × Remembered) → Contains es e → IsKnownIn early requests e.1
+-- each of the entries is, for the name that it stands under
+abbrev pub AreKnownIn : List Request → List Request → List (String Global × Remembered) → Type 0
+AreKnownIn early requests es = (e : String Global × Remembered) → Contains es e → IsKnownIn early requests (string_bytes e.0) e.1
 
 -- what a cache remembers is known
 abbrev pub Remembers : List Request → List Request → Cache → Type 0
@@ -32,5 +44,4 @@ Remembers early requests c = AreKnownIn early requests c.answers.entries
 
 -- what a cache remembers that may be there
 abbrev pub RemembersIfAny : List Request → List Request → Option Cache → Type 0
-RemembersIfAny early requests None = Unit {0}
-RemembersIfAny early requests (Some c) = Remembers early requests c
+RemembersIfAny early requests cache = IfSome cache (Remembers early requests)

@@ -1,6 +1,6 @@
 //! A cache of answers: what the tables would answer, for the requests that came last.
 
-ghost use Rattle.std.specs.Prelude.{◌≡◌, ℕ, true, List, IfOk, IfSome};
+ghost use Rattle.std.specs.Prelude.{◌≡◌, ℕ, true, List, IfOk, IfSome, string_bytes};
 ghost use Rattle.filing_model.specs.declared.served.Style.{Style};
 ghost use Rattle.filing_model.specs.Request.{Request, has_key};
 ghost use Rattle.filing_model.specs.Answer.{answer_by, answer_from};
@@ -8,7 +8,7 @@ ghost use Rattle.filing_model.specs.Style.{style_of, HasStyle};
 ghost use Rattle.filing_model.specs.Views.{view_answer, the_request};
 ghost use Rattle.register_store.specs.Outcomes.{view_outcome};
 ghost use Rattle.intake_core.specs.Answered.{IsAnswerTo};
-ghost use Rattle.intake_core.specs.Cache.{kept_of, IsKeptIn, IsKnownIn, Remembers};
+ghost use Rattle.intake_core.specs.Cache.{kept_of, IsKeptIn, IsNameOf, Remembers};
 
 use filing_model::{Answer, Style};
 use key_string::KeyText;
@@ -23,11 +23,9 @@ const CAPACITY: usize = 64;
 /// The most bytes of a body that is remembered.
 const MAX_CACHED_LEN: usize = 65_536;
 
-/// A kept request with its outcome and its style.
+/// What is remembered of a kept request beside its filer and key, with its outcome and its style.
 #[derive(Drop)]
 pub(crate) struct Remembered {
-    filer: String,
-    key: String,
     target: Option<u64>,
     body: Vec<u8>,
     outcome: Outcome,
@@ -37,23 +35,20 @@ pub(crate) struct Remembered {
 impl Remembered {
     fn new(
         alloc: Global,
-        filer: &str,
-        key: &str,
         target: Option<u64>,
         body: &[u8],
         outcome: &Outcome,
         style: Style,
     ) -> Result<Remembered, AllocError>
-        ensures { IfOk result (λ r.
-            (kept_of r ≡ record {
-              request = the_request filer.now key.now target body.now;
+        ensures { (filer key : List ℕ)
+            → IfOk result (λ r.
+            (kept_of filer key r ≡ record {
+              request = the_request filer key target body.now;
               outcome = view_outcome outcome.now;
             })
             × (r.style ≡ style)) }
     {
         Ok(Remembered {
-            filer: String::from_str(alloc, filer)?,
-            key: String::from_str(alloc, key)?,
             target,
             body: Vec::from_slice(alloc, body)?,
             outcome: copied(alloc, outcome)?,
@@ -61,8 +56,9 @@ impl Remembered {
         })
     }
 
-    /// The answer to a request with its filer and key: what the first got, or that the key was used for another body, in its style.
-    fn answer_again(
+    /// The answer to a request with its filer and key: what the first got, or that the key was used for another body, in its
+    /// style.
+    fn answer_to(
         &self,
         alloc: Global,
         target: Option<u64>,
@@ -70,7 +66,8 @@ impl Remembered {
     ) -> Result<Answer, AllocError>
         ensures { (filer key : List ℕ)
             → IfOk result (λ a.
-            (view_answer a ≡ answer_from (Some (kept_of self.now)) (the_request filer key target body.now) true)
+            (view_answer a
+            ≡ answer_from (Some (kept_of filer key self.now)) (the_request filer key target body.now) true)
             × HasStyle self.now.style a) }
     {
         if self.target != target || self.body.as_slice() != body {
@@ -78,29 +75,10 @@ impl Remembered {
         }
         Ok(answer_by(copied(alloc, &self.outcome)?, true, self.style))
     }
-
-    /// The answer to a request, if it has this filer and key.
-    fn answer_to(
-        &self,
-        alloc: Global,
-        filer: &str,
-        target: Option<u64>,
-        key: &KeyText,
-        body: &[u8],
-    ) -> Option<Answer>
-        ensures { (early requests : List Request) → IsKnownIn early requests self.now
-            → IfSome result (λ a.
-            IsAnswerTo early requests (the_request filer.now key.now target body.now) a
-            × (has_key requests (the_request filer.now key.now target body.now) ≡ true)) }
-    {
-        if self.filer.as_str() != filer || self.key.as_str() != key.as_str() {
-            return None;
-        }
-        self.answer_again(alloc, target, body).ok()
-    }
 }
 
-/// The last answers, 64 at most. A request that is not used for longest goes first.
+/// The last answers, 64 at most, each under the name of its filer's key. A request that is not used for longest goes
+/// first.
 #[derive(Drop)]
 pub(crate) struct Cache {
     answers: LruCache<String, Remembered>,
@@ -117,70 +95,64 @@ impl Cache {
         })
     }
 
-    /// The answer to a request whose filer and key are remembered, where there is memory for it.
+    /// The answer to a request whose filer's key has this name, if it is remembered and there is memory for it.
     pub(crate) fn recall(
         &mut self,
         alloc: Global,
-        filer: &str,
+        name: &str,
         target: Option<u64>,
-        key: &KeyText,
         body: &[u8],
     ) -> Option<Answer>
         ensures answer { (early requests : List Request) → Remembers early requests self.old
+            → (filer key : List ℕ) → IsNameOf filer key name.now
             → IfSome result (λ a.
-            IsAnswerTo early requests (the_request filer.now key.now target body.now) a
-            × (has_key requests (the_request filer.now key.now target body.now) ≡ true)) }
+            IsAnswerTo early requests (the_request filer key target body.now) a
+            × (has_key requests (the_request filer key target body.now) ≡ true)) }
         ensures same { (early requests : List Request) → Remembers early requests self.old
             → Remembers early requests self.new }
     {
-        let name = name_of(alloc, filer, key.as_str()).ok()?;
-        match self.answers.get(name.as_str()) {
-            Some(found) => found.answer_to(alloc, filer, target, key, body),
-            None => None,
-        }
+        self.answers.get(name)?.answer_to(alloc, target, body).ok()
     }
 
-    /// Remembers a kept request with its outcome and its style, where the body is short and there is memory for it.
+    /// Remembers a kept request under the name of its filer's key, where the body is short and there is memory for it.
     pub(crate) fn remember(
         &mut self,
         alloc: Global,
-        filer: &str,
+        name: String,
         target: Option<u64>,
-        key: &KeyText,
         body: &[u8],
         outcome: &Outcome,
         style: Style,
     )
         ensures { (early requests : List Request) → Remembers early requests self.old
+            → (filer key : List ℕ) → IsNameOf filer key (string_bytes name)
             → IsKeptIn requests (record {
-              request = the_request filer.now key.now target body.now;
+              request = the_request filer key target body.now;
               outcome = view_outcome outcome.now;
             })
-            → style ≡ style_of early (the_request filer.now key.now target body.now)
+            → style ≡ style_of early (the_request filer key target body.now)
             → Remembers early requests self.new }
     {
         if body.len() > MAX_CACHED_LEN {
             return;
         }
-        let Ok(name) = name_of(alloc, filer, key.as_str()) else {
-            return;
-        };
-        let Ok(request) = Remembered::new(alloc, filer, key.as_str(), target, body, outcome, style)
-        else {
-            return;
-        };
         // Where there is no room, it is not remembered.
-        let _ = self.answers.put(name, request);
+        if let Ok(request) = Remembered::new(alloc, target, body, outcome, style) {
+            let _ = self.answers.put(name, request);
+        }
     }
 }
 
-/// The name of a filer's key. No filer code has a solidus.
-fn name_of(alloc: Global, filer: &str, key: &str) -> Result<String, AllocError> {
+/// The name of a filer's key. No key has a line feed, so no other filer's key has this name.
+pub(crate) fn name_of(alloc: Global, filer: &str, key: &KeyText) -> Result<String, AllocError>
+    ensures { IfOk result (λ name. IsNameOf filer.now key.now (string_bytes name)) }
+{
+    let key = key.as_str();
     let length = filer.len().saturating_add(key.len()).saturating_add(1);
     let mut name = String::with_capacity(alloc, length)?;
-    name.push_str(filer)?;
-    name.push('/')?;
     name.push_str(key)?;
+    name.push_str("\n")?;
+    name.push_str(filer)?;
     Ok(name)
 }
 

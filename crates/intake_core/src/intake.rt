@@ -16,7 +16,7 @@ ghost use Rattle.register_opening.specs.Registers.{LeavesRegister};
 ghost use Rattle.intake_core.specs.declared.intake.Unavailable.TheVariants.{Down, Full, Memory, Store as StoreFailed};
 ghost use Rattle.table_rows.specs.Standing.{CommitsNothing};
 
-use crate::cache::{Cache, answer_by};
+use crate::cache::{Cache, answer_by, name_of};
 use filing_model::{Answer, FilingRow, Style};
 use key_string::KeyText;
 use register_store::{KeptRow, NewRow, Outcome, Registered, Store, StoreFault};
@@ -156,10 +156,11 @@ impl<S: Alter> Intake<S> {
         if self.is_down {
             return Err(Unavailable::Down);
         }
-        if let Some(answer) = self.recall(filer, target, key, body) {
+        let name = name_of(self.alloc, filer, key).ok();
+        if let Some(answer) = self.recall(&name, target, body) {
             return Ok(answer);
         }
-        let result = self.decide(filer, target, key, body);
+        let result = self.decide(filer, target, key, body, name);
         self.is_down = matches!(result, Err(Unavailable::Store));
         result
     }
@@ -197,57 +198,54 @@ impl<S: Alter> Intake<S> {
 
 impl<S: Alter> Intake<S> {
     ghost use Rattle.intake_core.specs.Answered.{IsAnswerTo};
-    ghost use Rattle.intake_core.specs.Cache.{IsKeptIn};
+    ghost use Rattle.intake_core.specs.Cache.{IsKeptIn, IsNameIfAny};
     ghost use Rattle.intake_core.specs.Held.{store_of, shows, limit_of, early_of, early_in, has_stopped, HoldsRequests, IsClean, ForRequests, SurvivesAs, with_request};
 
-    /// The answer to a request that the cache remembers. The cache is made here, where there is memory for it.
-    fn recall(
-        &mut self,
-        filer: &str,
-        target: Option<u64>,
-        key: &KeyText,
-        body: &[u8],
-    ) -> Option<Answer>
+    /// The answer to a request whose filer's key has this name, where the cache remembers it. The cache is made here,
+    /// where there is memory for it.
+    fn recall(&mut self, name: &Option<String>, target: Option<u64>, body: &[u8]) -> Option<Answer>
         ensures answer { (requests : List Request) → HoldsRequests S.Store self.old requests
+            → (filer key : List ℕ) → IsNameIfAny filer key name.now
             → IfSome result (λ a.
-            IsAnswerTo (early_in self.old requests) requests (the_request filer.now key.now target body.now) a
-            × (has_key requests (the_request filer.now key.now target body.now) ≡ true)) }
+            IsAnswerTo (early_in self.old requests) requests (the_request filer key target body.now) a
+            × (has_key requests (the_request filer key target body.now) ≡ true)) }
         ensures same { (requests : List Request) → HoldsRequests S.Store self.old requests
             → HoldsRequests S.Store self.new requests }
         ensures rest { (store_of self.new ≡ store_of self.old) × (limit_of self.new ≡ limit_of self.old)
             × (has_stopped self.new ≡ has_stopped self.old) }
     {
-        match &mut self.cache {
-            Some(cache) => cache.recall(self.alloc, filer, target, key, body),
-            None => {
+        match (&mut self.cache, name) {
+            (Some(cache), Some(name)) => cache.recall(self.alloc, name.as_str(), target, body),
+            (Some(_), None) => None,
+            (None, _) => {
                 self.cache = Cache::new(self.alloc).ok();
                 None
             }
         }
     }
 
-    /// Remembers a kept request.
+    /// Remembers a kept request under the name of its filer's key, where it has one.
     fn remember(
         &mut self,
-        filer: &str,
+        name: Option<String>,
         target: Option<u64>,
-        key: &KeyText,
         body: &[u8],
         outcome: &Outcome,
         style: Style,
     )
         ensures same { (requests : List Request) → HoldsRequests S.Store self.old requests
+            → (filer key : List ℕ) → IsNameIfAny filer key name
             → IsKeptIn requests (record {
-              request = the_request filer.now key.now target body.now;
+              request = the_request filer key target body.now;
               outcome = view_outcome outcome.now;
             })
-            → style ≡ style_of (early_in self.old requests) (the_request filer.now key.now target body.now)
+            → style ≡ style_of (early_in self.old requests) (the_request filer key target body.now)
             → HoldsRequests S.Store self.new requests }
         ensures rest { (store_of self.new ≡ store_of self.old) × (limit_of self.new ≡ limit_of self.old)
             × (has_stopped self.new ≡ has_stopped self.old) }
     {
-        if let Some(cache) = &mut self.cache {
-            cache.remember(self.alloc, filer, target, key, body, outcome, style);
+        if let (Some(cache), Some(name)) = (&mut self.cache, name) {
+            cache.remember(self.alloc, name, target, body, outcome, style);
         }
     }
 
@@ -258,8 +256,10 @@ impl<S: Alter> Intake<S> {
         target: Option<u64>,
         key: &KeyText,
         body: &[u8],
+        name: Option<String>,
     ) -> Result<Answer, Unavailable>
         requires filer { is_filer filer.now ≡ true }
+        requires name { IsNameIfAny filer.now key.now name }
         requires target { IsTarget target }
         requires body { length body.now ≤ max_body_len }
         ensures answer { ForRequests S.Store self.old self.new (λ requests.
@@ -287,34 +287,34 @@ impl<S: Alter> Intake<S> {
             OnOk result (IsTrue (shows S.Store self.new).is_open)) }
     {
         match self.store.find(filer, key)? {
-            Some(row) => Ok(self.repeat(filer, target, key, body, row)),
-            None => self.keep(filer, target, key, body),
+            Some(row) => Ok(self.repeat(name, target, body, row)),
+            None => self.keep(filer, target, key, body, name),
         }
     }
 
     /// Answers a request whose filer and key are kept with this row.
     fn repeat(
         &mut self,
-        filer: &str,
+        name: Option<String>,
         target: Option<u64>,
-        key: &KeyText,
         body: &[u8],
         row: KeptRow,
     ) -> Answer
-        ensures answer { (view_answer result ≡ answer_from (Some (kept_as filer.now key.now row))
-            (the_request filer.now key.now target body.now) true)
+        ensures answer { (filer key : List ℕ)
+            → (view_answer result
+            ≡ answer_from (Some (kept_as filer key row)) (the_request filer key target body.now) true)
             × HasStyle row.style result }
         ensures same { (requests : List Request) → HoldsRequests S.Store self.old requests
-            → IsKeptIn requests (kept_as filer.now key.now row)
-            → row.style ≡ style_of (early_in self.old requests) (the_request filer.now key.now target body.now)
+            → (filer key : List ℕ) → IsNameIfAny filer key name
+            → IsKeptIn requests (kept_as filer key row)
+            → row.style ≡ style_of (early_in self.old requests) (the_request filer key target body.now)
             → HoldsRequests S.Store self.new requests }
         ensures rest { (store_of self.new ≡ store_of self.old) × (limit_of self.new ≡ limit_of self.old)
             × (has_stopped self.new ≡ has_stopped self.old) }
     {
         self.remember(
-            filer,
+            name,
             row.target,
-            key,
             row.body.as_slice(),
             &row.outcome,
             row.style,
@@ -353,9 +353,11 @@ impl<S: Alter> Intake<S> {
         target: Option<u64>,
         key: &KeyText,
         body: &[u8],
+        name: Option<String>,
         free: bool,
     ) -> Result<Answer, Unavailable>
         requires filer { is_filer filer.now ≡ true }
+        requires name { IsNameIfAny filer.now key.now name }
         requires target { IsTarget target }
         requires body { length body.now ≤ max_body_len }
         requires room { (store_of self.old).kept < 2 ^ 62 }
@@ -390,7 +392,7 @@ impl<S: Alter> Intake<S> {
             body,
             judged: &judged,
         })?;
-        self.remember(filer, target, key, body, &outcome, Style::Problem);
+        self.remember(name, target, body, &outcome, Style::Problem);
         Ok(answer_by(outcome, false, Style::Problem))
     }
 
@@ -401,8 +403,10 @@ impl<S: Alter> Intake<S> {
         target: Option<u64>,
         key: &KeyText,
         body: &[u8],
+        name: Option<String>,
     ) -> Result<Answer, Unavailable>
         requires filer { is_filer filer.now ≡ true }
+        requires name { IsNameIfAny filer.now key.now name }
         requires target { IsTarget target }
         requires body { length body.now ≤ max_body_len }
         ensures answer { ForRequests S.Store self.old self.new (λ requests.
@@ -434,6 +438,6 @@ impl<S: Alter> Intake<S> {
             return Err(Unavailable::Full { kept });
         }
         let free = self.is_free(filer, target)?;
-        self.keep_judged(filer, target, key, body, free)
+        self.keep_judged(filer, target, key, body, name, free)
     }
 }

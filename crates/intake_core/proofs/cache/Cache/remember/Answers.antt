@@ -1,12 +1,14 @@
-use Rattle.std.proofs.Common.{sym, ap, ◌∙◌, subst, string_eq}
+use Rattle.std.proofs.Common.{sym, ap, ◌∙◌, subst, string_bytes}
 use Rattle.filing_model.specs.Register.{Kept}
 use Rattle.filing_model.specs.Style.{style_of}
 use Rattle.intake_core.specs.Cache.{IsKeptIn}
-use Rattle.intake_core.proofs.CacheLemmas.{AreKnownIn-put}
+use Rattle.intake_core.proofs.CacheLemmas.{AreKnownIn-put, IsKnownIn-named}
 use Rattle.intake_core.proofs.cache.Cache.remember.Goals as goal
 
-pub returns : goal.returns
-returns c = λ early requests h new styled.
-    let made = rw c.as_str-2.ensures.value at c.in-Ok-new.ensures in
-    AreKnownIn-put string_eq early requests c.args.self.now.answers c.put.new.self c.in-Ok.name c.in-Ok-new.request c.put.result c.put.ensures.entries c.put.ensures.err h
-    (subst (IsKeptIn requests) (sym made.0) new, made.1 ∙ styled ∙ ap (λ (k : Kept). style_of early k.request) (sym made.0))
+pub returns-in-Ok : goal.returns-in-Ok
+returns-in-Ok c = λ early requests h filer key named new styled.
+    let r = c.in-Ok.request in
+    let made = c.in-Ok.ensures filer key in
+    AreKnownIn-put early requests c.args.self.now.answers c.put.new.self c.args.name r c.put.result c.put.ensures.entries c.put.ensures.err h
+    (IsKnownIn-named early requests filer key (string_bytes c.args.name) r named
+    (subst (IsKeptIn requests) (sym made.0) new) (made.1 ∙ styled ∙ ap (λ (k : Kept). style_of early k.request) (sym made.0)))

@@ -24,10 +24,11 @@ returns-in-Some-clause-answer g c = λ clean requests h.
     let cleaned : HasCleanDisk (shows g.S.Store c.find.new.self) = subst (λ s. HasCleanDisk (shows g.S.Store s)) c.repeat.ensures.rest.0 clean in
     let k = kept_as c.args.filer.now c.args.key.now c.in-Some.row in
     let found : kept_for (kept requests) r ≡ Some k = sym (rw c.in-Some.is at (c.in_ok-row.ensures.found cleaned requests h.rows c.args.target c.args.body.now)) in
-    let styled : c.in-Some.row.style ≡ style_of (early_in c.args.self.now requests) r = rw c.in-Some.is at (c.in_ok-row.ensures.style cleaned requests h.rows c.args.target c.args.body.now) in (
-      (c.repeat.ensures.answer.0 ∙ sym (answer_kept requests r k found), subst (λ (s : Style). HasStyle s c.repeat.result) styled c.repeat.ensures.answer.1),
+    let styled : c.in-Some.row.style ≡ style_of (early_in c.args.self.now requests) r = rw c.in-Some.is at (c.in_ok-row.ensures.style cleaned requests h.rows c.args.target c.args.body.now) in
+    let answered = c.repeat.ensures.answer c.args.filer.now c.args.key.now in (
+      (answered.0 ∙ sym (answer_kept requests r k found), subst (λ (s : Style). HasStyle s c.repeat.result) styled answered.1),
       HoldsRequests-repeat requests r c.repeat.new.self (kept_has_key requests r k found)
-          (c.repeat.ensures.same requests (HoldsRequests-asked requests c.args.self.now _ h refl c.in_ok-row.ensures.early (c.in_ok-row.ensures.same cleaned requests h.rows)) found (styled ∙ ap (λ n. style_of (take n requests) r) (sym c.in_ok-row.ensures.early))),
+          (c.repeat.ensures.same requests (HoldsRequests-asked requests c.args.self.now _ h refl c.in_ok-row.ensures.early (c.in_ok-row.ensures.same cleaned requests h.rows)) c.args.filer.now c.args.key.now c.requires.name found (styled ∙ ap (λ n. style_of (take n requests) r) (sym c.in_ok-row.ensures.early))),
     )
 
 pub returns-in-Some-clause-room : goal.returns-in-Some-clause-room

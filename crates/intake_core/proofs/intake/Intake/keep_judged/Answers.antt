@@ -24,6 +24,7 @@ returns-clause-answer g c = λ clean requests h new free.
     let styled : Problem ≡ style_of (early_in c.args.self.now requests) r = sym (style_of-new (early_of c.args.self.now) requests r new) in (
       (c.answer_by.ensures.0 ∙ ap (λ o. answer_by o false) added.0 ∙ sym (answer_new requests r new), subst (λ (s : Style). HasStyle s c.answer_by.result) styled c.answer_by.ensures.1),
       c.remember.ensures.same (requests ++ r ∷ []) (HoldsRequests-more requests r c.args.self.now _ new h refl c.in_ok-outcome.ensures.early added.1)
+          c.args.filer.now c.args.key.now c.requires.name
           (IsKeptIn-new requests r (view_outcome c.in_ok-outcome.outcome) new added.0)
           (sym (ap (λ n. style_of (take n (requests ++ r ∷ [])) r) c.in_ok-outcome.ensures.early ∙ ap (λ rs. style_of rs r) (take-append-le (early_of c.args.self.now) requests (r ∷ []) h.rows.within) ∙ style_of-new (early_of c.args.self.now) requests r new)),
     )

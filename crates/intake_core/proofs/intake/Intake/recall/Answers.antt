@@ -1,7 +1,9 @@
+use Rattle.intake_core.specs.Cache.{Remembers}
 use Rattle.intake_core.specs.Held.{early_in}
-use Rattle.intake_core.proofs.Deciding.{RemembersIfAny-new}
+use Rattle.intake_core.proofs.Deciding.{IfSome-made}
 use Rattle.intake_core.proofs.intake.Intake.recall.Goals as goal
 
-pub returns-in-None-clause-same : goal.returns-in-None-clause-same
-returns-in-None-clause-same g c = λ requests h.
-    record { firsts' = h.firsts'; rows = h.rows; known = rw c.ok.ensures.value (RemembersIfAny-new (early_in c.args.self.now requests) requests c.new.result (c.new.ensures (early_in c.args.self.now requests) requests)) }
+pub returns-in-None-default-clause-same : goal.returns-in-None-default-clause-same
+returns-in-None-default-clause-same g c = λ requests h.
+    let early = early_in c.args.self.now requests in
+    record { firsts' = h.firsts'; rows = h.rows; known = rw c.ok.ensures.value (IfSome-made c.new.result (Remembers early requests) (c.new.ensures early requests)) }

@@ -1,14 +1,15 @@
-use Rattle.std.proofs.Common.{◌≡◌, ◌≤◌, ◌++◌, ◌∷◌, [], ℕ, List, Result, Ok, Err, IsTrue, IfOk, OnOk, sym, ap, ◌∙◌, subst, rules}
+use Rattle.std.proofs.Common.{◌≡◌, ◌<◌, ◌≤◌, ◌++◌, ◌∷◌, [], ℕ, false, List, length, Result, Ok, Err, IsTrue, IfOk, OnOk, sym, ap, ◌∙◌, subst, rules}
 use Rattle.sqlite.specs.State.{Survives}
 use Rattle.sqlite.proofs.StateLemmas.{survives_weaker}
-use Rattle.filing_model.specs.Request.{Request, firsts}
+use Rattle.filing_model.specs.Request.{Request, firsts, has_key}
 use Rattle.filing_model.specs.Views.{the_request}
 use Rattle.filing_model.proofs.Firsts.{firsts_repeat}
 use Rattle.register_store.specs.Store.{shows}
 use Rattle.register_opening.specs.Registers.{LeavesRegister}
 use Rattle.register_store.proofs.StoreLemmas.{leaves}
+use Rattle.intake_core.specs.Cache.{IsNameIfAny}
 use Rattle.intake_core.specs.Held.{HoldsRequests, early_of}
-use Rattle.intake_core.proofs.Deciding.{HoldsRequests-repeat}
+use Rattle.intake_core.proofs.Deciding.{IfSome-made, HoldsRequests-repeat}
 use Rattle.intake_core.proofs.intake.Intake.submit.Goals as goal
 
 on_both : {T E : Type 0} (x : Result T E) (P : Type 0) (Q : T → Type 0) (R : Type 0) → (P → (a : T) → Q a → R) → OnOk x P → IfOk x Q → OnOk x R
@@ -19,7 +20,8 @@ pub returns-in-Some : goal.returns-in-Some
 returns-in-Some g c = record {
   answer = λ clean requests h.
       let r : Request = the_request c.args.filer.now c.args.key.now c.args.target c.args.body.now in
-      let known = c.in-Some.ensures.answer requests h in
+      let named : IsNameIfAny c.args.filer.now c.args.key.now c.ok-name.result = rw c.ok-name.ensures.value (IfSome-made c.name_of.result _ c.name_of.ensures) in
+      let known = c.in-Some.ensures.answer requests h c.args.filer.now c.args.key.now named in
       (known.0, HoldsRequests-repeat requests r c.recall.new.self known.1 (c.recall.ensures.same requests h));
   err = search rules;
   clean = search rules;
@@ -31,7 +33,8 @@ returns-in-Some g c = record {
   -- no call was made, and what was committed last is all that a crash leaves
   durable = λ clean requests h alive.
       let r : Request = the_request c.args.filer.now c.args.key.now c.args.target c.args.body.now in
-      let known = c.in-Some.ensures.answer requests h in
+      let named : IsNameIfAny c.args.filer.now c.args.key.now c.ok-name.result = rw c.ok-name.ensures.value (IfSome-made c.name_of.result _ c.name_of.ensures) in
+      let known = c.in-Some.ensures.answer requests h c.args.filer.now c.args.key.now named in
       let held : HoldsRequests g.S.Store c.recall.new.self requests = c.recall.ensures.same requests h in
       let still : IsTrue (shows g.S.Store c.recall.new.self.store).is_open = subst (λ s. IsTrue (shows g.S.Store s).is_open) (sym c.recall.ensures.rest.0) alive in (
         still,
@@ -44,6 +47,9 @@ returns-in-Some g c = record {
   up = search rules;
 }
 
+pub decide-result-requires-clause-name : goal.decide-result-requires-clause-name
+decide-result-requires-clause-name g c = rw c.ok-name.ensures.value (IfSome-made c.name_of.result _ c.name_of.ensures)
+
 pub returns : goal.returns
 returns g c = record {
   answer = search rules;
@@ -54,7 +60,10 @@ returns g c = record {
   full = λ clean requests h k e.
       let full = c.decide-result.ensures.full clean requests (c.recall.ensures.same requests h) k e in
       (full.0, subst (λ (limit : ℕ). limit ≤ k) c.recall.ensures.rest.1 full.1, full.2);
-  room = search rules;
+  room = λ clean requests h.
+      let r : Request = the_request c.args.filer.now c.args.key.now c.args.target c.args.body.now in
+      subst (λ (limit : ℕ). OnOk c.decide-result.result (has_key requests r ≡ false → length requests < limit)) c.recall.ensures.rest.1
+      (c.decide-result.ensures.room clean requests (c.recall.ensures.same requests h));
   crash =
       let r : Request = the_request c.args.filer.now c.args.key.now c.args.target c.args.body.now in
       let new = shows g.S.Store c.decide-result.new.self.store in
