@@ -1,13 +1,13 @@
-//! What a command does with the database in a file: the file is opened, one call does all that is done with the database, and
-//! the file is closed.
+//! What a command does with the database in a file: the file is opened, one call does all that is done with the
+//! database, and the file is closed.
 //!
-//! That call is generic over the store, and `on_database` is the one function that names a store in files where it calls such code, since each
-//! such call costs much to prove.
+//! That call is generic over the store, and `on_database` is the one function that names a store in files where it
+//! calls such code, since each such call costs much to prove.
 
 ghost use Rattle.std.specs.Prelude.{◌≡◌, ◌≢◌, None, false, Err, IfOk, IfErr, IsTrue};
 ghost use Rattle.commands.specs.Faults.{database_fault};
 
-use command_line::DatabaseFault;
+use command_line::{CommandFault, DatabaseFault};
 use sqlite::{Alter, Connection, Error, ErrorCode, File, FileStore, Files, Options, Unknown};
 use sqlite_disk::Disk;
 use sqlite_std_file::OpenError;
@@ -16,12 +16,12 @@ use std::fs;
 use std::hash::{BuildHasher, RandomState};
 use std::io::{self, ErrorKind};
 
-/// How many pages of a file are kept in memory at most once they were read, while it is served: 32 MiB. A register of 100,000
-/// small reports takes 4,400 pages.
+/// How many pages of a file are kept in memory at most once they were read, while it is served: 32 MiB. A register of
+/// 100,000 small reports takes 4,400 pages.
 const MOST_PAGES: u64 = 8_192;
 
-/// The same for a command that ends at once: 8 MiB. It goes through the tables in the order of their keys, and so needs most
-/// pages once.
+/// The same for a command that ends at once: 8 MiB. It goes through the tables in the order of their keys, and so needs
+/// most pages once.
 const MOST_PAGES_ONCE: u64 = 2_048;
 
 /// Pages that are kept beside those that a file has: a report of 1 MiB takes 256 of them, and its facts as many.
@@ -30,12 +30,13 @@ const SPARE_PAGES: u64 = 1_024;
 /// The bytes of a page of a new file.
 const PAGE_LEN: u64 = 4_096;
 
-/// A shorter log has nothing in it: its head takes 32 bytes, and a frame 24 and a page, which has 512 at least (SQLite's file
-/// format, section 4.1).
+/// A shorter log has nothing in it: its head takes 32 bytes, and a frame 24 and a page, which has 512 at least
+/// (SQLite's file format, section 4.1).
 const LEAST_LOG: u64 = 568;
 
-/// How many pages of a file are kept in memory. Their room is taken at once, so that a command on a small file ends sooner with few.
-#[derive(Clone, Copy, Debug, PartialEq, Eq)]
+/// How many pages of a file are kept in memory. Their room is taken at once, so that a command on a small file ends
+/// sooner with few.
+#[derive(Clone, Copy)]
 pub(crate) enum Cache {
     /// As many as the file has and some more, up to a few: for a command that ends at once.
     OfTheFile,
@@ -44,7 +45,7 @@ pub(crate) enum Cache {
 }
 
 /// How the database of a file comes to be open.
-#[derive(Clone, Copy, Debug, PartialEq, Eq)]
+#[derive(Clone, Copy)]
 pub(crate) enum Opening {
     /// It is there.
     Found(Cache),
@@ -83,8 +84,8 @@ pub(crate) struct Visited<A> {
     pub closed: Result<(), Error>,
 }
 
-/// Where the files of databases lie. The commands are written over any such system, so that what they do is proved once,
-/// and not for the files of the system.
+/// Where the files of databases lie. The commands are written over any such system, so that what they do is proved
+/// once, and not for the files of the system.
 pub trait FileSystem<D: Disk + Drop> {
     /// Whether there is no file of this name.
     fn is_missing(&self, rt: &HostRuntime, name: &str) -> bool;
@@ -172,17 +173,20 @@ fn fault_of_name(rt: &HostRuntime, name: &str) -> DatabaseFault
     }
 }
 
-/// Opens the database of the file with this name, does this work on it, and closes what that leaves. Beside a file that is none of
-/// ours nothing is left.
-pub(crate) fn on_database<D: Disk + Drop, F: FileSystem<D>, W: Work>(
+/// Opens the database of the file with this name, does this work on it, and closes what that leaves. Beside a file that
+/// is none of ours nothing is left.
+pub(crate) fn on_database<'a, D: Disk + Drop, F: FileSystem<D>, W: Work>(
     rt: &HostRuntime,
     system: &F,
-    name: &str,
+    name: &'a str,
     opening: Opening,
     work: W,
-) -> Result<Visited<W::Answer>, DatabaseFault> {
+) -> Result<Visited<W::Answer>, CommandFault<'a>> {
     let had_log = system.has_log(rt, name);
-    let conn = open(rt, system, name, opening)?;
+    let conn = match open(rt, system, name, opening) {
+        Ok(conn) => conn,
+        Err(fault) => return Err(CommandFault::Database { name, fault }),
+    };
     let (left, answer) = work.on(rt, conn);
     let closed = close(rt, system, name, had_log, left);
     Ok(Visited { answer, closed })
@@ -261,8 +265,8 @@ fn make_database<D: Disk + Drop, F: FileSystem<D>>(
     }
 }
 
-/// Removes the log that an opening made, in which nothing is, so that nothing lies beside a file that is not ours. The files are
-/// taken for that, so that no other program has them.
+/// Removes the log that an opening made, in which nothing is, so that nothing lies beside a file that is not ours. The
+/// files are taken for that, so that no other program has them.
 fn remove_new_log<D: Disk + Drop, F: FileSystem<D>>(
     rt: &HostRuntime,
     system: &F,
@@ -300,8 +304,8 @@ fn options(rt: &HostRuntime, pages: usize) -> Result<Options, DatabaseFault>
     }
 }
 
-/// The connection over these files. A file that is new gets the sums of SQLite's cksumvfs, by which the next opening finds a
-/// changed byte.
+/// The connection over these files. A file that is new gets the sums of SQLite's cksumvfs, by which the next opening
+/// finds a changed byte.
 fn connect<D: Disk + Drop>(
     rt: &HostRuntime,
     files: Files<D>,

@@ -15,7 +15,7 @@ use thiserror::Error;
 #[derive(Debug, Drop, Error)]
 pub enum Fault<'a> {
     #[error("{0}")]
-    Command(CommandFault<'a>),
+    Command(#[from] CommandFault<'a>),
     #[error("--limit: it is 4611686018427387904 at most")]
     Limit,
     #[error("{0}")]
@@ -31,7 +31,7 @@ pub enum Fault<'a> {
     #[error("{name}: {fault} when it was closed; what was answered is kept, in the log beside it")]
     NotClosed { name: &'a str, fault: StoreFault },
     #[error("{0}")]
-    Report(ReportFault<'a>),
+    Report(#[from] ReportFault<'a>),
     #[error("{name}: {fault}")]
     List { name: &'a str, fault: Unavailable },
     #[error("{name}: there is no filing {number}")]
@@ -49,18 +49,6 @@ fn hint(fault: OpenFault) -> &'static str {
     match fault {
         OpenFault::NotOurs => " of this version (intake migrate takes one of an earlier version)",
         _ => "",
-    }
-}
-
-impl<'a> From<CommandFault<'a>> for Fault<'a> {
-    fn from(fault: CommandFault<'a>) -> Self {
-        Fault::Command(fault)
-    }
-}
-
-impl<'a> From<ReportFault<'a>> for Fault<'a> {
-    fn from(fault: ReportFault<'a>) -> Self {
-        Fault::Report(fault)
     }
 }
 

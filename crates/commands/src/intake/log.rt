@@ -9,7 +9,8 @@ use std::alloc::{AllocError, Global};
 use std::fmt;
 use std::fmt::Write;
 
-/// How many bytes of a connection are noted: those of the longest request. The filers of requests that come after them are not told.
+/// How many bytes of a connection are noted: those of the longest request. The filers of requests that come after them
+/// are not told.
 const MOST_NOTED: usize = 1_064_962;
 
 /// A reader whose first bytes are noted.
@@ -54,7 +55,8 @@ impl<R: Source> Source for Noted<R> {
     }
 }
 
-/// A writer of replies, whose statuses are noted. Each reply has to be given from its front, and after a part was taken the rest.
+/// A writer of replies, whose statuses are noted. Each reply has to be given from its front, and after a part was taken
+/// the rest.
 #[derive(Drop)]
 pub struct Statuses<W> {
     inner: W,
@@ -78,7 +80,8 @@ impl<W: Sink> Statuses<W> {
     }
 }
 
-/// The status of a reply that begins with these bytes, where it is final: the three digits after the version (RFC 9112, section 4).
+/// The status of a reply that begins with these bytes, where it is final: the three digits after the version (RFC 9112,
+/// section 4).
 fn status_of(text: &[u8]) -> Option<u16> {
     let digits = text.get(9..12)?;
     let status = std::str::from_utf8(digits).ok()?.parse().ok()?;
@@ -107,8 +110,8 @@ impl<W: Sink> Sink for Statuses<W> {
     }
 }
 
-/// The line of a connection in the log, a JSON object: its number, how it ended, the filers of the requests that were filed, how many
-/// requests and refusals there were, and the statuses of the replies.
+/// The line of a connection in the log, a JSON object: its number, how it ended, the filers of the requests that were
+/// filed, how many requests and refusals there were, and the statuses of the replies.
 #[derive(Clone, Copy)]
 pub struct ConnectionLine<'a> {
     pub connection: u32,

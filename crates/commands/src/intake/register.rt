@@ -8,7 +8,7 @@ use crate::intake::fault::Fault;
 use crate::intake::options::DEFAULT_LIMIT;
 use crate::intake::progress::Progress;
 use crate::verdict::Verdict;
-use command_line::{CommandFault, show};
+use command_line::show;
 use gateway_server::fact_line;
 use intake_core::{FilingRow, Intake, list_reply};
 use register_store::{Counts, Store};
@@ -61,8 +61,8 @@ impl<'a, O: Write> Work for Visit<'a, '_, O> {
     }
 }
 
-/// Does an errand to the register of the file with this name. What came of it stays whether or not the files are then closed: where they
-/// are not, this is told.
+/// Does an errand to the register of the file with this name. What came of it stays whether or not the files are then
+/// closed: where they are not, this is told.
 pub fn run_errand<'a, D: Disk + Drop, F: FileSystem<D>, O: Write, E: Write>(
     rt: &HostRuntime,
     system: &F,
@@ -76,13 +76,9 @@ pub fn run_errand<'a, D: Disk + Drop, F: FileSystem<D>, O: Write, E: Write>(
         errand,
         output,
     };
-    match on_database(rt, system, name, Opening::Found(Cache::OfTheFile), work) {
-        Ok(visited) => {
-            tell_close(visited.closed, name, errors);
-            visited.answer
-        }
-        Err(fault) => Err(CommandFault::Database { name, fault }.into()),
-    }
+    let visited = on_database(rt, system, name, Opening::Found(Cache::OfTheFile), work)?;
+    tell_close(visited.closed, name, errors);
+    visited.answer
 }
 
 /// Says where the files of a register are not closed. What was answered is kept then, in the log beside the file.

@@ -9,7 +9,7 @@ use crate::intake::limit::Limit;
 use crate::intake::log::{ConnectionLine, Noted, Statuses};
 use crate::intake::note::Note;
 use crate::intake::register::{create, left_by, open, tell_close};
-use command_line::{CommandFault, show};
+use command_line::show;
 use gateway_server::{Ended, Served};
 use http_wire::{Device, Sink, Source};
 use intake_core::Intake;
@@ -184,8 +184,8 @@ impl<'a> Port<'a> {
         }
     }
 
-    /// Serves the connections that are left by this register, one after the other, until its database refuses a call. One that
-    /// ends in a fault, or that its peer gave up before, counts as served.
+    /// Serves the connections that are left by this register, one after the other, until its database refuses a call.
+    /// One that ends in a fault, or that its peer gave up before, counts as served.
     fn serve_left<S: Alter, O: Write, E: Write>(
         &mut self,
         alloc: Global,
@@ -205,7 +205,8 @@ impl<'a> Port<'a> {
         Ok(())
     }
 
-    /// Serves the connections that are left while there is no register. For each the register is opened again, and then serves more.
+    /// Serves the connections that are left while there is no register. For each the register is opened again, and then
+    /// serves more.
     fn serve_down<D: Disk + Drop, F: FileSystem<D>, O: Write, E: Write>(
         &mut self,
         rt: &HostRuntime,
@@ -225,8 +226,8 @@ impl<'a> Port<'a> {
         Ok(())
     }
 
-    /// Opens the register again, which serves this connection and those that are left. Where it is not opened the connection is
-    /// turned away.
+    /// Opens the register again, which serves this connection and those that are left. Where it is not opened the
+    /// connection is turned away.
     fn serve_again<D: Disk + Drop, F: FileSystem<D>, O: Write, E: Write>(
         &mut self,
         rt: &HostRuntime,
@@ -471,11 +472,7 @@ fn begin<'a, D: Disk + Drop, F: FileSystem<D>, O: Write, E: Write>(
         output: &mut *output,
         errors: &mut *errors,
     };
-    match on_database(rt, system, name, opening, work) {
-        Ok(visited) => {
-            tell_close(visited.closed, name, errors);
-            visited.answer
-        }
-        Err(fault) => Err(CommandFault::Database { name, fault }.into()),
-    }
+    let visited = on_database(rt, system, name, opening, work)?;
+    tell_close(visited.closed, name, errors);
+    visited.answer
 }

@@ -62,7 +62,8 @@ fn show_fault<'a, O: Write>(
     Err(fault)
 }
 
-/// Does an errand to the register of a file. Where that is to judge the register, what is wrong with it goes to the output too.
+/// Does an errand to the register of a file. Where that is to judge the register, what is wrong with it goes to the
+/// output too.
 fn perform_errand<'a, D: Disk + Drop, F: FileSystem<D>, O: Write, E: Write>(
     rt: &HostRuntime,
     system: &F,
@@ -166,8 +167,8 @@ fn perform_words<'a, D: Disk + Drop, F: FileSystem<D>, R: Read, O: Write, E: Wri
     }
 }
 
-/// Performs what these words ask for, the program's name first, over the databases of a file system, and answers the status. A
-/// fault's text goes to `errors`.
+/// Performs what these words ask for, the program's name first, over the databases of a file system, and answers the
+/// status. A fault's text goes to `errors`.
 pub fn perform<D: Disk + Drop, F: FileSystem<D>, R: Read, O: Write, E: Write>(
     rt: &HostRuntime,
     system: &F,

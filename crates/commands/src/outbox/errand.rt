@@ -8,7 +8,7 @@ use crate::outbox::fault::Fault;
 use crate::outbox::line::{EntryLine, LongLine};
 use crate::outbox::options::{Target, Which};
 use crate::verdict::Verdict;
-use command_line::{CommandFault, show};
+use command_line::show;
 use filer_client::ExchangeFault;
 use http_wire::Device;
 use key_string::KeyText;
@@ -88,8 +88,8 @@ impl<'a, O: Write> Work for Visit<'a, '_, O> {
     }
 }
 
-/// Does an errand to the outbox of the file with this name. What was told stays whether or not the files are then closed: where they
-/// are not, this is told.
+/// Does an errand to the outbox of the file with this name. What was told stays whether or not the files are then
+/// closed: where they are not, this is told.
 pub fn run_errand<'a, D: Disk + Drop, F: FileSystem<D>, O: Write, E: Write>(
     rt: &HostRuntime,
     system: &F,
@@ -104,13 +104,9 @@ pub fn run_errand<'a, D: Disk + Drop, F: FileSystem<D>, O: Write, E: Write>(
         errand,
         output,
     };
-    match on_database(rt, system, name, opening, work) {
-        Ok(visited) => {
-            tell_close(visited.closed, name, errors);
-            visited.answer
-        }
-        Err(fault) => Err(CommandFault::Database { name, fault }.into()),
-    }
+    let visited = on_database(rt, system, name, opening, work)?;
+    tell_close(visited.closed, name, errors);
+    visited.answer
 }
 
 /// Says where the files of an outbox are not closed. What was told stays then, in the log beside the file.
@@ -224,7 +220,8 @@ fn show_entry<'a, O: Write>(
     Ok(show(output, text.as_bytes())?)
 }
 
-/// Prints the id of an entry that was put in. Where the output takes nothing the fault names it, so that the report is not put in again.
+/// Prints the id of an entry that was put in. Where the output takes nothing the fault names it, so that the report is
+/// not put in again.
 fn show_id<'a, O: Write>(
     rt: &HostRuntime,
     name: &'a str,

@@ -15,11 +15,11 @@ use thiserror::Error;
 #[derive(Debug, Drop, Error)]
 pub enum Fault<'a> {
     #[error("{0}")]
-    Command(CommandFault<'a>),
+    Command(#[from] CommandFault<'a>),
     #[error("--key: {0}")]
     Key(KeyFault),
     #[error("{0}")]
-    Report(ReportFault<'a>),
+    Report(#[from] ReportFault<'a>),
     #[error("{name}: {fault}")]
     Outbox { name: &'a str, fault: OutboxFault },
     #[error("{name}: {fault}{}", hint(*fault))]
@@ -49,18 +49,6 @@ fn hint(fault: OutboxFault) -> &'static str {
     match fault {
         OutboxFault::NotOurs => " of this version (outbox migrate takes one of an earlier version)",
         _ => "",
-    }
-}
-
-impl<'a> From<CommandFault<'a>> for Fault<'a> {
-    fn from(fault: CommandFault<'a>) -> Self {
-        Fault::Command(fault)
-    }
-}
-
-impl<'a> From<ReportFault<'a>> for Fault<'a> {
-    fn from(fault: ReportFault<'a>) -> Self {
-        Fault::Report(fault)
     }
 }
 

@@ -26,8 +26,8 @@ impl fmt::Display for EntryLine {
     }
 }
 
-/// The line of an entry with its body's length, the number of the filing that it is to replace, where there is one, and its key,
-/// which stands last since it may have spaces.
+/// The line of an entry with its body's length, the number of the filing that it is to replace, where there is one, and
+/// its key, which stands last since it may have spaces.
 #[derive(Clone, Copy)]
 pub struct LongLine<'a> {
     pub id: u64,

@@ -156,8 +156,8 @@ fn perform_words<'a, D: Disk + Drop, F: FileSystem<D>, O: Write, E: Write>(
     }
 }
 
-/// Performs what these words ask for, the program's name first, over the databases of a file system, and answers the status. A
-/// fault's text goes to `errors`.
+/// Performs what these words ask for, the program's name first, over the databases of a file system, and answers the
+/// status. A fault's text goes to `errors`.
 pub fn perform<D: Disk + Drop, F: FileSystem<D>, O: Write, E: Write>(
     rt: &HostRuntime,
     system: &F,
