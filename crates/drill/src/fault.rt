@@ -14,34 +14,28 @@ use thiserror::Error;
 #[derive(Clone, Copy, Debug, Error)]
 pub enum Fault {
     #[error("{0}")]
-    Command(CommandFault<'static>),
+    Command(#[from] CommandFault<'static>),
     #[error("the script: {0}")]
-    Read(ReadFault),
+    Read(#[from] ReadFault),
     #[error("the script has more than 8388608 bytes")]
     TooLong,
     #[error("the script is not UTF-8")]
     NotText,
     #[error("{0}")]
-    Script(ScriptFault),
+    Script(#[from] ScriptFault),
     #[error("{0}")]
-    World(WorldFault),
+    World(#[from] WorldFault),
     #[error("the register: {0}")]
-    Register(Unavailable),
+    Register(#[from] Unavailable),
     #[error("an outbox: {0}")]
-    Outbox(StoreFault),
+    Outbox(#[from] StoreFault),
     #[error("a key of the register: {0}")]
-    Key(KeyFault),
+    Key(#[from] KeyFault),
 }
 
 impl From<AllocError> for Fault {
     fn from(_error: AllocError) -> Fault {
         Fault::Command(CommandFault::Memory)
-    }
-}
-
-impl From<CommandFault<'static>> for Fault {
-    fn from(fault: CommandFault<'static>) -> Fault {
-        Fault::Command(fault)
     }
 }
 

@@ -1,6 +1,6 @@
 //! Reads a script, plays it, and shows what came of it.
 
-ghost use Rattle.std.specs.Prelude.{◌≡◌, ◌≤◌, ◌^◌, map, string_bytes, IfOk};
+ghost use Rattle.std.specs.Prelude.{◌≤◌, ◌^◌, map, string_bytes, IfOk};
 ghost use Rattle.event_script.specs.Events.{view_event, HasTarget, HaveTargets};
 ghost use Rattle.filing_world.specs.Headline.{AreFilers};
 
@@ -10,9 +10,8 @@ use crate::{calls, options};
 use command_line::{DONE, read_up_to, show, show_refusal, words};
 use event_script::{Event, Script, read_script};
 use http_wire::Device;
-use register_store::Registered;
 use schedule::{Durable, Honest, World};
-use std::alloc::{AllocError, Global};
+use std::alloc::Global;
 use std::io::{Read, Write};
 
 /// The longest script that is read (own rule).
@@ -21,11 +20,11 @@ const MAX_SCRIPT_LEN: usize = 8_388_608;
 /// The bytes of the script.
 fn read_bytes<R: Read>(alloc: Global, input: &mut R) -> Result<Vec<u8>, Fault> {
     let mut reader = Device::new(input);
-    match read_up_to(alloc, &mut reader, MAX_SCRIPT_LEN + 1) {
-        Ok(bytes) if bytes.len() > MAX_SCRIPT_LEN => Err(Fault::TooLong),
-        Ok(bytes) => Ok(bytes),
-        Err(fault) => Err(Fault::Read(fault)),
+    let bytes = read_up_to(alloc, &mut reader, MAX_SCRIPT_LEN + 1)?;
+    if bytes.len() > MAX_SCRIPT_LEN {
+        return Err(Fault::TooLong);
     }
+    Ok(bytes)
 }
 
 /// What the bytes say.
@@ -37,16 +36,7 @@ fn script_of(alloc: Global, bytes: &[u8]) -> Result<Script, Fault>
     let Ok(text) = str::from_utf8(bytes) else {
         return Err(Fault::NotText);
     };
-    match read_script(alloc, text) {
-        Ok(script) => Ok(script),
-        Err(fault) => Err(Fault::Script(fault)),
-    }
-}
-
-fn filer_codes<'a>(alloc: Global, filers: &'a [String]) -> Result<Vec<&'a str>, AllocError>
-    ensures { IfOk result (λ codes. map (λ code. code.now) codes.items ≡ map string_bytes filers.now) }
-{
-    filers.iter().map(|filer| filer.as_str()).collect(alloc)
+    Ok(read_script(alloc, text)?)
 }
 
 /// The world in which the events have happened.
@@ -55,25 +45,19 @@ fn play<D: Honest>(alloc: Global, script: &Script) -> Result<World<D>, Fault>
     requires limit { script.now.limit ≤ 2 ^ 62 }
     requires targets { HaveTargets (map view_event script.now.events.items) }
 {
-    let filers = filer_codes(alloc, script.filers.as_slice())?;
-    match calls::run(
+    let filers = script.filer_codes(alloc)?;
+    Ok(calls::run(
         alloc,
         filers.as_slice(),
         script.limit,
         script.events.as_slice(),
-    ) {
-        Ok(world) => Ok(world),
-        Err(fault) => Err(Fault::World(fault)),
-    }
+    )?)
 }
 
 fn restart<D: Honest>(world: &mut World<D>, end: &Event) -> Result<(), Fault>
     requires { HasTarget (view_event end.now) }
 {
-    match calls::play(world, end) {
-        Ok(()) => Ok(()),
-        Err(fault) => Err(Fault::World(fault)),
-    }
+    Ok(calls::play(world, end)?)
 }
 
 /// Starts every end again, so that none is down. Nothing changes of one that is up.
@@ -86,25 +70,16 @@ fn restart_all<D: Honest>(world: &mut World<D>, outboxes: usize) -> Result<(), F
     Ok(())
 }
 
-fn filings<D: Honest>(world: &mut World<D>) -> Result<Vec<Registered>, Fault> {
-    match calls::register(world) {
-        Ok(filings) => Ok(filings),
-        Err(fault) => Err(Fault::Register(fault)),
-    }
-}
-
 /// What is shown of the world, all of whose ends are up.
 fn report_of<D: Honest>(alloc: Global, world: &mut World<D>) -> Result<Vec<u8>, Fault> {
-    let filings = filings(world)?;
-    match calls::states(world) {
-        Ok(entries) => report(
-            alloc,
-            filings.as_slice(),
-            entries.as_slice(),
-            calls::done_count(world),
-        ),
-        Err(fault) => Err(Fault::Outbox(fault)),
-    }
+    let filings = calls::register(world)?;
+    let entries = calls::states(world)?;
+    report(
+        alloc,
+        filings.as_slice(),
+        entries.as_slice(),
+        calls::done_count(world),
+    )
 }
 
 /// Plays the script, and answers what is shown.

@@ -3,3 +3,4 @@ pub mod Words
 pub mod Lines
 pub mod Text
 pub mod Scripts
+pub mod Shown

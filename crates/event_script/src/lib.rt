@@ -1,6 +1,6 @@
-//! What may happen to an intake and to the outboxes of its filers, as a list of events, and the
-//! scripts that spell such lists. What may live here: the events, and how a text spells them. What
-//! an event does is not known here.
+//! What may happen to an intake and to the outboxes of its filers, as a list of events, the scripts that spell such
+//! lists, and the lines that show what came of one. What may live here: the events, and how a text spells them and what
+//! they led to. What an event does is not known here.
 #![tactic(auto)]
 
 mod event;
@@ -10,6 +10,7 @@ mod lines;
 mod put;
 mod read;
 mod script;
+mod shown;
 mod stranger;
 mod words;
 
@@ -17,3 +18,4 @@ pub use event::{Crash, Event};
 pub use fault::ScriptFault;
 pub use read::read_script;
 pub use script::Script;
+pub use shown::{EntryState, append_done, append_entry, append_filing};

@@ -1,13 +1,13 @@
 //! Scripts that are read and played, on disks of any type.
 
-ghost use Rattle.std.specs.Prelude.{◌≡◌, ◌≤◌, ◌^◌, map, string_bytes, IfOk};
+ghost use Rattle.std.specs.Prelude.{◌≤◌, ◌^◌, map, string_bytes, IfOk};
 ghost use Rattle.event_script.specs.Events.{view_event, HasTarget, HaveTargets};
 ghost use Rattle.filing_world.specs.Headline.{AreFilers};
 
 use crate::fault::Fault;
 use event_script::{Event, Script, read_script};
-use schedule::{Fault as WorldFault, Honest, World, run};
-use std::alloc::{AllocError, Global};
+use schedule::{Honest, World, run};
+use std::alloc::Global;
 
 /// What a text says.
 pub fn read(alloc: Global, text: &str) -> Result<Script, Fault>
@@ -16,21 +16,6 @@ pub fn read(alloc: Global, text: &str) -> Result<Script, Fault>
     ensures targets { IfOk result (λ script. HaveTargets (map view_event script.events.items)) }
 {
     Ok(read_script(alloc, text)?)
-}
-
-fn filer_codes<'a>(alloc: Global, filers: &'a [String]) -> Result<Vec<&'a str>, AllocError>
-    ensures { IfOk result (λ codes. map (λ code. code.now) codes.items ≡ map string_bytes filers.now) }
-{
-    filers.iter().map(|filer| filer.as_str()).collect(alloc)
-}
-
-/// The world before the events of a script.
-pub fn new_world<D: Honest>(alloc: Global, script: &Script) -> Result<World<D>, Fault>
-    requires filers { AreFilers (map string_bytes script.now.filers.items) }
-    requires limit { script.now.limit ≤ 2 ^ 62 }
-{
-    let filers = filer_codes(alloc, script.filers.as_slice())?;
-    Ok(World::new(alloc, filers.as_slice(), script.limit)?)
 }
 
 /// The world after them, all of whose ends are up.
@@ -50,7 +35,7 @@ fn after_events<D: Honest>(alloc: Global, script: &Script) -> Result<World<D>, F
     requires limit { script.now.limit ≤ 2 ^ 62 }
     requires targets { HaveTargets (map view_event script.now.events.items) }
 {
-    let filers = filer_codes(alloc, script.filers.as_slice())?;
+    let filers = script.filer_codes(alloc)?;
     Ok(run(
         alloc,
         filers.as_slice(),
