@@ -1,3 +1,4 @@
+pub mod Coming
 pub mod Early
 pub mod Ending
 pub mod Entries

@@ -1,20 +1,40 @@
 -- What contracts see of an outbox in files.
-use Rattle.std.specs.Prelude.{ℕ, true, List, Option, Some, None}
+use Rattle.std.specs.Prelude.{◌≡◌, ℕ, true, List, Option, Some, None, Result, Ok, Err}
+use Rattle.key_string.specs.Filer.{is_filer}
 use Rattle.http_wire.specs.declared.refusal.ReplyFault.TheVariants.{Cut, Malformed, NoLength, TooLarge, Read, ReadLimit, Memory}
 use Rattle.filing_model.specs.Outbox.{Entry, State}
 use Rattle.filing_world.specs.World.{Outbox}
 use Rattle.outbox_core.specs.declared.fault.TakeFault.TheVariants as take
 use Rattle.outbox_core.specs.declared.state.State.{State as Stored}
-use Rattle.outbox_core.specs.Entries.{set_state}
+use Rattle.outbox_core.specs.Entries.{Contents, empty, set_state}
 use Rattle.outbox_core.specs.Reading.{view_state}
 use Rattle.filer_client.specs.declared.fault.ExchangeFault.{ExchangeFault}
 use Rattle.filer_client.specs.declared.fault.ExchangeFault.TheVariants.{Write, Reply, Take}
 use Rattle.schedule.specs.declared.fault.Cause.{Cause}
 use Rattle.schedule.specs.declared.fault.Cause.TheVariants as cause
+use Rattle.schedule.specs.declared.outboxes.Opening.{Opening}
+use Rattle.schedule.specs.declared.outboxes.Opening.TheVariants.{Made, Found}
 
 -- an outbox that is up
 abbrev pub up_with : List ℕ → List Entry → Outbox
 up_with filer entries = record { filer = filer; entries = entries; up = true }
+
+-- ---- what it has
+
+-- these are its filer and its entries: none where it is made, and else those that lie in the database
+abbrev pub ComesWith : Opening → Type 0 → Contents → Type 0
+ComesWith (Made filer) Lies it = it ≡ empty filer.now
+ComesWith Found Lies it = Lies
+
+-- it is made for a filer, if it is made
+abbrev pub IsForFiler : Opening → Type 0
+IsForFiler (Made filer) = is_filer filer.now ≡ true
+IsForFiler Found = Unit {0}
+
+-- what there is after a call that answered so, or what there was, where it was refused
+abbrev pub after_answer : {A E X : Type 0} → Result A E → X → (A → X) → X
+after_answer (Ok answer) old left = left answer
+after_answer (Err fault) old left = old
 
 -- ---- what is heard
 

@@ -7,6 +7,8 @@ use Rattle.filing_model.specs.Request.{Request}
 use Rattle.register_store.specs.Files.{HoldRegister}
 use Rattle.intake_core.specs.declared.intake.Intake.{Intake}
 use Rattle.intake_core.specs.Held.{HoldsRequests, limit_of, early_in}
+use Rattle.schedule.specs.declared.registers.Opening.{Opening}
+use Rattle.schedule.specs.declared.registers.Opening.TheVariants.{Made, Found}
 use Rattle.schedule.specs.declared.server.IntakeProcess.{IntakeProcess}
 use Rattle.schedule.specs.declared.server.IntakeProcess.TheVariants.{Up, Down, Gone}
 
@@ -15,6 +17,11 @@ abbrev pub is_up : {D : Type 0} {g : Ghosts D} → IntakeProcess D g → Bool
 is_up (Up intake) = true
 is_up (Down files) = false
 is_up Gone = false
+
+-- these are the requests of a register: none where it is made, and else those that lie in the database
+abbrev pub ComesWith : Opening → Type 0 → List Request → Type 0
+ComesWith Made Lies F = F ≡ []
+ComesWith Found Lies F = Lies
 
 -- It holds these requests, and none of them was kept before there were problem details.
 abbrev pub HoldsNew : {S : Type 0} → database.Ghosts S → Intake S → List Request → Type 0

@@ -12,7 +12,7 @@ use crate::lists::Sent;
 use outbox_core::Outbox;
 use sqlite::FileStore;
 
-/// The place of the element of this number, where there are so many.
+/// The index of the element of this number, where there are so many.
 pub(crate) fn index_of(number: u64, count: usize) -> Option<usize>
     ensures some { IfSome result (λ at. (number ≡ suc at) × (at < count)) }
     ensures none { result ≡ None → (number ≡ 0) ⊎ (count < number) }
@@ -24,7 +24,7 @@ pub(crate) fn index_of(number: u64, count: usize) -> Option<usize>
     if at < count { Some(at) } else { None }
 }
 
-/// The place of the outbox of this number, where it is up.
+/// The index of the outbox of this number, where it is up.
 pub(crate) fn up_at<D: Honest>(filers: &[Filer<D>], outbox: u64) -> Option<usize>
     ensures some { IfSome result (λ at. (outbox ≡ suc at)
         × (box : Ours) × (slice_get filers.now at ≡ Some box) × (box.up ≡ true) × (at < length filers.now)) }

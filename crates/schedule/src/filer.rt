@@ -19,9 +19,9 @@ ghost use Rattle.schedule.specs.Played.{IsRequest};
 
 use crate::fault::Cause;
 use crate::honest::Honest;
-use crate::opening::{new_files, open};
+use crate::opening::new_files;
 use crate::outboxes::{
-    files_of_outbox, hear_in, make_outbox, outbox_in, put_into, request_from, states_in,
+    HearReply, ListStates, Opening, Put, WriteRequest, ask, files_of_outbox, outbox_in,
 };
 use crate::report::{Report, set_state};
 use event_script::Crash;
@@ -42,9 +42,10 @@ pub(crate) enum OutboxProcess<D: Disk + Drop> {
 }
 
 impl<D: Disk + Drop> Drop for OutboxProcess<D> {
+    // Its database is closed, as it is where the process stops.
     fn drop(self) {
         match self {
-            OutboxProcess::Up(_outbox) => {}
+            OutboxProcess::Up(outbox) => drop(outbox.into_files()),
             OutboxProcess::Down(_files) => {}
             OutboxProcess::Gone => {}
         }
@@ -77,7 +78,9 @@ impl<D: Honest> OutboxProcess<D> {
     {
         match self {
             OutboxProcess::Up(outbox) => Ok(OutboxProcess::Up(outbox)),
-            OutboxProcess::Down(files) => Ok(OutboxProcess::Up(outbox_in(alloc, files)?)),
+            OutboxProcess::Down(files) => {
+                Ok(OutboxProcess::Up(outbox_in(alloc, files, Opening::Found)?))
+            }
             OutboxProcess::Gone => Err(Cause::Reopen),
         }
     }
@@ -122,11 +125,12 @@ impl<D: Honest> Filer<D> {
         ensures made { IfOk result (λ f. f ≡ new_outbox code.now) }
         ensures other { result ≢ Err Cause.NoSuch }
     {
+        let opening = Opening::Made { filer: code };
         Ok(Filer {
             alloc,
             code: String::from_str(alloc, code)?,
             entries: Vec::new(alloc),
-            process: OutboxProcess::Up(make_outbox(alloc, open(alloc, new_files(alloc))?, code)?),
+            process: OutboxProcess::Up(outbox_in(alloc, new_files(alloc), opening)?),
         })
     }
 
@@ -156,7 +160,7 @@ impl<D: Honest> Filer<D> {
         let OutboxProcess::Up(outbox) = &mut self.process else {
             return Err(Cause::Store);
         };
-        if put_into(self.alloc, outbox, key, target, body)? {
+        if ask(self.alloc, outbox, Put { key, target, body })? {
             self.entries.push_reserved(report);
         }
         Ok(())
@@ -173,7 +177,7 @@ impl<D: Honest> Filer<D> {
         let OutboxProcess::Up(outbox) = &mut self.process else {
             return Err(Cause::Store);
         };
-        request_from(self.alloc, outbox, entry)
+        ask(self.alloc, outbox, WriteRequest { number: entry })
     }
 
     /// Hands these bytes to the entry of this number as the reply to its request. Bytes that give no reply
@@ -207,7 +211,11 @@ impl<D: Honest> Filer<D> {
         let OutboxProcess::Up(outbox) = &mut self.process else {
             return Err(Cause::Store);
         };
-        if let Some(state) = hear_in(self.alloc, outbox, entry, bytes)? {
+        let reply = HearReply {
+            number: entry,
+            bytes,
+        };
+        if let Some(state) = ask(self.alloc, outbox, reply)? {
             set_state(&mut self.entries, entry, state);
         }
         Ok(())
@@ -245,7 +253,7 @@ impl<D: Honest> Filer<D> {
         let OutboxProcess::Up(outbox) = &mut self.process else {
             return Err(StoreFault::Store);
         };
-        states_in(outbox)
+        ask(self.alloc, outbox, ListStates)
     }
 
     /// The outbox, where it is up.

@@ -1,4 +1,6 @@
-//! The calls on a register and an intake, one to a function.
+//! An intake is made or opened over a register, called and closed. A call is a value, a `Call`: what it does is
+//! written over any store, and `ask` is the one function that makes it on a store in files, since each such function
+//! costs much to prove.
 
 ghost use Rattle.std.specs.Prelude.{◌≡◌, ◌≢◌, ◌≤◌, ◌^◌, ◌++◌, [], ℕ, List, Some, None, IfOk, Err, true, false};
 ghost use Rattle.http_wire.specs.Message.{Arrival};
@@ -14,7 +16,7 @@ ghost use Rattle.register_opening.specs.Registers.{IsRegisterOf};
 ghost use Rattle.register_store.specs.Files.{HoldRegister};
 ghost use Rattle.intake_core.specs.Held.{limit_of, early_of};
 ghost use Rattle.gateway_server.specs.Stopping.{view_stop};
-ghost use Rattle.schedule.specs.Server.{HoldsNew};
+ghost use Rattle.schedule.specs.Server.{HoldsNew, ComesWith};
 
 use crate::bytes::{Given, Kept};
 use crate::faithful::Faithful;
@@ -27,18 +29,20 @@ use http_wire::ConnFault;
 use intake_core::{Intake, Unavailable};
 use register_store::{CreateFault, OpenFault, Registered, Store, StoreFault};
 use sqlite::{Connection, FileStore, Files};
-use std::alloc::Global;
+use std::alloc::{AllocError, Global};
 
 /// An intake over a register without requests, which keeps at most `limit` keys. `Reopen` comes where the database has
 /// tables.
-pub(crate) fn make_intake<S: Faithful>(
+fn make_intake<S: Faithful>(
     alloc: Global,
     conn: Connection<S>,
     limit: u64,
 ) -> Result<Intake<S>, Cause>
     requires limit { limit ≤ 2 ^ 62 }
     requires idle { (conn.in_transaction ≡ false) × (conn.step_limit ≡ None) }
-    ensures made { IfOk result (λ intake. HoldsNew S.Store intake (firsts []) × (limit_of intake ≡ limit)) }
+    ensures made { IfOk result (λ intake. HoldsNew S.Store intake []) }
+    ensures limit { IfOk result (λ intake. limit_of intake ≡ limit) }
+    ensures problem { IfOk result (λ intake. early_of intake ≡ 0) }
     ensures other { result ≢ Err Cause.NoSuch }
 {
     match Store::create(alloc, without_tables(conn)?) {
@@ -50,7 +54,7 @@ pub(crate) fn make_intake<S: Faithful>(
 
 /// An intake over the register that lies in this database, which keeps at most `limit` keys. `Reopen` comes also where a request
 /// was kept before there were problem details: no such register is played on.
-pub(crate) fn open_intake<S: Faithful>(
+fn open_intake<S: Faithful>(
     alloc: Global,
     conn: Connection<S>,
     limit: u64,
@@ -73,6 +77,57 @@ pub(crate) fn open_intake<S: Faithful>(
     }
 }
 
+/// How a register comes to be in a database.
+#[derive(Clone, Copy)]
+pub(crate) enum Opening {
+    /// Its tables are made.
+    Made,
+    /// It lies there.
+    Found,
+}
+
+/// An intake over the register that is made in this database, or lies there, which keeps at most `limit` keys.
+fn intake_over<S: Faithful>(
+    alloc: Global,
+    conn: Connection<S>,
+    opening: Opening,
+    limit: u64,
+) -> Result<Intake<S>, Cause>
+    requires limit { limit ≤ 2 ^ 62 }
+    requires idle { (conn.in_transaction ≡ false) × (conn.step_limit ≡ None) }
+    ensures opened { (F : List Request) → firsts F ≡ F
+        → ComesWith opening (IsRegisterOf 0 F (state S.Store conn).now) F
+        → IfOk result (λ intake. HoldsNew S.Store intake F) }
+    ensures limit { IfOk result (λ intake. limit_of intake ≡ limit) }
+    ensures problem { IfOk result (λ intake. early_of intake ≡ 0) }
+    ensures other { result ≢ Err Cause.NoSuch }
+{
+    match opening {
+        Opening::Made => make_intake(alloc, conn, limit),
+        Opening::Found => open_intake(alloc, conn, limit),
+    }
+}
+
+/// An intake over the register that is made in these files, or lies there, which keeps at most `limit` keys.
+pub(crate) fn intake_in<D: Honest>(
+    alloc: Global,
+    files: Files<D>,
+    opening: Opening,
+    limit: u64,
+) -> Result<Intake<FileStore<D>>, Cause>
+    requires { limit ≤ 2 ^ 62 }
+    ensures opened { (F : List Request) → firsts F ≡ F → ComesWith opening (HoldRegister D.Disk files 0 F) F
+        → IfOk result (λ intake. HoldsNew over_files intake F) }
+    ensures limit { IfOk result (λ intake. limit_of intake ≡ limit) }
+    ensures problem { IfOk result (λ intake. early_of intake ≡ 0) }
+    ensures other { result ≢ Err Cause.NoSuch }
+{
+    if !files.may_be_used() {
+        return Err(Cause::Reopen);
+    }
+    intake_over(alloc, open(alloc, files)?, opening, limit)
+}
+
 /// The files of an intake's register.
 pub(crate) fn files_of_intake<D: Honest>(intake: Intake<FileStore<D>>) -> Result<Files<D>, Cause>
     ensures held { (F : List Request) → HoldsNew over_files intake F
@@ -86,23 +141,33 @@ pub(crate) fn files_of_intake<D: Honest>(intake: Intake<FileStore<D>>) -> Result
     }
 }
 
-/// An intake over the register that lies in these files, which keeps at most `limit` keys.
-pub(crate) fn intake_in<D: Honest>(
+/// A call on an intake.
+pub(crate) trait Call {
+    /// What it answers.
+    type Answer;
+
+    // An intake with this limit that completed these requests may answer so, and this holds of those that it completed
+    // then.
+    ghost answers: { Self → ℕ → List Request → Self.Answer → (List Request → Type 0) → Type 0 };
+
+    /// Makes it.
+    fn on<S: Faithful>(self, alloc: Global, intake: &mut Intake<S>) -> Self::Answer
+        ensures answer { (done : List Request) → HoldsNew S.Store intake.old (firsts done)
+            → answers self (limit_of intake.old) done result (λ after. HoldsNew S.Store intake.new (firsts after)) }
+        ensures limit { limit_of intake.new ≡ limit_of intake.old };
+}
+
+/// Makes a call on an intake in files.
+pub(crate) fn ask<D: Honest, C: Call>(
     alloc: Global,
-    files: Files<D>,
-    limit: u64,
-) -> Result<Intake<FileStore<D>>, Cause>
-    requires { limit ≤ 2 ^ 62 }
-    ensures opened { (F : List Request) → firsts F ≡ F → HoldRegister D.Disk files 0 F
-        → IfOk result (λ intake. HoldsNew over_files intake F) }
-    ensures limit { IfOk result (λ intake. limit_of intake ≡ limit) }
-    ensures problem { IfOk result (λ intake. early_of intake ≡ 0) }
-    ensures other { result ≢ Err Cause.NoSuch }
+    intake: &mut Intake<FileStore<D>>,
+    call: C,
+) -> C::Answer
+    ensures answer { (done : List Request) → HoldsNew over_files intake.old (firsts done)
+        → C.answers call (limit_of intake.old) done result (λ after. HoldsNew over_files intake.new (firsts after)) }
+    ensures limit { limit_of intake.new ≡ limit_of intake.old }
 {
-    if !files.may_be_used() {
-        return Err(Cause::Reopen);
-    }
-    open_intake(alloc, open(alloc, files)?, limit)
+    call.on(alloc, intake)
 }
 
 /// Whether the writer failed.
@@ -120,41 +185,61 @@ pub(crate) struct Answered {
     pub(crate) text: Vec<u8>,
 }
 
-/// Serves these bytes on an intake. A writer that failed wanted memory.
-pub(crate) fn serve_on<S: Faithful>(
-    alloc: Global,
-    intake: &mut Intake<S>,
-    bytes: &[u8],
-    stop: Stop,
-) -> Result<Answered, Cause>
-    ensures serves { (done : List Request) → HoldsNew S.Store intake.old (firsts done)
-        → IfOk result (λ a. (arrivals : List Arrival)
-        × ServesUntil (limit_of intake.old) done bytes.now (view_stop stop) arrivals a.marks.items a.ended a.text.items
-        × HoldsNew S.Store intake.new (firsts (done ++ completed arrivals a.marks.items))) }
-    ensures limit { limit_of intake.new ≡ limit_of intake.old }
-    ensures other { result ≢ Err Cause.NoSuch }
-{
-    let mut reader = Given::new(bytes);
-    let mut writer = Kept::new(alloc);
-    let Partly { marks, ended } = serve_until(alloc, &mut reader, &mut writer, intake, stop);
-    if is_refused(ended) {
-        return Err(Cause::Memory);
-    }
-    Ok(Answered {
-        marks,
-        ended,
-        text: writer.into_text(),
-    })
+/// These bytes are served, up to a stop. Memory is wanted where the writer failed.
+#[derive(Drop)]
+pub(crate) struct Serve<'a> {
+    pub(crate) bytes: &'a [u8],
+    pub(crate) stop: Stop,
 }
 
-/// The registered requests of an intake under their numbers.
-pub(crate) fn register_of<S: Faithful>(
-    intake: &mut Intake<S>,
-) -> Result<Vec<Registered>, Unavailable>
-    ensures list { (F : List Request) → HoldsNew S.Store intake.old F
-        → IfOk result (λ rows. rows.items ≡ register F) }
-    ensures kept { (F : List Request) → HoldsNew S.Store intake.old F → HoldsNew S.Store intake.new F }
-    ensures limit { limit_of intake.new ≡ limit_of intake.old }
-{
-    intake.register()
+impl Call for Serve<'_> {
+    type Answer = Result<Answered, AllocError>;
+
+    ghost answers = { λ call limit done answer Holds.
+        IfOk answer (λ a. (arrivals : List Arrival)
+        × ServesUntil limit done call.bytes.now (view_stop call.stop) arrivals a.marks.items a.ended a.text.items
+        × Holds (done ++ completed arrivals a.marks.items)) };
+
+    fn on<S: Faithful>(
+        self,
+        alloc: Global,
+        intake: &mut Intake<S>,
+    ) -> Result<Answered, AllocError> {
+        let mut reader = Given::new(self.bytes);
+        let mut writer = Kept::new(alloc);
+        let Partly { marks, ended } = serve_until(
+            alloc,
+            &mut reader,
+            &mut writer,
+            intake,
+            self.stop,
+        );
+        if is_refused(ended) {
+            return Err(AllocError);
+        }
+        Ok(Answered {
+            marks,
+            ended,
+            text: writer.into_text(),
+        })
+    }
+}
+
+/// The registered requests are listed under their numbers.
+#[derive(Drop)]
+pub(crate) struct ListRegister;
+
+impl Call for ListRegister {
+    type Answer = Result<Vec<Registered>, Unavailable>;
+
+    ghost answers = { λ _ _ done answer Holds.
+        IfOk answer (λ rows. rows.items ≡ register (firsts done)) × Holds done };
+
+    fn on<S: Faithful>(
+        self,
+        _alloc: Global,
+        intake: &mut Intake<S>,
+    ) -> Result<Vec<Registered>, Unavailable> {
+        intake.register()
+    }
 }

@@ -16,8 +16,8 @@ ghost use Rattle.schedule.specs.Server.{Keeps, is_up};
 
 use crate::fault::Cause;
 use crate::honest::Honest;
-use crate::opening::{new_files, open};
-use crate::registers::{Answered, files_of_intake, intake_in, make_intake, register_of, serve_on};
+use crate::opening::new_files;
+use crate::registers::{Answered, ListRegister, Opening, Serve, ask, files_of_intake, intake_in};
 use event_script::Crash;
 use filing_model::{Ended, Mark};
 use gateway_server::{Stop, completed};
@@ -37,9 +37,10 @@ pub(crate) enum IntakeProcess<D: Honest> {
 }
 
 impl<D: Honest> Drop for IntakeProcess<D> {
+    // Its database is closed, as it is where the process stops.
     fn drop(self) {
         match self {
-            IntakeProcess::Up(_intake) => {}
+            IntakeProcess::Up(intake) => drop(files_of_intake(intake)),
             IntakeProcess::Down(_files) => {}
             IntakeProcess::Gone => {}
         }
@@ -106,28 +107,21 @@ impl<D: Honest> IntakeProcess<D> {
         ensures up { IfOk result (λ process. is_up process ≡ true) }
         ensures other { result ≢ Err Cause.NoSuch }
     {
-        Ok(IntakeProcess::Up(make_intake(alloc, open(alloc, new_files(alloc))?, limit)?))
+        let files = new_files(alloc);
+        Ok(IntakeProcess::Up(intake_in(alloc, files, Opening::Made, limit)?))
     }
 
-    /// What serving these bytes came to, and the process after it.
-    fn serve(
-        self,
-        alloc: Global,
-        bytes: &[u8],
-        stop: Stop,
-    ) -> Result<(Answered, IntakeProcess<D>), Cause>
-        ensures serves { (limit : ℕ) (done : List Request) → Keeps self limit (firsts done) → is_up self ≡ true
-            → IfOk result (λ t. (arrivals : List Arrival)
-            × ServesUntil limit done bytes.now (view_stop stop) arrivals t.0.marks.items t.0.ended t.0.text.items
-            × Keeps t.1 limit (firsts (done ++ completed arrivals t.0.marks.items))) }
-        ensures up { IfOk result (λ t. is_up t.1 ≡ true) }
+    /// What serving these bytes came to.
+    fn serve(&mut self, alloc: Global, bytes: &[u8], stop: Stop) -> Result<Answered, Cause>
+        ensures serves { (limit : ℕ) (done : List Request) → Keeps self.old limit (firsts done) → is_up self.old ≡ true
+            → IfOk result (λ a. (arrivals : List Arrival)
+            × ServesUntil limit done bytes.now (view_stop stop) arrivals a.marks.items a.ended a.text.items
+            × Keeps self.new limit (firsts (done ++ completed arrivals a.marks.items))) }
+        ensures up { is_up self.new ≡ is_up self.old }
         ensures other { result ≢ Err Cause.NoSuch }
     {
         match self {
-            IntakeProcess::Up(mut intake) => {
-                let answered = serve_on(alloc, &mut intake, bytes, stop)?;
-                Ok((answered, IntakeProcess::Up(intake)))
-            }
+            IntakeProcess::Up(intake) => Ok(ask(alloc, intake, Serve { bytes, stop })?),
             IntakeProcess::Down(_files) => Err(Cause::Store),
             IntakeProcess::Gone => Err(Cause::Store),
         }
@@ -171,13 +165,15 @@ impl<D: Honest> IntakeProcess<D> {
     {
         match self {
             IntakeProcess::Up(intake) => Ok(IntakeProcess::Up(intake)),
-            IntakeProcess::Down(files) => Ok(IntakeProcess::Up(intake_in(alloc, files, limit)?)),
+            IntakeProcess::Down(files) => {
+                Ok(IntakeProcess::Up(intake_in(alloc, files, Opening::Found, limit)?))
+            }
             IntakeProcess::Gone => Err(Cause::Store),
         }
     }
 
     /// The registered requests under their numbers.
-    fn register(&mut self) -> Result<Vec<Registered>, Unavailable>
+    fn register(&mut self, alloc: Global) -> Result<Vec<Registered>, Unavailable>
         ensures list { (limit : ℕ) (F : List Request) → Keeps self.old limit F
             → IfOk result (λ rows. rows.items ≡ register F) }
         ensures kept { (limit : ℕ) (F : List Request) → Keeps self.old limit F → Keeps self.new limit F }
@@ -185,7 +181,7 @@ impl<D: Honest> IntakeProcess<D> {
         ensures down { is_up self.old ≡ false → result ≡ Err Unavailable.Down }
     {
         match self {
-            IntakeProcess::Up(intake) => register_of(intake),
+            IntakeProcess::Up(intake) => ask(alloc, intake, ListRegister),
             IntakeProcess::Down(_files) => Err(Unavailable::Down),
             IntakeProcess::Gone => Err(Unavailable::Down),
         }
@@ -265,10 +261,10 @@ impl<D: Honest> Server<D> {
         ensures other { result ≢ Err Cause.NoSuch }
     {
         let before = self.done.len();
-        let process = mem::replace(&mut self.process, IntakeProcess::Gone);
-        let (answered, served) = process.serve(self.alloc, bytes, stop_of(crash))?;
+        let mut process = mem::replace(&mut self.process, IntakeProcess::Gone);
+        let answered = process.serve(self.alloc, bytes, stop_of(crash))?;
         append_completed(self.alloc, &mut self.done, bytes, answered.marks.as_slice())?;
-        let after = served.after(crash)?;
+        let after = process.after(crash)?;
         self.process = after;
         let Answered { marks, ended, text } = answered;
         Ok(Delivered {
@@ -297,6 +293,6 @@ impl<D: Honest> Server<D> {
         ensures down { self.old.up ≡ false → result ≡ Err Unavailable.Down }
         ensures same { self.new ≡ self.old }
     {
-        self.process.register()
+        self.process.register(self.alloc)
     }
 }

@@ -7,19 +7,19 @@ use Rattle.schedule.proofs.filer.Filer.hear.Goals as goal
 pub invariant_of-self-in_err-state : goal.invariant_of-self-in_err-state
 invariant_of-self-in_err-state g c =
     let keeps = rw c.in-Up.is at c.self.invariant in
-    (c.in_err-state.ensures.kept c.self.inside.entries.items keeps.0, c.hear_in.ensures.filer ∙ keeps.1)
+    (c.in_err-state.ensures.rows c.self.inside.entries.items keeps.0, c.ask.ensures.filer ∙ keeps.1)
 
 pub invariant_of-self-in-Some : goal.invariant_of-self-in-Some
 invariant_of-self-in-Some g c =
     let keeps = rw c.in-Up.is at c.self.invariant in
     let rows = rw c.in-Some.is at (c.in_ok-state.ensures.rows c.self.inside.entries.items keeps.0) in
-    (rw c.set_state.ensures rows, c.hear_in.ensures.filer ∙ keeps.1)
+    (rw c.set_state.ensures rows, c.ask.ensures.filer ∙ keeps.1)
 
 pub invariant_of-self-in_default-2 : goal.invariant_of-self-in_default-2
 invariant_of-self-in_default-2 g c =
     let keeps = rw c.in-Up.is at c.self.invariant in
     let rows = rw c.in_default-2.is at (c.in_ok-state.ensures.rows c.self.inside.entries.items keeps.0) in
-    (rows, c.hear_in.ensures.filer ∙ keeps.1)
+    (rows, c.ask.ensures.filer ∙ keeps.1)
 
 pub returns-in-Some-clause-heard : goal.returns-in-Some-clause-heard
 returns-in-Some-clause-heard g c =
@@ -27,7 +27,7 @@ returns-in-Some-clause-heard g c =
     let box : Outbox = record { filer = string_bytes c.self.inside.code; entries = c.self.inside.entries.items; up = true } in
     rw (← c.self.view_is)
     (λ what here.
-    let heard = c.in_ok-state.ensures.heard c.self.inside.entries.items keeps.0 what here in
+    let heard = (c.in_ok-state.ensures.answer c.self.inside.entries.items keeps.0).0 what here in
     (heard.0, heard.1, box_heard box c.args.entry what (Some c.in-Some.state) c.set_state.new.reports.items heard.0 here (rw c.in-Some.is at heard.2) c.set_state.ensures))
 
 pub returns-in_default-2-clause-heard : goal.returns-in_default-2-clause-heard
@@ -36,5 +36,5 @@ returns-in_default-2-clause-heard g c =
     let box : Outbox = record { filer = string_bytes c.self.inside.code; entries = c.self.inside.entries.items; up = true } in
     rw (← c.self.view_is)
     (λ what here.
-    let heard = c.in_ok-state.ensures.heard c.self.inside.entries.items keeps.0 what here in
+    let heard = (c.in_ok-state.ensures.answer c.self.inside.entries.items keeps.0).0 what here in
     (heard.0, heard.1, box_heard box c.args.entry what None c.self.inside.entries.items heard.0 here (rw c.in_default-2.is at heard.2) refl))

@@ -45,5 +45,5 @@ returns-clause-serves g c =
     let more : c.append_completed.new.done.items ≡ done ++ completed arrivals marks =
     c.in_ok-append_completed.ensures arrivals ending.0 ending.1 (subst (λ ms. length ms ≤ length arrivals) (sym c.as_slice.ensures.value) ending.2) ∙ ap (λ ms. done ++ completed arrivals ms) c.as_slice.ensures.value in
     let stopped = subst (λ k. ServesUntil limit done bytes k arrivals marks answered.ended answered.text.items) c.stop_of.ensures came.1 in
-    let gone : is_up c.in_ok-after.after ≡ is_no (view_crash c.args.crash) = c.in_ok-after.ensures.up c.in_ok-answered.ensures.up in
+    let gone : is_up c.in_ok-after.after ≡ is_no (view_crash c.args.crash) = c.in_ok-after.ensures.up (c.serve.ensures.up ∙ up) in
     rw (sym c.self.view_is) (arrivals, stopped, λ i. record { limit = limit; done = more i; up = gone i })
