@@ -23,6 +23,10 @@ pub record OtherRows : Type 0 where
   pub fact : List Row
   pub amends : List Row
 
+-- those that hold these
+abbrev pub rows_beside : List Row → List Row → List Row → List Row → OtherRows
+rows_beside finding filing fact amends = record { finding = finding; filing = filing; fact = fact; amends = amends }
+
 -- these begin with the rows of the kept request, and the rest follows
 pub record Begins (seq : ℕ) (k : Kept) (all rest : OtherRows) : Type 0 where
   pub finding : all.finding ≡ finding_rows seq k ++ rest.finding

@@ -8,7 +8,7 @@ ghost use Rattle.http_wire.specs.Posting.{IsTarget};
 ghost use Rattle.xbrl_report.specs.Judgement.{HasFacts};
 ghost use Rattle.filing_model.specs.Register.{Outcome, register};
 ghost use Rattle.filing_model.specs.Request.{Request, has_key};
-ghost use Rattle.register_rows.specs.Audit.{OtherRows, AreRowsOf, IsAfter, IsNext, IsVerdict, StandForNone, is_repeated_at, begins_with, has_more, view_rows_left, with_target};
+ghost use Rattle.register_rows.specs.Audit.{OtherRows, AreRowsOf, IsAfter, IsNext, IsVerdict, StandForNone, rows_beside, is_repeated_at, begins_with, has_more, view_rows_left, with_target};
 ghost use Rattle.register_rows.specs.Filed.{AreFiled};
 ghost use Rattle.register_rows.specs.Cells.{value_of};
 ghost use Rattle.register_rows.specs.Columns.{request_in};
@@ -360,21 +360,9 @@ pub fn audit(
     facts: &[Row],
     amends: &[Row],
 ) -> Result<Verdict, AllocError>
-    ensures verdict { IfOk result (λ verdict.
-        IsVerdict kept.now (record {
-          finding = findings.now;
-          filing = filings.now;
-          fact = facts.now;
-          amends = amends.now;
-        }) verdict) }
-    ensures complete { IfOk result (λ verdict.
-        (F : List Request)
-        → AreRowsOf kept.now (record {
-          finding = findings.now;
-          filing = filings.now;
-          fact = facts.now;
-          amends = amends.now;
-        }) F
+    ensures verdict { IfOk result (IsVerdict kept.now (rows_beside findings.now filings.now facts.now amends.now)) }
+    ensures complete { IfOk result (λ verdict. (F : List Request)
+        → AreRowsOf kept.now (rows_beside findings.now filings.now facts.now amends.now) F
         → verdict ≡ Verdict.Sound (length (register F))) }
     ensures few { IfOk result (λ verdict.
         (filings : ℕ) → verdict ≡ Verdict.Sound filings
