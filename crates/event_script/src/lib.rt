@@ -18,4 +18,4 @@ pub use event::{Crash, Event};
 pub use fault::ScriptFault;
 pub use read::read_script;
 pub use script::Script;
-pub use shown::{EntryState, append_done, append_entry, append_filing};
+pub use shown::{append_done, append_entry, append_filing};

@@ -2,40 +2,12 @@
 
 ghost use Rattle.std.specs.Prelude.{◌≡◌, ◌++◌, IfOk, IfErr, OnOk, OnErr, string_bytes};
 ghost use Rattle.key_string.specs.Key.{IsTextFault};
+ghost use Rattle.filing_model.specs.Views.{view_state};
 ghost use Rattle.event_script.specs.Shown.{replaces_words, filing_line, entry_line, done_line};
 
+use filing_model::State;
 use key_string::{KeyFault, KeyText, append_key};
 use std::alloc::{AllocError, Global};
-use std::fmt;
-
-/// What is known of an entry.
-#[derive(Clone, Copy)]
-pub enum EntryState {
-    /// Nothing yet.
-    Open,
-    /// The register has it under this number.
-    Confirmed(u64),
-    /// Its report was refused.
-    Refused,
-    /// Its key stands for another body.
-    Clashed,
-}
-
-impl fmt::Display for EntryState {
-    ghost use Rattle.std.specs.Prelude.{Some};
-    ghost use Rattle.event_script.specs.Shown.{state_words};
-
-    ghost output = { λ state. Some (state_words state) };
-
-    fn fmt<W: fmt::Write>(&self, f: &mut fmt::Formatter<W>) -> fmt::Result {
-        match self {
-            EntryState::Open => f.write_str("open"),
-            EntryState::Confirmed(number) => write!(f, "confirmed {number}"),
-            EntryState::Refused => f.write_str("refused"),
-            EntryState::Clashed => f.write_str("clashed"),
-        }
-    }
-}
 
 /// Appends `filing N FILER KEY`, where KEY is the key's spelling, with `replaces K` behind it where the filing replaces
 /// one. An `Err` changes nothing.
@@ -85,10 +57,10 @@ fn replaces_words(alloc: Global, replaces: Option<u64>) -> Result<String, AllocE
 pub fn append_entry(
     outbox: u64,
     entry: u64,
-    state: EntryState,
+    state: State,
     text: &mut Vec<u8>,
 ) -> Result<(), AllocError>
-    ensures ok { OnOk result (text.new.items ≡ text.old.items ++ entry_line outbox entry state) }
+    ensures ok { OnOk result (text.new.items ≡ text.old.items ++ entry_line outbox entry (view_state state)) }
     ensures err { OnErr result (text.new.items ≡ text.old.items) }
 {
     let line = format!(in *text.allocator(); "entry {outbox} {entry} {state}\n")?;

@@ -9,10 +9,10 @@ use Rattle.filing_model.specs.Outbox.{Entry}
 use Rattle.table_rows.specs.Standing.{CommitsNothing}
 use Rattle.outbox_core.specs.declared.fault.TakeFault.{TakeFault}
 use Rattle.outbox_core.specs.declared.fault.TakeFault.TheVariants.{NoEntry, Store}
-use Rattle.outbox_core.specs.declared.state.State.{State}
+use Rattle.filing_model.specs.declared.state.State.{State}
 use Rattle.outbox_core.specs.Entries.{entry_at, set_state}
 use Rattle.outbox_core.specs.OutboxParts.{OutboxParts, shows, contents, HasEntries, ForEntries, KeepsOnRefusal, IsDurableAs, SurvivesAs, LeavesMoved}
-use Rattle.outbox_core.specs.Reading.{view_state}
+use Rattle.filing_model.specs.Views.{view_state}
 use Rattle.filer_client.specs.declared.fault.ExchangeFault.{ExchangeFault}
 use Rattle.filer_client.specs.declared.fault.ExchangeFault.TheVariants.{Reply, Take}
 use Rattle.filer_client.specs.Exchange.{HearsFrom, moved_at, IsExchanged, WritesBefore, IsFaultOf, IsDurableOnOk}

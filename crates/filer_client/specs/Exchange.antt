@@ -11,7 +11,7 @@ use Rattle.filing_model.specs.Outbox.{Entry, State, Open, bytes_of, request_of, 
 use Rattle.outbox_core.specs.declared.fault.TakeFault.TheVariants.{NoEntry, Memory, Store}
 use Rattle.outbox_core.specs.Entries.{entry_at}
 use Rattle.outbox_core.specs.OutboxParts.{OutboxParts, contents, ForEntries, IsDurableAs}
-use Rattle.outbox_core.specs.Reading.{view_state}
+use Rattle.filing_model.specs.Views.{view_state}
 use Rattle.filer_client.specs.declared.fault.ExchangeFault.{ExchangeFault}
 use Rattle.filer_client.specs.declared.fault.ExchangeFault.TheVariants.{Write, Reply, Take}
 use Rattle.filer_client.specs.declared.request.ToSend.{ToSend}

@@ -1,5 +1,6 @@
 -- The reports that a filer has to send, and what a reply says of each.
-use Rattle.std.specs.Prelude.{◌≡◌, ℕ, ◌^◌, ◌≤◌, ◌==◌, Bool, true, false, ◌&&◌, ◌||◌, List, length, codes, nat_le, nat_lt, bytes_eq, Option, Some, None, option_map, option_and_then, unwrap_or, if◌then◌else◌}
+use Rattle.std.specs.Prelude.{◌≡◌, ℕ, ◌^◌, ◌≤◌, ◌==◌, Bool, true, false, ◌&&◌, ◌||◌, List, ◌++◌, length, codes, nat_le, nat_lt, bytes_eq, Option, Some, None, option_map, option_and_then, unwrap_or, if◌then◌else◌}
+use Rattle.std.specs.Fmt.{decimal}
 use Rattle.serde_json.specs.Data.{Data}
 use Rattle.serde_json.specs.Find.{get, as_str, as_number, as_u64}
 use Rattle.key_string.specs.Key.{IsKey}
@@ -16,6 +17,13 @@ pub data State : Type 0 where
   Confirmed : ℕ → State
   Refused : State
   Clashed : State
+
+-- open, confirmed N, refused, clashed
+abbrev pub state_words : State → List ℕ
+state_words Open = codes "open"
+state_words (Confirmed number) = codes "confirmed " ++ decimal number
+state_words Refused = codes "refused"
+state_words Clashed = codes "clashed"
 
 -- ---- what a reply says
 

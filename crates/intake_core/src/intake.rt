@@ -51,7 +51,7 @@ impl From<AllocError> for Unavailable {
 }
 
 impl From<StoreFault> for Unavailable {
-    ghost use Rattle.register_store.specs.declared.fault.StoreFault.TheVariants as fault;
+    ghost use Rattle.table_rows.specs.declared.fault.StoreFault.TheVariants as fault;
 
     ghost from_gives = { λ f u. ((f ≡ fault.Memory) × (u ≡ Memory)) ⊎ ((f ≡ fault.Store) × (u ≡ StoreFailed)) };
 

@@ -7,16 +7,17 @@ use Rattle.http_wire.specs.Reply.{ReplyParts}
 use Rattle.filing_model.specs.Outbox.{Entry, moved}
 use Rattle.table_rows.specs.Standing.{CommitsNothing}
 use Rattle.outbox_core.specs.declared.entry.Entry.{Entry as Read}
-use Rattle.outbox_core.specs.declared.state.State.{State}
+use Rattle.filing_model.specs.declared.state.State.{State}
 use Rattle.outbox_core.specs.declared.fault.PutFault.{PutFault}
 use Rattle.outbox_core.specs.declared.fault.PutFault.TheVariants as put
-use Rattle.outbox_core.specs.declared.fault.StoreFault.{StoreFault}
-use Rattle.outbox_core.specs.declared.fault.StoreFault.TheVariants as store
+use Rattle.table_rows.specs.declared.fault.StoreFault.{StoreFault}
+use Rattle.table_rows.specs.declared.fault.StoreFault.TheVariants as store
 use Rattle.outbox_core.specs.declared.fault.TakeFault.{TakeFault}
 use Rattle.outbox_core.specs.declared.fault.TakeFault.TheVariants as take
 use Rattle.outbox_core.specs.Entries.{opened, numbered, has_text, entry_at, set_state}
 use Rattle.outbox_core.specs.Rows.{LeavesOutbox}
-use Rattle.outbox_core.specs.Reading.{Finds, view_state}
+use Rattle.filing_model.specs.Views.{view_state}
+use Rattle.outbox_core.specs.Reading.{Finds}
 use Rattle.outbox_core.specs.OutboxParts.{OutboxParts, shows, contents, HasEntries, ForEntries, KeepsOnRefusal, IsDurableAs, SurvivesAs, LeavesMoved}
 
 -- A report was put in under its key, as the last entry and open, and its id is answered; or it was refused.

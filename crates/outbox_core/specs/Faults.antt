@@ -6,8 +6,8 @@ use Rattle.table_rows.specs.declared.cause.Cause.TheVariants as cause
 use Rattle.table_rows.specs.Causes.{cause_of}
 use Rattle.outbox_core.specs.declared.fault.OutboxFault.{OutboxFault}
 use Rattle.outbox_core.specs.declared.fault.OutboxFault.TheVariants as outbox
-use Rattle.outbox_core.specs.declared.fault.StoreFault.{StoreFault}
-use Rattle.outbox_core.specs.declared.fault.StoreFault.TheVariants as store
+use Rattle.table_rows.specs.declared.fault.StoreFault.{StoreFault}
+use Rattle.table_rows.specs.declared.fault.StoreFault.TheVariants as store
 use Rattle.outbox_core.specs.declared.fault.PutFault.{PutFault}
 use Rattle.outbox_core.specs.declared.fault.PutFault.TheVariants as put
 use Rattle.outbox_core.specs.declared.fault.TakeFault.{TakeFault}
@@ -56,16 +56,7 @@ IsFailure fault = (fault ≡ outbox.Memory) ⊎ (fault ≡ outbox.Disk)
 abbrev pub IsDamageOrFailure : OutboxFault → Type 0
 IsDamageOrFailure fault = ((row : ℕ) × (fault ≡ outbox.Damaged row)) ⊎ IsFailure fault
 
--- that memory ran out is told as that alone
-abbrev pub store_fault_by : Cause → StoreFault
-store_fault_by cause.Memory = store.Memory
-store_fault_by cause.Disk = store.Store
-store_fault_by cause.Other = store.Store
-
-abbrev pub store_fault : Error → StoreFault
-store_fault error = store_fault_by (cause_of error)
-
--- the same where an entry is put
+-- a failure of the rows where an entry is put
 abbrev pub putting : StoreFault → PutFault
 putting store.Memory = put.Memory
 putting store.Store = put.Store

@@ -5,16 +5,10 @@ use Rattle.sqlite.specs.declared.types.Value.{Value}
 use Rattle.sqlite.specs.declared.types.Value.TheVariants.{Int, Text, Blob}
 use Rattle.sqlite.specs.Order.{Row, column}
 use Rattle.filing_model.specs.Outbox.{Entry, State, Open, Confirmed, Refused, Clashed}
-use Rattle.outbox_core.specs.declared.state.State.{State as Stored}
+use Rattle.filing_model.specs.Views.{view_state}
+use Rattle.filing_model.specs.declared.state.State.{State as Stored}
 use Rattle.outbox_core.specs.declared.entry.Entry.{Entry as Read}
 use Rattle.outbox_core.specs.Rows.{code_of, number_of}
-
--- a state
-abbrev pub view_state : Stored → State
-view_state Stored.Open = Open
-view_state (Stored.Confirmed number) = Confirmed number
-view_state Stored.Refused = Refused
-view_state Stored.Clashed = Clashed
 
 -- the id of an entry, and the rest
 abbrev pub view_entry : Read → ℕ × Entry

@@ -11,18 +11,21 @@ ghost use Rattle.filing_model.specs.Outbox.{Entry as Item, moved};
 ghost use Rattle.table_rows.specs.Standing.{HasCommitted, Commits, CommitsNothing};
 ghost use Rattle.outbox_core.specs.Entries.{IsOutbox, opened, numbered, has_text, entry_at, found_at, first_open, with_entry, with_state};
 ghost use Rattle.outbox_core.specs.Rows.{IsOutboxOf, LeavesOutbox, entry_row};
-ghost use Rattle.outbox_core.specs.Reading.{Finds, view_entry, view_state, view_pair, id_and_state};
+ghost use Rattle.filing_model.specs.Views.{view_state};
+ghost use Rattle.outbox_core.specs.Reading.{Finds, view_entry, view_pair, id_and_state};
 ghost use Rattle.outbox_core.specs.OutboxParts.{LeavesMoved};
 ghost use Rattle.outbox_core.specs.Promises.{ForContents, KeepsOutbox, KeepsOutboxOnRefusal, AnswersOpen};
 
 use crate::entry::{Entry, read_states, state_in};
-use crate::fault::{PutFault, StoreFault, TakeFault};
+use crate::fault::{PutFault, TakeFault};
 use crate::rows;
-use crate::state::State;
+use crate::state::moved;
 use crate::write::keep_entry;
+use filing_model::State;
 use http_wire::Reply;
 use sqlite::{Alter, Connection, Error, Row};
 use std::alloc::Global;
+use table_rows::StoreFault;
 
 /// No outbox has more entries.
 pub(crate) const MAX_ENTRIES: u64 = 1 << 62;
@@ -229,7 +232,7 @@ fn move_entry<S: Alter>(
         option_map (λ e. e.state) (entry_at it.entries id) ≡ Some (view_state from)
         → LeavesOutbox (with_state it id (moved (view_state from) (reply_parts reply.now))) trees)) }
 {
-    let Ok(to) = from.moved(alloc, reply) else {
+    let Ok(to) = moved(alloc, from, reply) else {
         return Err(TakeFault::Memory);
     };
     if to == from {

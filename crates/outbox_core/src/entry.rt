@@ -7,14 +7,15 @@ ghost use Rattle.sqlite.specs.declared.types.Value.TheVariants.{Int};
 ghost use Rattle.sqlite.specs.Order.{column};
 ghost use Rattle.sqlite.specs.Values.{or_null};
 ghost use Rattle.outbox_core.specs.Rows.{code_of, number_of};
-ghost use Rattle.outbox_core.specs.Reading.{view_state, view_pair, state_told};
+ghost use Rattle.filing_model.specs.Views.{view_state};
+ghost use Rattle.outbox_core.specs.Reading.{view_pair, state_told};
 
-use crate::fault::StoreFault;
-use crate::state::State;
+use filing_model::State;
 use http_wire::MAX_BODY_LEN;
 use key_string::{KeyFault, KeyText};
 use sqlite::Row;
 use std::alloc::Global;
+use table_rows::StoreFault;
 
 /// The greatest number that a column holds.
 const MAX_TARGET: u64 = i64::MAX as u64;

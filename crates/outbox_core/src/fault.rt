@@ -1,7 +1,7 @@
 //! How the calls of an outbox are refused.
 
-use std::alloc::{AllocError, AllocFailed};
-use table_rows::Cause;
+use std::alloc::AllocError;
+use table_rows::{Cause, StoreFault};
 
 /// Why an outbox was not made or not opened. The database is as it was.
 #[derive(Clone, Copy, Debug, PartialEq, Eq, thiserror::Error)]
@@ -25,17 +25,6 @@ pub enum OutboxFault {
     /// The database refused for another cause.
     #[error("the database failed")]
     Disk,
-}
-
-/// Why a call on the rows failed. The entries are those of before.
-#[derive(Clone, Copy, Debug, PartialEq, Eq, thiserror::Error)]
-pub enum StoreFault {
-    /// No memory was left.
-    #[error("out of memory")]
-    Memory,
-    /// The database refused for another cause, or gave a value that no table of ours holds.
-    #[error("the database failed")]
-    Store,
 }
 
 /// Why no entry was put. The entries are those of before.
@@ -91,31 +80,6 @@ impl From<AllocError> for OutboxFault {
 
     fn from(_error: AllocError) -> OutboxFault {
         OutboxFault::Memory
-    }
-}
-
-impl From<sqlite::Error> for StoreFault {
-    ghost use Rattle.std.specs.Prelude.{◌≡◌};
-    ghost use Rattle.outbox_core.specs.Faults.{store_fault};
-
-    ghost from_gives = { λ error fault. fault ≡ store_fault error };
-
-    fn from(error: sqlite::Error) -> StoreFault {
-        match Cause::from(error) {
-            Cause::Memory => StoreFault::Memory,
-            Cause::Disk | Cause::Other => StoreFault::Store,
-        }
-    }
-}
-
-impl<T: Drop> From<AllocFailed<T>> for StoreFault {
-    ghost use Rattle.std.specs.Prelude.{◌≡◌};
-    ghost use Rattle.outbox_core.specs.declared.fault.StoreFault.TheVariants.{Memory};
-
-    ghost from_gives = { λ _ fault. fault ≡ Memory };
-
-    fn from(_error: AllocFailed<T>) -> StoreFault {
-        StoreFault::Memory
     }
 }
 

@@ -16,10 +16,11 @@ mod state;
 mod write;
 
 pub use entry::Entry;
-pub use fault::{OutboxFault, PutFault, StoreFault, TakeFault};
+pub use fault::{OutboxFault, PutFault, TakeFault};
+pub use filing_model::State;
 pub use key::key_of;
 pub use migrate::migrate_outbox;
 pub use opening::{FoundOutbox, read_outbox};
 pub use outbox::Outbox;
 pub use schema::create::make_outbox;
-pub use state::State;
+pub use table_rows::StoreFault;

@@ -12,16 +12,17 @@ pub(crate) mod files;
 
 use crate::entries::{add_entry, entry_of, open_entry, states_of, take_entry};
 use crate::entry::Entry;
-use crate::fault::{OutboxFault, PutFault, StoreFault, TakeFault};
+use crate::fault::{OutboxFault, PutFault, TakeFault};
 use crate::migrate::migrate_outbox;
 use crate::opening::{FoundOutbox, read_outbox};
 use crate::schema::create::make_outbox;
-use crate::state::State;
+use filing_model::State;
 use http_wire::{MAX_BODY_LEN, Reply};
 use key_string::KeyText;
 use sqlite::{Alter, Connection};
 use std::alloc::Global;
 use std::marker::Model;
+use table_rows::StoreFault;
 
 /// The outbox of a filer, over a connection: each report that is to be sent under its key, and what is known of it.
 ///

@@ -12,10 +12,10 @@ ghost use Rattle.outbox_core.specs.Audit.{meta_text, targets_text, entries_text}
 ghost use Rattle.outbox_core.specs.Entries.{numbered, has_id, has_text, entry_at, first_open, target_at, with_state, FitsNumber};
 ghost use Rattle.outbox_core.specs.Changes.{GainsRows};
 ghost use Rattle.outbox_core.specs.Rows.{IsOutboxOf, LeavesOutbox, code_of, number_of, entry_row, id_row, state_row, bare_state_row};
-ghost use Rattle.outbox_core.specs.Reading.{view_state};
+ghost use Rattle.filing_model.specs.Views.{view_state};
 ghost use Rattle.outbox_core.specs.Promises.{ForContents, KeepsOutbox, KeepsOutboxOnRefusal, AnswersOpen};
 
-use crate::state::State;
+use filing_model::State;
 use sqlite::{Alter, Connection, Error, Row, Transaction, params};
 use table_rows::first_row;
 

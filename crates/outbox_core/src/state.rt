@@ -1,4 +1,4 @@
-//! The states of an entry, and how a reply moves them.
+//! How a reply moves the state of an entry.
 
 ghost use Rattle.std.specs.Prelude.{◌≡◌, ◌≢◌, ◌<◌, ◌^◌, Option, Some, IfOk};
 ghost use Rattle.serde_json.specs.View.{view};
@@ -6,24 +6,12 @@ ghost use Rattle.xbrl_report.specs.Findings.{tree};
 ghost use Rattle.http_wire.specs.Replies.{reply_parts};
 ghost use Rattle.filing_model.specs.Outbox.{has_word, has_status, refuses, confirmed_by, state_by, state_told, moved};
 ghost use Rattle.outbox_core.specs.Entries.{FitsNumber};
-ghost use Rattle.outbox_core.specs.Reading.{view_state};
+ghost use Rattle.filing_model.specs.Views.{view_state};
 
+use filing_model::State;
 use http_wire::Reply;
 use serde_json::Value;
 use std::alloc::{AllocError, Global};
-
-/// What is known of an entry.
-#[derive(Clone, Copy, Debug, PartialEq, Eq)]
-pub enum State {
-    /// Nothing yet.
-    Open,
-    /// The register has it under this number, from 1 to 2^63 - 1.
-    Confirmed(u64),
-    /// Its report was refused.
-    Refused,
-    /// Its key stands for another body.
-    Clashed,
-}
 
 const NUMBER_LIMIT: u64 = 1 << 63;
 
@@ -89,16 +77,14 @@ fn state_told(alloc: Global, reply: &Reply) -> Result<State, AllocError>
     }
 }
 
-impl State {
-    /// Where a reply moves an entry. Any state but `Open` stays.
-    #[tactic(auto, unfolding(filing_model::specs::Outbox::moved))]
-    pub(crate) fn moved(self, alloc: Global, reply: &Reply) -> Result<State, AllocError>
-        ensures moved { IfOk result (λ state. view_state state ≡ moved (view_state self) (reply_parts reply.now)) }
-        ensures fits { IfOk result (λ state. state ≢ self → FitsNumber (view_state state)) }
-    {
-        match self {
-            State::Open => state_told(alloc, reply),
-            State::Confirmed(_) | State::Refused | State::Clashed => Ok(self),
-        }
+/// Where a reply moves an entry in this state. Any state but `Open` stays.
+#[tactic(auto, unfolding(filing_model::specs::Outbox::moved))]
+pub(crate) fn moved(alloc: Global, state: State, reply: &Reply) -> Result<State, AllocError>
+    ensures moved { IfOk result (λ to. view_state to ≡ moved (view_state state) (reply_parts reply.now)) }
+    ensures fits { IfOk result (λ to. to ≢ state → FitsNumber (view_state to)) }
+{
+    match state {
+        State::Open => state_told(alloc, reply),
+        State::Confirmed(_) | State::Refused | State::Clashed => Ok(state),
     }
 }

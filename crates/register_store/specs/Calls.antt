@@ -13,7 +13,7 @@ use Rattle.table_rows.specs.Standing.{CommitsNothing}
 use Rattle.register_opening.specs.declared.fault.CreateFault.{CreateFault}
 use Rattle.register_opening.specs.declared.fault.CreateFault.TheVariants.{Taken}
 use Rattle.register_opening.specs.declared.fault.OpenFault.{OpenFault}
-use Rattle.register_store.specs.declared.fault.StoreFault.{StoreFault}
+use Rattle.table_rows.specs.declared.fault.StoreFault.{StoreFault}
 use Rattle.register_opening.specs.declared.migrate.earlier.Earlier.{Earlier}
 use Rattle.register_store.specs.declared.outcome.KeptRow.{KeptRow}
 use Rattle.register_store.specs.declared.outcome.NewRow.{NewRow}

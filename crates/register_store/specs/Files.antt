@@ -14,8 +14,8 @@ use Rattle.sqlite.specs.Files.{IsClosed, FailsToClose}
 use Rattle.sqlite.specs.declared.error.Error.{Error}
 use Rattle.filing_model.specs.Request.{Request}
 use Rattle.table_rows.specs.Files.{HoldsDatabase, AreUsable}
-use Rattle.register_store.specs.Faults.{store_fault}
-use Rattle.register_store.specs.declared.fault.StoreFault.{StoreFault}
+use Rattle.table_rows.specs.Causes.{store_fault}
+use Rattle.table_rows.specs.declared.fault.StoreFault.{StoreFault}
 use Rattle.register_opening.specs.Registers.{IsRegisterOf}
 
 -- the files hold the register of these requests, in the database file alone as well, and can be opened

@@ -21,7 +21,7 @@ use Rattle.filing_model.specs.Answer.{kept_for}
 use Rattle.filing_model.specs.Style.{style_of}
 use Rattle.filing_model.specs.Views.{the_request}
 use Rattle.table_rows.specs.Standing.{HasCommitted, CommitsNothing, StaysAutocommit}
-use Rattle.register_store.specs.declared.fault.StoreFault.{StoreFault}
+use Rattle.table_rows.specs.declared.fault.StoreFault.{StoreFault}
 use Rattle.register_store.specs.declared.outcome.KeptRow.{KeptRow}
 use Rattle.register_store.specs.declared.select.found.FoundRow.{FoundRow}
 use Rattle.register_rows.specs.Columns.{bytes_in}

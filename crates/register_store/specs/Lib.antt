@@ -1,6 +1,5 @@
 pub mod Calls
 pub mod Changes
-pub mod Faults
 pub mod Files
 pub mod Found
 pub mod Numbered

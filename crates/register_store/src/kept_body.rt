@@ -5,10 +5,10 @@ ghost use Rattle.sqlite_value.specs.Value.{owned};
 ghost use Rattle.sqlite.specs.Order.{column};
 ghost use Rattle.register_rows.specs.Columns.{bytes_in};
 
-use crate::fault::StoreFault;
 use sqlite::Row;
 use sqlite::types::ValueRef;
 use std::marker::Model;
+use table_rows::StoreFault;
 
 /// The body of a kept request. Its bytes lie in the row that was read, and are not copied out of it.
 #[derive(Drop)]

@@ -5,7 +5,6 @@
 
 mod content;
 mod decode;
-mod fault;
 mod kept_body;
 mod outcome;
 mod rows;
@@ -17,7 +16,6 @@ pub use content::{
     findings_value, problem_value, refusal_value, refused_status, refused_text, registered_text,
 };
 pub use decode::completed::{Completed, Registered};
-pub use fault::StoreFault;
 pub use kept_body::KeptBody;
 pub use outcome::{KeptRow, NewRow, Outcome};
 pub use register_opening::{
@@ -25,3 +23,4 @@ pub use register_opening::{
     read_register,
 };
 pub use store::Store;
+pub use table_rows::StoreFault;

@@ -9,7 +9,6 @@ ghost use Rattle.register_store.specs.Calls.{AddsRequest, CreatesStore, FindsRow
 
 pub(crate) mod files;
 
-use crate::fault::StoreFault;
 use crate::outcome::{KeptRow, NewRow, Outcome};
 use crate::select::found::find_kept;
 use crate::write::keep;
@@ -20,6 +19,7 @@ use register_opening::{
 use sqlite::{Alter, Connection};
 use std::alloc::Global;
 use std::marker::Model;
+use table_rows::StoreFault;
 
 /// The register of a connection: the first request of each filer and key with its outcome, for good.
 ///

@@ -13,10 +13,11 @@ use Rattle.filing_world.specs.World.{Outbox, numbered, renewed}
 use Rattle.filing_world.specs.Step.{takes, heard_by, box_after}
 use Rattle.filing_world.specs.Headline.{states_of}
 use Rattle.filing_world.proofs.Lists.{changed_renewed, renewed_same, written}
-use Rattle.outbox_core.specs.declared.fault.StoreFault.{StoreFault}
-use Rattle.outbox_core.specs.declared.state.State.{State as Stored}
+use Rattle.table_rows.specs.declared.fault.StoreFault.{StoreFault}
+use Rattle.filing_model.specs.declared.state.State.{State as Stored}
 use Rattle.outbox_core.specs.Entries.{numbered_from, numbered as with_ids, has_text, opened, in_state, set_state}
-use Rattle.outbox_core.specs.Reading.{view_state, view_pair, id_and_state}
+use Rattle.filing_model.specs.Views.{view_state}
+use Rattle.outbox_core.specs.Reading.{view_pair, id_and_state}
 use Rattle.filer_client.specs.Exchange.{request_at}
 use Rattle.schedule.specs.Listed.{listed}
 use Rattle.schedule.specs.Outboxes.{up_with, state_or, entries_after}

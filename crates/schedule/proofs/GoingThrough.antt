@@ -9,7 +9,7 @@ use Rattle.xbrl_report.proofs.Bools.{left_of, right_of}
 use Rattle.filing_world.specs.World.{Outbox, new_outbox}
 use Rattle.filing_world.specs.Headline.{states_of, states_from, number_in}
 use Rattle.filing_model.specs.Outbox.{State as Kept}
-use Rattle.outbox_core.specs.declared.state.State.{State}
+use Rattle.filing_model.specs.declared.state.State.{State}
 use Rattle.schedule.specs.Listed.{listed, view_listed}
 
 pub drop_at : {X : Type 0} → (xs : List X) (at : ℕ) (x : X) → slice_get xs at ≡ Some x → drop at xs ≡ x ∷ drop (suc at) xs

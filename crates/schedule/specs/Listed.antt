@@ -3,8 +3,8 @@ use Rattle.std.specs.Prelude.{ℕ, Bool, List}
 use Rattle.std.specs.List.{list_all}
 use Rattle.filing_model.specs.Outbox.{State}
 use Rattle.filing_world.specs.World.{Outbox}
-use Rattle.outbox_core.specs.declared.state.State.{State as Stored}
-use Rattle.outbox_core.specs.Reading.{view_state}
+use Rattle.filing_model.specs.declared.state.State.{State as Stored}
+use Rattle.filing_model.specs.Views.{view_state}
 
 -- an entry of an outbox by its number and its state
 abbrev pub listed : ℕ → ℕ × Stored → ℕ × ℕ × State

@@ -5,9 +5,9 @@ use Rattle.http_wire.specs.declared.refusal.ReplyFault.TheVariants.{Cut, Malform
 use Rattle.filing_model.specs.Outbox.{Entry, State}
 use Rattle.filing_world.specs.World.{Outbox}
 use Rattle.outbox_core.specs.declared.fault.TakeFault.TheVariants as take
-use Rattle.outbox_core.specs.declared.state.State.{State as Stored}
+use Rattle.filing_model.specs.declared.state.State.{State as Stored}
 use Rattle.outbox_core.specs.Entries.{Contents, empty, set_state}
-use Rattle.outbox_core.specs.Reading.{view_state}
+use Rattle.filing_model.specs.Views.{view_state}
 use Rattle.filer_client.specs.declared.fault.ExchangeFault.{ExchangeFault}
 use Rattle.filer_client.specs.declared.fault.ExchangeFault.TheVariants.{Write, Reply, Take}
 use Rattle.schedule.specs.declared.fault.Cause.{Cause}

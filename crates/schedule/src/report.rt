@@ -3,7 +3,7 @@
 ghost use Rattle.std.specs.Prelude.{◌≡◌, IfOk};
 ghost use Rattle.key_string.specs.Key.{IsKey};
 ghost use Rattle.outbox_core.specs.Entries.{opened, set_state};
-ghost use Rattle.outbox_core.specs.Reading.{view_state};
+ghost use Rattle.filing_model.specs.Views.{view_state};
 
 use key_string::{KeyFault, KeyText};
 use outbox_core::State;
@@ -21,7 +21,7 @@ pub(crate) struct Report {
 
 impl Model for Report {
     ghost use Rattle.filing_model.specs.Outbox.{Entry};
-    ghost use Rattle.outbox_core.specs.Reading.{view_state};
+    ghost use Rattle.filing_model.specs.Views.{view_state};
 
     ghost Value = { Entry };
 

@@ -1,19 +1,10 @@
 //! The lines that tell what came of a script.
 
 use crate::fault::Fault;
-use event_script::{EntryState, append_done, append_entry, append_filing};
+use event_script::{append_done, append_entry, append_filing};
 use outbox_core::State;
 use register_store::Registered;
 use std::alloc::Global;
-
-fn shown(state: State) -> EntryState {
-    match state {
-        State::Open => EntryState::Open,
-        State::Confirmed(number) => EntryState::Confirmed(number),
-        State::Refused => EntryState::Refused,
-        State::Clashed => EntryState::Clashed,
-    }
-}
 
 /// A line for each filing and for each entry, and one that counts the completed requests.
 pub(crate) fn report(
@@ -33,7 +24,7 @@ pub(crate) fn report(
         )?;
     }
     for &(outbox, entry, state) in entries {
-        append_entry(outbox, entry, shown(state), &mut text)?;
+        append_entry(outbox, entry, state, &mut text)?;
     }
     append_done(done, &mut text)?;
     Ok(text)

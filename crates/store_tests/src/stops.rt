@@ -124,8 +124,7 @@ fn close_files<D: Disk + Drop>(conn: Connection<FileStore<D>>) -> (Files<D>, Opt
 fn close_outbox<D: Disk + Drop>(outbox: Outbox<FileStore<D>>) -> (Files<D>, Option<StoreFault>) {
     match outbox.close() {
         Ok(files) => (files, None),
-        Err((outbox_core::StoreFault::Memory, files)) => (files, Some(StoreFault::Memory)),
-        Err((outbox_core::StoreFault::Store, files)) => (files, Some(StoreFault::Store)),
+        Err((fault, files)) => (files, Some(fault)),
     }
 }
 

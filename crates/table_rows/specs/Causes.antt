@@ -1,9 +1,11 @@
--- The causes of the refusals of `sqlite`.
+-- The causes of the refusals of `sqlite`, and how a call on the rows of a store tells them.
 use Rattle.sqlite.specs.declared.error.Error.{Error}
 use Rattle.sqlite.specs.declared.error.Error.TheVariants.{SqliteFailure}
 use Rattle.sqlite.specs.declared.error.ErrorCode.TheVariants.{OutOfMemory, SystemIoFailure, DatabaseCorrupt, DiskFull, Closed}
 use Rattle.table_rows.specs.declared.cause.Cause.{Cause}
 use Rattle.table_rows.specs.declared.cause.Cause.TheVariants.{Memory, Disk, Other}
+use Rattle.table_rows.specs.declared.fault.StoreFault.{StoreFault}
+use Rattle.table_rows.specs.declared.fault.StoreFault.TheVariants as store
 
 -- that memory ran out is told as that alone, and a fault of the disk as a fault of the disk
 abbrev pub cause_of : Error → Cause
@@ -13,3 +15,12 @@ cause_of (SqliteFailure DatabaseCorrupt) = Disk
 cause_of (SqliteFailure DiskFull) = Disk
 cause_of (SqliteFailure Closed) = Disk
 cause_of _ = Other
+
+abbrev pub store_fault_by : Cause → StoreFault
+store_fault_by Memory = store.Memory
+store_fault_by Disk = store.Store
+store_fault_by Other = store.Store
+
+-- that memory ran out is told as that alone
+abbrev pub store_fault : Error → StoreFault
+store_fault error = store_fault_by (cause_of error)

@@ -2,7 +2,7 @@
 
 use http_wire::ReplyFault;
 use key_string::KeyFault;
-use register_store::{CreateFault, OpenFault};
+use register_store::{CreateFault, OpenFault, StoreFault};
 use std::alloc::{AllocError, AllocFailed};
 use table_rows::Cause;
 
@@ -96,11 +96,11 @@ impl From<OpenFault> for Stop {
     }
 }
 
-impl From<register_store::StoreFault> for Stop {
-    fn from(fault: register_store::StoreFault) -> Stop {
+impl From<StoreFault> for Stop {
+    fn from(fault: StoreFault) -> Stop {
         match fault {
-            register_store::StoreFault::Memory => Stop::Memory,
-            register_store::StoreFault::Store => Stop::Refused,
+            StoreFault::Memory => Stop::Memory,
+            StoreFault::Store => Stop::Refused,
         }
     }
 }
@@ -114,15 +114,6 @@ impl From<outbox_core::OutboxFault> for Stop {
             | outbox_core::OutboxFault::NotOurs
             | outbox_core::OutboxFault::Damaged { .. }
             | outbox_core::OutboxFault::Disk => Stop::Refused,
-        }
-    }
-}
-
-impl From<outbox_core::StoreFault> for Stop {
-    fn from(fault: outbox_core::StoreFault) -> Stop {
-        match fault {
-            outbox_core::StoreFault::Memory => Stop::Memory,
-            outbox_core::StoreFault::Store => Stop::Refused,
         }
     }
 }

@@ -10,19 +10,9 @@ pub struct EntryLine {
     pub state: State,
 }
 
-fn write_state<W: fmt::Write>(id: u64, state: State, f: &mut fmt::Formatter<W>) -> fmt::Result {
-    match state {
-        State::Open => write!(f, "entry {id} open"),
-        State::Confirmed(number) => write!(f, "entry {id} confirmed {number}"),
-        State::Refused => write!(f, "entry {id} refused"),
-        State::Clashed => write!(f, "entry {id} clashed"),
-    }
-}
-
 impl fmt::Display for EntryLine {
     fn fmt<W: fmt::Write>(&self, f: &mut fmt::Formatter<W>) -> fmt::Result {
-        write_state(self.id, self.state, f)?;
-        f.write_str("\n")
+        writeln!(f, "entry {} {}", self.id, self.state)
     }
 }
 
@@ -46,8 +36,7 @@ impl fmt::Display for LongLine<'_> {
             replaces,
             key,
         } = self;
-        write_state(*id, *state, f)?;
-        write!(f, ", {bytes} bytes")?;
+        write!(f, "entry {id} {state}, {bytes} bytes")?;
         if let Some(number) = replaces {
             write!(f, ", replaces {number}")?;
         }

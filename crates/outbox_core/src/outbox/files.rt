@@ -4,13 +4,13 @@ ghost use Rattle.std.specs.Prelude.{◌≡◌};
 ghost use Rattle.sqlite_store.specs.FileStore.{view, files as store_files};
 ghost use Rattle.sqlite_trees.specs.View.{IsClean};
 ghost use Rattle.sqlite.specs.Files.{IsClosed, FailsToClose};
-ghost use Rattle.outbox_core.specs.Faults.{store_fault};
+ghost use Rattle.table_rows.specs.Causes.{store_fault};
 ghost use Rattle.outbox_core.specs.Files.{GivesFilesBack};
 
-use crate::fault::StoreFault;
 use crate::outbox::Outbox;
 use sqlite::{FileStore, Files};
 use sqlite_disk::Disk;
+use table_rows::StoreFault;
 
 impl<D: Disk + Drop> Outbox<FileStore<D>> {
     /// The files, with what was committed in the database file. They come wherever the close succeeds, also after a call

@@ -7,11 +7,11 @@ ghost use Rattle.table_rows.specs.Rows.{counted_from};
 ghost use Rattle.register_rows.specs.Register.{kept_row, amends_rows, joined_from};
 ghost use Rattle.register_rows.specs.Columns.{request_in, number_in};
 
-use crate::fault::StoreFault;
 use register_rows::target_of;
 use sqlite::Row;
 use std::alloc::Global;
 use std::marker::Model;
+use table_rows::StoreFault;
 
 /// A completed request: who sent it, under which key, which filing it is to replace, if any, and the bytes of the report.
 #[derive(Drop)]

@@ -4,9 +4,9 @@ ghost use Rattle.std.specs.Prelude.{◌≡◌, map, option_map, string_bytes, If
 ghost use Rattle.sqlite.specs.Order.{column};
 ghost use Rattle.register_rows.specs.Columns.{bytes_in, maybe_bytes_in, fact_in};
 
-use crate::fault::StoreFault;
 use sqlite::Row;
 use std::alloc::Global;
+use table_rows::StoreFault;
 use xbrl_report::Fact;
 
 /// The text that bytes are.

@@ -18,7 +18,6 @@ ghost use Rattle.register_store.specs.Reads.{has_filer};
 ghost use Rattle.register_rows.specs.Register.{kept_row, filing_rows_by, number_of};
 ghost use Rattle.register_store.specs.Store.{AnswersOpen, KeepsRegister, ForRegister};
 
-use crate::fault::StoreFault;
 use crate::select::found::target_at;
 use crate::select::reads;
 use crate::select::replaceable::place_in;
@@ -26,6 +25,7 @@ use filing_model::FilingRow;
 use sqlite::{Alter, Connection, Row};
 use std::alloc::{AllocError, Global};
 use std::collections::BTreeMap;
+use table_rows::StoreFault;
 
 /// The greatest number that a column holds.
 pub(crate) const MAX_NUMBER: u64 = i64::MAX as u64;

@@ -14,13 +14,13 @@ ghost use Rattle.register_store.specs.Outcomes.{kept_as, style_at};
 ghost use Rattle.register_store.specs.Found.{FindsKept, IsFound, IsLookUp, IsPlaced, IsReading, found_row, finding_in, target_alone};
 
 use crate::decode::facts::read_text;
-use crate::fault::StoreFault;
 use crate::kept_body::KeptBody;
 use crate::outcome::{KeptRow, Outcome};
 use crate::rows::{rows_of_findings, rows_of_target, rows_with_key};
 use filing_model::Style;
 use sqlite::{Alter, Connection, Row};
 use std::alloc::Global;
+use table_rows::StoreFault;
 use xbrl_report::{Code, Finding, Findings};
 
 /// A kept row without its filer and key: its place, the body, and its number where it was registered.

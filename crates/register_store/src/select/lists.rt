@@ -15,13 +15,13 @@ ghost use Rattle.register_opening.specs.Registers.{LeavesOnly};
 
 use crate::decode::completed::{Completed, Registered, read_filings, read_requests};
 use crate::decode::facts::read_facts;
-use crate::fault::StoreFault;
 use crate::select::counts::filings_of;
 use crate::select::reads;
 use crate::store::Store;
 use filing_model::FilingRow;
 use register_opening::{amends_rows, kept_rows};
 use sqlite::{Alter, Connection, Row};
+use table_rows::StoreFault;
 use xbrl_report::Fact;
 
 /// The rows of `kept` and of `amends`, each in the order of the places.

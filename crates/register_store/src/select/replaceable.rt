@@ -13,12 +13,12 @@ ghost use Rattle.sqlite.specs.declared.types.Value.TheVariants.{Int, Text};
 ghost use Rattle.sqlite.specs.Values.{or_null};
 ghost use Rattle.register_store.specs.Store.{shows, HasRequests, AnswersOpen, KeepsRegister, ForRequests, IsDurableAs, ForRegister};
 
-use crate::fault::StoreFault;
 use crate::select::counts::MAX_NUMBER;
 use crate::select::reads;
 use crate::store::Store;
 use register_rows::text_at;
 use sqlite::{Alter, Connection, Row};
+use table_rows::StoreFault;
 
 /// The place in the one column of the first row, if there is a row.
 fn first_place(rows: &[Row]) -> Result<Option<i64>, StoreFault>

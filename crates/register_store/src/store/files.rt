@@ -9,10 +9,10 @@ ghost use Rattle.register_store.specs.Files.{HoldRegister, IsNotCopied, AreLeft}
 ghost use Rattle.register_store.specs.Store.{HasRequests};
 ghost use Rattle.sqlite_store.specs.declared.store.FileStore.{FileStore as Stored};
 
-use crate::fault::StoreFault;
 use crate::store::Store;
 use sqlite::{FileStore, Files};
 use sqlite_disk::Disk;
+use table_rows::StoreFault;
 
 impl<D: Disk + Drop> Store<FileStore<D>> {
     /// Closes the store and gives its files back in any case: with all that was committed in the database file, or with the

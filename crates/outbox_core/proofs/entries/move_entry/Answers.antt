@@ -4,7 +4,7 @@ use Rattle.sqlite.proofs.StateLemmas.{survives_weaker}
 use Rattle.table_rows.specs.Standing.{HasCommitted}
 use Rattle.filing_model.specs.Outbox.{Entry}
 use Rattle.outbox_core.specs.Entries.{entry_at, with_state}
-use Rattle.outbox_core.specs.Reading.{view_state}
+use Rattle.filing_model.specs.Views.{view_state}
 use Rattle.outbox_core.specs.Rows.{IsOutboxOf, LeavesOutbox}
 use Rattle.outbox_core.proofs.EntryLemmas.{same_state}
 use Rattle.outbox_core.proofs.ReadLemmas.{some_mapped}

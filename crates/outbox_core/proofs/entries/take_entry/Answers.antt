@@ -6,7 +6,7 @@ use Rattle.http_wire.specs.Replies.{reply_parts}
 use Rattle.table_rows.proofs.ResultLemmas.{if_ok}
 use Rattle.filing_model.specs.Outbox.{moved}
 use Rattle.outbox_core.specs.Entries.{entry_at, with_state}
-use Rattle.outbox_core.specs.Reading.{view_state}
+use Rattle.filing_model.specs.Views.{view_state}
 use Rattle.outbox_core.specs.Rows.{LeavesOutbox}
 use Rattle.outbox_core.proofs.ReadLemmas.{moved_read, none_there, entry_read}
 use Rattle.outbox_core.proofs.entries.take_entry.Goals as goal

@@ -1,5 +1,5 @@
 use Rattle.std.proofs.Common.{◌<◌, ◌≤◌, ◌-◌, length, arith}
-use Rattle.outbox_core.specs.Reading.{view_state}
+use Rattle.filing_model.specs.Views.{view_state}
 use Rattle.schedule.proofs.Entries.{state_written, state_of_none}
 use Rattle.schedule.proofs.report.set_state.Goals as goal
 

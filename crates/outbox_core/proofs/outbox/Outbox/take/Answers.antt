@@ -1,7 +1,7 @@
 use Rattle.std.proofs.Common.{sym, ◌∙◌, rules}
 use Rattle.sqlite.specs.Held.{state}
 use Rattle.sqlite.proofs.StateLemmas.{survives_weaker}
-use Rattle.outbox_core.specs.Reading.{view_state}
+use Rattle.filing_model.specs.Views.{view_state}
 use Rattle.outbox_core.proofs.EntryLemmas.{length_set}
 use Rattle.outbox_core.proofs.ListLemmas.{leaves_last}
 use Rattle.outbox_core.proofs.outbox.Outbox.take.Goals as goal

@@ -1,5 +1,5 @@
 use Rattle.std.proofs.Common.{◌≡◌, Some, None, refl, subst}
-use Rattle.outbox_core.specs.Reading.{view_state}
+use Rattle.filing_model.specs.Views.{view_state}
 use Rattle.schedule.specs.declared.fault.Cause.TheVariants.{NoSuch}
 use Rattle.schedule.specs.Bytes.{bytes_left}
 use Rattle.schedule.specs.Outboxes.{cause_of_unheard}

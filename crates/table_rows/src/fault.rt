@@ -1,7 +1,7 @@
-//! How the calls of a store are refused.
+//! How a call on the rows of a store is refused.
 
+use crate::cause::Cause;
 use std::alloc::{AllocError, AllocFailed};
-use table_rows::Cause;
 
 /// Why a call on the rows failed. The rows are those of before.
 #[derive(Clone, Copy, Debug, PartialEq, Eq, thiserror::Error)]
@@ -16,7 +16,7 @@ pub enum StoreFault {
 
 impl From<sqlite::Error> for StoreFault {
     ghost use Rattle.std.specs.Prelude.{◌≡◌};
-    ghost use Rattle.register_store.specs.Faults.{store_fault};
+    ghost use Rattle.table_rows.specs.Causes.{store_fault};
 
     ghost from_gives = { λ error fault. fault ≡ store_fault error };
 
@@ -30,7 +30,7 @@ impl From<sqlite::Error> for StoreFault {
 
 impl From<AllocError> for StoreFault {
     ghost use Rattle.std.specs.Prelude.{◌≡◌};
-    ghost use Rattle.register_store.specs.declared.fault.StoreFault.TheVariants.{Memory};
+    ghost use Rattle.table_rows.specs.declared.fault.StoreFault.TheVariants.{Memory};
 
     ghost from_gives = { λ _ fault. fault ≡ Memory };
 
@@ -41,7 +41,7 @@ impl From<AllocError> for StoreFault {
 
 impl<T: Drop> From<AllocFailed<T>> for StoreFault {
     ghost use Rattle.std.specs.Prelude.{◌≡◌};
-    ghost use Rattle.register_store.specs.declared.fault.StoreFault.TheVariants.{Memory};
+    ghost use Rattle.table_rows.specs.declared.fault.StoreFault.TheVariants.{Memory};
 
     ghost from_gives = { λ _ fault. fault ≡ Memory };
 
