@@ -28,6 +28,7 @@ ENDS = ["intake", "outbox"]
 
 IMPORT = re.compile(r"\s*(?:ghost |pub )*use (Rattle\.[\w.]+?)(?:\.\{(.*)\}|(?: as (\w+))?);?\s*$")
 RUST_IMPORT = re.compile(r"^use (\w+(?:::\w+)*?)::(?:\{([^}]*)\}|(\w+));", re.MULTILINE)
+PASSED_ON = re.compile(r"^pub use (\w+)(?:::\w+)*?::(?:\{([^}]*)\}|(\w+));", re.MULTILINE)
 HEAD = re.compile(r"(?:abbrev |unfoldable )?pub (?:record |data )?(\S+)")
 VARIANTS = "TheVariants"
 
@@ -194,12 +195,20 @@ class Reached:
             return own
         crate = file.types[name].split("::")[0]
         crate = file.path.split("/")[1] if crate in ("crate", "super", "self") else crate
+        return self.type_of_crate(crate, name)
+
+    def type_of_crate(self, crate, name):
+        """What contracts see of a Rust type that a crate offers: one of its own, or one of a crate below it."""
         if not is_ours(crate):
             return None
         for path in sorted((ROOT / "crates" / crate / "src").rglob("*.rt")):
             found = self.file(str(path.relative_to(ROOT))).type_named(name)
             if found is not None:
                 return found
+        library = (ROOT / "crates" / crate / "src" / "lib.rt").read_text()
+        for below, several, one in PASSED_ON.findall(library):
+            if name in [word.strip() for word in (several or one).split(",")]:
+                return self.type_of_crate(below, name)
         return None
 
     def meant(self, definition, word, after):

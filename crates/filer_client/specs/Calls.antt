@@ -10,7 +10,8 @@ use Rattle.table_rows.specs.Standing.{CommitsNothing}
 use Rattle.outbox_core.specs.declared.fault.TakeFault.{TakeFault}
 use Rattle.outbox_core.specs.declared.fault.TakeFault.TheVariants.{NoEntry, Store}
 use Rattle.filing_model.specs.declared.state.State.{State}
-use Rattle.outbox_core.specs.Entries.{entry_at, set_state}
+use Rattle.outbox_opening.specs.Entries.{entry_at}
+use Rattle.outbox_core.specs.Entries.{set_state}
 use Rattle.outbox_core.specs.OutboxParts.{OutboxParts, shows, contents, HasEntries, ForEntries, KeepsOnRefusal, IsDurableAs, SurvivesAs, LeavesMoved}
 use Rattle.filing_model.specs.Views.{view_state}
 use Rattle.filer_client.specs.declared.fault.ExchangeFault.{ExchangeFault}

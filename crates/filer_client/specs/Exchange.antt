@@ -9,7 +9,7 @@ use Rattle.http_wire.specs.Response.{GivesReply}
 use Rattle.sqlite.specs.Store.{Ghosts}
 use Rattle.filing_model.specs.Outbox.{Entry, State, Open, bytes_of, request_of, moved}
 use Rattle.outbox_core.specs.declared.fault.TakeFault.TheVariants.{NoEntry, Memory, Store}
-use Rattle.outbox_core.specs.Entries.{entry_at}
+use Rattle.outbox_opening.specs.Entries.{entry_at}
 use Rattle.outbox_core.specs.OutboxParts.{OutboxParts, contents, ForEntries, IsDurableAs}
 use Rattle.filing_model.specs.Views.{view_state}
 use Rattle.filer_client.specs.declared.fault.ExchangeFault.{ExchangeFault}

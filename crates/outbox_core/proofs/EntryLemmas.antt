@@ -1,23 +1,13 @@
 -- Entries by their ids and their keys.
-use Rattle.std.proofs.Common.{◌≡◌, ℕ, zero, suc, ◌+◌, ◌<◌, ◌≤◌, Bool, true, false, cond, List, [], ◌∷◌, ◌++◌, length, find, slice_get, Some, None, IfSome, option_map, nat_eq, bytes_eq, arith, add-zero, refl, sym, ap, ◌∙◌, true≢false}
+use Rattle.std.proofs.Common.{◌≡◌, ℕ, zero, suc, ◌+◌, ◌<◌, Bool, true, false, cond, List, [], ◌∷◌, ◌++◌, length, find, slice_get, Some, None, IfSome, option_map, nat_eq, bytes_eq, arith, add-zero, refl, sym, ap, ◌∙◌, true≢false}
 use Rattle.std.specs.List.{AllByRecursion}
 use Rattle.std.proofs.lemmas.Bool.Decides.{nat_tests}
 use Rattle.std.proofs.lemmas.Slice.Eq.{bytes_eq-Decides}
-use Rattle.sqlite_trees.specs.Tree.{IsAscending}
 use Rattle.filing_model.specs.Numbered.{changed_at}
 use Rattle.filing_model.specs.Outbox.{Entry, State}
 use Rattle.filing_model.proofs.Keeping.{all_push}
-use Rattle.outbox_core.specs.Entries.{numbered, numbered_from, has_id, has_text, entry_at, in_state, set_state, AreDistinct}
-
--- ---- ids
-
-above : (id n : ℕ) (es : List Entry) → id < n → AllByRecursion (λ (x : ℕ × Entry). id < x.0) (numbered_from n es)
-above id n [] low = tt
-above id n (e ∷ es) low = (low, above id (suc n) es (omega arith))
-
-pub rises : (n : ℕ) (es : List Entry) → IsAscending (λ (x y : ℕ × Entry). x.0 < y.0) (numbered_from n es)
-rises n [] = tt
-rises n (e ∷ es) = (above n (suc n) es (omega arith), rises (suc n) es)
+use Rattle.outbox_opening.specs.Entries.{numbered, numbered_from, entry_at, AreDistinct}
+use Rattle.outbox_core.specs.Entries.{has_id, has_text, in_state, set_state}
 
 pub numbered_push : (n : ℕ) (es : List Entry) (e : Entry) → numbered_from n (es ++ e ∷ []) ≡ numbered_from n es ++ (n + length es, e) ∷ []
 numbered_push n [] e = ap (λ k. (k, e) ∷ []) (sym (add-zero n))
@@ -56,11 +46,6 @@ find_at p n k all (e ∷ es) at same = go (p (n, e)) (find_at p (suc n) (suc k) 
 
 pub found_at : (p : ℕ × Entry → Bool) (es : List Entry) → IfSome (find p (numbered es)) (λ (x : ℕ × Entry). entry_at es x.0 ≡ Some x.1)
 found_at p es = find_at p 1 0 es es refl (λ i. ap (slice_get es) (omega arith))
-
-get_past : (es : List Entry) (k : ℕ) → length es ≤ k → slice_get es k ≡ None
-get_past [] k far = refl
-get_past (x ∷ es) zero far = absurd (omega arith)
-get_past (x ∷ es) (suc k) far = get_past es k (omega arith)
 
 -- ---- states
 

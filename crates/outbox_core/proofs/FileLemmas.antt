@@ -10,8 +10,8 @@ use Rattle.filing_model.specs.Outbox.{Entry}
 use Rattle.table_rows.specs.Files.{AreUsable}
 use Rattle.table_rows.proofs.FileLemmas.{finds, leaves}
 use Rattle.outbox_core.specs.OutboxParts.{OutboxParts, contents, HasEntries}
-use Rattle.outbox_core.specs.Entries.{Contents}
-use Rattle.outbox_core.specs.Rows.{IsOutboxOf}
+use Rattle.outbox_opening.specs.Entries.{Contents}
+use Rattle.outbox_opening.specs.Rows.{IsOutboxOf}
 use Rattle.outbox_core.specs.Files.{HoldOutbox}
 
 module _ {D : Type 0} {g : Ghosts D} where

@@ -11,9 +11,10 @@ use Rattle.table_rows.specs.Rows.{TableHas, Gains}
 use Rattle.table_rows.specs.Standing.{HasCommitted}
 use Rattle.table_rows.proofs.InsertLemmas.{inserts}
 use Rattle.table_rows.proofs.GainLemmas.{cast_int, cast_null, inside, gained, holds_more, same_rows}
-use Rattle.outbox_core.specs.Schema.{outbox_tables, meta_table, entry_table, target_table, IsDeclared}
-use Rattle.outbox_core.specs.Entries.{Contents, IsOutbox, numbered, opened, with_entry}
-use Rattle.outbox_core.specs.Rows.{HasRows, IsOutboxOf, LeavesOutbox, entry_row, entry_rows, target_row, target_rows, meta_row}
+use Rattle.outbox_opening.specs.Schema.{outbox_tables, meta_table, entry_table, target_table, IsDeclared}
+use Rattle.outbox_opening.specs.Entries.{Contents, IsOutbox, numbered}
+use Rattle.outbox_core.specs.Entries.{opened, with_entry}
+use Rattle.outbox_opening.specs.Rows.{HasRows, IsOutboxOf, LeavesOutbox, entry_row, entry_rows, target_row, target_rows, meta_row}
 use Rattle.outbox_core.specs.Changes.{GainsRows, AddsRows, AddsInside, Adds, AddsTo, AddsNothing}
 use Rattle.outbox_core.proofs.Texts.{insert_text, insert_terms, does_insert, plain_insert, insert_target_text, does_insert_target, plain_insert_target}
 use Rattle.outbox_core.proofs.EntryLemmas.{numbered_push}

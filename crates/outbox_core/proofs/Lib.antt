@@ -7,16 +7,6 @@ pub mod InsertLemmas
 pub mod UpdateLemmas
 pub mod ReadLemmas
 pub mod ListLemmas
-pub mod MakeLemmas
 pub mod KeyLemmas
-pub mod AuditLemmas
-pub mod HeldLemmas
-pub mod DistinctLemmas
-pub mod SoundLemmas
 pub mod UniqueLemmas
-pub mod RefusalLemmas
 pub mod FileLemmas
-pub mod MigrateTexts
-pub mod EarlierLemmas
-pub mod StopLemmas
-pub mod WalkLemmas

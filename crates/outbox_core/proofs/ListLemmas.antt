@@ -1,20 +1,17 @@
 -- Contents that are still those of an outbox.
-use Rattle.std.proofs.Common.{◌≡◌, ◌≤◌, ℕ, List, length, find, Option, None, true, IsTrue}
-use Rattle.std.specs.List.{AllByRecursion}
-use Rattle.key_string.specs.Filer.{is_filer}
-use Rattle.sqlite_keyed.proofs.ListLemmas.{all_weaker}
-use Rattle.outbox_core.specs.Audit.{IsKept}
+use Rattle.std.proofs.Common.{◌≡◌, ◌≤◌, ℕ, List, length, find, Option, None, IsTrue}
 use Rattle.sqlite.specs.Tree.{Trees}
 use Rattle.sqlite.specs.State.{State as Shown}
 use Rattle.key_string.specs.Key.{IsKey}
 use Rattle.http_wire.specs.Head.{max_body_len}
 use Rattle.http_wire.specs.Posting.{IsTarget}
-use Rattle.filing_model.specs.Outbox.{Entry, State, IsSendable, request_of}
+use Rattle.filing_model.specs.Outbox.{State, IsSendable, request_of}
 use Rattle.filing_model.proofs.Keeping.{all_push}
-use Rattle.outbox_core.specs.Entries.{Contents, contents_of, IsOutbox, AreDistinct, FitsNumber, numbered, has_text, opened, with_entry, with_state}
+use Rattle.outbox_opening.specs.Entries.{Contents, IsOutbox, FitsNumber, numbered}
+use Rattle.outbox_core.specs.Entries.{has_text, opened, with_entry, with_state}
 use Rattle.table_rows.specs.Standing.{HasCommitted}
 use Rattle.table_rows.proofs.StandLemmas.{lasting}
-use Rattle.outbox_core.specs.Rows.{IsOutboxOf, LeavesOutbox}
+use Rattle.outbox_opening.specs.Rows.{IsOutboxOf, LeavesOutbox}
 use Rattle.outbox_core.proofs.EntryLemmas.{all_set, set_all, distinct_push, distinct_set, unused}
 
 -- an entry more, under a key that was not used
@@ -34,15 +31,6 @@ another_state it id state fits was = record {
   sendable = all_set (λ e. IsSendable (request_of it.filer e)) (λ e s sendable. sendable) it.entries id state was.sendable;
   numbers = set_all FitsNumber it.entries id state fits was.numbers;
   distinct = distinct_set it.entries id state was.distinct;
-}
-
--- entries that are kept, under distinct keys
-pub kept_list : (filer : List ℕ) (es : List Entry) → is_filer filer ≡ true → AllByRecursion IsKept es → AreDistinct es → IsOutbox (contents_of filer es)
-kept_list filer es is kept distinct = record {
-  filer = is;
-  sendable = all_weaker IsKept (λ e. IsSendable (request_of filer e)) (λ e k. record { filer = is; key = k.key; target = k.target; body = k.body }) es kept;
-  numbers = all_weaker IsKept (λ e. FitsNumber e.state) (λ e k. k.number) es kept;
-  distinct = distinct;
 }
 
 -- a crash of an open store leaves what it shows

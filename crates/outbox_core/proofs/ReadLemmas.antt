@@ -7,7 +7,8 @@ use Rattle.filing_model.specs.Outbox.{Entry, State, Open, Confirmed, Refused, Cl
 use Rattle.outbox_core.specs.declared.entry.Entry.{Entry as Read}
 use Rattle.filing_model.specs.Views.{view_state}
 use Rattle.outbox_core.specs.Reading.{Shows, view_entry, state_in, state_told, id_and_state}
-use Rattle.outbox_core.specs.Rows.{entry_row, id_row, state_row, bare_state_row, code_of, number_of}
+use Rattle.outbox_opening.specs.Rows.{entry_row, code_of, number_of}
+use Rattle.outbox_core.specs.Rows.{id_row, state_row, bare_state_row}
 
 pub id_shown : (o : Option (ℕ × Entry)) (row : Row) (n : ℕ) → Some row ≡ option_map id_row o → column row 0 ≡ Int (pos n) → Some n ≡ option_map (λ (x : ℕ × Entry). x.0) o
 id_shown None row n e id = cc

@@ -16,13 +16,14 @@ use Rattle.table_rows.specs.Rows.{shown, row_or_none}
 use Rattle.table_rows.specs.Standing.{HasCommitted}
 use Rattle.table_rows.proofs.SelectLemmas.{selects}
 use Rattle.table_rows.proofs.QueryLemmas.{Asks, first_told, first_same, first_stands}
-use Rattle.outbox_core.specs.Schema.{target_table}
-use Rattle.outbox_core.specs.Entries.{Contents, target_at}
-use Rattle.outbox_core.specs.Rows.{IsOutboxOf, target_row, target_rows_from, target_rows}
-use Rattle.outbox_core.specs.Audit.{with_id}
-use Rattle.outbox_core.proofs.Texts.{equals, target_text, target_query, target_asks}
-use Rattle.outbox_core.proofs.SelectLemmas.{matches}
-use Rattle.outbox_core.proofs.TargetLemmas.{target_with}
+use Rattle.outbox_opening.specs.Schema.{target_table}
+use Rattle.outbox_opening.specs.Entries.{Contents, target_at}
+use Rattle.outbox_opening.specs.Rows.{IsOutboxOf, target_row, target_rows_from, target_rows}
+use Rattle.outbox_opening.specs.Audit.{with_id}
+use Rattle.outbox_opening.proofs.Texts.{equals}
+use Rattle.outbox_core.proofs.Texts.{target_text, target_query, target_asks}
+use Rattle.outbox_opening.proofs.SelectLemmas.{matches}
+use Rattle.outbox_opening.proofs.TargetLemmas.{target_with}
 
 -- the test of WHERE is that of the id
 matching : (id n : ℕ) (es : List Entry) → filter (matches 0 (Int (pos id))) (target_rows_from n es) ≡ with_id id (target_rows_from n es)

@@ -8,19 +8,20 @@ use Rattle.sqlite.specs.Effect.{Database}
 use Rattle.sqlite.proofs.Callers.{one_permutation}
 use Rattle.sqlite_keyed.proofs.ListLemmas.{all_weaker, filter_all, filter_none, IsPermutation-filter}
 use Rattle.filing_model.specs.Outbox.{Entry}
-use Rattle.outbox_core.specs.Entries.{Contents, numbered_from}
-use Rattle.outbox_core.specs.Rows.{IsOutboxOf, form_row, entry_row, entry_rows, target_row, target_rows, target_rows_from, code_of, number_of}
-use Rattle.outbox_core.specs.Audit.{is_int}
+use Rattle.outbox_opening.specs.Entries.{Contents, numbered_from}
+use Rattle.outbox_opening.specs.Rows.{IsOutboxOf, form_row, entry_row, entry_rows, target_row, target_rows, target_rows_from, code_of, number_of}
+use Rattle.outbox_opening.specs.Audit.{is_int}
 use Rattle.outbox_core.specs.OutboxParts.{OutboxParts, contents, HasEntries}
 use Rattle.sqlite.specs.Store.{Ghosts}
-use Rattle.outbox_core.specs.Earlier.{IsEarlierOf}
-use Rattle.outbox_core.specs.Schema.{meta_table, entry_table, target_table}
+use Rattle.outbox_opening.specs.Earlier.{IsEarlierOf}
+use Rattle.outbox_opening.specs.Schema.{meta_table, entry_table, target_table}
 use Rattle.sqlite.specs.Table.{Table}
 use Rattle.table_rows.specs.Rows.{TableHas}
-use Rattle.outbox_core.proofs.EarlierLemmas.{no_targets}
-use Rattle.outbox_core.proofs.SelectLemmas.{same_ids}
+use Rattle.outbox_opening.proofs.EarlierLemmas.{no_targets}
+use Rattle.outbox_opening.proofs.SelectLemmas.{same_ids}
 use Rattle.outbox_core.proofs.ReadLemmas.{one_state}
-use Rattle.outbox_core.proofs.TargetLemmas.{later_targets, own_row, rows_left, few_rows, one_target}
+use Rattle.outbox_opening.proofs.TargetLemmas.{later_targets, own_row, few_rows}
+use Rattle.outbox_core.proofs.TargetLemmas.{rows_left, one_target}
 
 abbrev rows_from : ℕ → List Entry → List Row
 rows_from n es = map entry_row (numbered_from n es)

@@ -33,11 +33,14 @@ use Rattle.table_rows.proofs.SelectLemmas.{selects}
 use Rattle.table_rows.proofs.WriteLemmas.{LeadsTo, EndsNone, written_stands, crash_leaves}
 use Rattle.table_rows.proofs.UpdateLemmas.{other_rows, updated}
 use Rattle.filing_model.specs.Numbered.{changed_at}
-use Rattle.outbox_core.specs.Schema.{outbox_tables, meta_table, entry_table, target_table, IsDeclared}
-use Rattle.outbox_core.specs.Entries.{Contents, IsOutbox, numbered, numbered_from, has_id, entry_at, with_state, in_state}
-use Rattle.outbox_core.specs.Rows.{IsOutboxOf, LeavesOutbox, code_of, number_of, entry_row, entry_rows, target_rows, meta_row}
-use Rattle.outbox_core.proofs.Texts.{equals, changed_columns, update_text, update_command, update_query, update_is, update_plain}
-use Rattle.outbox_core.proofs.SelectLemmas.{matches, id_matches, same_ids, passing}
+use Rattle.outbox_opening.specs.Schema.{outbox_tables, meta_table, entry_table, target_table, IsDeclared}
+use Rattle.outbox_opening.specs.Entries.{Contents, IsOutbox, numbered, numbered_from, entry_at}
+use Rattle.outbox_core.specs.Entries.{has_id, with_state, in_state}
+use Rattle.outbox_opening.specs.Rows.{IsOutboxOf, LeavesOutbox, code_of, number_of, entry_row, entry_rows, target_rows, meta_row}
+use Rattle.outbox_opening.proofs.Texts.{equals}
+use Rattle.outbox_core.proofs.Texts.{changed_columns, update_text, update_command, update_query, update_is, update_plain}
+use Rattle.outbox_opening.proofs.SelectLemmas.{matches, same_ids, passing}
+use Rattle.outbox_core.proofs.SelectLemmas.{id_matches}
 use Rattle.outbox_core.proofs.TargetLemmas.{targets_put}
 
 abbrev pub update_params : ℕ → Place → Row

@@ -14,8 +14,9 @@ use Rattle.table_rows.specs.declared.fault.StoreFault.{StoreFault}
 use Rattle.table_rows.specs.declared.fault.StoreFault.TheVariants as store
 use Rattle.outbox_core.specs.declared.fault.TakeFault.{TakeFault}
 use Rattle.outbox_core.specs.declared.fault.TakeFault.TheVariants as take
-use Rattle.outbox_core.specs.Entries.{opened, numbered, has_text, entry_at, set_state}
-use Rattle.outbox_core.specs.Rows.{LeavesOutbox}
+use Rattle.outbox_core.specs.Entries.{opened, has_text, set_state}
+use Rattle.outbox_opening.specs.Entries.{numbered, entry_at}
+use Rattle.outbox_opening.specs.Rows.{LeavesOutbox}
 use Rattle.filing_model.specs.Views.{view_state}
 use Rattle.outbox_core.specs.Reading.{Finds}
 use Rattle.outbox_core.specs.OutboxParts.{OutboxParts, shows, contents, HasEntries, ForEntries, KeepsOnRefusal, IsDurableAs, SurvivesAs, LeavesMoved}

@@ -9,8 +9,8 @@ use Rattle.sqlite.specs.Files.{over_files}
 use Rattle.sqlite.specs.Effect.{Database}
 use Rattle.filing_model.specs.Outbox.{Entry}
 use Rattle.table_rows.specs.Files.{HoldsDatabase, AreUsable}
-use Rattle.outbox_core.specs.Entries.{Contents}
-use Rattle.outbox_core.specs.Rows.{IsOutboxOf}
+use Rattle.outbox_opening.specs.Entries.{Contents}
+use Rattle.outbox_opening.specs.Rows.{IsOutboxOf}
 use Rattle.outbox_core.specs.OutboxParts.{OutboxParts, contents, HasEntries}
 
 -- an opening of these files finds the outbox of these contents

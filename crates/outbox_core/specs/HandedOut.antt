@@ -7,16 +7,16 @@ use Rattle.sqlite.specs.State.{Survives}
 use Rattle.filing_model.specs.Outbox.{Entry}
 use Rattle.table_rows.specs.Tables.{no_schema}
 use Rattle.table_rows.specs.Standing.{CommitsNothing}
-use Rattle.outbox_core.specs.declared.fault.OutboxFault.{OutboxFault}
-use Rattle.outbox_core.specs.declared.fault.OutboxFault.TheVariants.{BadFiler, Taken}
-use Rattle.outbox_core.specs.Schema.{IsDeclared, is_taken}
-use Rattle.outbox_core.specs.Entries.{empty}
-use Rattle.outbox_core.specs.Rows.{IsOutboxOf}
-use Rattle.outbox_core.specs.Faults.{IsOfMaking, IsOfOpening}
+use Rattle.outbox_opening.specs.declared.fault.OutboxFault.{OutboxFault}
+use Rattle.outbox_opening.specs.declared.fault.OutboxFault.TheVariants.{BadFiler, Taken}
+use Rattle.outbox_opening.specs.Schema.{IsDeclared, is_taken}
+use Rattle.outbox_opening.specs.Entries.{empty}
+use Rattle.outbox_opening.specs.Rows.{IsOutboxOf}
+use Rattle.outbox_opening.specs.Faults.{IsOfMaking, IsOfOpening}
 use Rattle.outbox_core.specs.OutboxParts.{OutboxParts, shows, contents, HandsOut, HasEntries, IsDurableAs}
-use Rattle.outbox_core.specs.Promises.{ForOutbox}
-use Rattle.outbox_core.specs.Making.{LeavesMade}
-use Rattle.outbox_core.specs.Earlier.{ForEarlier, IsAlone, IsEarlierOf, LeavesMigrated}
+use Rattle.outbox_opening.specs.Promises.{ForOutbox}
+use Rattle.outbox_opening.specs.Making.{LeavesMade}
+use Rattle.outbox_opening.specs.Earlier.{ForEarlier, IsAlone, IsEarlierOf, LeavesMigrated}
 use Rattle.outbox_core.specs.Refusals.{GivesUpMaking, GivesUpOpening, GivesUpMigrating}
 
 -- An outbox of the filer of this code was made, in one transaction; or it was refused, and the connection is given up.

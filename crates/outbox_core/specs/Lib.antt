@@ -1,4 +1,3 @@
-pub mod Schema
 pub mod Entries
 pub mod Rows
 pub mod Reading
@@ -6,14 +5,7 @@ pub mod Refusals
 pub mod Faults
 pub mod OutboxParts
 pub mod Promises
-pub mod Audit
-pub mod Making
 pub mod Changes
-pub mod Targets
-pub mod Earlier
 pub mod Files
-pub mod Walk
-pub mod Opening
-pub mod Migrating
 pub mod HandedOut
 pub mod Calls

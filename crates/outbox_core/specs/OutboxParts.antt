@@ -8,8 +8,9 @@ use Rattle.sqlite.specs.State.{State, HasCleanDisk, Survives}
 use Rattle.http_wire.specs.Reply.{ReplyParts}
 use Rattle.filing_model.specs.Outbox.{Entry, moved}
 use Rattle.table_rows.specs.Standing.{HasCommitted}
-use Rattle.outbox_core.specs.Entries.{Contents, entry_at, with_state}
-use Rattle.outbox_core.specs.Rows.{IsOutboxOf, LeavesOutbox}
+use Rattle.outbox_opening.specs.Entries.{Contents, entry_at}
+use Rattle.outbox_core.specs.Entries.{with_state}
+use Rattle.outbox_opening.specs.Rows.{IsOutboxOf, LeavesOutbox}
 
 -- a connection, the filer, how many entries there are, and whether a call was refused as Store
 pub record OutboxParts (S : Type 0) : Type 0 where

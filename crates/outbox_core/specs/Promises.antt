@@ -1,15 +1,11 @@
--- What calls on a connection promise.
+-- What calls on the connection of an open outbox promise.
 use Rattle.std.specs.Prelude.{Result, IsTrue, OnOk, OnErr}
 use Rattle.sqlite.specs.Store.{Ghosts}
 use Rattle.sqlite.specs.Held.{Held, state}
 use Rattle.sqlite.specs.State.{State, HasCleanDisk}
 use Rattle.table_rows.specs.Standing.{HasCommitted}
-use Rattle.outbox_core.specs.Entries.{Contents}
-use Rattle.outbox_core.specs.Rows.{IsOutboxOf}
-
--- Whatever outbox the rows were before: where the disk is clean at the end, this holds of it.
-abbrev pub ForOutbox : {S : Type 0} → Ghosts S → Held S → Held S → (Contents → Type 0) → Type 0
-ForOutbox g old new P = HasCleanDisk (state g new) → (it : Contents) → IsOutboxOf it (state g old).now → P it
+use Rattle.outbox_opening.specs.Entries.{Contents}
+use Rattle.outbox_opening.specs.Rows.{IsOutboxOf}
 
 -- Whatever outbox stood in the rows before, and was committed: where the disk is clean at the end, this holds of it.
 abbrev pub ForContents : {S : Type 0} → Ghosts S → Held S → Held S → (Contents → Type 0) → Type 0

@@ -8,7 +8,7 @@ use Rattle.filing_model.specs.Outbox.{Entry, State, Open, Confirmed, Refused, Cl
 use Rattle.filing_model.specs.Views.{view_state}
 use Rattle.filing_model.specs.declared.state.State.{State as Stored}
 use Rattle.outbox_core.specs.declared.entry.Entry.{Entry as Read}
-use Rattle.outbox_core.specs.Rows.{code_of, number_of}
+use Rattle.outbox_opening.specs.Rows.{code_of, number_of}
 
 -- the id of an entry, and the rest
 abbrev pub view_entry : Read → ℕ × Entry

@@ -4,13 +4,13 @@ use Rattle.sqlite.specs.Store.{Ghosts}
 use Rattle.sqlite.specs.Held.{Held, state}
 use Rattle.sqlite.specs.State.{HasCleanDisk, Survives}
 use Rattle.table_rows.specs.Standing.{CommitsNothing, StaysCommitted}
-use Rattle.outbox_core.specs.declared.fault.OutboxFault.{OutboxFault}
-use Rattle.outbox_core.specs.Audit.{IsRefused}
-use Rattle.outbox_core.specs.Earlier.{IsEarlierOf, IsNotMigrated, LeavesMigrated, is_blocked}
-use Rattle.outbox_core.specs.Entries.{Contents}
-use Rattle.outbox_core.specs.Faults.{IsFailure}
-use Rattle.outbox_core.specs.Making.{LeavesMade}
-use Rattle.outbox_core.specs.Promises.{ForOutbox}
+use Rattle.outbox_opening.specs.declared.fault.OutboxFault.{OutboxFault}
+use Rattle.outbox_opening.specs.Audit.{IsRefused}
+use Rattle.outbox_opening.specs.Earlier.{IsEarlierOf, IsNotMigrated, LeavesMigrated, is_blocked}
+use Rattle.outbox_opening.specs.Entries.{Contents}
+use Rattle.outbox_opening.specs.Faults.{IsFailure}
+use Rattle.outbox_opening.specs.Making.{LeavesMade}
+use Rattle.outbox_opening.specs.Promises.{ForOutbox}
 
 -- No outbox was made: nothing is committed.
 abbrev pub GivesUpMaking : {S : Type 0} → Ghosts S → List ℕ → Held S → Type 0

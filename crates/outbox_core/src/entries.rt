@@ -9,8 +9,9 @@ ghost use Rattle.http_wire.specs.Posting.{IsTarget};
 ghost use Rattle.http_wire.specs.Replies.{reply_parts};
 ghost use Rattle.filing_model.specs.Outbox.{Entry as Item, moved};
 ghost use Rattle.table_rows.specs.Standing.{HasCommitted, Commits, CommitsNothing};
-ghost use Rattle.outbox_core.specs.Entries.{IsOutbox, opened, numbered, has_text, entry_at, found_at, first_open, with_entry, with_state};
-ghost use Rattle.outbox_core.specs.Rows.{IsOutboxOf, LeavesOutbox, entry_row};
+ghost use Rattle.outbox_opening.specs.Entries.{IsOutbox, numbered, entry_at};
+ghost use Rattle.outbox_core.specs.Entries.{opened, has_text, found_at, first_open, with_entry, with_state};
+ghost use Rattle.outbox_opening.specs.Rows.{IsOutboxOf, LeavesOutbox, entry_row};
 ghost use Rattle.filing_model.specs.Views.{view_state};
 ghost use Rattle.outbox_core.specs.Reading.{Finds, view_entry, view_pair, id_and_state};
 ghost use Rattle.outbox_core.specs.OutboxParts.{LeavesMoved};
@@ -23,12 +24,10 @@ use crate::state::moved;
 use crate::write::keep_entry;
 use filing_model::State;
 use http_wire::Reply;
+use outbox_opening::MAX_ENTRIES;
 use sqlite::{Alter, Connection, Error, Row};
 use std::alloc::Global;
 use table_rows::StoreFault;
-
-/// No outbox has more entries.
-pub(crate) const MAX_ENTRIES: u64 = 1 << 62;
 
 /// No row has an id as high.
 const ID_LIMIT: u64 = 1 << 63;

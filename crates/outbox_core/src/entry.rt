@@ -6,7 +6,7 @@ ghost use Rattle.http_wire.specs.Posting.{IsTarget};
 ghost use Rattle.sqlite.specs.declared.types.Value.TheVariants.{Int};
 ghost use Rattle.sqlite.specs.Order.{column};
 ghost use Rattle.sqlite.specs.Values.{or_null};
-ghost use Rattle.outbox_core.specs.Rows.{code_of, number_of};
+ghost use Rattle.outbox_opening.specs.Rows.{code_of, number_of};
 ghost use Rattle.filing_model.specs.Views.{view_state};
 ghost use Rattle.outbox_core.specs.Reading.{view_pair, state_told};
 

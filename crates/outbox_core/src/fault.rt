@@ -1,31 +1,6 @@
-//! How the calls of an outbox are refused.
+//! How the calls of an open outbox are refused.
 
-use std::alloc::AllocError;
-use table_rows::{Cause, StoreFault};
-
-/// Why an outbox was not made or not opened. The database is as it was.
-#[derive(Clone, Copy, Debug, PartialEq, Eq, thiserror::Error)]
-pub enum OutboxFault {
-    /// The text is no code of a filer.
-    #[error("the filer is no filer code")]
-    BadFiler,
-    /// A table, an index or a view has the name of one of our tables.
-    #[error("a table of the outbox's name is there")]
-    Taken,
-    /// The database is no outbox in the form that is read here.
-    #[error("the database is no outbox")]
-    NotOurs,
-    /// The entry of this row, counted from 1, or its target is none that an outbox keeps; 0 where the entries or the targets
-    /// cannot be read, or one is the target of no entry.
-    #[error("row {row} of the outbox is damaged")]
-    Damaged { row: u64 },
-    /// No memory was left.
-    #[error("out of memory")]
-    Memory,
-    /// The database refused for another cause.
-    #[error("the database failed")]
-    Disk,
-}
+use table_rows::StoreFault;
 
 /// Why no entry was put. The entries are those of before.
 #[derive(Clone, Copy, Debug, PartialEq, Eq, thiserror::Error)]
@@ -56,31 +31,6 @@ pub enum TakeFault {
     /// The database refused for another cause, or gave a value that no table of ours holds.
     #[error("the database failed")]
     Store,
-}
-
-impl From<sqlite::Error> for OutboxFault {
-    ghost use Rattle.std.specs.Prelude.{◌≡◌};
-    ghost use Rattle.outbox_core.specs.Faults.{outbox_fault};
-
-    ghost from_gives = { λ error fault. fault ≡ outbox_fault error };
-
-    fn from(error: sqlite::Error) -> OutboxFault {
-        match Cause::from(error) {
-            Cause::Memory => OutboxFault::Memory,
-            Cause::Disk | Cause::Other => OutboxFault::Disk,
-        }
-    }
-}
-
-impl From<AllocError> for OutboxFault {
-    ghost use Rattle.std.specs.Prelude.{◌≡◌};
-    ghost use Rattle.outbox_core.specs.declared.fault.OutboxFault.TheVariants.{Memory};
-
-    ghost from_gives = { λ _ fault. fault ≡ Memory };
-
-    fn from(_error: AllocError) -> OutboxFault {
-        OutboxFault::Memory
-    }
 }
 
 impl From<StoreFault> for PutFault {

@@ -4,7 +4,8 @@ ghost use Rattle.std.specs.Prelude.{◌≡◌, ◌^◌, ◌≤◌, ◌↔◌, ma
 ghost use Rattle.key_string.specs.Filer.{is_filer};
 ghost use Rattle.http_wire.specs.Posting.{IsTarget};
 ghost use Rattle.http_wire.specs.Replies.{reply_parts};
-ghost use Rattle.outbox_core.specs.Entries.{numbered, found_at, first_open};
+ghost use Rattle.outbox_opening.specs.Entries.{numbered};
+ghost use Rattle.outbox_core.specs.Entries.{found_at, first_open};
 ghost use Rattle.outbox_core.specs.Reading.{view_pair, id_and_state};
 ghost use Rattle.table_rows.specs.Standing.{CommitsNothing};
 
@@ -12,13 +13,11 @@ pub(crate) mod files;
 
 use crate::entries::{add_entry, entry_of, open_entry, states_of, take_entry};
 use crate::entry::Entry;
-use crate::fault::{OutboxFault, PutFault, TakeFault};
-use crate::migrate::migrate_outbox;
-use crate::opening::{FoundOutbox, read_outbox};
-use crate::schema::create::make_outbox;
+use crate::fault::{PutFault, TakeFault};
 use filing_model::State;
 use http_wire::{MAX_BODY_LEN, Reply};
 use key_string::KeyText;
+use outbox_opening::{FoundOutbox, OutboxFault, make_outbox, migrate_outbox, read_outbox};
 use sqlite::{Alter, Connection};
 use std::alloc::Global;
 use std::marker::Model;

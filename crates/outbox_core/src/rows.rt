@@ -1,17 +1,17 @@
-//! The statements on the rows of the three tables.
+//! The statements on some rows of the three tables.
 
-ghost use Rattle.std.specs.Prelude.{◌≡◌, ◌^◌, ◌<◌, pos, find, map, option_map, IsTrue, IfOk, IfErr, OnOk, IsSome, [], ◌∷◌};
+ghost use Rattle.std.specs.Prelude.{◌≡◌, ◌^◌, ◌<◌, pos, find, map, option_map, IsTrue, IfOk, OnOk, IsSome, [], ◌∷◌};
 ghost use Rattle.sqlite.specs.Values.{or_null};
 ghost use Rattle.sqlite.specs.declared.types.Value.TheVariants.{Null, Int, Text, Blob};
-ghost use Rattle.sqlite.specs.State.{HasCleanDisk, Survives, Shown, FailsToQuery, IsUnchanged};
+ghost use Rattle.sqlite.specs.State.{HasCleanDisk, Survives};
 ghost use Rattle.sqlite.specs.Held as held;
-ghost use Rattle.table_rows.specs.Rows.{TableHas};
-ghost use Rattle.table_rows.specs.Standing.{HasCommitted, Commits, CommitsNothing, StaysAutocommit, StaysCommitted};
-ghost use Rattle.outbox_core.specs.Schema.{IsDeclared, HasCommon, meta_table, entry_table, target_table};
-ghost use Rattle.outbox_core.specs.Audit.{meta_text, targets_text, entries_text};
-ghost use Rattle.outbox_core.specs.Entries.{numbered, has_id, has_text, entry_at, first_open, target_at, with_state, FitsNumber};
+ghost use Rattle.table_rows.specs.Standing.{HasCommitted, Commits, CommitsNothing, StaysCommitted};
+ghost use Rattle.outbox_opening.specs.Schema.{entry_table, target_table};
+ghost use Rattle.outbox_opening.specs.Entries.{numbered, entry_at, target_at, FitsNumber};
+ghost use Rattle.outbox_core.specs.Entries.{has_id, has_text, first_open, with_state};
 ghost use Rattle.outbox_core.specs.Changes.{GainsRows};
-ghost use Rattle.outbox_core.specs.Rows.{IsOutboxOf, LeavesOutbox, code_of, number_of, entry_row, id_row, state_row, bare_state_row};
+ghost use Rattle.outbox_opening.specs.Rows.{IsOutboxOf, LeavesOutbox, code_of, number_of, entry_row};
+ghost use Rattle.outbox_core.specs.Rows.{id_row, state_row, bare_state_row};
 ghost use Rattle.filing_model.specs.Views.{view_state};
 ghost use Rattle.outbox_core.specs.Promises.{ForContents, KeepsOutbox, KeepsOutboxOnRefusal, AnswersOpen};
 
@@ -110,68 +110,6 @@ pub(crate) fn state_rows<S: Alter>(conn: &mut Connection<S>) -> Result<Vec<Row>,
     ensures crash { CommitsNothing (held.state S.Store conn.old) (held.state S.Store conn.new) }
 {
     conn.query_all("SELECT id, state, number FROM entry ORDER BY id", &[])
-}
-
-/// The rows of `outbox_meta`.
-pub(crate) fn meta_rows<S: Alter>(conn: &mut Connection<S>) -> Result<Vec<Row>, Error>
-    ensures shown { HasCleanDisk (held.state S.Store conn.new)
-        → IfOk result (λ rows.
-        Shown meta_text [] (held.state S.Store conn.old) (held.state S.Store conn.new) rows.items) }
-    ensures held { HasCleanDisk (held.state S.Store conn.new) → HasCommon (held.state S.Store conn.old).now.schema
-        → IfOk result (λ rows.
-        TableHas (held.state S.Store conn.old).now meta_table rows.items
-        × IsUnchanged (held.state S.Store conn.old) (held.state S.Store conn.new)) }
-    ensures failed { HasCleanDisk (held.state S.Store conn.new)
-        → IfErr result (FailsToQuery meta_text [] (held.state S.Store conn.old) (held.state S.Store conn.new)) }
-    ensures mode { StaysAutocommit conn.old conn.new }
-    ensures kept { StaysCommitted S.Store conn.old conn.new }
-    ensures clean { HasCleanDisk (held.state S.Store conn.new) → HasCleanDisk (held.state S.Store conn.old) }
-    ensures limit { conn.new.step_limit ≡ conn.old.step_limit }
-    ensures crash { CommitsNothing (held.state S.Store conn.old) (held.state S.Store conn.new) }
-{
-    conn.query_all("SELECT id, kind, form, filer FROM outbox_meta", &[])
-}
-
-/// The rows of all entries, in the order of the ids.
-pub(crate) fn all_rows<S: Alter>(conn: &mut Connection<S>) -> Result<Vec<Row>, Error>
-    ensures shown { HasCleanDisk (held.state S.Store conn.new)
-        → IfOk result (λ rows.
-        Shown entries_text [] (held.state S.Store conn.old) (held.state S.Store conn.new) rows.items) }
-    ensures held { HasCleanDisk (held.state S.Store conn.new) → HasCommon (held.state S.Store conn.old).now.schema
-        → IfOk result (λ rows.
-        TableHas (held.state S.Store conn.old).now entry_table rows.items
-        × IsUnchanged (held.state S.Store conn.old) (held.state S.Store conn.new)) }
-    ensures failed { HasCleanDisk (held.state S.Store conn.new)
-        → IfErr result (FailsToQuery entries_text [] (held.state S.Store conn.old) (held.state S.Store conn.new)) }
-    ensures mode { StaysAutocommit conn.old conn.new }
-    ensures kept { StaysCommitted S.Store conn.old conn.new }
-    ensures clean { HasCleanDisk (held.state S.Store conn.new) → HasCleanDisk (held.state S.Store conn.old) }
-    ensures crash { CommitsNothing (held.state S.Store conn.old) (held.state S.Store conn.new) }
-{
-    conn.query_all(
-        "SELECT id, idem, body, state, number FROM entry ORDER BY id",
-        &[],
-    )
-}
-
-/// The rows of `target`.
-pub(crate) fn target_rows<S: Alter>(conn: &mut Connection<S>) -> Result<Vec<Row>, Error>
-    ensures shown { HasCleanDisk (held.state S.Store conn.new)
-        → IfOk result (λ rows.
-        Shown targets_text [] (held.state S.Store conn.old) (held.state S.Store conn.new) rows.items) }
-    ensures held { HasCleanDisk (held.state S.Store conn.new) → IsDeclared (held.state S.Store conn.old).now.schema
-        → IfOk result (λ rows.
-        TableHas (held.state S.Store conn.old).now target_table rows.items
-        × IsUnchanged (held.state S.Store conn.old) (held.state S.Store conn.new)) }
-    ensures failed { HasCleanDisk (held.state S.Store conn.new)
-        → IfErr result (FailsToQuery targets_text [] (held.state S.Store conn.old) (held.state S.Store conn.new)) }
-    ensures mode { StaysAutocommit conn.old conn.new }
-    ensures kept { StaysCommitted S.Store conn.old conn.new }
-    ensures clean { HasCleanDisk (held.state S.Store conn.new) → HasCleanDisk (held.state S.Store conn.old) }
-    ensures limit { conn.new.step_limit ≡ conn.old.step_limit }
-    ensures crash { CommitsNothing (held.state S.Store conn.old) (held.state S.Store conn.new) }
-{
-    conn.query_all("SELECT id, number FROM target", &[])
 }
 
 /// The row of the target of the entry that has the id.

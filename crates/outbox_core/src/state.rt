@@ -5,7 +5,7 @@ ghost use Rattle.serde_json.specs.View.{view};
 ghost use Rattle.xbrl_report.specs.Findings.{tree};
 ghost use Rattle.http_wire.specs.Replies.{reply_parts};
 ghost use Rattle.filing_model.specs.Outbox.{has_word, has_status, refuses, confirmed_by, state_by, state_told, moved};
-ghost use Rattle.outbox_core.specs.Entries.{FitsNumber};
+ghost use Rattle.outbox_opening.specs.Entries.{FitsNumber};
 ghost use Rattle.filing_model.specs.Views.{view_state};
 
 use filing_model::State;

@@ -1,7 +1,7 @@
 -- What lies in files lies in the database that is opened there.
 use Rattle.std.proofs.Common.{List}
 use Rattle.filing_model.specs.Request.{Request}
-use Rattle.outbox_core.specs.Entries.{Contents}
+use Rattle.outbox_opening.specs.Entries.{Contents}
 use Rattle.schedule.specs.declared.outboxes.Opening.{Opening as OfOutbox}
 use Rattle.schedule.specs.declared.outboxes.Opening.TheVariants as outbox
 use Rattle.schedule.specs.declared.registers.Opening.{Opening as OfRegister}

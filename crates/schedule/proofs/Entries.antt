@@ -15,7 +15,8 @@ use Rattle.filing_world.specs.Headline.{states_of}
 use Rattle.filing_world.proofs.Lists.{changed_renewed, renewed_same, written}
 use Rattle.table_rows.specs.declared.fault.StoreFault.{StoreFault}
 use Rattle.filing_model.specs.declared.state.State.{State as Stored}
-use Rattle.outbox_core.specs.Entries.{numbered_from, numbered as with_ids, has_text, opened, in_state, set_state}
+use Rattle.outbox_opening.specs.Entries.{numbered_from, numbered as with_ids}
+use Rattle.outbox_core.specs.Entries.{has_text, opened, in_state, set_state}
 use Rattle.filing_model.specs.Views.{view_state}
 use Rattle.outbox_core.specs.Reading.{view_pair, id_and_state}
 use Rattle.filer_client.specs.Exchange.{request_at}

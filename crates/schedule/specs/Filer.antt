@@ -4,7 +4,7 @@ use Rattle.sqlite_disk.specs.declared.Disk.{Ghosts}
 use Rattle.sqlite.specs.Files.{over_files}
 use Rattle.filing_model.specs.Outbox.{Entry}
 use Rattle.outbox_core.specs.OutboxParts.{HasEntries}
-use Rattle.outbox_core.specs.Entries.{contents_of}
+use Rattle.outbox_opening.specs.Entries.{contents_of}
 use Rattle.outbox_core.specs.Files.{HoldOutbox}
 use Rattle.schedule.specs.declared.filer.OutboxProcess.{OutboxProcess}
 use Rattle.schedule.specs.declared.filer.OutboxProcess.TheVariants.{Up, Down, Gone}

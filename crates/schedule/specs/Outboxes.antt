@@ -6,7 +6,8 @@ use Rattle.filing_model.specs.Outbox.{Entry, State}
 use Rattle.filing_world.specs.World.{Outbox}
 use Rattle.outbox_core.specs.declared.fault.TakeFault.TheVariants as take
 use Rattle.filing_model.specs.declared.state.State.{State as Stored}
-use Rattle.outbox_core.specs.Entries.{Contents, empty, set_state}
+use Rattle.outbox_opening.specs.Entries.{Contents, empty}
+use Rattle.outbox_core.specs.Entries.{set_state}
 use Rattle.filing_model.specs.Views.{view_state}
 use Rattle.filer_client.specs.declared.fault.ExchangeFault.{ExchangeFault}
 use Rattle.filer_client.specs.declared.fault.ExchangeFault.TheVariants.{Write, Reply, Take}

@@ -4,9 +4,10 @@ use Rattle.sqlite.specs.State.{HasCleanDisk}
 use Rattle.sqlite.proofs.StateLemmas.{survives_then}
 use Rattle.filing_model.specs.Outbox.{Entry, moved}
 use Rattle.outbox_core.specs.OutboxParts.{shows}
-use Rattle.outbox_core.specs.Entries.{contents_of, entry_at, set_state}
+use Rattle.outbox_opening.specs.Entries.{contents_of, entry_at}
+use Rattle.outbox_core.specs.Entries.{set_state}
 use Rattle.filing_model.specs.Views.{view_state}
-use Rattle.outbox_core.specs.Rows.{LeavesOutbox}
+use Rattle.outbox_opening.specs.Rows.{LeavesOutbox}
 use Rattle.filer_client.specs.Exchange.{Hears}
 use Rattle.filer_client.proofs.Settled.{set_settled}
 use Rattle.filer_client.proofs.client.exchange.Goals as goal

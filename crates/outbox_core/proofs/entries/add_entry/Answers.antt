@@ -3,7 +3,8 @@ use Rattle.sqlite.specs.Held.{state}
 use Rattle.sqlite.specs.State.{HasCleanDisk}
 use Rattle.sqlite.proofs.StateLemmas.{survives_weaker, survives_then}
 use Rattle.table_rows.proofs.ResultLemmas.{on_ok}
-use Rattle.outbox_core.specs.Entries.{has_text, numbered}
+use Rattle.outbox_core.specs.Entries.{has_text}
+use Rattle.outbox_opening.specs.Entries.{numbered}
 use Rattle.outbox_core.proofs.ReadLemmas.{none_found}
 use Rattle.outbox_core.proofs.ListLemmas.{one_more}
 use Rattle.outbox_core.proofs.entries.add_entry.Goals as goal

@@ -3,9 +3,10 @@ use Rattle.sqlite.specs.Held.{state}
 use Rattle.sqlite.proofs.StateLemmas.{survives_weaker}
 use Rattle.table_rows.specs.Standing.{HasCommitted}
 use Rattle.filing_model.specs.Outbox.{Entry}
-use Rattle.outbox_core.specs.Entries.{entry_at, with_state}
+use Rattle.outbox_opening.specs.Entries.{entry_at}
+use Rattle.outbox_core.specs.Entries.{with_state}
 use Rattle.filing_model.specs.Views.{view_state}
-use Rattle.outbox_core.specs.Rows.{IsOutboxOf, LeavesOutbox}
+use Rattle.outbox_opening.specs.Rows.{IsOutboxOf, LeavesOutbox}
 use Rattle.outbox_core.proofs.EntryLemmas.{same_state}
 use Rattle.outbox_core.proofs.ReadLemmas.{some_mapped}
 use Rattle.outbox_core.proofs.entries.move_entry.Goals as goal

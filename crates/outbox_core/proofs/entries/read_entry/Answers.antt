@@ -1,6 +1,6 @@
 use Rattle.std.proofs.Common.{◌≡◌, ap, ◌∙◌}
 use Rattle.table_rows.proofs.ResultLemmas.{on_ok}
-use Rattle.outbox_core.specs.Entries.{entry_at, target_at}
+use Rattle.outbox_opening.specs.Entries.{entry_at, target_at}
 use Rattle.outbox_core.proofs.ReadLemmas.{read_as, id_in, target_there}
 use Rattle.outbox_core.proofs.entries.read_entry.Goals as goal
 

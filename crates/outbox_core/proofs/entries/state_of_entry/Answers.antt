@@ -1,5 +1,5 @@
 use Rattle.std.proofs.Common.{sym, ◌∙◌, ap, option_map}
-use Rattle.outbox_core.specs.Entries.{entry_at}
+use Rattle.outbox_opening.specs.Entries.{entry_at}
 use Rattle.outbox_core.specs.Rows.{bare_state_row}
 use Rattle.outbox_core.proofs.EntryLemmas.{find_id}
 use Rattle.outbox_core.proofs.ReadLemmas.{state_of_row, no_state}

@@ -1,6 +1,6 @@
 use Rattle.std.proofs.Common.{map, ◌∙◌, ap}
 use Rattle.table_rows.proofs.ResultLemmas.{if_ok}
-use Rattle.outbox_core.specs.Entries.{numbered}
+use Rattle.outbox_opening.specs.Entries.{numbered}
 use Rattle.outbox_core.specs.Reading.{state_told}
 use Rattle.outbox_core.proofs.ReadLemmas.{told_rows}
 use Rattle.outbox_core.proofs.entries.states_of.Goals as goal

@@ -5,9 +5,10 @@ use Rattle.sqlite.proofs.StateLemmas.{survives_weaker, survives_then}
 use Rattle.http_wire.specs.Replies.{reply_parts}
 use Rattle.table_rows.proofs.ResultLemmas.{if_ok}
 use Rattle.filing_model.specs.Outbox.{moved}
-use Rattle.outbox_core.specs.Entries.{entry_at, with_state}
+use Rattle.outbox_opening.specs.Entries.{entry_at}
+use Rattle.outbox_core.specs.Entries.{with_state}
 use Rattle.filing_model.specs.Views.{view_state}
-use Rattle.outbox_core.specs.Rows.{LeavesOutbox}
+use Rattle.outbox_opening.specs.Rows.{LeavesOutbox}
 use Rattle.outbox_core.proofs.ReadLemmas.{moved_read, none_there, entry_read}
 use Rattle.outbox_core.proofs.entries.take_entry.Goals as goal
 

@@ -6,9 +6,10 @@ use Rattle.sqlite.specs.State.{QueriesRow}
 use Rattle.table_rows.specs.Rows.{row_or_none}
 use Rattle.table_rows.proofs.TextLemmas.{query_survives}
 use Rattle.outbox_core.specs.Entries.{has_id}
-use Rattle.outbox_core.proofs.Texts.{equals, entry_columns, by_id_text, by_id_asks, by_id_reads}
-use Rattle.outbox_core.proofs.SelectLemmas.{whole, matches, id_matches, row_selected, row_open, row_stands}
-use Rattle.outbox_core.proofs.HeldLemmas.{has_common}
+use Rattle.outbox_opening.proofs.Texts.{equals, entry_columns, by_id_text, by_id_asks, by_id_reads}
+use Rattle.outbox_opening.proofs.SelectLemmas.{whole, matches}
+use Rattle.outbox_core.proofs.SelectLemmas.{id_matches, row_selected, row_open, row_stands}
+use Rattle.outbox_opening.proofs.HeldLemmas.{has_common}
 use Rattle.outbox_core.proofs.rows.entry_with_id.Goals as goal
 
 pub returns-clause-found : goal.returns-clause-found

@@ -3,8 +3,10 @@ use Rattle.sqlite.specs.declared.types.Value.TheVariants.{Int}
 use Rattle.sqlite.specs.Held.{state}
 use Rattle.table_rows.proofs.TextLemmas.{query_survives}
 use Rattle.outbox_core.specs.Entries.{is_open}
-use Rattle.outbox_core.proofs.Texts.{equals, entry_columns, by_state_text, by_state_asks, by_state_reads}
-use Rattle.outbox_core.proofs.SelectLemmas.{whole, matches, open_matches, row_selected, row_open, row_stands}
+use Rattle.outbox_opening.proofs.Texts.{equals, entry_columns}
+use Rattle.outbox_core.proofs.Texts.{by_state_text, by_state_asks, by_state_reads}
+use Rattle.outbox_opening.proofs.SelectLemmas.{whole, matches}
+use Rattle.outbox_core.proofs.SelectLemmas.{open_matches, row_selected, row_open, row_stands}
 use Rattle.outbox_core.proofs.rows.first_open_entry.Goals as goal
 
 pub returns-clause-found : goal.returns-clause-found

@@ -1,5 +1,6 @@
 use Rattle.std.proofs.Common.{sym, ◌∙◌, find}
-use Rattle.outbox_core.specs.Entries.{has_text, numbered}
+use Rattle.outbox_core.specs.Entries.{has_text}
+use Rattle.outbox_opening.specs.Entries.{numbered}
 use Rattle.outbox_core.proofs.ReadLemmas.{id_shown, none_shown}
 use Rattle.outbox_core.proofs.rows.id_of_key.Goals as goal
 

@@ -3,8 +3,10 @@ use Rattle.sqlite.specs.declared.types.Value.TheVariants.{Text}
 use Rattle.sqlite.specs.Held.{state}
 use Rattle.table_rows.proofs.TextLemmas.{query_survives}
 use Rattle.outbox_core.specs.Entries.{has_text}
-use Rattle.outbox_core.proofs.Texts.{equals, id_terms, by_key_text, by_key_asks, by_key_reads}
-use Rattle.outbox_core.proofs.SelectLemmas.{id_column, matches, key_matches, row_selected, row_open, row_stands}
+use Rattle.outbox_opening.proofs.Texts.{equals}
+use Rattle.outbox_core.proofs.Texts.{id_terms, by_key_text, by_key_asks, by_key_reads}
+use Rattle.outbox_opening.proofs.SelectLemmas.{id_column, matches}
+use Rattle.outbox_core.proofs.SelectLemmas.{key_matches, row_selected, row_open, row_stands}
 use Rattle.outbox_core.proofs.rows.id_row_of_key.Goals as goal
 
 pub returns-clause-found : goal.returns-clause-found

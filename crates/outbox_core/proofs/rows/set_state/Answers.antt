@@ -6,7 +6,7 @@ use Rattle.sqlite.specs.State.{Executes, CommitsBy}
 use Rattle.sqlite.proofs.StateLemmas.{survives_weaker}
 use Rattle.table_rows.proofs.WriteLemmas.{refused_stands}
 use Rattle.filing_model.specs.Views.{view_state}
-use Rattle.outbox_core.specs.Rows.{IsOutboxOf, code_of, number_of}
+use Rattle.outbox_opening.specs.Rows.{IsOutboxOf, code_of, number_of}
 use Rattle.outbox_core.proofs.Texts.{update_text}
 use Rattle.outbox_core.proofs.UpdateLemmas.{bound_number, update_stands, update_leaves}
 use Rattle.outbox_core.proofs.ListLemmas.{another_state}

@@ -3,8 +3,8 @@ use Rattle.sqlite.specs.Held.{state}
 use Rattle.sqlite.specs.Effect.{Database}
 use Rattle.table_rows.proofs.QueryLemmas.{Asks, all_told}
 use Rattle.table_rows.proofs.TextLemmas.{query_survives}
-use Rattle.outbox_core.specs.Entries.{Contents}
-use Rattle.outbox_core.specs.Rows.{IsOutboxOf}
+use Rattle.outbox_opening.specs.Entries.{Contents}
+use Rattle.outbox_opening.specs.Rows.{IsOutboxOf}
 use Rattle.outbox_core.proofs.Texts.{states_text, states_query, states_asks, states_reads}
 use Rattle.outbox_core.proofs.SelectLemmas.{all_stand, states_selected}
 use Rattle.outbox_core.proofs.rows.state_rows.Goals as goal

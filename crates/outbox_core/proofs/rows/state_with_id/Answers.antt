@@ -6,8 +6,10 @@ use Rattle.sqlite.specs.State.{QueriesRow}
 use Rattle.table_rows.specs.Rows.{row_or_none}
 use Rattle.table_rows.proofs.TextLemmas.{query_survives}
 use Rattle.outbox_core.specs.Entries.{has_id}
-use Rattle.outbox_core.proofs.Texts.{equals, bare_state_terms, state_text, state_asks, state_reads}
-use Rattle.outbox_core.proofs.SelectLemmas.{bare_state_columns, matches, id_matches, row_selected, row_open, row_stands}
+use Rattle.outbox_opening.proofs.Texts.{equals}
+use Rattle.outbox_core.proofs.Texts.{bare_state_terms, state_text, state_asks, state_reads}
+use Rattle.outbox_core.proofs.SelectLemmas.{bare_state_columns, id_matches, row_selected, row_open, row_stands}
+use Rattle.outbox_opening.proofs.SelectLemmas.{matches}
 use Rattle.outbox_core.proofs.rows.state_with_id.Goals as goal
 
 pub returns-clause-found : goal.returns-clause-found

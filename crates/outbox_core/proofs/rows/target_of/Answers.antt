@@ -1,5 +1,5 @@
 use Rattle.std.proofs.Common.{sym, ◌∙◌}
-use Rattle.outbox_core.specs.Entries.{target_at}
+use Rattle.outbox_opening.specs.Entries.{target_at}
 use Rattle.outbox_core.proofs.TargetReads.{number_read, none_read}
 use Rattle.outbox_core.proofs.rows.target_of.Goals as goal
 

@@ -1,5 +1,5 @@
 use Rattle.std.proofs.Common.{subst, sym}
-use Rattle.outbox_core.specs.Rows.{IsOutboxOf}
+use Rattle.outbox_opening.specs.Rows.{IsOutboxOf}
 use Rattle.schedule.proofs.Coming.{outbox_lies}
 use Rattle.schedule.proofs.outboxes.outbox_in.Goals as goal
 

@@ -1,5 +1,5 @@
 use Rattle.std.proofs.Common.{◌≡◌, IfOk, subst, sym}
-use Rattle.outbox_core.specs.Entries.{Contents, empty}
+use Rattle.outbox_opening.specs.Entries.{Contents, empty}
 use Rattle.outbox_core.specs.OutboxParts.{HasEntries}
 use Rattle.schedule.proofs.outboxes.outbox_over.Goals as goal
 

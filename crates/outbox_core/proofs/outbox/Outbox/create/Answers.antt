@@ -1,7 +1,7 @@
 use Rattle.std.proofs.Common.{refl, sym, subst, rules}
 use Rattle.sqlite.specs.Held.{state}
-use Rattle.outbox_core.specs.Entries.{empty}
-use Rattle.outbox_core.specs.Rows.{IsOutboxOf}
+use Rattle.outbox_opening.specs.Entries.{empty}
+use Rattle.outbox_opening.specs.Rows.{IsOutboxOf}
 use Rattle.outbox_core.proofs.outbox.Outbox.create.Goals as goal
 
 pub returns-in-Ok : goal.returns-in-Ok

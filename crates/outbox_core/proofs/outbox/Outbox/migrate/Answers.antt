@@ -1,6 +1,6 @@
 use Rattle.std.proofs.Common.{string_bytes, rules}
 use Rattle.sqlite.specs.Held.{state}
-use Rattle.outbox_core.specs.Entries.{contents_of}
+use Rattle.outbox_opening.specs.Entries.{contents_of}
 use Rattle.outbox_core.proofs.UniqueLemmas.{one_earlier, holds_same}
 use Rattle.outbox_core.proofs.outbox.Outbox.migrate.Goals as goal
 

@@ -1,8 +1,8 @@
 use Rattle.std.proofs.Common.{subst, string_bytes, rules}
 use Rattle.sqlite.specs.Held.{state}
 use Rattle.table_rows.specs.Standing.{HasCommitted}
-use Rattle.outbox_core.specs.Entries.{contents_of}
-use Rattle.outbox_core.specs.Rows.{IsOutboxOf}
+use Rattle.outbox_opening.specs.Entries.{contents_of}
+use Rattle.outbox_opening.specs.Rows.{IsOutboxOf}
 use Rattle.outbox_core.proofs.ListLemmas.{leaves_last}
 use Rattle.outbox_core.proofs.UniqueLemmas.{one_outbox, holds_same}
 use Rattle.outbox_core.proofs.outbox.Outbox.open.Goals as goal

@@ -1,5 +1,5 @@
 use Rattle.std.proofs.Common.{sym, ◌∙◌, refl}
-use Rattle.outbox_core.specs.Entries.{empty}
+use Rattle.outbox_opening.specs.Entries.{empty}
 use Rattle.schedule.proofs.filer.Filer.new.Goals as goal
 
 pub invariant_of-result : goal.invariant_of-result

@@ -1,4 +1,4 @@
-use Rattle.outbox_core.specs.Entries.{contents_of}
+use Rattle.outbox_opening.specs.Entries.{contents_of}
 use Rattle.schedule.proofs.filer.OutboxProcess.started.Goals as goal
 
 pub returns-in_ok-outbox_in-in-Down-clause-kept : goal.returns-in_ok-outbox_in-in-Down-clause-kept

@@ -1,5 +1,5 @@
 use Rattle.std.proofs.Common.{subst}
-use Rattle.outbox_core.specs.Entries.{contents_of}
+use Rattle.outbox_opening.specs.Entries.{contents_of}
 use Rattle.outbox_core.specs.Files.{HoldOutbox}
 use Rattle.schedule.proofs.filer.OutboxProcess.stopped.Goals as goal
 

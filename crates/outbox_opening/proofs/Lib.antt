@@ -1,0 +1,15 @@
+pub mod Texts
+pub mod EntryLemmas
+pub mod SelectLemmas
+pub mod TargetLemmas
+pub mod ListLemmas
+pub mod MakeLemmas
+pub mod AuditLemmas
+pub mod HeldLemmas
+pub mod DistinctLemmas
+pub mod SoundLemmas
+pub mod RefusalLemmas
+pub mod MigrateTexts
+pub mod EarlierLemmas
+pub mod StopLemmas
+pub mod WalkLemmas

@@ -1,0 +1,30 @@
+use Rattle.std.proofs.Common.{◌≡◌, None, Some, length, sym, ◌∙◌, rules}
+use Rattle.sqlite.specs.Held.{state}
+use Rattle.outbox_opening.specs.Audit.{damaged_row}
+use Rattle.outbox_opening.proofs.AuditLemmas.{entries_found}
+use Rattle.table_rows.specs.Causes.{cause_of}
+use Rattle.outbox_opening.proofs.SoundLemmas.{no_damage, entries_readable, unlisted}
+use Rattle.outbox_opening.proofs.opening.count_whole.Goals as goal
+
+pub returns-in-None-clause-counted : goal.returns-in-None-clause-counted
+returns-in-None-clause-counted g c clean common pairs =
+    let held = c.in-Ok.ensures.held clean common in
+    let none : damaged_row c.args.targets.now c.in-Ok.rows.items ≡ None = rw c.as_slice.ensures.value at (sym c.in_ok-damaged_row-in-Ok.ensures ∙ c.in-None.is) in
+    let found = entries_found (state g.S.Store c.args.conn.now).now c.args.targets.now c.in-Ok.rows.items held.0 pairs none in
+    let counted : c.len.result ≡ length c.in-Ok.rows.items = search rules in
+    (found.0, found.1, found.2, found.3, counted ∙ found.4, held.1)
+
+pub returns-in-Ok-clause-whole : goal.returns-in-Ok-clause-whole
+returns-in-Ok-clause-whole g c clean entries common held kept same unlimited =
+    let some : damaged_row c.args.targets.now c.in-Ok.rows.items ≡ Some c.in-Some.row = rw c.as_slice.ensures.value at (sym c.in_ok-damaged_row-in-Ok.ensures ∙ c.in-Some.is) in
+    let none = no_damage (state g.S.Store c.args.conn.now) (state g.S.Store c.all_rows.new.conn) common entries c.args.targets.now c.in-Ok.rows.items held kept same (c.in-Ok.ensures.shown clean) in
+    absurd (let both = sym none ∙ some in cc)
+
+pub returns-clause-whole : goal.returns-clause-whole
+returns-clause-whole g c clean entries common held kept same unlimited =
+    let readable = entries_readable (state g.S.Store c.args.conn.now) (state g.S.Store c.all_rows.new.conn) common unlimited c.in-Err.error (c.in-Err.ensures.failed clean) in
+    rw c.entry_fault.ensures (unlisted (cause_of c.in-Err.error) readable)
+
+pub returns-in-None-clause-read : goal.returns-in-None-clause-read
+returns-in-None-clause-read g c clean =
+    (c.in-Ok.rows.items, c.in-Ok.ensures.shown clean, rw c.as_slice.ensures.value at (sym c.in_ok-damaged_row-in-Ok.ensures ∙ c.in-None.is))

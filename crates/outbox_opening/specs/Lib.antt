@@ -1,0 +1,12 @@
+pub mod Schema
+pub mod Entries
+pub mod Rows
+pub mod Faults
+pub mod Promises
+pub mod Audit
+pub mod Making
+pub mod Targets
+pub mod Earlier
+pub mod Walk
+pub mod Opening
+pub mod Migrating
