@@ -1,10 +1,9 @@
 //! The program `intake`: answers the HTTP requests of filers, from standard input or a port, and shows what its register
-//! holds. What may live here: the one call of `commands`.
+//! holds. What may live here: the one call of `intake_commands`.
 #![tactic(auto)]
 
-use commands::intake;
 use std::process::ExitCode;
 
 fn main(rt: HostRuntime) -> ExitCode {
-    ExitCode::from(intake::main(&rt))
+    ExitCode::from(intake_commands::main(&rt))
 }

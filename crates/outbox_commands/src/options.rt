@@ -1,7 +1,7 @@
 //! The tasks of `outbox` and their values, as `clap` reads them.
 
 ghost use Rattle.http_wire.specs.Posting.{IsTarget};
-ghost use Rattle.commands.specs.Targets.{IsTarget-prop};
+ghost use Rattle.outbox_commands.specs.Targets.{IsTarget-prop};
 
 use clap::{Arg, ArgAction, ArgMatches, Command, Error, value_parser};
 use command_line::{VERSION, database_option, filer_option, option, port_option};
@@ -180,14 +180,43 @@ fn migrate<'a>(alloc: Global) -> Result<Command<'a>, AllocError> {
         .arg(database(alloc))
 }
 
+/// The words that ask for a task.
+#[derive(Clone, Copy)]
+enum Word {
+    Init,
+    Put,
+    Send,
+    Status,
+    Show,
+    Migrate,
+}
+
+/// All of them, as the help has them.
+static WORDS: [Word; 6] = [
+    Word::Init,
+    Word::Put,
+    Word::Send,
+    Word::Status,
+    Word::Show,
+    Word::Migrate,
+];
+
+fn command_of<'a>(alloc: Global, word: Word) -> Result<Command<'a>, AllocError> {
+    match word {
+        Word::Init => init(alloc),
+        Word::Put => put(alloc),
+        Word::Send => send(alloc),
+        Word::Status => status(alloc),
+        Word::Show => show(alloc),
+        Word::Migrate => migrate(alloc),
+    }
+}
+
 fn tasks<'a>(alloc: Global) -> Result<Vec<Command<'a>>, AllocError> {
     let mut tasks = Vec::new(alloc);
-    tasks.push(init(alloc)?)?;
-    tasks.push(put(alloc)?)?;
-    tasks.push(send(alloc)?)?;
-    tasks.push(status(alloc)?)?;
-    tasks.push(show(alloc)?)?;
-    tasks.push(migrate(alloc)?)?;
+    for &word in &WORDS {
+        tasks.push(command_of(alloc, word)?)?;
+    }
     Ok(tasks)
 }
 

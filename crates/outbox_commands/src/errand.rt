@@ -2,12 +2,11 @@
 
 ghost use Rattle.std.specs.Prelude.{◌≡◌, None, false};
 
-use crate::database::{Cache, FileSystem, Left, Opening, Work, on_database};
-use crate::outbox::calls;
-use crate::outbox::fault::Fault;
-use crate::outbox::line::{EntryLine, LongLine};
-use crate::outbox::options::{Target, Which};
-use crate::verdict::Verdict;
+use crate::calls;
+use crate::fault::Fault;
+use crate::line::{EntryLine, LongLine};
+use crate::options::{Target, Which};
+use command_files::{Cache, FileSystem, Left, Opening, Verdict, Work, on_database};
 use command_line::show;
 use filer_client::ExchangeFault;
 use http_wire::Device;

@@ -1,12 +1,10 @@
 //! Performs a task, and says how the program ends.
 
-use crate::database::{FileSystem, SystemFiles};
-use crate::outbox::errand::{Errand, run_errand};
-use crate::outbox::fault::Fault;
-use crate::outbox::options;
-use crate::outbox::options::{Target, Task};
-use crate::report::report;
-use crate::verdict::show_verdict;
+use crate::errand::{Errand, run_errand};
+use crate::fault::Fault;
+use crate::options;
+use crate::options::{Target, Task};
+use command_files::{FileSystem, SystemFiles, report, show_verdict};
 use command_line::{CommandFault, DONE, show_refusal, words};
 use key_string::{KeyText, is_filer};
 use outbox_core::key_of;

@@ -2,12 +2,11 @@
 
 ghost use Rattle.std.specs.Prelude.{◌≡◌, None, false};
 
-use crate::database::{Cache, FileSystem, Left, Opening, Work, on_database};
-use crate::intake::calls;
-use crate::intake::fault::Fault;
-use crate::intake::options::DEFAULT_LIMIT;
-use crate::intake::progress::Progress;
-use crate::verdict::Verdict;
+use crate::calls;
+use crate::fault::Fault;
+use crate::options::DEFAULT_LIMIT;
+use crate::progress::Progress;
+use command_files::{Cache, FileSystem, Left, Opening, Verdict, Work, on_database};
 use command_line::show;
 use gateway_server::fact_line;
 use intake_core::{FilingRow, Intake, list_reply};

@@ -6,7 +6,7 @@ use std::io::Write;
 
 /// What is wrong with a database that is to be a register or an outbox.
 #[derive(Clone, Copy)]
-pub(crate) enum Verdict {
+pub enum Verdict {
     /// It is none.
     NotOurs,
     /// It is damaged at this row.
@@ -14,7 +14,7 @@ pub(crate) enum Verdict {
 }
 
 /// Prints the verdict on a database that is to be such a thing.
-pub(crate) fn show_verdict<'a, O: Write>(
+pub fn show_verdict<'a, O: Write>(
     alloc: Global,
     verdict: Verdict,
     thing: &str,

@@ -3,7 +3,7 @@
 
 ghost use Rattle.std.specs.Prelude.{◌≡◌, None, false};
 
-use crate::outbox::options::Target;
+use crate::options::Target;
 use filer_client::{ExchangeFault, exchange as exchange_entry};
 use http_wire::{Sink, Source};
 use key_string::KeyText;

@@ -1,5 +1,7 @@
 //! The commands of `intake`: it answers the HTTP requests of filers, from standard input or a port, and shows what its
-//! register holds.
+//! register holds. What may live here: what a command opens, the one call of a library that it makes, and what it prints.
+//! What the bytes and the rows mean is not known here.
+#![tactic(auto)]
 
 mod calls;
 mod fault;

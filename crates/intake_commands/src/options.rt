@@ -1,7 +1,7 @@
 //! The tasks of `intake` and their values, as `clap` reads them.
 
-use crate::intake::register::Errand;
-use crate::intake::serving::Serving;
+use crate::register::Errand;
+use crate::serving::Serving;
 use clap::{Arg, ArgAction, ArgMatches, Command, Error, value_parser};
 use command_line::{VERSION, database_option, filer_option, option, port_option};
 use std::alloc::{AllocError, Global};
@@ -156,15 +156,46 @@ fn lint<'a>(alloc: Global) -> Result<Command<'a>, AllocError> {
         .args(arguments)
 }
 
+/// The words that ask for a task.
+#[derive(Clone, Copy)]
+enum Word {
+    Run,
+    Serve,
+    List,
+    Show,
+    Check,
+    Migrate,
+    Lint,
+}
+
+/// All of them, as the help has them.
+static WORDS: [Word; 7] = [
+    Word::Run,
+    Word::Serve,
+    Word::List,
+    Word::Show,
+    Word::Check,
+    Word::Migrate,
+    Word::Lint,
+];
+
+fn command_of<'a>(alloc: Global, word: Word) -> Result<Command<'a>, AllocError> {
+    match word {
+        Word::Run => run(alloc),
+        Word::Serve => serve(alloc),
+        Word::List => list(alloc),
+        Word::Show => show(alloc),
+        Word::Check => check(alloc),
+        Word::Migrate => migrate(alloc),
+        Word::Lint => lint(alloc),
+    }
+}
+
 fn tasks<'a>(alloc: Global) -> Result<Vec<Command<'a>>, AllocError> {
     let mut tasks = Vec::new(alloc);
-    tasks.push(run(alloc)?)?;
-    tasks.push(serve(alloc)?)?;
-    tasks.push(list(alloc)?)?;
-    tasks.push(show(alloc)?)?;
-    tasks.push(check(alloc)?)?;
-    tasks.push(migrate(alloc)?)?;
-    tasks.push(lint(alloc)?)?;
+    for &word in &WORDS {
+        tasks.push(command_of(alloc, word)?)?;
+    }
     Ok(tasks)
 }
 

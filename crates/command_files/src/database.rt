@@ -5,7 +5,7 @@
 //! calls such code, since each such call costs much to prove.
 
 ghost use Rattle.std.specs.Prelude.{◌≡◌, ◌≢◌, None, false, Err, IfOk, IfErr, IsTrue};
-ghost use Rattle.commands.specs.Faults.{database_fault};
+ghost use Rattle.command_files.specs.Faults.{database_fault};
 
 use command_line::{CommandFault, DatabaseFault};
 use sqlite::{Alter, Connection, Error, ErrorCode, File, FileStore, Files, Options, Unknown};
@@ -37,7 +37,7 @@ const LEAST_LOG: u64 = 568;
 /// How many pages of a file are kept in memory. Their room is taken at once, so that a command on a small file ends
 /// sooner with few.
 #[derive(Clone, Copy)]
-pub(crate) enum Cache {
+pub enum Cache {
     /// As many as the file has and some more, up to a few: for a command that ends at once.
     OfTheFile,
     /// The most: for a file that grows while it is served.
@@ -46,7 +46,7 @@ pub(crate) enum Cache {
 
 /// How the database of a file comes to be open.
 #[derive(Clone, Copy)]
-pub(crate) enum Opening {
+pub enum Opening {
     /// It is there.
     Found(Cache),
     /// It is there, or is made where the file is missing or empty.
@@ -54,7 +54,7 @@ pub(crate) enum Opening {
 }
 
 /// What a command leaves of a database.
-pub(crate) enum Left<S: Alter> {
+pub enum Left<S: Alter> {
     /// Its connection, which is to be closed.
     Open(Connection<S>),
     /// The same where the database refused a call. That it refuses the close too is then no news.
@@ -66,7 +66,7 @@ pub(crate) enum Left<S: Alter> {
 }
 
 /// What a command does with a database that is open.
-pub(crate) trait Work: Drop {
+pub trait Work: Drop {
     /// What comes of it.
     type Answer;
 
@@ -78,7 +78,7 @@ pub(crate) trait Work: Drop {
 
 /// How a visit to a database went.
 #[derive(Drop)]
-pub(crate) struct Visited<A> {
+pub struct Visited<A> {
     pub answer: A,
     /// Whether what was left of it is closed. Where it is not, what was committed stays, in the log beside the file.
     pub closed: Result<(), Error>,
@@ -175,7 +175,7 @@ fn fault_of_name(rt: &HostRuntime, name: &str) -> DatabaseFault
 
 /// Opens the database of the file with this name, does this work on it, and closes what that leaves. Beside a file that
 /// is none of ours nothing is left.
-pub(crate) fn on_database<'a, D: Disk + Drop, F: FileSystem<D>, W: Work>(
+pub fn on_database<'a, D: Disk + Drop, F: FileSystem<D>, W: Work>(
     rt: &HostRuntime,
     system: &F,
     name: &'a str,

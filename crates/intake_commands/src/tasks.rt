@@ -1,14 +1,12 @@
 //! Performs a task, and says how the program ends.
 
-use crate::database::{FileSystem, SystemFiles};
-use crate::intake::fault::Fault;
-use crate::intake::limit::Limit;
-use crate::intake::options::Task;
-use crate::intake::register::{Errand, run_errand};
-use crate::intake::serving::serve_file;
-use crate::intake::{calls, finding, options};
-use crate::report::report;
-use crate::verdict::show_verdict;
+use crate::fault::Fault;
+use crate::limit::Limit;
+use crate::options::Task;
+use crate::register::{Errand, run_errand};
+use crate::serving::serve_file;
+use crate::{calls, finding, options};
+use command_files::{FileSystem, SystemFiles, report, show_verdict};
 use command_line::{CommandFault, DONE, show, show_refusal, words};
 use gateway_server::Ended;
 use http_wire::Device;

@@ -2,13 +2,13 @@
 
 ghost use Rattle.std.specs.Prelude.{◌≡◌, None, false};
 
-use crate::database::{Cache, FileSystem, Left, Opening, Work, on_database};
-use crate::intake::calls;
-use crate::intake::fault::Fault;
-use crate::intake::limit::Limit;
-use crate::intake::log::{ConnectionLine, Noted, Statuses};
-use crate::intake::note::Note;
-use crate::intake::register::{create, left_by, open, tell_close};
+use crate::calls;
+use crate::fault::Fault;
+use crate::limit::Limit;
+use crate::log::{ConnectionLine, Noted, Statuses};
+use crate::note::Note;
+use crate::register::{create, left_by, open, tell_close};
+use command_files::{Cache, FileSystem, Left, Opening, Work, on_database};
 use command_line::show;
 use gateway_server::{Ended, Served};
 use http_wire::{Device, Sink, Source};

@@ -2,7 +2,7 @@
 
 ghost use Rattle.std.specs.Prelude.{◌≡◌, ◌≤◌, ◌^◌, IfOk};
 
-use crate::intake::fault::Fault;
+use crate::fault::Fault;
 
 /// The greatest limit.
 const MOST_KEPT: u64 = 1 << 62;

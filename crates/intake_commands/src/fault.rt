@@ -1,7 +1,6 @@
 //! Why a task is not done, in words and as a status.
 
-use crate::report::ReportFault;
-use crate::verdict::Verdict;
+use command_files::{ReportFault, Verdict};
 use command_line::{CommandFault, DatabaseFault};
 use http_wire::ConnFault;
 use intake_core::Unavailable;

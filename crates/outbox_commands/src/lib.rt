@@ -1,0 +1,14 @@
+//! The commands of `outbox`: it keeps the reports that a filer is to send, and sends them. What may live here: what a
+//! command opens, the one call of a library that it makes, and what it prints. What the bytes and the rows mean is not
+//! known here.
+#![tactic(auto)]
+
+mod calls;
+mod errand;
+mod fault;
+mod line;
+mod options;
+mod tasks;
+
+pub use line::EntryLine;
+pub use tasks::{main, perform};
