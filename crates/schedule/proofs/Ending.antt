@@ -4,8 +4,8 @@ use Rattle.std.proofs.lemmas.List.{take-map}
 use Rattle.std.proofs.lemmas.Option.{slice_get-map, slice_get-get_or}
 use Rattle.filing_world.specs.World.{World, Event}
 use Rattle.filing_world.specs.Step.{Run, CannotPlay}
-use Rattle.schedule.specs.declared.fault.Cause.{Cause}
-use Rattle.schedule.specs.declared.fault.Cause.TheVariants as cause
+use Rattle.filing_ends.specs.declared.cause.Cause.{Cause}
+use Rattle.filing_ends.specs.declared.cause.Cause.TheVariants as cause
 use Rattle.schedule.specs.declared.fault.Fault.{Fault}
 use Rattle.schedule.specs.declared.fault.Fault.TheVariants.{NoSuch, Memory, Store, Reopen}
 use Rattle.schedule.specs.Faults.{fault_at}

@@ -10,7 +10,8 @@ use Rattle.filing_world.specs.World.{Outbox, new_outbox}
 use Rattle.filing_world.specs.Headline.{states_of, states_from, number_in}
 use Rattle.filing_model.specs.Outbox.{State as Kept}
 use Rattle.filing_model.specs.declared.state.State.{State}
-use Rattle.schedule.specs.Listed.{listed, view_listed}
+use Rattle.filing_ends.specs.Listed.{listed}
+use Rattle.schedule.specs.Listed.{view_listed}
 
 pub drop_at : {X : Type 0} → (xs : List X) (at : ℕ) (x : X) → slice_get xs at ≡ Some x → drop at xs ≡ x ∷ drop (suc at) xs
 drop_at xs at x there = drop-cons xs at x (slice_get_within xs at x there) ∙ ap (λ y. y ∷ drop (suc at) xs) (get_or_from_slice_get xs at x x there)

@@ -10,8 +10,9 @@ use Rattle.filing_world.specs.World.{Outbox, Sent, Output, numbered, renewed}
 use Rattle.filing_world.specs.Step.{Puts, Sends, Hands, Restarts, Hears, with_entry, box_after, IsAway}
 use Rattle.filing_world.specs.Invariant.{AllOwn}
 use Rattle.filing_world.proofs.Lists.{renewed_same, written}
-use Rattle.schedule.specs.declared.fault.Cause.{Cause}
-use Rattle.schedule.specs.Played.{Served, world_of, IsRequest}
+use Rattle.filing_ends.specs.declared.cause.Cause.{Cause}
+use Rattle.filing_ends.specs.Outboxes.{IsRequest}
+use Rattle.schedule.specs.Played.{Served, world_of}
 
 -- the element at a place within a list
 pub element_at : {X : Type 0} → (xs : List X) (at : ℕ) (x : X) → at < length xs → x ≡ slice_index_or xs at x → slice_get xs at ≡ Some x
@@ -60,7 +61,7 @@ module _ (boxes : List Outbox) (at number : ℕ) (is : number ≡ suc at) (box :
   }
   put_step up entry new (Err e) becomes key target = tt
 
-  pub send_step : box.up ≡ true → (entry : ℕ) (text : List ℕ) (sent more : List Sent) (new : Outbox) → IsRequest box entry text → new ≡ box → more ≡ sent ++ record { from = Some (number, entry); bytes = text } ∷ []
+  pub send_step : box.up ≡ true → (entry : ℕ) (text : List ℕ) (sent more : List Sent) (new : Outbox) → IsRequest box.filer box.entries entry text → new ≡ box → more ≡ sent ++ record { from = Some (number, entry); bytes = text } ∷ []
       → (server : Served) (outputs : List Output) → Sends (world_of server sent outputs boxes) number entry (world_of server more outputs (slice_set boxes at new))
   send_step up entry text sent more new request same pushed server outputs = record {
     box = box;

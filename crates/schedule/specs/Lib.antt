@@ -1,9 +1,4 @@
-pub mod Bytes
-pub mod Durable
 pub mod Faults
-pub mod Filer
 pub mod Listed
-pub mod Outboxes
 pub mod Played
 pub mod Playing
-pub mod Server

@@ -6,11 +6,7 @@ use Rattle.filing_world.specs.World.{Outbox}
 use Rattle.filing_model.specs.declared.state.State.{State as Stored}
 use Rattle.filing_model.specs.Views.{view_state}
 
--- an entry of an outbox by its number and its state
-abbrev pub listed : ℕ → ℕ × Stored → ℕ × ℕ × State
-listed outbox (number, state) = (outbox, number, view_state state)
-
--- the same, with the number of the outbox
+-- an entry by the number of its outbox, its own number and its state
 abbrev pub view_listed : ℕ × ℕ × Stored → ℕ × ℕ × State
 view_listed (outbox, number, state) = (outbox, number, view_state state)
 

@@ -5,7 +5,6 @@ use Rattle.sqlite_store.specs.declared.store.FileStore.{FileStore}
 use Rattle.sqlite.specs.Files.{over_files}
 use Rattle.outbox_core.specs.OutboxParts.{OutboxParts, HasEntries}
 use Rattle.filing_model.specs.Request.{Request}
-use Rattle.filing_model.specs.Outbox.{Entry, request_of, bytes_of}
 use Rattle.filing_world.specs.World.{Outbox, Sent, Output, World, Event, numbered}
 use Rattle.filing_world.specs.Step.{Run, CannotPlay}
 use Rattle.schedule.specs.declared.fault.Fault.{Fault}
@@ -53,12 +52,6 @@ EndsBy first events (Store n) = (n ≡ 0) ⊎ ((world : World) × (event : Event
 EndsBy first events (Reopen n) = (n ≡ 0) ⊎ ((world : World) × (event : Event) × Comes first events n world event)
 
 -- ---- what is lent
-
--- the bytes of the request of the entry of this number
-pub record IsRequest (box : Outbox) (number : ℕ) (text : List ℕ) : Type 0 where
-  pub entry : Entry
-  pub there : numbered box.entries number ≡ Some entry
-  pub bytes : text ≡ bytes_of (request_of box.filer entry)
 
 -- the outbox of this number is up, and this one, with the entries and the filer that it has in the world
 pub record IsLent {D : Type 0} {g : Ghosts D} (boxes : List Outbox) (number : ℕ) (it : OutboxParts (FileStore D g)) : Type 0 where

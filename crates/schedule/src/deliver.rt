@@ -7,11 +7,10 @@ ghost use Rattle.filing_world.specs.Step.{Delivers, CannotPlay};
 ghost use Rattle.schedule.specs.Played.{world_of};
 
 use crate::element::{first, index_of};
-use crate::fault::Cause;
-use crate::honest::Honest;
 use crate::lists::{Output, Sent};
 use crate::server::{Delivered, Server};
 use event_script::Crash;
+use filing_ends::{Cause, Honest};
 
 pub(crate) fn deliver<D: Honest>(
     server: &mut Server<D>,

@@ -5,10 +5,9 @@ ghost use Rattle.filing_world.specs.World.{Outbox as Ours, Sent as Item, numbere
 ghost use Rattle.filing_world.specs.Step.{IsAway};
 ghost use Rattle.schedule.specs.Played.{IsLent};
 
-use crate::fault::Cause;
 use crate::filer::Filer;
-use crate::honest::Honest;
 use crate::lists::Sent;
+use filing_ends::{Cause, Honest};
 use outbox_core::Outbox;
 use sqlite::FileStore;
 

@@ -1,8 +1,6 @@
 //! Why an event was not played.
 
-use sqlite::Error as DatabaseError;
-use std::alloc::AllocError;
-use table_rows::Cause as Refusal;
+use filing_ends::Cause;
 use thiserror::Error;
 
 /// Why the world stopped. Events count from 1, and 0 stands for its making.
@@ -22,46 +20,15 @@ pub enum Fault {
     Reopen { event: u64 },
 }
 
-/// The same of an event that is not numbered.
-#[derive(Clone, Copy, Debug, PartialEq, Eq)]
-pub(crate) enum Cause {
-    NoSuch,
-    Memory,
-    Store,
-    Reopen,
-}
-
-impl From<AllocError> for Cause {
+impl Fault {
     ghost use Rattle.std.specs.Prelude.{◌≡◌};
-    ghost use Rattle.schedule.specs.declared.fault.Cause.TheVariants.{Memory};
+    ghost use Rattle.schedule.specs.Faults.{fault_at};
 
-    ghost from_gives = { λ _ cause. cause ≡ Memory };
-
-    fn from(_error: AllocError) -> Cause {
-        Cause::Memory
-    }
-}
-
-impl Cause {
-    ghost use Rattle.std.specs.Prelude.{◌≡◌, ◌≢◌};
-    ghost use Rattle.schedule.specs.Faults.{fault_at, reopen_cause};
-
-    /// The cause where a database was not opened.
-    pub(crate) fn of_opening(error: DatabaseError) -> Cause
-        ensures cause { result ≡ reopen_cause error }
-        ensures other { result ≢ Cause.NoSuch }
+    /// This cause, of the event of this number.
+    pub(crate) fn of(cause: Cause, event: u64) -> Fault
+        ensures { result ≡ fault_at event cause }
     {
-        match Refusal::from(error) {
-            Refusal::Memory => Cause::Memory,
-            Refusal::Disk | Refusal::Other => Cause::Reopen,
-        }
-    }
-
-    /// The fault of the event of this number.
-    pub(crate) fn at(self, event: u64) -> Fault
-        ensures { result ≡ fault_at event self }
-    {
-        match self {
+        match cause {
             Cause::NoSuch => Fault::NoSuch { event },
             Cause::Memory => Fault::Memory,
             Cause::Store => Fault::Store { event },

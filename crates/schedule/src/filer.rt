@@ -1,6 +1,6 @@
-//! The filer's end: an outbox in files, or these files where it is down, with a copy of its entries.
+//! The filer's end: the process that its outbox runs in, with a copy of its entries.
 
-ghost use Rattle.std.specs.Prelude.{◌≡◌, ◌≢◌, ◌↔◌, ℕ, List, map, true, false, Option, Some, None, IsSome, IfOk, IfSome, OnOk, Err};
+ghost use Rattle.std.specs.Prelude.{◌≡◌, ◌≢◌, ◌↔◌, ℕ, map, true, false, Option, Some, None, IsSome, IfOk, IfSome, OnOk, Err};
 ghost use Rattle.key_string.specs.Key.{IsKey};
 ghost use Rattle.key_string.specs.Filer.{is_filer};
 ghost use Rattle.http_wire.specs.Reply.{ReplyParts};
@@ -14,77 +14,18 @@ ghost use Rattle.http_wire.specs.Posting.{IsTarget};
 ghost use Rattle.outbox_core.specs.OutboxParts.{HasEntries};
 ghost use Rattle.outbox_core.specs.Entries.{opened};
 ghost use Rattle.event_script.specs.Events.{view_crash};
-ghost use Rattle.schedule.specs.Listed.{listed};
-ghost use Rattle.schedule.specs.Played.{IsRequest};
+ghost use Rattle.filing_ends.specs.Listed.{listed};
+ghost use Rattle.filing_ends.specs.Outboxes.{IsRequest};
 
-use crate::fault::Cause;
-use crate::honest::Honest;
-use crate::opening::new_files;
-use crate::outboxes::{
-    HearReply, ListStates, Opening, Put, WriteRequest, ask, files_of_outbox, outbox_in,
-};
 use crate::report::{Report, set_state};
 use event_script::Crash;
+use filing_ends::{Cause, Honest, OutboxProcess};
 use key_string::KeyText;
 use outbox_core::{Outbox, State, StoreFault};
-use sqlite::{FileStore, Files};
-use sqlite_disk::Disk;
+use sqlite::FileStore;
 use std::alloc::Global;
 use std::marker::Model;
 use std::mem;
-
-/// The process that an outbox runs in: up, with the outbox open, or down, with its files alone.
-pub(crate) enum OutboxProcess<D: Disk + Drop> {
-    Up(Outbox<FileStore<D>>),
-    Down(Files<D>),
-    /// A fault took it, after which nothing is played.
-    Gone,
-}
-
-impl<D: Disk + Drop> Drop for OutboxProcess<D> {
-    // Its database is closed, as it is where the process stops.
-    fn drop(self) {
-        match self {
-            OutboxProcess::Up(outbox) => drop(outbox.into_files()),
-            OutboxProcess::Down(_files) => {}
-            OutboxProcess::Gone => {}
-        }
-    }
-}
-
-impl<D: Honest> OutboxProcess<D> {
-    ghost use Rattle.schedule.specs.Filer.{Keeps, is_up};
-
-    /// The files in the place of the outbox.
-    fn stopped(self) -> Result<OutboxProcess<D>, Cause>
-        ensures kept { (filer : List ℕ) (entries : List Item) → Keeps self filer entries
-            → IfOk result (λ process. Keeps process filer entries) }
-        ensures down { IfOk result (λ process. is_up process ≡ false) }
-        ensures other { result ≢ Err Cause.NoSuch }
-    {
-        match self {
-            OutboxProcess::Up(outbox) => Ok(OutboxProcess::Down(files_of_outbox(outbox)?)),
-            OutboxProcess::Down(files) => Ok(OutboxProcess::Down(files)),
-            OutboxProcess::Gone => Err(Cause::Reopen),
-        }
-    }
-
-    /// The outbox in the place of its files.
-    fn started(self, alloc: Global) -> Result<OutboxProcess<D>, Cause>
-        ensures kept { (filer : List ℕ) (entries : List Item) → Keeps self filer entries
-            → IfOk result (λ process. Keeps process filer entries) }
-        ensures up { IfOk result (λ process. is_up process ≡ true) }
-        ensures other { result ≢ Err Cause.NoSuch }
-    {
-        match self {
-            OutboxProcess::Up(outbox) => Ok(OutboxProcess::Up(outbox)),
-            OutboxProcess::Down(files) => {
-                Ok(OutboxProcess::Up(outbox_in(alloc, files, Opening::Found)?))
-            }
-            OutboxProcess::Gone => Err(Cause::Reopen),
-        }
-    }
-}
 
 /// The outbox of a filer with copies of its entries, whether it is up or down.
 pub(crate) struct Filer<D: Honest> {
@@ -97,7 +38,7 @@ pub(crate) struct Filer<D: Honest> {
 impl<D: Honest> Model for Filer<D> {
     ghost use Rattle.std.specs.Prelude.{string_bytes};
     ghost use Rattle.filing_world.specs.World.{Outbox as Box};
-    ghost use Rattle.schedule.specs.Filer.{Keeps, is_up};
+    ghost use Rattle.filing_ends.specs.OutboxProcess.{Keeps, is_up};
 
     ghost Value = { Box };
 
@@ -125,12 +66,11 @@ impl<D: Honest> Filer<D> {
         ensures made { IfOk result (λ f. f ≡ new_outbox code.now) }
         ensures other { result ≢ Err Cause.NoSuch }
     {
-        let opening = Opening::Made { filer: code };
         Ok(Filer {
             alloc,
             code: String::from_str(alloc, code)?,
             entries: Vec::new(alloc),
-            process: OutboxProcess::Up(outbox_in(alloc, new_files(alloc), opening)?),
+            process: OutboxProcess::new(alloc, code)?,
         })
     }
 
@@ -157,10 +97,7 @@ impl<D: Honest> Filer<D> {
     {
         let report = Report::open(self.alloc, key, target, body)?;
         self.entries.reserve(1)?;
-        let OutboxProcess::Up(outbox) = &mut self.process else {
-            return Err(Cause::Store);
-        };
-        if ask(self.alloc, outbox, Put { key, target, body })? {
+        if self.process.put(self.alloc, key, target, body)? {
             self.entries.push_reserved(report);
         }
         Ok(())
@@ -170,14 +107,11 @@ impl<D: Honest> Filer<D> {
     /// there is none, and `Store` where the outbox refused for another cause than memory.
     pub(crate) fn request(&mut self, entry: u64) -> Result<Vec<u8>, Cause>
         requires { self.old.up ≡ true }
-        ensures bytes { IfOk result (λ text. IsRequest self.old entry text.items) }
+        ensures bytes { IfOk result (λ text. IsRequest self.old.filer self.old.entries entry text.items) }
         ensures same { OnOk result (self.new ≡ self.old) }
         ensures no_such { result ≡ Err Cause.NoSuch → numbered self.old.entries entry ≡ None }
     {
-        let OutboxProcess::Up(outbox) = &mut self.process else {
-            return Err(Cause::Store);
-        };
-        ask(self.alloc, outbox, WriteRequest { number: entry })
+        self.process.request(self.alloc, entry)
     }
 
     /// Hands these bytes to the entry of this number as the reply to its request. Bytes that give no reply
@@ -208,14 +142,7 @@ impl<D: Honest> Filer<D> {
             × (self.new ≡ box_after self.old entry what heard No)) }
         ensures other { result ≢ Err Cause.NoSuch }
     {
-        let OutboxProcess::Up(outbox) = &mut self.process else {
-            return Err(Cause::Store);
-        };
-        let reply = HearReply {
-            number: entry,
-            bytes,
-        };
-        if let Some(state) = ask(self.alloc, outbox, reply)? {
+        if let Some(state) = self.process.hear(self.alloc, entry, bytes)? {
             set_state(&mut self.entries, entry, state);
         }
         Ok(())
@@ -250,10 +177,7 @@ impl<D: Honest> Filer<D> {
             (number : ℕ) → map (listed number) s.items ≡ states_of number 1 self.old.entries) }
         ensures down { self.old.up ≡ false → result ≡ Err StoreFault.Store }
     {
-        let OutboxProcess::Up(outbox) = &mut self.process else {
-            return Err(StoreFault::Store);
-        };
-        ask(self.alloc, outbox, ListStates)
+        self.process.states(self.alloc)
     }
 
     /// The outbox, where it is up.

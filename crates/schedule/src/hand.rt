@@ -8,11 +8,10 @@ ghost use Rattle.filing_world.specs.Invariant.{AllOwn};
 ghost use Rattle.schedule.specs.Played.{Served, world_of};
 
 use crate::element::{first, index_of, sender_of, up_at};
-use crate::fault::Cause;
 use crate::filer::Filer;
-use crate::honest::Honest;
 use crate::lists::{Output, Sent};
 use event_script::Crash;
+use filing_ends::{Cause, Honest};
 
 /// Where the items that were sent for entries carry these, it is a step of the world.
 pub(crate) fn hand<D: Honest>(

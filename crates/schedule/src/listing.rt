@@ -2,10 +2,11 @@
 
 ghost use Rattle.std.specs.Prelude.{◌≡◌, ◌++◌, ◌∷◌, [], map, filter_map, false, IfOk, OnOk, Err};
 ghost use Rattle.filing_world.specs.Headline.{states_from, number_in};
-ghost use Rattle.schedule.specs.Listed.{listed, view_listed, are_up};
+ghost use Rattle.filing_ends.specs.Listed.{listed};
+ghost use Rattle.schedule.specs.Listed.{view_listed, are_up};
 
 use crate::filer::Filer;
-use crate::honest::Honest;
+use filing_ends::Honest;
 use outbox_core::{State, StoreFault};
 use std::alloc::{AllocError, Global};
 

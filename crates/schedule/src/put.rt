@@ -8,9 +8,8 @@ ghost use Rattle.outbox_core.specs.Entries.{opened};
 ghost use Rattle.schedule.specs.Played.{Served, world_of};
 
 use crate::element::up_at;
-use crate::fault::Cause;
 use crate::filer::Filer;
-use crate::honest::Honest;
+use filing_ends::{Cause, Honest};
 use key_string::KeyText;
 
 pub(crate) fn put<D: Honest>(

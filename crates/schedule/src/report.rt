@@ -1,11 +1,11 @@
 //! Copies of the reports that an outbox has.
 
 ghost use Rattle.std.specs.Prelude.{◌≡◌, IfOk};
-ghost use Rattle.key_string.specs.Key.{IsKey};
 ghost use Rattle.outbox_core.specs.Entries.{opened, set_state};
 ghost use Rattle.filing_model.specs.Views.{view_state};
 
-use key_string::{KeyFault, KeyText};
+use filing_ends::copy_key;
+use key_string::KeyText;
 use outbox_core::State;
 use std::alloc::{AllocError, Global};
 use std::marker::Model;
@@ -51,20 +51,6 @@ impl Report {
         ensures { self.new ≡ record self.old { state = view_state state } }
     {
         self.state = state;
-    }
-}
-
-/// Another key of the same text.
-pub(crate) fn copy_key(alloc: Global, key: &KeyText) -> Result<KeyText, AllocError>
-    ensures same { IfOk result (λ copy. copy ≡ key.now) }
-    ensures key { IsKey key.now }
-{
-    match KeyText::new(alloc, key.as_str()) {
-        Ok(copy) => Ok(copy),
-        Err(fault) => {
-            prove!(fault == KeyFault::Memory);
-            Err(AllocError)
-        }
     }
 }
 

@@ -6,9 +6,8 @@ ghost use Rattle.filing_world.specs.Step.{Restarts, CannotPlay};
 ghost use Rattle.schedule.specs.Played.{Served, world_of};
 
 use crate::element::index_of;
-use crate::fault::Cause;
 use crate::filer::Filer;
-use crate::honest::Honest;
+use filing_ends::{Cause, Honest};
 
 pub(crate) fn restart_outbox<D: Honest>(
     filers: &mut Vec<Filer<D>>,

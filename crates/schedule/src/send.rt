@@ -6,10 +6,9 @@ ghost use Rattle.filing_world.specs.Step.{Sends, CannotPlay};
 ghost use Rattle.schedule.specs.Played.{Served, world_of};
 
 use crate::element::up_at;
-use crate::fault::Cause;
 use crate::filer::Filer;
-use crate::honest::Honest;
 use crate::lists::Sent;
+use filing_ends::{Cause, Honest};
 use std::alloc::{AllocError, Global};
 
 pub(crate) fn send<D: Honest>(

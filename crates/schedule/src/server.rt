@@ -1,4 +1,4 @@
-//! The intake's end: an intake over a register in files, or these files where it is down.
+//! The intake's end: the process that it runs in, with the requests that it completed.
 
 ghost use Rattle.std.specs.Prelude.{◌≡◌, ◌≢◌, ◌≤◌, ◌^◌, ◌++◌, ◌↔◌, [], ℕ, List, true, false, Some, IsSome, IfOk, IfSome, OnOk, Err, length};
 ghost use Rattle.http_wire.specs.Message.{Arrival, Ending};
@@ -12,40 +12,18 @@ ghost use Rattle.filing_world.specs.Step.{is_no};
 ghost use Rattle.sqlite.specs.Files.{over_files};
 ghost use Rattle.intake_core.specs.Held.{HoldsRequests};
 ghost use Rattle.gateway_server.specs.Stopping.{view_stop};
-ghost use Rattle.schedule.specs.Server.{Keeps, is_up};
+ghost use Rattle.filing_ends.specs.IntakeProcess.{Keeps, is_up};
 
-use crate::fault::Cause;
-use crate::honest::Honest;
-use crate::opening::new_files;
-use crate::registers::{Answered, ListRegister, Opening, Serve, ask, files_of_intake, intake_in};
 use event_script::Crash;
+use filing_ends::{Answered, Cause, Honest, IntakeProcess};
 use filing_model::{Ended, Mark};
 use gateway_server::{Stop, completed};
 use intake_core::{Intake, Unavailable};
 use register_store::{Completed, Registered};
-use sqlite::{FileStore, Files};
+use sqlite::FileStore;
 use std::alloc::{AllocError, Global};
 use std::marker::Model;
 use std::mem;
-
-/// The process that the intake runs in: up, with its register open, or down, with its files alone.
-pub(crate) enum IntakeProcess<D: Honest> {
-    Up(Intake<FileStore<D>>),
-    Down(Files<D>),
-    /// A fault took it, after which nothing is played.
-    Gone,
-}
-
-impl<D: Honest> Drop for IntakeProcess<D> {
-    // Its database is closed, as it is where the process stops.
-    fn drop(self) {
-        match self {
-            IntakeProcess::Up(intake) => drop(files_of_intake(intake)),
-            IntakeProcess::Down(_files) => {}
-            IntakeProcess::Gone => {}
-        }
-    }
-}
 
 /// The intake with the requests that it completed.
 pub(crate) struct Server<D: Honest> {
@@ -59,7 +37,7 @@ impl<D: Honest> Model for Server<D> {
     ghost use Rattle.std.specs.Prelude.{◌≤◌, ◌^◌};
     ghost use Rattle.filing_model.specs.Request.{firsts};
     ghost use Rattle.schedule.specs.Played.{Served};
-    ghost use Rattle.schedule.specs.Server.{Keeps, is_up};
+    ghost use Rattle.filing_ends.specs.IntakeProcess.{Keeps, is_up};
 
     ghost Value = { Served };
 
@@ -99,92 +77,20 @@ fn stop_of(crash: Crash) -> Stop
     }
 }
 
-impl<D: Honest> IntakeProcess<D> {
-    /// An intake over an empty register.
-    fn new(alloc: Global, limit: u64) -> Result<IntakeProcess<D>, Cause>
-        requires { limit ≤ 2 ^ 62 }
-        ensures kept { IfOk result (λ process. Keeps process limit (firsts [])) }
-        ensures up { IfOk result (λ process. is_up process ≡ true) }
-        ensures other { result ≢ Err Cause.NoSuch }
-    {
-        let files = new_files(alloc);
-        Ok(IntakeProcess::Up(intake_in(alloc, files, Opening::Made, limit)?))
-    }
-
-    /// What serving these bytes came to.
-    fn serve(&mut self, alloc: Global, bytes: &[u8], stop: Stop) -> Result<Answered, Cause>
-        ensures serves { (limit : ℕ) (done : List Request) → Keeps self.old limit (firsts done) → is_up self.old ≡ true
-            → IfOk result (λ a. (arrivals : List Arrival)
-            × ServesUntil limit done bytes.now (view_stop stop) arrivals a.marks.items a.ended a.text.items
-            × Keeps self.new limit (firsts (done ++ completed arrivals a.marks.items))) }
-        ensures up { is_up self.new ≡ is_up self.old }
-        ensures other { result ≢ Err Cause.NoSuch }
-    {
-        match self {
-            IntakeProcess::Up(intake) => Ok(ask(alloc, intake, Serve { bytes, stop })?),
-            IntakeProcess::Down(_files) => Err(Cause::Store),
-            IntakeProcess::Gone => Err(Cause::Store),
-        }
-    }
-
-    /// The files in the place of the register.
-    fn stopped(self) -> Result<IntakeProcess<D>, Cause>
-        ensures kept { (limit : ℕ) (F : List Request) → Keeps self limit F
-            → IfOk result (λ process. Keeps process limit F) }
-        ensures down { IfOk result (λ process. is_up process ≡ false) }
-        ensures other { result ≢ Err Cause.NoSuch }
-    {
-        match self {
-            IntakeProcess::Up(intake) => Ok(IntakeProcess::Down(files_of_intake(intake)?)),
-            IntakeProcess::Down(files) => Ok(IntakeProcess::Down(files)),
-            IntakeProcess::Gone => Err(Cause::Store),
-        }
-    }
-
-    /// The process after a delivery: with a crash the files, and else the process itself.
-    fn after(self, crash: Crash) -> Result<IntakeProcess<D>, Cause>
-        ensures kept { (limit : ℕ) (F : List Request) → Keeps self limit F
-            → IfOk result (λ process. Keeps process limit F) }
-        ensures up { is_up self ≡ true → IfOk result (λ process. is_up process ≡ is_no (view_crash crash)) }
-        ensures other { result ≢ Err Cause.NoSuch }
-    {
-        match crash {
-            Crash::No => Ok(self),
-            Crash::Before(_) => self.stopped(),
-            Crash::After(_) => self.stopped(),
-        }
-    }
-
-    /// The register in the place of the files.
-    fn started(self, alloc: Global, limit: u64) -> Result<IntakeProcess<D>, Cause>
-        requires { limit ≤ 2 ^ 62 }
-        ensures kept { (F : List Request) → firsts F ≡ F → Keeps self limit F
-            → IfOk result (λ process. Keeps process limit F) }
-        ensures up { IfOk result (λ process. is_up process ≡ true) }
-        ensures other { result ≢ Err Cause.NoSuch }
-    {
-        match self {
-            IntakeProcess::Up(intake) => Ok(IntakeProcess::Up(intake)),
-            IntakeProcess::Down(files) => {
-                Ok(IntakeProcess::Up(intake_in(alloc, files, Opening::Found, limit)?))
-            }
-            IntakeProcess::Gone => Err(Cause::Store),
-        }
-    }
-
-    /// The registered requests under their numbers.
-    fn register(&mut self, alloc: Global) -> Result<Vec<Registered>, Unavailable>
-        ensures list { (limit : ℕ) (F : List Request) → Keeps self.old limit F
-            → IfOk result (λ rows. rows.items ≡ register F) }
-        ensures kept { (limit : ℕ) (F : List Request) → Keeps self.old limit F → Keeps self.new limit F }
-        ensures up { is_up self.new ≡ is_up self.old }
-        ensures down { is_up self.old ≡ false → result ≡ Err Unavailable.Down }
-    {
-        match self {
-            IntakeProcess::Up(intake) => ask(alloc, intake, ListRegister),
-            IntakeProcess::Down(_files) => Err(Unavailable::Down),
-            IntakeProcess::Gone => Err(Unavailable::Down),
-        }
+/// The process after a delivery: with a crash the files, and else the process itself.
+fn after_delivery<D: Honest>(
+    process: IntakeProcess<D>,
+    crash: Crash,
+) -> Result<IntakeProcess<D>, Cause>
+    ensures kept { (limit : ℕ) (F : List Request) → Keeps process limit F
+        → IfOk result (λ it. Keeps it limit F) }
+    ensures up { is_up process ≡ true → IfOk result (λ it. is_up it ≡ is_no (view_crash crash)) }
+    ensures other { result ≢ Err Cause.NoSuch }
+{
+    match crash {
+        Crash::No => Ok(process),
+        Crash::Before(_) => process.stopped(),
+        Crash::After(_) => process.stopped(),
     }
 }
 
@@ -264,7 +170,7 @@ impl<D: Honest> Server<D> {
         let mut process = mem::replace(&mut self.process, IntakeProcess::Gone);
         let answered = process.serve(self.alloc, bytes, stop_of(crash))?;
         append_completed(self.alloc, &mut self.done, bytes, answered.marks.as_slice())?;
-        let after = process.after(crash)?;
+        let after = after_delivery(process, crash)?;
         self.process = after;
         let Answered { marks, ended, text } = answered;
         Ok(Delivered {

@@ -16,10 +16,9 @@ ghost use Rattle.schedule.specs.Listed.{view_listed, are_up};
 
 use crate::deliver::deliver;
 use crate::element::outbox_at;
-use crate::fault::{Cause, Fault};
+use crate::fault::Fault;
 use crate::filer::Filer;
 use crate::hand::hand;
-use crate::honest::Honest;
 use crate::listing::{all_states, confirmed_of};
 use crate::lists::{Output, Sent};
 use crate::put::put;
@@ -27,6 +26,7 @@ use crate::restart::restart_outbox;
 use crate::send::{send, send_bytes};
 use crate::server::Server;
 use event_script::Event;
+use filing_ends::{Cause, Honest};
 use intake_core::{Intake, Unavailable};
 use outbox_core::{Outbox, State, StoreFault};
 use register_store::{Completed, Registered};
@@ -171,7 +171,7 @@ impl<D: Honest> World<D> {
     {
         match start(alloc, filers, limit) {
             Ok(world) => Ok(world),
-            Err(cause) => Err(cause.at(0)),
+            Err(cause) => Err(Fault::of(cause, 0)),
         }
     }
 
@@ -196,7 +196,7 @@ impl<D: Honest> World<D> {
         match played {
             Ok(()) => Ok(()),
             Err(cause) => {
-                let fault = cause.at(number);
+                let fault = Fault::of(cause, number);
                 self.fault = Some(fault);
                 Err(fault)
             }

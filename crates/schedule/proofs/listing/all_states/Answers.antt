@@ -2,7 +2,8 @@ use Rattle.std.proofs.Common.{rules, ◌≡◌, ◌++◌, ◌∙◌, ◌+◌, su
 use Rattle.std.proofs.lemmas.Grind.{common_steps}
 use Rattle.std.proofs.lemmas.List.{append-nil}
 use Rattle.filing_world.specs.Headline.{states_of, states_from}
-use Rattle.schedule.specs.Listed.{listed, view_listed}
+use Rattle.filing_ends.specs.Listed.{listed}
+use Rattle.schedule.specs.Listed.{view_listed}
 use Rattle.schedule.proofs.GoingThrough.{states_next}
 use Rattle.schedule.proofs.Steps.{element_at, set_same}
 use Rattle.schedule.proofs.listing.all_states.Goals as goal

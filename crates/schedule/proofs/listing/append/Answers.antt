@@ -1,6 +1,7 @@
 use Rattle.std.proofs.Common.{◌≡◌, ◌++◌, ◌∙◌, ◌+◌, suc, map, take, ap, sym, subst, arith}
 use Rattle.std.proofs.lemmas.List.{append-nil, take_all}
-use Rattle.schedule.specs.Listed.{listed, view_listed}
+use Rattle.filing_ends.specs.Listed.{listed}
+use Rattle.schedule.specs.Listed.{view_listed}
 use Rattle.schedule.proofs.GoingThrough.{listed_next}
 use Rattle.schedule.proofs.listing.append.Goals as goal
 

@@ -1,5 +1,6 @@
 use Rattle.std.proofs.Common.{◌≡◌, ◌++◌, map, take}
-use Rattle.schedule.specs.Listed.{listed, view_listed}
+use Rattle.filing_ends.specs.Listed.{listed}
+use Rattle.schedule.specs.Listed.{view_listed}
 use Rattle.schedule.proofs.listing.append.Given as goal
 
 abbrev pub invariant-loop-entry : goal.invariant-loop-entry

@@ -7,7 +7,7 @@ use Rattle.filing_model.specs.Text.{completed}
 use Rattle.filing_world.specs.Step.{is_no}
 use Rattle.gateway_server.specs.Stopping.{view_stop}
 use Rattle.gateway_server.proofs.Whole.{marked_arrivals}
-use Rattle.schedule.specs.Server.{Keeps, is_up}
+use Rattle.filing_ends.specs.IntakeProcess.{Keeps, is_up}
 use Rattle.schedule.proofs.server.Server.deliver.Goals as goal
 
 pub invariant_of-self-2 : goal.invariant_of-self-2

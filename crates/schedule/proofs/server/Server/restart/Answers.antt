@@ -1,7 +1,7 @@
 use Rattle.std.proofs.Common.{sym, subst}
 use Rattle.filing_model.specs.Request.{firsts}
 use Rattle.filing_model.proofs.Firsts.{firsts-firsts}
-use Rattle.schedule.specs.Server.{Keeps}
+use Rattle.filing_ends.specs.IntakeProcess.{Keeps}
 use Rattle.schedule.proofs.server.Server.restart.Goals as goal
 
 pub invariant_of-self-2 : goal.invariant_of-self-2

@@ -39,8 +39,8 @@ returns-in-Err g c = record {
   step = search rules;
   holds = search rules;
   no_such = λ n e none.
-      let told : c.at-fault.result ≡ NoSuch n = cc e in
-      let is = no_such_cause c.saturating_add-number.result n c.in-Err.cause (sym c.at-fault.ensures ∙ told) in
+      let told : c.of-fault.result ≡ NoSuch n = cc e in
+      let is = no_such_cause c.saturating_add-number.result n c.in-Err.cause (sym c.of-fault.ensures ∙ told) in
       rw (sym c.self.view_is) (c.in-Err.ensures.no_such (ap Err is));
   counts = search rules;
   numbered = search rules;

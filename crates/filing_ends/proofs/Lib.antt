@@ -1,0 +1,4 @@
+pub mod Coming
+pub mod Early
+pub mod Entries
+pub mod Hearing

@@ -1,0 +1,22 @@
+-- What the process keeps that an intake runs in.
+use Rattle.std.specs.Prelude.{◌≡◌, ℕ, Bool, true, false, List}
+use Rattle.sqlite_disk.specs.declared.Disk.{Ghosts}
+use Rattle.sqlite.specs.Files.{over_files}
+use Rattle.filing_model.specs.Request.{Request}
+use Rattle.register_store.specs.Files.{HoldRegister}
+use Rattle.intake_core.specs.Held.{limit_of}
+use Rattle.filing_ends.specs.Registers.{HoldsNew}
+use Rattle.filing_ends.specs.declared.intake_process.IntakeProcess.{IntakeProcess}
+use Rattle.filing_ends.specs.declared.intake_process.IntakeProcess.TheVariants.{Up, Down, Gone}
+
+-- whether the intake can be lent
+abbrev pub is_up : {D : Type 0} {g : Ghosts D} → IntakeProcess D g → Bool
+is_up (Up intake) = true
+is_up (Down files) = false
+is_up Gone = false
+
+-- The register has these requests and the intake this limit, or the files hold the register. What a fault took says nothing.
+abbrev pub Keeps : {D : Type 0} {g : Ghosts D} → IntakeProcess D g → ℕ → List Request → Type 0
+Keeps (Up intake) limit F = HoldsNew over_files intake F × (limit_of intake ≡ limit)
+Keeps {D} {g} (Down files) limit F = HoldRegister g files 0 F
+Keeps Gone limit F = Unit {0}

@@ -1,0 +1,8 @@
+pub mod Bytes
+pub mod Causes
+pub mod Durable
+pub mod IntakeProcess
+pub mod Listed
+pub mod OutboxProcess
+pub mod Outboxes
+pub mod Registers

@@ -1,0 +1,22 @@
+-- What the process keeps that an outbox runs in.
+use Rattle.std.specs.Prelude.{◌≡◌, ℕ, Bool, true, false, List}
+use Rattle.sqlite_disk.specs.declared.Disk.{Ghosts}
+use Rattle.sqlite.specs.Files.{over_files}
+use Rattle.filing_model.specs.Outbox.{Entry}
+use Rattle.outbox_core.specs.OutboxParts.{HasEntries}
+use Rattle.outbox_opening.specs.Entries.{contents_of}
+use Rattle.outbox_core.specs.Files.{HoldOutbox}
+use Rattle.filing_ends.specs.declared.outbox_process.OutboxProcess.{OutboxProcess}
+use Rattle.filing_ends.specs.declared.outbox_process.OutboxProcess.TheVariants.{Up, Down, Gone}
+
+-- whether the outbox can be lent
+abbrev pub is_up : {D : Type 0} {g : Ghosts D} → OutboxProcess D g → Bool
+is_up (Up outbox) = true
+is_up (Down files) = false
+is_up Gone = false
+
+-- The outbox, open or in files, is this filer's and has these entries. What a fault took says nothing.
+abbrev pub Keeps : {D : Type 0} {g : Ghosts D} → OutboxProcess D g → List ℕ → List Entry → Type 0
+Keeps (Up outbox) filer entries = HasEntries over_files outbox entries × (outbox.filer ≡ filer)
+Keeps {D} {g} (Down files) filer entries = HoldOutbox g files (contents_of filer entries)
+Keeps Gone filer entries = Unit {0}

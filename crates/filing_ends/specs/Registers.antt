@@ -1,0 +1,17 @@
+-- What contracts see of an intake over a register in files.
+use Rattle.std.specs.Prelude.{◌≡◌, List, []}
+use Rattle.sqlite.specs.Store as database
+use Rattle.filing_model.specs.Request.{Request}
+use Rattle.intake_core.specs.declared.intake.Intake.{Intake}
+use Rattle.intake_core.specs.Held.{HoldsRequests, early_in}
+use Rattle.filing_ends.specs.declared.registers.Opening.{Opening}
+use Rattle.filing_ends.specs.declared.registers.Opening.TheVariants.{Made, Found}
+
+-- these are the requests of a register: none where it is made, and else those that lie in the database
+abbrev pub ComesWith : Opening → Type 0 → List Request → Type 0
+ComesWith Made Lies F = F ≡ []
+ComesWith Found Lies F = Lies
+
+-- It holds these requests, and none of them was kept before there were problem details.
+abbrev pub HoldsNew : {S : Type 0} → database.Ghosts S → Intake S → List Request → Type 0
+HoldsNew g intake F = HoldsRequests g intake F × (early_in intake F ≡ [])

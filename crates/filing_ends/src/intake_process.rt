@@ -1,0 +1,119 @@
+//! The process that an intake runs in, over a register in files.
+
+ghost use Rattle.std.specs.Prelude.{◌≡◌, ◌≢◌, ◌≤◌, ◌^◌, ◌++◌, [], ℕ, List, true, false, IfOk, Err};
+ghost use Rattle.http_wire.specs.Message.{Arrival};
+ghost use Rattle.filing_model.specs.Request.{Request, firsts};
+ghost use Rattle.filing_model.specs.Register.{register};
+ghost use Rattle.filing_model.specs.Stopping.{ServesUntil};
+ghost use Rattle.filing_model.specs.Text.{completed};
+ghost use Rattle.gateway_server.specs.Stopping.{view_stop};
+ghost use Rattle.filing_ends.specs.IntakeProcess.{Keeps, is_up};
+
+use crate::cause::Cause;
+use crate::honest::Honest;
+use crate::opening::new_files;
+use crate::registers::{Answered, ListRegister, Opening, Serve, ask, files_of_intake, intake_in};
+use gateway_server::Stop;
+use intake_core::{Intake, Unavailable};
+use register_store::Registered;
+use sqlite::{FileStore, Files};
+use std::alloc::Global;
+
+/// The process that the intake runs in: up, with its register open, or down, with its files alone.
+pub enum IntakeProcess<D: Honest> {
+    /// The intake.
+    Up(Intake<FileStore<D>>),
+    /// The files that its register lies in.
+    Down(Files<D>),
+    /// A fault took it, after which nothing is played.
+    Gone,
+}
+
+impl<D: Honest> Drop for IntakeProcess<D> {
+    // Its database is closed, as it is where the process stops.
+    fn drop(self) {
+        match self {
+            IntakeProcess::Up(intake) => drop(files_of_intake(intake)),
+            IntakeProcess::Down(_files) => {}
+            IntakeProcess::Gone => {}
+        }
+    }
+}
+
+impl<D: Honest> IntakeProcess<D> {
+    /// An intake over an empty register, which keeps at most `limit` keys. `Reopen` comes where its files were not
+    /// opened, and `Store` where its tables were not made, for another cause than memory.
+    pub fn new(alloc: Global, limit: u64) -> Result<IntakeProcess<D>, Cause>
+        requires { limit ≤ 2 ^ 62 }
+        ensures kept { IfOk result (λ process. Keeps process limit (firsts [])) }
+        ensures up { IfOk result (λ process. is_up process ≡ true) }
+        ensures other { result ≢ Err Cause.NoSuch }
+    {
+        let files = new_files(alloc);
+        Ok(IntakeProcess::Up(intake_in(alloc, files, Opening::Made, limit)?))
+    }
+
+    /// What serving these bytes came to, up to a stop. `Store` comes where it is down.
+    pub fn serve(&mut self, alloc: Global, bytes: &[u8], stop: Stop) -> Result<Answered, Cause>
+        ensures serves { (limit : ℕ) (done : List Request) → Keeps self.old limit (firsts done) → is_up self.old ≡ true
+            → IfOk result (λ a. (arrivals : List Arrival)
+            × ServesUntil limit done bytes.now (view_stop stop) arrivals a.marks.items a.ended a.text.items
+            × Keeps self.new limit (firsts (done ++ completed arrivals a.marks.items))) }
+        ensures up { is_up self.new ≡ is_up self.old }
+        ensures other { result ≢ Err Cause.NoSuch }
+    {
+        match self {
+            IntakeProcess::Up(intake) => Ok(ask(alloc, intake, Serve { bytes, stop })?),
+            IntakeProcess::Down(_files) => Err(Cause::Store),
+            IntakeProcess::Gone => Err(Cause::Store),
+        }
+    }
+
+    /// The files in the place of the register. `Reopen` comes where they were not given for another cause than
+    /// memory, and `Store` where a fault took it.
+    pub fn stopped(self) -> Result<IntakeProcess<D>, Cause>
+        ensures kept { (limit : ℕ) (F : List Request) → Keeps self limit F
+            → IfOk result (λ process. Keeps process limit F) }
+        ensures down { IfOk result (λ process. is_up process ≡ false) }
+        ensures other { result ≢ Err Cause.NoSuch }
+    {
+        match self {
+            IntakeProcess::Up(intake) => Ok(IntakeProcess::Down(files_of_intake(intake)?)),
+            IntakeProcess::Down(files) => Ok(IntakeProcess::Down(files)),
+            IntakeProcess::Gone => Err(Cause::Store),
+        }
+    }
+
+    /// The register in the place of the files. `Reopen` comes where it was not opened for another cause than memory,
+    /// or has a request of before there were problem details, and `Store` where a fault took it.
+    pub fn started(self, alloc: Global, limit: u64) -> Result<IntakeProcess<D>, Cause>
+        requires { limit ≤ 2 ^ 62 }
+        ensures kept { (F : List Request) → firsts F ≡ F → Keeps self limit F
+            → IfOk result (λ process. Keeps process limit F) }
+        ensures up { IfOk result (λ process. is_up process ≡ true) }
+        ensures other { result ≢ Err Cause.NoSuch }
+    {
+        match self {
+            IntakeProcess::Up(intake) => Ok(IntakeProcess::Up(intake)),
+            IntakeProcess::Down(files) => {
+                Ok(IntakeProcess::Up(intake_in(alloc, files, Opening::Found, limit)?))
+            }
+            IntakeProcess::Gone => Err(Cause::Store),
+        }
+    }
+
+    /// The registered requests under their numbers, ascending. `Down` comes where it is down.
+    pub fn register(&mut self, alloc: Global) -> Result<Vec<Registered>, Unavailable>
+        ensures list { (limit : ℕ) (F : List Request) → Keeps self.old limit F
+            → IfOk result (λ rows. rows.items ≡ register F) }
+        ensures kept { (limit : ℕ) (F : List Request) → Keeps self.old limit F → Keeps self.new limit F }
+        ensures up { is_up self.new ≡ is_up self.old }
+        ensures down { is_up self.old ≡ false → result ≡ Err Unavailable.Down }
+    {
+        match self {
+            IntakeProcess::Up(intake) => ask(alloc, intake, ListRegister),
+            IntakeProcess::Down(_files) => Err(Unavailable::Down),
+            IntakeProcess::Gone => Err(Unavailable::Down),
+        }
+    }
+}

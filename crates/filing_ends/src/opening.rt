@@ -1,0 +1,64 @@
+//! A database is made in files, and opened again.
+
+ghost use Rattle.std.specs.Prelude.{◌≡◌, ◌≢◌, ◌↔◌, false, None, IsTrue, IfOk, Err};
+ghost use Rattle.sqlite.specs.Effect.{Database};
+ghost use Rattle.sqlite.specs.Files.{file_state};
+ghost use Rattle.sqlite.specs.Held.{state};
+ghost use Rattle.table_rows.specs.Files.{HoldsDatabase};
+ghost use Rattle.table_rows.specs.Tables.{no_schema};
+
+use crate::cause::Cause;
+use crate::faithful::Faithful;
+use crate::honest::Honest;
+use sqlite::{Connection, FileStore, Files, Options};
+use sqlite_schema::schema::Schema;
+use std::alloc::Global;
+
+/// Whether nothing is declared.
+fn is_empty(schema: &Schema) -> bool
+    ensures { IsTrue result ↔ (schema.now ≡ no_schema) }
+{
+    schema.tables.is_empty() && schema.indexes.is_empty() && schema.views.is_empty()
+}
+
+/// The connection, where its database has no tables, and else `Reopen`.
+pub(crate) fn without_tables<S: Faithful>(conn: Connection<S>) -> Result<Connection<S>, Cause>
+    ensures same { IfOk result (λ it. it ≡ conn) }
+    ensures empty { IfOk result (λ it. (state S.Store it).now.schema ≡ no_schema) }
+    ensures other { result ≢ Err Cause.NoSuch }
+{
+    if is_empty(conn.schema()) {
+        Ok(conn)
+    } else {
+        Err(Cause::Reopen)
+    }
+}
+
+/// Files that are made for a database.
+pub(crate) fn new_files<D: Honest>(alloc: Global) -> Files<D>
+    ensures log { IsTrue (D.Disk.is_usable result.log) }
+    ensures db { IsTrue (D.Disk.is_usable result.db) }
+{
+    Files {
+        log: D::empty(alloc),
+        db: D::empty(alloc),
+    }
+}
+
+/// A connection to the database that lies in these files. `Reopen` comes where they were not opened for another cause
+/// than memory. A refusal gives the files up.
+pub(crate) fn open<D: Honest>(
+    alloc: Global,
+    files: Files<D>,
+) -> Result<Connection<FileStore<D>>, Cause>
+    requires log { IsTrue (D.Disk.is_usable files.log) }
+    requires db { IsTrue (D.Disk.is_usable files.db) }
+    ensures idle { IfOk result (λ conn. (conn.in_transaction ≡ false) × (conn.step_limit ≡ None)) }
+    ensures found { IfOk result (λ conn. (db : Database) → HoldsDatabase D.Disk files db → (file_state conn).now ≡ db) }
+    ensures other { result ≢ Err Cause.NoSuch }
+{
+    match Connection::open_files(alloc, files, Options::new(1)) {
+        Ok(conn) => Ok(conn),
+        Err((error, _)) => Err(Cause::of_opening(error)),
+    }
+}

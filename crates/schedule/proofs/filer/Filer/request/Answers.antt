@@ -1,7 +1,0 @@
-use Rattle.std.proofs.Common.{◌∙◌}
-use Rattle.schedule.proofs.filer.Filer.request.Goals as goal
-
-pub invariant_of-self-2 : goal.invariant_of-self-2
-invariant_of-self-2 g c =
-    let keeps = rw c.in-Up.is at c.self.invariant in
-    (c.ask.ensures.rows c.self.inside.entries.items keeps.0, c.ask.ensures.filer ∙ keeps.1)

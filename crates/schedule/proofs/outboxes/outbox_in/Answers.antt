@@ -1,8 +1,0 @@
-use Rattle.std.proofs.Common.{subst, sym}
-use Rattle.outbox_opening.specs.Rows.{IsOutboxOf}
-use Rattle.schedule.proofs.Coming.{outbox_lies}
-use Rattle.schedule.proofs.outboxes.outbox_in.Goals as goal
-
-pub returns-clause-opened : goal.returns-clause-opened
-returns-clause-opened g c = λ it comes.
-    c.outbox_over.ensures.opened it (outbox_lies c.args.opening it (λ holds. subst (IsOutboxOf it) (sym (c.in_ok-open.ensures.found holds.db holds.held)) holds.outbox) comes)
