@@ -1,1 +1,4 @@
+pub mod Asking
+pub mod Exchanging
+pub mod Handing
 pub mod Settled

@@ -1,37 +1,16 @@
-use Rattle.std.proofs.Common.{rules}
-use Rattle.sqlite.proofs.StateLemmas.{survives_weaker}
+use Rattle.std.proofs.lemmas.Result.{err_from_is_err_and}
 use Rattle.http_wire.specs.Replies.{reply_parts}
-use Rattle.outbox_core.specs.OutboxParts.{shows}
+use Rattle.filer_client.proofs.Handing.{hands_over-moved, hands_over-refused}
 use Rattle.filer_client.proofs.client.hand_over.Goals as goal
 
 pub returns : goal.returns
-returns g c = record {
-  moved = search rules;
-  no_entry = search rules;
-  kept = search rules;
-  fault = search rules;
-  fine = search rules;
-  stopped = search rules;
-  stops = search rules;
-  filer = search rules;
-  crash =
-      survives_weaker (shows g.S.Store c.args.outbox.now) (shows g.S.Store c.take.new.self) _ _
-      (λ _ trees moves entries had alive. (reply_parts c.in_ok-reply.reply, c.in_ok-reply.ensures.ok, moves entries had alive)) c.take.ensures.crash;
-  durable = search rules;
-}
+returns g c =
+    hands_over-moved g.S.Store g.R.Source c.args.outbox.now c.take.new.self c.args.id c.args.reader.now c.read_reply.new.reader
+    (reply_parts c.in_ok-reply.reply) c.in_ok-take.field-0 c.in_ok-reply.ensures.ok c.in_ok-reply.ensures.fine c.in_ok-take.ensures
 
 pub returns-in_err-take : goal.returns-in_err-take
-returns-in_err-take g c = record {
-  moved = search rules;
-  no_entry = search rules;
-  kept = search rules;
-  fault = search rules;
-  fine = search rules;
-  stopped = search rules;
-  stops = search rules;
-  filer = search rules;
-  crash =
-      survives_weaker (shows g.S.Store c.args.outbox.now) (shows g.S.Store c.take.new.self) _ _
-      (λ _ trees moves entries had alive. (reply_parts c.in_ok-reply.reply, c.in_ok-reply.ensures.ok, moves entries had alive)) c.take.ensures.crash;
-  durable = search rules;
-}
+returns-in_err-take g c =
+    let told = err_from_is_err_and c.from_residual-in_err-take.result c.from_residual-in_err-take.ensures.1 in
+    rw (told.1, told.2)
+    (hands_over-refused g.S.Store g.R.Source c.args.outbox.now c.take.new.self c.args.id c.args.reader.now c.read_reply.new.reader
+    (reply_parts c.in_ok-reply.reply) c.in_err-take.field-0.0 c.in_ok-reply.ensures.ok c.in_ok-reply.ensures.fine c.in_err-take.ensures)

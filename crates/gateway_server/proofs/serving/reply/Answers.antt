@@ -15,3 +15,7 @@ returns-in-Ok-2-clause-written g c = λ text is. (c.in-Ok-2.ensures.written text
 
 pub returns-in-Err-clause-written : goal.returns-in-Err-clause-written
 returns-in-Err-clause-written g c = λ text is. c.in-Err.ensures.written text is
+
+-- a connection that is to close doesn't go on
+pub returns-in-Ok-clause-goes_on : goal.returns-in-Ok-clause-goes_on
+returns-in-Ok-clause-goes_on g c = λ on. absurd (cc)

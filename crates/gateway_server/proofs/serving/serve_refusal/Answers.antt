@@ -1,4 +1,4 @@
-use Rattle.std.proofs.Common.{◌+◌, ◌∙◌, subst}
+use Rattle.std.proofs.Common.{true≢false, ◌+◌, ◌∙◌, subst}
 use Rattle.http_wire.specs.Message.{Refused}
 use Rattle.filing_model.specs.Text.{reply_text_with}
 use Rattle.gateway_server.specs.Stopping.{IsBefore, IsStoppedAfter, view_stop}
@@ -21,3 +21,6 @@ returns-clause-serves g c = λ requests first left inbox h.
 pub returns-in-Err-clause-serves : goal.returns-in-Err-clause-serves
 returns-in-Err-clause-serves g c = λ requests first left inbox h.
     refusal_unmarked requests first left (g.W.Sink.written c.args.writer.now) inbox c.args.refusal c.args.marks.now.items h (view_stop c.args.stop) c.mark_refusal.new.marks.items (c.in-Err.ensures.marked requests.limit requests.early requests.after).1
+
+pub returns-clause-closes : goal.returns-clause-closes
+returns-clause-closes g c = λ on. true≢false (c.reply.ensures.goes_on on)

@@ -1,4 +1,4 @@
-use Rattle.std.proofs.Common.{[], false, refl, sym, subst, rules}
+use Rattle.std.proofs.Common.{[], false, Ok, refl, sym, ap, ◌∙◌, subst, inl, inr, rules}
 use Rattle.std.proofs.lemmas.Result.{err_from_is_err_and}
 use Rattle.std.specs.Prelude.{slice_range, IfErr}
 use Rattle.http_wire.specs.Block.{skipped_len}
@@ -60,3 +60,15 @@ returns-in-Err g c =
       fine = (search rules, refl);
       fault = tt;
     }
+
+-- no refusal comes before the end of a block
+pub returns-in-More-clause-found : goal.returns-in-More-clause-found
+returns-in-More-clause-found g c =
+    let bytes = held_bytes c.read_block.new.self in
+    let unended = rw c.in-More.is at c.in_ok-end.ensures.block in (
+      record {
+        none = λ request n begins. HoldsArrival-ended bytes (inl (request, n, begins)) unended;
+        refused = λ refusal is. HoldsArrival-ended bytes (inr (refusal, is)) unended;
+      },
+      c.read_block.ensures.end (c.in_ok-end.was ∙ ap Ok c.in-More.is),
+    )

@@ -34,3 +34,7 @@ loop-content-preserved g c =
     let other : length items ≢ c.args.len = search rules in
     let turn = Turn-of _ _ _ c.args.received.now c.loop-content.received c.drop_front.new.self c.read_more.new.self _ items held c.min-count.result c.args.len c.loop-content.invariant.takes c.loop-content.invariant.short c.bytes-held.ensures.value least c.in_ok-extend_from_slice.ensures.items other c.drop_front.ensures.bytes c.drop_front.ensures.reads c.read_more.ensures.reads in
     record { takes = turn.takes; fine = search rules; short = omega (arith, turn.short) }
+
+-- where the input ends before it, no content is given
+pub returns-then-not-branch-clause-content : goal.returns-then-not-branch-clause-content
+returns-then-not-branch-clause-content g c = tt

@@ -1,5 +1,5 @@
-use Rattle.std.proofs.Common.{◌≡◌, List, [], ◌∷◌, ◌++◌, take, Some, true≢false, refl, sym, ap, ◌∙◌, subst}
-use Rattle.std.proofs.lemmas.Result.{IfOk-weaker}
+use Rattle.std.proofs.Common.{◌≡◌, List, [], ◌∷◌, ◌++◌, take, Some, IsTrue, true≢false, refl, sym, ap, ◌∙◌, subst, arith}
+use Rattle.std.proofs.lemmas.Result.{IfOk-weaker, on_ok_weaker}
 use Rattle.sqlite.specs.State.{HasCleanDisk}
 use Rattle.sqlite.proofs.StateLemmas.{survives_then, survives_weaker}
 use Rattle.filing_model.specs.Request.{Request}
@@ -14,14 +14,20 @@ use Rattle.register_store.specs.Outcomes.{kept_as}
 use Rattle.register_store.specs.Store.{shows}
 use Rattle.register_opening.specs.Registers.{LeavesRegister}
 use Rattle.intake_core.specs.Answered.{IsAnswerTo}
-use Rattle.intake_core.specs.Held.{early_of, early_in}
+use Rattle.intake_core.specs.Held.{store_of, limit_of, has_stopped, early_of, early_in}
 use Rattle.intake_core.proofs.Deciding.{has_key-none, firsts-more, HoldsRequests-asked, HoldsRequests-repeat, HoldsRequests-new}
+use Rattle.intake_core.proofs.intake.Intake.decide.Given.{Over}
+use Rattle.intake_core.proofs.intake.Intake.decide.Goals.{After-repeat}
 use Rattle.intake_core.proofs.intake.Intake.decide.Goals as goal
+
+-- what was kept is told, and the register is as it was found
+told : (g : Over) (c : After-repeat g) → (store_of c.repeat.new.self ≡ c.find.new.self) × (limit_of c.repeat.new.self ≡ limit_of c.args.self.now) × (has_stopped c.repeat.new.self ≡ has_stopped c.args.self.now)
+told g c = c.repeat.ensures.rest
 
 pub returns-in-Some-clause-answer : goal.returns-in-Some-clause-answer
 returns-in-Some-clause-answer g c = λ clean requests h.
     let r : Request = the_request c.args.filer.now c.args.key.now c.args.target c.args.body.now in
-    let cleaned : HasCleanDisk (shows g.S.Store c.find.new.self) = subst (λ s. HasCleanDisk (shows g.S.Store s)) c.repeat.ensures.rest.0 clean in
+    let cleaned : HasCleanDisk (shows g.S.Store c.find.new.self) = subst (λ s. HasCleanDisk (shows g.S.Store s)) (told g (goal.at.returns-in-Some-clause-answer g c).After-repeat).0 clean in
     let k = kept_as c.args.filer.now c.args.key.now c.in-Some.row in
     let found : kept_for (kept requests) r ≡ Some k = sym (rw c.in-Some.is at (c.in_ok-row.ensures.found cleaned requests h.rows c.args.target c.args.body.now)) in
     let styled : c.in-Some.row.style ≡ style_of (early_in c.args.self.now requests) r = rw c.in-Some.is at (c.in_ok-row.ensures.style cleaned requests h.rows c.args.target c.args.body.now) in
@@ -34,10 +40,35 @@ returns-in-Some-clause-answer g c = λ clean requests h.
 pub returns-in-Some-clause-room : goal.returns-in-Some-clause-room
 returns-in-Some-clause-room g c = λ clean requests h new.
     let r : Request = the_request c.args.filer.now c.args.key.now c.args.target c.args.body.now in
-    let cleaned : HasCleanDisk (shows g.S.Store c.find.new.self) = subst (λ s. HasCleanDisk (shows g.S.Store s)) c.repeat.ensures.rest.0 clean in
+    let cleaned : HasCleanDisk (shows g.S.Store c.find.new.self) = subst (λ s. HasCleanDisk (shows g.S.Store s)) (told g (goal.at.returns-in-Some-clause-room g c).After-repeat).0 clean in
     let k = kept_as c.args.filer.now c.args.key.now c.in-Some.row in
     let found : kept_for (kept requests) r ≡ Some k = sym (rw c.in-Some.is at (c.in_ok-row.ensures.found cleaned requests h.rows c.args.target c.args.body.now)) in
     absurd (true≢false (sym (kept_has_key requests r k found) ∙ new))
+
+pub returns-in-Some-clause-err : goal.returns-in-Some-clause-err
+returns-in-Some-clause-err g c = λ clean requests h. tt
+
+pub returns-in-Some-clause-clean : goal.returns-in-Some-clause-clean
+returns-in-Some-clause-clean g c = λ clean.
+    let cleaned : HasCleanDisk (shows g.S.Store c.find.new.self) = subst (λ s. HasCleanDisk (shows g.S.Store s)) (told g (goal.at.returns-in-Some-clause-clean g c).After-repeat).0 clean in
+    omega (arith, c.find.ensures.crash.clean)
+
+pub returns-in-Some-clause-limit : goal.returns-in-Some-clause-limit
+returns-in-Some-clause-limit g c = let rest = told g (goal.at.returns-in-Some-clause-limit g c).After-repeat in (rest.1, rest.2)
+
+pub returns-in-Some-clause-early : goal.returns-in-Some-clause-early
+returns-in-Some-clause-early g c = ap (λ s. s.early) (told g (goal.at.returns-in-Some-clause-early g c).After-repeat).0 ∙ c.in_ok-row.ensures.early
+
+pub returns-in-Some-clause-full : goal.returns-in-Some-clause-full
+returns-in-Some-clause-full g c = λ clean requests h k e. cc
+
+pub returns-in-Some-clause-running : goal.returns-in-Some-clause-running
+returns-in-Some-clause-running g c = λ e. cc
+
+pub returns-in-Some-clause-open : goal.returns-in-Some-clause-open
+returns-in-Some-clause-open g c = λ clean requests h.
+    let cleaned : HasCleanDisk (shows g.S.Store c.find.new.self) = subst (λ s. HasCleanDisk (shows g.S.Store s)) (told g (goal.at.returns-in-Some-clause-open g c).After-repeat).0 clean in
+    subst (λ s. IsTrue (shows g.S.Store s).is_open) (sym (told g (goal.at.returns-in-Some-clause-open g c).After-repeat).0) (c.in_ok-row.ensures.durable cleaned requests h.rows).0
 
 pub returns-in-None-clause-answer : goal.returns-in-None-clause-answer
 returns-in-None-clause-answer g c = λ clean requests h.
@@ -46,6 +77,30 @@ returns-in-None-clause-answer g c = λ clean requests h.
     let fresh = has_key-none requests r (sym (rw c.in-None.is at (c.in_ok-row.ensures.found cleaned requests h.rows c.args.target c.args.body.now))) in
     let asked = HoldsRequests-asked requests c.args.self.now _ h refl c.in_ok-row.ensures.early (c.in_ok-row.ensures.same cleaned requests h.rows) in
     IfOk-weaker c.keep.result _ _ (λ a told. (subst (λ n. IsAnswerTo (take n requests) requests r a) c.in_ok-row.ensures.early told.0, HoldsRequests-new requests r c.keep.new.self h.firsts' fresh told.1)) (c.keep.ensures.answer clean requests asked fresh)
+
+pub returns-in-None-clause-err : goal.returns-in-None-clause-err
+returns-in-None-clause-err g c = λ clean requests h.
+    let cleaned = c.keep.ensures.clean clean in
+    let asked = HoldsRequests-asked requests c.args.self.now _ h refl c.in_ok-row.ensures.early (c.in_ok-row.ensures.same cleaned requests h.rows) in
+    c.keep.ensures.err clean requests asked
+
+pub returns-in-None-clause-clean : goal.returns-in-None-clause-clean
+returns-in-None-clause-clean g c = λ clean. let cleaned = c.keep.ensures.clean clean in omega (arith, c.find.ensures.crash.clean)
+
+pub returns-in-None-clause-limit : goal.returns-in-None-clause-limit
+returns-in-None-clause-limit g c = c.keep.ensures.limit
+
+pub returns-in-None-clause-early : goal.returns-in-None-clause-early
+returns-in-None-clause-early g c = c.keep.ensures.early ∙ c.in_ok-row.ensures.early
+
+pub returns-in-None-clause-room : goal.returns-in-None-clause-room
+returns-in-None-clause-room g c = λ clean requests h.
+    let cleaned = c.keep.ensures.clean clean in
+    let asked = HoldsRequests-asked requests c.args.self.now _ h refl c.in_ok-row.ensures.early (c.in_ok-row.ensures.same cleaned requests h.rows) in
+    on_ok_weaker c.keep.result (λ less new. less) (c.keep.ensures.room requests asked)
+
+pub returns-in-None-clause-running : goal.returns-in-None-clause-running
+returns-in-None-clause-running g c = c.keep.ensures.running
 
 pub returns-in-None-clause-full : goal.returns-in-None-clause-full
 returns-in-None-clause-full g c = λ clean requests h k e.
@@ -79,4 +134,4 @@ returns-in-None-clause-open g c = λ clean requests h.
 
 pub returns-in-Some-clause-crash : goal.returns-in-Some-clause-crash
 returns-in-Some-clause-crash g c =
-    rw c.repeat.ensures.rest.0 (survives_weaker (shows g.S.Store c.args.self.now.store) (shows g.S.Store c.find.new.self) _ _ (λ clean trees none. absurd none) c.find.ensures.crash)
+    rw (told g (goal.at.returns-in-Some-clause-crash g c).After-repeat).0 (survives_weaker (shows g.S.Store c.args.self.now.store) (shows g.S.Store c.find.new.self) _ _ (λ clean trees none. absurd none) c.find.ensures.crash)

@@ -1,0 +1,6 @@
+use Rattle.http_wire.proofs.DeviceLemmas.{Appends-nil}
+use Rattle.gateway_server.proofs.answer.write_decided.Goals as goal
+
+-- where there was no memory for the reply, nothing of it is written
+pub returns-in-Err-clause-written : goal.returns-in-Err-clause-written
+returns-in-Err-clause-written g c = λ text is. (0, Appends-nil (g.W.Sink.written c.args.writer.now))
