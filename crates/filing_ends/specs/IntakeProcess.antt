@@ -15,6 +15,12 @@ is_up (Up intake) = true
 is_up (Down files) = false
 is_up Gone = false
 
+-- whether it has its files, and nothing open over them
+abbrev pub is_down : {D : Type 0} {g : Ghosts D} → IntakeProcess D g → Bool
+is_down (Up intake) = false
+is_down (Down files) = true
+is_down Gone = false
+
 -- The register has these requests and the intake this limit, or the files hold the register. What a fault took says nothing.
 abbrev pub Keeps : {D : Type 0} {g : Ghosts D} → IntakeProcess D g → ℕ → List Request → Type 0
 Keeps (Up intake) limit F = HoldsNew over_files intake F × (limit_of intake ≡ limit)

@@ -15,6 +15,12 @@ is_up (Up outbox) = true
 is_up (Down files) = false
 is_up Gone = false
 
+-- whether it has its files, and nothing open over them
+abbrev pub is_down : {D : Type 0} {g : Ghosts D} → OutboxProcess D g → Bool
+is_down (Up outbox) = false
+is_down (Down files) = true
+is_down Gone = false
+
 -- The outbox, open or in files, is this filer's and has these entries. What a fault took says nothing.
 abbrev pub Keeps : {D : Type 0} {g : Ghosts D} → OutboxProcess D g → List ℕ → List Entry → Type 0
 Keeps (Up outbox) filer entries = HasEntries over_files outbox entries × (outbox.filer ≡ filer)

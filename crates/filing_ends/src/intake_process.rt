@@ -7,7 +7,7 @@ ghost use Rattle.filing_model.specs.Register.{register};
 ghost use Rattle.filing_model.specs.Stopping.{ServesUntil};
 ghost use Rattle.filing_model.specs.Text.{completed};
 ghost use Rattle.gateway_server.specs.Stopping.{view_stop};
-ghost use Rattle.filing_ends.specs.IntakeProcess.{Keeps, is_up};
+ghost use Rattle.filing_ends.specs.IntakeProcess.{Keeps, is_up, is_down};
 
 use crate::cause::Cause;
 use crate::honest::Honest;
@@ -75,6 +75,7 @@ impl<D: Honest> IntakeProcess<D> {
         ensures kept { (limit : ℕ) (F : List Request) → Keeps self limit F
             → IfOk result (λ process. Keeps process limit F) }
         ensures down { IfOk result (λ process. is_up process ≡ false) }
+        ensures files { IfOk result (λ process. is_down process ≡ true) }
         ensures other { result ≢ Err Cause.NoSuch }
     {
         match self {

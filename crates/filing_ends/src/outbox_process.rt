@@ -11,7 +11,7 @@ ghost use Rattle.filing_world.specs.Step.{takes, Hears, heard_by};
 ghost use Rattle.filing_world.specs.Headline.{states_of};
 ghost use Rattle.outbox_core.specs.Entries.{opened};
 ghost use Rattle.filing_ends.specs.Listed.{listed};
-ghost use Rattle.filing_ends.specs.OutboxProcess.{Keeps, is_up};
+ghost use Rattle.filing_ends.specs.OutboxProcess.{Keeps, is_up, is_down};
 ghost use Rattle.filing_ends.specs.Outboxes.{up_with, after_answer, IsRequest, state_or, entries_after};
 
 use crate::cause::Cause;
@@ -65,6 +65,7 @@ impl<D: Honest> OutboxProcess<D> {
         ensures kept { (filer : List ℕ) (entries : List Item) → Keeps self filer entries
             → IfOk result (λ process. Keeps process filer entries) }
         ensures down { IfOk result (λ process. is_up process ≡ false) }
+        ensures files { IfOk result (λ process. is_down process ≡ true) }
         ensures other { result ≢ Err Cause.NoSuch }
     {
         match self {
