@@ -7,13 +7,14 @@ use Rattle.sqlite.specs.Held.{Held, state}
 use Rattle.sqlite.specs.Schema.{Schema}
 use Rattle.sqlite.specs.Store.{Ghosts}
 use Rattle.sqlite.specs.Table.{Table}
+use Rattle.sqlite_catalog.specs.Change.{is_used}
 use Rattle.filing_model.specs.Request.{Request}
 use Rattle.table_rows.specs.Rows.{TableHas}
 use Rattle.table_rows.specs.Tables.{BeginsWith, no_schema}
 use Rattle.register_opening.specs.declared.migrate.earlier.Earlier.{Earlier}
 use Rattle.register_opening.specs.declared.migrate.earlier.Earlier.TheVariants.{Second, Third}
 use Rattle.register_rows.specs.Register.{form_row, migrated_row}
-use Rattle.register_rows.specs.Schema.{common_tables, meta_table, migrated_table, amends_table, has_name}
+use Rattle.register_rows.specs.Schema.{common_tables, meta_table, migrated_table, amends_table}
 use Rattle.register_opening.specs.Walk.{AreAllOf}
 
 -- the number in the row of `intake_meta`
@@ -33,7 +34,7 @@ lacking Third = amends_table ∷ []
 
 -- whether the name of one of these is in use
 abbrev pub is_blocked : Schema → Earlier → Bool
-is_blocked schema form = list_any (λ t. has_name schema t.name) (lacking form)
+is_blocked schema form = list_any (λ t. is_used schema t.name) (lacking form)
 
 -- what is declared once these tables are made, one after another
 abbrev pub made_from : Schema → List Table → Schema

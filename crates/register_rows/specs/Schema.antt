@@ -1,11 +1,11 @@
 -- How the tables of a register are declared.
-use Rattle.std.specs.Prelude.{Bool, ◌||◌, List, [], ◌∷◌, ◌++◌, ℕ, codes}
+use Rattle.std.specs.Prelude.{Bool, List, [], ◌∷◌, ◌++◌, codes}
 use Rattle.std.specs.List.{list_any}
 use Rattle.sqlite_value.specs.Keys.{plain}
 use Rattle.sqlite.specs.Table.{Table}
 use Rattle.sqlite.specs.Schema.{Schema}
 use Rattle.sqlite.specs.Kind.TheVariants.{Integer, Text, Blob}
-use Rattle.sqlite_schema.specs.Names.{same_name}
+use Rattle.sqlite_catalog.specs.Change.{is_used}
 use Rattle.table_rows.specs.Tables.{needed, optional, keyed, paired, BeginsWith}
 
 -- what the database is, and in which form
@@ -55,11 +55,6 @@ IsDeclared = BeginsWith register_tables
 abbrev pub HasCommon : Schema → Type 0
 HasCommon = BeginsWith common_tables
 
--- whether a table, an index or a view has the name; SQLite compares names without case
-abbrev pub has_name : Schema → List ℕ → Bool
-has_name schema name =
-    (list_any (λ t. same_name t.name name) schema.tables || list_any (λ i. same_name i.name name) schema.indexes) || list_any (λ v. same_name v.name name) schema.views
-
--- whether one of the names of our tables is in use
+-- whether the name of one of our tables is in use, by a table, an index or a view
 abbrev pub is_taken : Schema → Bool
-is_taken schema = list_any (λ t. has_name schema t.name) register_tables
+is_taken schema = list_any (λ t. is_used schema t.name) register_tables
