@@ -1,11 +1,9 @@
 -- The first LF of a text, from an index on.
-use Rattle.std.proofs.Common.{◌≡◌, ℕ, ◌+◌, ◌-◌, ◌<◌, ◌≤◌, List, length, drop, get_or, sym, ap, ◌∙◌, subst, inl, inr, length-drop, arith}
-use Rattle.std.proofs.lemmas.Bool.{cases_lt, eq-eqb, eqb-true}
-use Rattle.std.proofs.lemmas.Grind.{common_steps}
+use Rattle.std.proofs.Common.{◌≡◌, ℕ, ◌+◌, ◌-◌, ◌≤◌, List, length, drop, get_or, sym, ap, ◌∙◌, length-drop, arith}
+use Rattle.std.proofs.lemmas.Bool.{eq-eqb, eqb-true}
 use Rattle.std.proofs.lemmas.List.{get_or-drop}
 use Rattle.memchr.specs.Find.{Nowhere, NoneBefore, Passes, is_byte}
 use Rattle.http_wire.specs.Feeds.{HasNoFeedFrom, IsNextFeed}
-use Rattle.http_wire.specs.Head.{FollowsCr}
 
 -- what stands in the rest of a text, by its place in the text
 byte_at : (text : List ℕ) (from k : ℕ) → from ≤ k → get_or (drop from text) (k - from) 0 ≡ get_or text k 0
@@ -25,24 +23,3 @@ next_feed_some text from at h = record {
   feed = sym (get_or-drop from text at 0) ∙ eqb-true _ 10 h.1;
   first = λ k low high e. h.0.before (k - from) (omega arith) (omega arith) (eq-eqb _ 10 (byte_at text from k low ∙ e));
 }
-
--- each LF that was looked at follows a CR, and so does one more
-pub plain_more : (text : List ℕ) (from at : ℕ) → ((k : ℕ) → k < from → get_or text k 0 ≡ 10 → FollowsCr text k) → IsNextFeed text from at → FollowsCr text at
-    → (k : ℕ) → k < at + 1 → get_or text k 0 ≡ 10 → FollowsCr text k
-plain_more text from at before next here k low e = elim (cases_lt k from) [
-  | inl near ↦ before k near e
-  | inr far ↦ elim (cases_lt k at) [
-    | inl less ↦ absurd (next.first k far less e)
-    | inr past ↦ let same : at ≡ k = omega arith in subst (FollowsCr text) same here
-  ]
-]
-
--- or all do, where there is none any more
-pub plain_all : (text : List ℕ) (from : ℕ) → ((k : ℕ) → k < from → get_or text k 0 ≡ 10 → FollowsCr text k) → HasNoFeedFrom text from → (k : ℕ) → get_or text k 0 ≡ 10 → FollowsCr text k
-plain_all text from before none k e = elim (cases_lt k from) [
-  | inl near ↦ before k near e
-  | inr far ↦ elim (cases_lt k (length text)) [
-    | inl within ↦ absurd (none k far within e)
-    | inr beyond ↦ absurd (let nothing : get_or text k 0 ≡ 0 = grind (arith, common_steps) in omega (arith, nothing, e))
-  ]
-]

@@ -1,17 +1,14 @@
--- An outbox whose files are given back, and opened again.
-use Rattle.std.proofs.Common.{List, subst, sym}
+-- An outbox whose files are given back.
+use Rattle.std.proofs.Common.{List}
 use Rattle.sqlite_disk.specs.declared.Disk.{Ghosts}
 use Rattle.sqlite_disk.specs.declared.Files.{Files}
 use Rattle.sqlite_store.specs.declared.store.FileStore.{FileStore}
 use Rattle.sqlite.specs.Closing.{IsCopied}
-use Rattle.sqlite.specs.Files.{over_files, file_state, Finds, IsOpened}
-use Rattle.sqlite.specs.Held.{Held}
+use Rattle.sqlite.specs.Files.{over_files, file_state}
 use Rattle.filing_model.specs.Outbox.{Entry}
 use Rattle.table_rows.specs.Files.{AreUsable}
-use Rattle.table_rows.proofs.FileLemmas.{finds, leaves}
+use Rattle.table_rows.proofs.FileLemmas.{leaves}
 use Rattle.outbox_core.specs.OutboxParts.{OutboxParts, contents, HasEntries}
-use Rattle.outbox_opening.specs.Entries.{Contents}
-use Rattle.outbox_opening.specs.Rows.{IsOutboxOf}
 use Rattle.outbox_core.specs.Files.{HoldOutbox}
 
 module _ {D : Type 0} {g : Ghosts D} where
@@ -19,7 +16,3 @@ module _ {D : Type 0} {g : Ghosts D} where
   closed_outbox box entries files has copied usable =
       let is = has.stands.now copied.was_open in
       record { db = (file_state box.conn).now; outbox = is; held = leaves box.conn files copied (file_state box.conn).now is.sound (has.stands.committed copied.was_open); usable = usable }
-
-  -- a connection that is opened over the files is to that outbox
-  pub opened_outbox : (conn : Held (FileStore D g)) (it : Contents) (files : Files D) → HoldOutbox g files it → Finds files conn → IsOpened conn → IsOutboxOf it (file_state conn).now
-  opened_outbox conn it files has found opened = subst (IsOutboxOf it) (sym (finds files conn found opened has.db has.held)) has.outbox

@@ -1,7 +1,6 @@
 pub mod AuditLemmas
 pub mod AuditRefutes
 pub mod AuditSteps
-pub mod CellLemmas
 pub mod DamageLemmas
 pub mod FactRows
 pub mod FiledLemmas
