@@ -1,8 +1,9 @@
 //! Exchanges of an outbox over streams in memory.
 
-use crate::examples::{REGISTERED, REGISTERED_CLOSED, REPORT, Text, bytes_of, front};
+use crate::examples::{Text, bytes_of, front};
 use crate::stores::Fresh;
 use crate::streams::{Giving, Taking};
+use example_texts::{REGISTERED, REGISTERED_CLOSED, REPORT};
 use filer_client::{ExchangeFault, exchange, hand_over, request_bytes};
 use http_wire::{Device, ReplyFault};
 use key_string::KeyText;

@@ -1,7 +1,7 @@
 //! Requests that are submitted to an intake.
 
-use crate::examples::SMALLEST;
 use crate::stores::Fresh;
+use example_texts::SMALLEST;
 use intake_core::{Answer, Intake, Unavailable};
 use key_string::{KeyText, is_filer};
 use sqlite::{Alter, MemStore};

@@ -1,8 +1,9 @@
 //! The vector of reports that replace filings.
 
-use crate::examples::{KEY_REUSED, REGISTERED, REGISTERED_SECOND, REPORT, REQUEST, filing, report};
+use crate::examples::{KEY_REUSED, REQUEST, filing, report};
 use crate::history::{Connection, History};
 use crate::stop::Stop;
+use example_texts::{REGISTERED, REGISTERED_SECOND, REPORT};
 use gateway_server::{Ended, Mark};
 use http_wire::append_request;
 use key_string::KeyText;

@@ -1,12 +1,12 @@
 //! Vectors of connections to an intake.
 
-use crate::examples::{
-    CONTINUE, KEY_REUSED, MALFORMED, NO_FILINGS, NOT_JSON, REGISTERED, REGISTERED_CLOSED,
-    REGISTERED_SECOND, REPORT, REQUEST, SMALLEST, UNAVAILABLE, filing, front, posted, repeated,
-    report,
-};
+use crate::examples::{CONTINUE, KEY_REUSED, REQUEST, filing, front, posted, repeated, report};
 use crate::history::{Connection, History};
 use crate::stop::Stop;
+use example_texts::{
+    MALFORMED, NO_FILINGS, NOT_JSON, REGISTERED, REGISTERED_CLOSED, REGISTERED_SECOND, REPORT,
+    SMALLEST, UNAVAILABLE,
+};
 use gateway_server::{Ended, Mark, fact_line};
 use register_store::Store;
 use sqlite::Alter;

@@ -1,51 +1,16 @@
-//! The bytes that several vectors share: reports, requests and replies.
+//! The bytes that several vectors share: requests and replies.
 
 use crate::stop::Stop;
+use example_texts::REPORT;
 use std::alloc::Global;
 
-/// A valid report without facts, 84 bytes.
-pub(crate) const SMALLEST: &str =
-    "{\"documentInfo\":{\"documentType\":\"https://xbrl.org/2021/xbrl-json\",\"taxonomy\":[\"t\"]}}";
-
-/// A valid report of one fact, 393 bytes.
-pub(crate) const REPORT: &str =
-    "{\"documentInfo\":{\"documentType\":\"https://xbrl.org/2021/xbrl-json\",\"namespaces\":{\"eg\":\"http://example.com/eg\",\"iso4217\":\"http://www.xbrl.org/2003/iso4217\",\"lei\":\"http://standards.iso.org/iso/17442\"},\"taxonomy\":[\"http://example.com/eg.xsd\"]},\"facts\":{\"f1\":{\"value\":\"100\",\"decimals\":0,\"dimensions\":{\"concept\":\"eg:Assets\",\"entity\":\"lei:ACME\",\"period\":\"2024-12-31T00:00:00\",\"unit\":\"iso4217:EUR\"}}}}";
-
-/// The request that files that report for `ACME` under the key `k-1`, 486 bytes.
+/// The request that files the report of one fact for `ACME` under the key `k-1`, 486 bytes.
 pub(crate) const REQUEST: &str =
     "POST /filings/ACME HTTP/1.1\r\nHost: localhost\r\nIdempotency-Key: \"k-1\"\r\nContent-Length: 393\r\n\r\n{\"documentInfo\":{\"documentType\":\"https://xbrl.org/2021/xbrl-json\",\"namespaces\":{\"eg\":\"http://example.com/eg\",\"iso4217\":\"http://www.xbrl.org/2003/iso4217\",\"lei\":\"http://standards.iso.org/iso/17442\"},\"taxonomy\":[\"http://example.com/eg.xsd\"]},\"facts\":{\"f1\":{\"value\":\"100\",\"decimals\":0,\"dimensions\":{\"concept\":\"eg:Assets\",\"entity\":\"lei:ACME\",\"period\":\"2024-12-31T00:00:00\",\"unit\":\"iso4217:EUR\"}}}}";
-
-/// The reply to the first registered report, 110 bytes.
-pub(crate) const REGISTERED: &str =
-    "HTTP/1.1 201 Created\r\nContent-Type: application/json\r\nContent-Length: 34\r\n\r\n{\"number\":1,\"status\":\"registered\"}";
-
-/// The same where the connection closes, 129 bytes.
-pub(crate) const REGISTERED_CLOSED: &str =
-    "HTTP/1.1 201 Created\r\nContent-Type: application/json\r\nContent-Length: 34\r\nConnection: close\r\n\r\n{\"number\":1,\"status\":\"registered\"}";
-
-/// The reply to the second registered report.
-pub(crate) const REGISTERED_SECOND: &str =
-    "HTTP/1.1 201 Created\r\nContent-Type: application/json\r\nContent-Length: 34\r\n\r\n{\"number\":2,\"status\":\"registered\"}";
 
 /// The reply where the key was used for another body.
 pub(crate) const KEY_REUSED: &str =
     "HTTP/1.1 422 Unprocessable Content\r\nContent-Type: application/problem+json\r\nContent-Length: 89\r\n\r\n{\"reason\":\"key-reused\",\"status\":422,\"title\":\"Unprocessable Content\",\"type\":\"about:blank\"}";
-
-/// The reply to a body that is no JSON text.
-pub(crate) const NOT_JSON: &str =
-    "HTTP/1.1 400 Bad Request\r\nContent-Type: application/problem+json\r\nContent-Length: 120\r\n\r\n{\"findings\":[{\"code\":\"not-json\",\"place\":\"\"}],\"reason\":\"refused\",\"status\":400,\"title\":\"Bad Request\",\"type\":\"about:blank\"}";
-
-/// The reply to a head that is malformed.
-pub(crate) const MALFORMED: &str =
-    "HTTP/1.1 400 Bad Request\r\nContent-Type: application/problem+json\r\nContent-Length: 78\r\nConnection: close\r\n\r\n{\"reason\":\"malformed\",\"status\":400,\"title\":\"Bad Request\",\"type\":\"about:blank\"}";
-
-/// The reply where a request cannot be decided now.
-pub(crate) const UNAVAILABLE: &str =
-    "HTTP/1.1 503 Service Unavailable\r\nContent-Type: application/problem+json\r\nContent-Length: 88\r\n\r\n{\"reason\":\"unavailable\",\"status\":503,\"title\":\"Service Unavailable\",\"type\":\"about:blank\"}";
-
-/// The reply that lists no filing.
-pub(crate) const NO_FILINGS: &str =
-    "HTTP/1.1 200 OK\r\nContent-Type: application/json\r\nContent-Length: 14\r\n\r\n{\"filings\":[]}";
 
 /// The interim response, 25 bytes.
 pub(crate) const CONTINUE: &str = "HTTP/1.1 100 Continue\r\n\r\n";

@@ -2,11 +2,12 @@
 
 ghost use Rattle.std.specs.Prelude.{◌≡◌, false, None};
 
-use crate::examples::{NOT_JSON, REQUEST, filing};
+use crate::examples::{REQUEST, filing};
 use crate::files::execute;
 use crate::history::{self, served};
 use crate::stop::{Stop, refusal};
 use crate::visits::{Visit, visits};
+use example_texts::NOT_JSON;
 use gateway_server::{Ended, Mark};
 use intake_core::Intake;
 use register_store::{OpenFault, Store};

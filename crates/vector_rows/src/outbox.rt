@@ -2,9 +2,10 @@
 
 ghost use Rattle.std.specs.Prelude.{◌≡◌, false, None, IfOk};
 
-use crate::examples::{REGISTERED_CLOSED, REPORT, SMALLEST, front, repeated};
+use crate::examples::{front, repeated};
 use crate::stop::{Stop, refusal};
 use crate::visits::{Visit, visits};
+use example_texts::{REGISTERED_CLOSED, REPORT, SMALLEST};
 use filer_client::{ExchangeFault, exchange};
 use http_wire::{Device, Kind, MAX_BODY_LEN, Reply, ReplyFault, append_request};
 use key_string::{KeyText, is_filer};

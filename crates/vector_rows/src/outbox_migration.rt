@@ -2,10 +2,10 @@
 
 ghost use Rattle.std.specs.Prelude.{◌≡◌, false, None};
 
-use crate::examples::REPORT;
 use crate::files::execute;
 use crate::stop::{Stop, refusal};
 use crate::visits::{Visit, visits};
+use example_texts::REPORT;
 use outbox_core::{Entry, Outbox, OutboxFault, State};
 use sqlite::{Alter, Connection, params};
 use std::alloc::Global;

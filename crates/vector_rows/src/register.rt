@@ -2,10 +2,11 @@
 
 ghost use Rattle.std.specs.Prelude.{◌≡◌, false, None};
 
-use crate::examples::{REGISTERED, REPORT, REQUEST, SMALLEST};
+use crate::examples::REQUEST;
 use crate::history::{self, served};
 use crate::stop::{Stop, refusal};
 use crate::visits::{Visit, visits};
+use example_texts::{REGISTERED, REPORT, SMALLEST};
 use gateway_server::{Ended, Mark};
 use intake_core::Intake;
 use key_string::KeyText;

@@ -1,7 +1,8 @@
 //! The vector of replies that a filer reads.
 
-use crate::examples::{CONTINUE, REGISTERED, front};
+use crate::examples::{CONTINUE, front};
 use crate::stop::{Stop, refusal};
+use example_texts::REGISTERED;
 use http_wire::{Device, ReplyFault, read_reply};
 use std::alloc::Global;
 

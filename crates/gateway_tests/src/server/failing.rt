@@ -1,9 +1,10 @@
 //! Connections that fail in the middle.
 
 use super::LIMIT;
-use crate::examples::{HEAD, LIST, ONE_FILING, REGISTERED, REPORT, Text, bytes_of, front};
+use crate::examples::{HEAD, LIST, ONE_FILING, Text, bytes_of, front};
 use crate::stores::Fresh;
 use crate::streams::{Giving, Taking};
+use example_texts::{REGISTERED, REPORT};
 use gateway_server::{Ended, serve};
 use http_wire::{ConnFault, Device};
 use intake_core::Intake;

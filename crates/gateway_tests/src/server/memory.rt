@@ -2,8 +2,9 @@
 //! memory. Run it with each allocation refused too, one in a run.
 
 use super::{LIMIT, served};
-use crate::examples::{LIST, REGISTERED, SMALL, UNAVAILABLE};
+use crate::examples::{LIST, SMALL};
 use crate::stores::Fresh;
+use example_texts::{REGISTERED, UNAVAILABLE};
 use gateway_server::{Ended, Served};
 use http_wire::ConnFault;
 use intake_core::Intake;

@@ -1,10 +1,9 @@
 //! Connections that are stopped before or after a request.
 
 use super::{LIMIT, served};
-use crate::examples::{
-    HEAD, REGISTERED, REGISTERED_SECOND, REPORT, SECOND_HEAD, SECOND_SMALL, Text, bytes_of,
-};
+use crate::examples::{HEAD, SECOND_HEAD, SECOND_SMALL, Text, bytes_of};
 use crate::stores::Fresh;
+use example_texts::{REGISTERED, REGISTERED_SECOND, REPORT};
 use gateway_server::{Mark, Partly, Stop, completed, serve_until};
 use http_wire::Device;
 use intake_core::Intake;

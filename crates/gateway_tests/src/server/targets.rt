@@ -1,8 +1,8 @@
 //! Which texts behind a filer's code are numbers of filings.
 
 use super::goes;
-use crate::examples::{NO_FILINGS, SMALLEST};
 use crate::stores::Fresh;
+use example_texts::{NO_FILINGS, SMALLEST};
 use gateway_server::Ended;
 use sqlite::MemStore;
 use std::alloc::Global;

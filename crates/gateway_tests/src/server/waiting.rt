@@ -1,12 +1,10 @@
 //! Clients that wait for what they are due before they go on.
 
 use super::LIMIT;
-use crate::examples::{
-    HEAD, NOT_JSON, REGISTERED, REGISTERED_SECOND, REPORT, SECOND_HEAD, SECOND_SMALL, SMALL, Text,
-    bytes_of,
-};
+use crate::examples::{HEAD, SECOND_HEAD, SECOND_SMALL, SMALL, Text, bytes_of};
 use crate::stores::Fresh;
 use crate::streams::{Telling, Turn, Waiting};
+use example_texts::{NOT_JSON, REGISTERED, REGISTERED_SECOND, REPORT};
 use gateway_server::{Ended, serve};
 use http_wire::Device;
 use intake_core::Intake;
