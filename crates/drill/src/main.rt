@@ -1,16 +1,9 @@
 //! The program `drill`: plays a script of events on an intake and the outboxes of its filers, all in memory, and shows
-//! what came of it. What may live here: the words and the input of the program, the calls that it makes, and what it
-//! prints. What a script says and what an event does is not known here.
+//! what came of it. What may live here: the one call of `drill_commands`.
 #![tactic(auto)]
-
-mod calls;
-mod fault;
-mod options;
-mod report;
-mod tasks;
 
 use std::process::ExitCode;
 
 fn main(rt: HostRuntime) -> ExitCode {
-    ExitCode::from(tasks::main(&rt))
+    ExitCode::from(drill_commands::main(&rt))
 }

@@ -1,3 +1,4 @@
+pub mod Restarting
 mod Bytes
 mod Digits
 mod Fitting

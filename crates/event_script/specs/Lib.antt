@@ -3,4 +3,5 @@ pub mod Words
 pub mod Lines
 pub mod Text
 pub mod Scripts
+pub mod Restarts
 pub mod Shown

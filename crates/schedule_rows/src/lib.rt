@@ -4,10 +4,7 @@
 #![tactic(auto)]
 
 mod examples;
-mod fault;
 mod outcome;
-mod played;
-mod report;
 mod rows;
 
 pub use rows::run;

@@ -1,9 +1,6 @@
 //! What came of a script, without the world in which it was played.
 
-use crate::fault::Fault;
-use crate::played::{played, read};
-use crate::report::report;
-use outbox_core::State;
+use drill_commands::{Fault, played, shown};
 use register_store::Registered;
 use schedule::{Honest, Output, World};
 use sqlite_disk::Memory;
@@ -14,25 +11,21 @@ use std::alloc::Global;
 pub struct Outcome {
     /// The register, ascending by number.
     pub filings: Vec<Registered>,
-    /// The entries of all outboxes: the number of the outbox, that of the entry, and the state.
-    pub entries: Vec<(u64, u64, State)>,
-    /// The confirmed ones among them, with their numbers in the register.
-    pub confirmed: Vec<(u64, u64, u64)>,
+    /// The lines that the program `drill` prints.
+    pub shown: Vec<u8>,
     /// What each delivery wrote.
     pub written: Vec<Vec<u8>>,
-    /// How many requests were completed.
-    pub done: usize,
 }
 
 impl Outcome {
-    /// The lines that the program `drill` prints.
-    pub fn shown(&self, alloc: Global) -> Result<Vec<u8>, Fault> {
-        report(
-            alloc,
-            self.filings.as_slice(),
-            self.entries.as_slice(),
-            self.done,
-        )
+    /// Whether the filings have these bodies, in the order of their numbers.
+    pub fn has_bodies(&self, bodies: &[&str]) -> bool {
+        self.filings.len() == bodies.len()
+            && self
+                .filings
+                .iter()
+                .zip(bodies)
+                .all(|(filing, body)| filing.body.as_slice() == body.as_bytes())
     }
 
     /// Whether the deliveries wrote these texts.
@@ -52,36 +45,23 @@ pub fn play(alloc: Global, script: &str) -> Result<Outcome, Fault> {
 }
 
 fn play_on<D: Honest>(alloc: Global, script: &str) -> Result<Outcome, Fault> {
-    let script = read(alloc, script)?;
-    let mut world = played::<D>(alloc, &script)?;
+    let mut world = played::<D>(alloc, script.as_bytes())?;
     outcome_of(alloc, &mut world)
 }
 
 fn outcome_of<D: Honest>(alloc: Global, world: &mut World<D>) -> Result<Outcome, Fault> {
+    let shown = shown(alloc, world)?;
     let filings = filings(world)?;
-    let entries = entries(world)?;
-    let confirmed = confirmed(world)?;
     let written = written(alloc, world.outputs())?;
-    let done = world.done().len();
     Ok(Outcome {
         filings,
-        entries,
-        confirmed,
+        shown,
         written,
-        done,
     })
 }
 
 fn filings<D: Honest>(world: &mut World<D>) -> Result<Vec<Registered>, Fault> {
     Ok(world.register()?)
-}
-
-fn entries<D: Honest>(world: &mut World<D>) -> Result<Vec<(u64, u64, State)>, Fault> {
-    Ok(world.states()?)
-}
-
-fn confirmed<D: Honest>(world: &mut World<D>) -> Result<Vec<(u64, u64, u64)>, Fault> {
-    Ok(world.confirmed()?)
 }
 
 fn written(alloc: Global, outputs: &[Output]) -> Result<Vec<Vec<u8>>, Fault> {

@@ -1,8 +1,15 @@
 //! The vectors of schedules by their numbers.
 
-use crate::examples::{KEY_REUSED, REGISTERED, REGISTERED_SECOND, REPORT, SMALLEST};
-use crate::fault::Fault;
-use crate::outcome::{Outcome, play};
+use crate::examples::{KEY_REUSED_CLOSED, REGISTERED_SECOND_CLOSED};
+use crate::outcome::play;
+use command_line::CommandFault;
+use drill_commands::Fault;
+use event_script::ScriptFault;
+use example_texts::{REGISTERED_CLOSED, REPORT, SMALLEST};
+use intake_core::Unavailable;
+use key_string::KeyFault;
+use outbox_core::StoreFault;
+use schedule::Fault as WorldFault;
 use std::alloc::{AllocError, Global};
 
 /// Runs the vector of this number, of 24 its end, of 27 its beginning, and tells whether it passed. A number that is
@@ -17,8 +24,21 @@ pub fn run(alloc: Global, number: u32) -> Result<bool, AllocError> {
     };
     match passed {
         Ok(passed) => Ok(passed),
-        Err(Fault::Memory) => Err(AllocError),
-        Err(Fault::Unreadable { .. } | Fault::NoSuch { .. } | Fault::Refused) => Ok(false),
+        Err(fault) if wants_memory(fault) => Err(AllocError),
+        Err(_) => Ok(false),
+    }
+}
+
+/// Whether memory was refused.
+fn wants_memory(fault: Fault) -> bool {
+    match fault {
+        Fault::Command(CommandFault::Memory)
+        | Fault::Script(ScriptFault::Memory)
+        | Fault::World(WorldFault::Memory)
+        | Fault::Register(Unavailable::Memory)
+        | Fault::Outbox(StoreFault::Memory)
+        | Fault::Key(KeyFault::Memory) => true,
+        _ => false,
     }
 }
 
@@ -39,23 +59,10 @@ impl Scene<'_> {
     fn holds(&self, alloc: Global) -> Result<bool, Fault> {
         let outcome = play(alloc, self.script)?;
         Ok(
-            self.has_shown(alloc, &outcome)?
-                && self.has_bodies(&outcome)
+            outcome.shown.as_slice() == self.shown.as_bytes()
+                && outcome.has_bodies(self.bodies)
                 && outcome.has_written(self.written),
         )
-    }
-
-    fn has_shown(&self, alloc: Global, outcome: &Outcome) -> Result<bool, Fault> {
-        Ok(outcome.shown(alloc)?.as_slice() == self.shown.as_bytes())
-    }
-
-    fn has_bodies(&self, outcome: &Outcome) -> bool {
-        outcome.filings.len() == self.bodies.len()
-            && outcome
-                .filings
-                .iter()
-                .zip(self.bodies)
-                .all(|(filing, body)| filing.body.as_slice() == body.as_bytes())
     }
 }
 
@@ -82,7 +89,7 @@ entry 1 1 open
 done 2
 "#,
         bodies: &[REPORT],
-        written: &["", REGISTERED],
+        written: &["", REGISTERED_CLOSED],
     };
     let confirmed = Scene {
         script: &whole,
@@ -120,7 +127,7 @@ entry 1 2 confirmed 2
 done 3
 "#,
         bodies: &[REPORT, SMALLEST],
-        written: &[REGISTERED, "", REGISTERED_SECOND],
+        written: &[REGISTERED_CLOSED, "", REGISTERED_SECOND_CLOSED],
     };
     scene.holds(alloc)
 }
@@ -140,7 +147,7 @@ entry 2 1 confirmed 1
 done 2
 "#,
         bodies: &[SMALLEST],
-        written: &[REGISTERED, REGISTERED],
+        written: &[REGISTERED_CLOSED, REGISTERED_CLOSED],
     }
     .holds(alloc)
 }
@@ -155,7 +162,7 @@ entry 2 1 confirmed 1
 done 2
 "#,
         bodies: &[REPORT],
-        written: &[REGISTERED, KEY_REUSED],
+        written: &[REGISTERED_CLOSED, KEY_REUSED_CLOSED],
     }
     .holds(alloc)
 }
@@ -180,8 +187,9 @@ hand 1 all
 
 /// The end of vector 24: nothing was sent that the first event could deliver.
 fn nothing_to_deliver(alloc: Global) -> Result<bool, Fault> {
-    match play(alloc, "outbox ACME\ndeliver 1 all\n").err() {
-        Some(Fault::Memory) => Err(Fault::Memory),
-        fault => Ok(fault == Some(Fault::NoSuch { event: 1 })),
+    match play(alloc, "outbox ACME\ndeliver 1 all\n") {
+        Err(Fault::World(WorldFault::NoSuch { event })) => Ok(event == 1),
+        Err(fault) => Err(fault),
+        Ok(_) => Ok(false),
     }
 }

@@ -5,8 +5,8 @@ use Rattle.event_script.specs.declared.fault.ScriptFault.{ScriptFault}
 use Rattle.event_script.specs.declared.fault.ScriptFault.TheVariants as script
 use Rattle.schedule.specs.declared.fault.Fault.{Fault as WorldFault}
 use Rattle.schedule.specs.declared.fault.Fault.TheVariants as world
-use Rattle.drill.specs.declared.fault.Fault.{Fault}
-use Rattle.drill.specs.declared.fault.Fault.TheVariants as drill
+use Rattle.drill_commands.specs.declared.fault.Fault.{Fault}
+use Rattle.drill_commands.specs.declared.fault.Fault.TheVariants as drill
 
 -- 2 for a line that says nothing, and 3 where memory ran out
 abbrev pub script_status : ScriptFault → ℕ

@@ -1,5 +1,9 @@
 //! Why a script was not played to its end and shown, in words and as a status.
 
+ghost use Rattle.std.specs.Prelude.{◌≡◌};
+ghost use Rattle.command_line.specs.declared.fault.CommandFault.TheVariants.{Memory};
+ghost use Rattle.drill_commands.specs.declared.fault.Fault.TheVariants.{Command, Script, World, Register, Outbox, Key};
+
 use command_line::{CommandFault, ReadFault};
 use event_script::ScriptFault;
 use intake_core::Unavailable;
@@ -22,26 +26,67 @@ pub enum Fault {
     #[error("the script is not UTF-8")]
     NotText,
     #[error("{0}")]
-    Script(#[from] ScriptFault),
+    Script(ScriptFault),
     #[error("{0}")]
-    World(#[from] WorldFault),
+    World(WorldFault),
     #[error("the register: {0}")]
-    Register(#[from] Unavailable),
+    Register(Unavailable),
     #[error("an outbox: {0}")]
-    Outbox(#[from] StoreFault),
+    Outbox(StoreFault),
     #[error("a key of the register: {0}")]
-    Key(#[from] KeyFault),
+    Key(KeyFault),
 }
 
 impl From<AllocError> for Fault {
+    ghost from_gives = { λ _ fault. fault ≡ Command Memory };
+
     fn from(_error: AllocError) -> Fault {
         Fault::Command(CommandFault::Memory)
     }
 }
 
+impl From<ScriptFault> for Fault {
+    ghost from_gives = { λ why fault. fault ≡ Script why };
+
+    fn from(why: ScriptFault) -> Fault {
+        Fault::Script(why)
+    }
+}
+
+impl From<WorldFault> for Fault {
+    ghost from_gives = { λ why fault. fault ≡ World why };
+
+    fn from(why: WorldFault) -> Fault {
+        Fault::World(why)
+    }
+}
+
+impl From<Unavailable> for Fault {
+    ghost from_gives = { λ why fault. fault ≡ Register why };
+
+    fn from(why: Unavailable) -> Fault {
+        Fault::Register(why)
+    }
+}
+
+impl From<StoreFault> for Fault {
+    ghost from_gives = { λ why fault. fault ≡ Outbox why };
+
+    fn from(why: StoreFault) -> Fault {
+        Fault::Outbox(why)
+    }
+}
+
+impl From<KeyFault> for Fault {
+    ghost from_gives = { λ why fault. fault ≡ Key why };
+
+    fn from(why: KeyFault) -> Fault {
+        Fault::Key(why)
+    }
+}
+
 impl Fault {
-    ghost use Rattle.std.specs.Prelude.{◌≡◌};
-    ghost use Rattle.drill.specs.Status.{status_of};
+    ghost use Rattle.drill_commands.specs.Status.{status_of};
 
     /// The status that the program ends with: 1 where an event names nothing, 2 for the command line
     /// and for a line of the script, 3 for a fault of memory, the input, the output or a database.

@@ -1,0 +1,43 @@
+-- Why no world is answered of a script, and why nothing is shown of a world.
+use Rattle.std.specs.Prelude.{◌≡◌, ℕ, ⊤, List, Contains, Ok}
+use Rattle.std.specs.Str.{IsUtf8}
+use Rattle.command_line.specs.declared.fault.CommandFault.TheVariants.{Memory}
+use Rattle.event_script.specs.Restarts.{restarted}
+use Rattle.event_script.specs.Scripts.{Script, script_of, IsFaultOf}
+use Rattle.filing_model.specs.Register.{Filing, register}
+use Rattle.filing_world.specs.World.{World}
+use Rattle.filing_world.specs.Headline.{start}
+use Rattle.key_string.specs.Key.{IsTextFault}
+use Rattle.schedule.specs.Played.{EndsBy}
+use Rattle.drill_commands.specs.declared.fault.Fault.{Fault}
+use Rattle.drill_commands.specs.declared.fault.Fault.TheVariants as fault
+
+-- The bytes are no UTF-8, a line of the script says nothing, an event ended the run, or memory ran out.
+abbrev pub IsNotPlayed : List ℕ → Fault → Type 0
+IsNotPlayed bytes fault.NotText = ¬ (IsUtf8 bytes)
+IsNotPlayed bytes (fault.Script why) = IsFaultOf (script_of bytes) why
+IsNotPlayed bytes (fault.World why) = (script : Script) × (script_of bytes ≡ Ok script) × EndsBy (start script.filers script.limit) (restarted script).events why
+IsNotPlayed bytes (fault.Command why) = why ≡ Memory
+IsNotPlayed bytes (fault.Read why) = ⊥
+IsNotPlayed bytes fault.TooLong = ⊥
+IsNotPlayed bytes (fault.Register why) = ⊥
+IsNotPlayed bytes (fault.Outbox why) = ⊥
+IsNotPlayed bytes (fault.Key why) = ⊥
+
+-- The key of a filing is no key, or memory ran out.
+abbrev pub AreNotShown : List Filing → Fault → Type 0
+AreNotShown filings (fault.Key why) = (filing : Filing) × Contains filings filing × IsTextFault filing.request.key why
+AreNotShown filings (fault.Command why) = why ≡ Memory
+AreNotShown filings fault.NotText = ⊥
+AreNotShown filings (fault.Script why) = ⊥
+AreNotShown filings (fault.World why) = ⊥
+AreNotShown filings (fault.Read why) = ⊥
+AreNotShown filings fault.TooLong = ⊥
+AreNotShown filings (fault.Register why) = ⊥
+AreNotShown filings (fault.Outbox why) = ⊥
+
+-- The register or an outbox does not give its rows, or its filings are not shown.
+abbrev pub IsNotShown : World → Fault → Type 0
+IsNotShown world (fault.Register why) = ⊤
+IsNotShown world (fault.Outbox why) = ⊤
+IsNotShown world why = AreNotShown (register world.done) why

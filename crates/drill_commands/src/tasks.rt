@@ -1,0 +1,88 @@
+//! Reads a script, plays it, and shows what came of it.
+
+ghost use Rattle.std.specs.Prelude.{IfOk};
+ghost use Rattle.drill_commands.specs.Shown.{IsShownOf};
+
+use crate::fault::Fault;
+use crate::lines::shown;
+use crate::options;
+use crate::world::played;
+use command_line::{DONE, read_up_to, show, show_refusal, words};
+use http_wire::Device;
+use schedule::{Durable, Honest, World};
+use std::alloc::Global;
+use std::io::{Read, Write};
+
+/// The longest script that is read (own rule).
+const MAX_SCRIPT_LEN: usize = 8_388_608;
+
+/// The bytes of the script.
+fn read_bytes<R: Read>(alloc: Global, input: &mut R) -> Result<Vec<u8>, Fault> {
+    let mut reader = Device::new(input);
+    let bytes = read_up_to(alloc, &mut reader, MAX_SCRIPT_LEN + 1)?;
+    if bytes.len() > MAX_SCRIPT_LEN {
+        return Err(Fault::TooLong);
+    }
+    Ok(bytes)
+}
+
+/// Plays the script, starts each end that is down then, and answers what is shown.
+fn drill<D: Honest>(alloc: Global, bytes: &[u8]) -> Result<Vec<u8>, Fault>
+    ensures { IfOk result (λ text. IsShownOf bytes.now text.items) }
+{
+    let mut world: World<D> = played(alloc, bytes)?;
+    shown(alloc, &mut world)
+}
+
+fn perform_script<R: Read, O: Write>(
+    alloc: Global,
+    input: &mut R,
+    output: &mut O,
+) -> Result<u8, Fault> {
+    let bytes = read_bytes(alloc, input)?;
+    let text = drill::<Durable>(alloc, bytes.as_slice())?;
+    show(output, text.as_slice())?;
+    Ok(DONE)
+}
+
+fn refuse<O: Write, E: Write>(
+    error: &clap::Error,
+    output: &mut O,
+    errors: &mut E,
+) -> Result<u8, Fault> {
+    Ok(show_refusal(error, output, errors)?)
+}
+
+/// Performs what these words ask for, the program's name first, and answers the status. A fault's text
+/// goes to `errors`, and then nothing is written to `output`.
+pub fn perform<R: Read, O: Write, E: Write>(
+    alloc: Global,
+    words: &[String],
+    input: &mut R,
+    output: &mut O,
+    errors: &mut E,
+) -> u8 {
+    let done = match options::read(alloc, words) {
+        Ok(()) => perform_script(alloc, input, output),
+        Err(error) => refuse(&error, output, errors),
+    };
+    match done {
+        Ok(status) => status,
+        Err(fault) => fault.tell(errors),
+    }
+}
+
+/// The program: performs the words that it was started with, over the standard streams, and answers
+/// the status.
+pub fn main(rt: &HostRuntime) -> u8 {
+    match words(rt) {
+        Ok(words) => perform(
+            rt.alloc(),
+            words.as_slice(),
+            &mut rt.reader(),
+            &mut rt.stdout(),
+            &mut rt.stderr(),
+        ),
+        Err(fault) => Fault::Command(fault).tell(&mut rt.stderr()),
+    }
+}
