@@ -1,11 +1,7 @@
-//! The worked examples of the protocol as vectors: which of them pass. What may live here: the numbers of the examples,
-//! the report on a run of them all, and its tests. The examples stand in `vector_rows` and `schedule_rows`, since tests
-//! and wrong bodies prove the crate that they stand in again.
+//! The worked examples of the protocol as vectors: which of them pass. What may live here: the numbers of the examples
+//! and the report on a run of them all. The examples stand in `vector_rows` and `schedule_rows`.
 #![tactic(auto)]
 
 mod run;
 
 pub use run::{NUMBERS, VectorReport, run_all};
-
-#[cfg(test)]
-mod tests;

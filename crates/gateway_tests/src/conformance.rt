@@ -1,6 +1,8 @@
-use crate::run_all;
+//! The worked examples of the protocol, all in one call.
+
 use std::test::Fail;
 use vector_rows::first_over;
+use vectors::run_all;
 
 #[test]
 fn all_vectors_pass(rt: HostRuntime) -> Result<(), Fail> {
