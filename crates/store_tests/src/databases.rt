@@ -1,6 +1,6 @@
 //! Databases in memory, and in files on disks in memory, which may stop.
 
-ghost use Rattle.std.specs.Prelude.{◌≡◌, false, None, IfOk};
+ghost use Rattle.std.specs.Prelude.{◌≡◌, false, None, IfSome};
 
 use sqlite::{Alter, Connection, FileStore, MemStore, Options};
 use sqlite_disk::{Crash, Disk, Files, Fuse, Memory};
@@ -39,6 +39,11 @@ pub fn fused<D: Disk>(files: Files<D>, log: u64, db: u64) -> Files<Fuse<D>> {
     }
 }
 
+/// The files on disks that do not stop.
+pub fn lasting<D: Disk>(files: Files<D>) -> Files<Fuse<D>> {
+    fused(files, u64::MAX, u64::MAX)
+}
+
 /// The files as the machine finds them when it comes back.
 pub fn crashed<D: Crash>(files: Files<D>) -> Files<D> {
     let mut files = files;
@@ -73,20 +78,24 @@ pub fn connect<D: Disk + Drop>(alloc: Global, files: Files<D>) -> Option<Connect
     }
 }
 
-/// A connection in no transaction and without a limit of steps.
-pub fn ready<S: Alter + Drop>(conn: Connection<S>) -> Result<Connection<S>, Fail>
-    ensures { IfOk result (λ conn. (conn.in_transaction ≡ false) × (conn.step_limit ≡ None)) }
+/// The connection, which is in no transaction and has no limit of steps; `None` where a transaction is under way.
+pub fn ready<S: Alter + Drop>(conn: Connection<S>) -> Option<Connection<S>>
+    ensures { IfSome result (λ conn. (conn.in_transaction ≡ false) × (conn.step_limit ≡ None)) }
 {
     let mut conn = conn;
     conn.set_step_limit(None);
-    if !conn.is_autocommit() {
-        return Err(Fail::from("a transaction is under way"));
+    if conn.is_autocommit() {
+        Some(conn)
+    } else {
+        None
     }
-    Ok(conn)
 }
 
-/// Runs statements.
-pub fn run<S: Alter>(conn: &mut Connection<S>, sql: &str) -> Result<(), Fail> {
-    conn.execute_batch(sql)?;
-    Ok(())
+/// The connection after statements; `None` where one is refused.
+pub fn ran<S: Alter + Drop>(conn: Connection<S>, sql: &str) -> Option<Connection<S>> {
+    let mut conn = conn;
+    match conn.execute_batch(sql) {
+        Ok(()) => Some(conn),
+        Err(_) => None,
+    }
 }

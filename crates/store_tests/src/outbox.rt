@@ -1,69 +1,173 @@
 //! Outboxes, from outside.
 
-use crate::databases::{Fresh, run};
+use crate::databases::{Fresh, ran};
+use crate::targets::first_if;
 use http_wire::{Kind, Reply};
 use key_string::KeyText;
-use outbox_core::{Outbox, OutboxFault, PutFault, State, TakeFault};
+use outbox_core::{Entry, Outbox, OutboxFault, PutFault, State, StoreFault, TakeFault};
 use sqlite::{Alter, Connection, MemStore};
 use std::alloc::Global;
-use std::test::Fail;
 
-mod calls;
+pub mod calls;
 mod memory;
 pub mod migration;
 pub mod stops;
 
 const BODY: &[u8] = b"{\"facts\":{}}";
 
-/// What a put of these answers, of a report that is to replace filing 1 or none.
+/// An entry as it is expected: its key, whether it is to replace filing 1, its body and its state.
+pub type Expected = (&'static str, bool, &'static [u8], State);
+
+/// One entry, which is open.
+static ONE: [Expected; 1] = [("k-1", false, BODY, State::Open)];
+
+/// A call that changes an outbox.
+#[derive(Clone, Copy)]
+pub enum Call {
+    /// A report is put in under this key, which is to replace filing 1 or none.
+    Put(&'static str, bool, &'static [u8]),
+    /// A reply with this status and content is taken for the entry of this id.
+    Reply(u64, u16, &'static [u8]),
+}
+
+/// What a put of these answers.
 fn put<S: Alter>(
     alloc: Global,
     outbox: &mut Outbox<S>,
     key: &str,
     replaces: bool,
     body: &[u8],
-) -> Result<Result<u64, PutFault>, Fail> {
-    let key = KeyText::new(alloc, key)?;
-    Ok(calls::put(outbox, key, replaces, body.to_vec(alloc)?))
+) -> Result<u64, PutFault> {
+    let Ok(key) = KeyText::new(alloc, key) else {
+        return Err(PutFault::Memory);
+    };
+    match body.to_vec(alloc) {
+        Ok(body) => calls::put(outbox, key, replaces, body),
+        Err(_) => Err(PutFault::Memory),
+    }
 }
 
-/// An outbox on this database, with one entry, which is open.
-fn with_entry<S: Alter + Drop>(alloc: Global, conn: Connection<S>) -> Result<Outbox<S>, Fail> {
-    let mut outbox = calls::create(alloc, conn, "ACME")??;
-    put(alloc, &mut outbox, "k-1", false, BODY)??;
-    Ok(outbox)
-}
-
-/// What a reply of these does to entry 1.
+/// What a reply of these does to an entry.
 fn take<S: Alter>(
     alloc: Global,
     outbox: &mut Outbox<S>,
+    id: u64,
     status: u16,
     content: &[u8],
-) -> Result<Result<State, TakeFault>, Fail> {
-    let content = content.to_vec(alloc)?;
+) -> Result<State, TakeFault> {
+    let Ok(content) = content.to_vec(alloc) else {
+        return Err(TakeFault::Memory);
+    };
     let kind = Kind::Json;
-    Ok(calls::take(
+    calls::take(
         outbox,
-        1,
+        id,
         &Reply {
             status,
             content,
             kind,
         },
-    ))
+    )
 }
 
-/// What an opening answers after a statement on the tables of an outbox with one entry.
-fn fault_after<S: Fresh>(alloc: Global, sql: &str) -> Result<Option<OutboxFault>, Fail> {
-    let outbox: Outbox<S> = with_entry(alloc, S::fresh(alloc)?)?;
-    let mut conn = calls::conn_of(outbox);
-    run(&mut conn, sql)?;
-    Ok(calls::open(alloc, conn)?.err())
+/// Whether a report is put in.
+fn is_put(answer: Result<u64, PutFault>) -> Result<bool, StoreFault> {
+    match answer {
+        Ok(_) => Ok(true),
+        Err(PutFault::Memory) => Err(StoreFault::Memory),
+        Err(PutFault::Store) => Err(StoreFault::Store),
+        Err(_) => Ok(false),
+    }
+}
+
+/// Whether a reply is taken.
+fn is_taken(answer: Result<State, TakeFault>) -> Result<bool, StoreFault> {
+    match answer {
+        Ok(_) => Ok(true),
+        Err(TakeFault::Memory) => Err(StoreFault::Memory),
+        Err(TakeFault::Store) => Err(StoreFault::Store),
+        Err(_) => Ok(false),
+    }
+}
+
+/// Whether a call is made, or refused because of what the outbox holds.
+fn is_made<S: Alter>(
+    alloc: Global,
+    outbox: &mut Outbox<S>,
+    call: Call,
+) -> Result<bool, StoreFault> {
+    match call {
+        Call::Put(key, replaces, body) => is_put(put(alloc, outbox, key, replaces, body)),
+        Call::Reply(id, status, content) => is_taken(take(alloc, outbox, id, status, content)),
+    }
+}
+
+fn is_entry(entry: &Entry, (key, replaces, body, state): Expected) -> bool {
+    entry.key.as_str() == key
+        && entry.target == first_if(replaces)
+        && entry.body.as_slice() == body
+        && entry.state == state
+}
+
+/// Whether an entry was found, and is this one.
+fn is_found(
+    entry: Result<Option<Entry>, StoreFault>,
+    expected: Expected,
+) -> Result<bool, StoreFault> {
+    match entry {
+        Ok(Some(entry)) => Ok(is_entry(&entry, expected)),
+        Ok(None) => Ok(false),
+        Err(fault) => Err(fault),
+    }
+}
+
+/// Whether the outbox has these entries and no others.
+fn holds<S: Alter>(outbox: &mut Outbox<S>, expected: &[Expected]) -> Result<bool, StoreFault> {
+    if calls::states(outbox)?.len() != expected.len() {
+        return Ok(false);
+    }
+    for at in 0..expected.len() {
+        if !is_found(calls::entry(outbox, at as u64 + 1), expected[at])? {
+            return Ok(false);
+        }
+    }
+    Ok(true)
+}
+
+/// The outbox, and whether it has these entries and no others; `None` where it is not opened.
+fn found<S: Alter + Drop>(
+    alloc: Global,
+    conn: Connection<S>,
+    expected: &[Expected],
+) -> Option<(Connection<S>, bool)> {
+    let mut outbox = calls::open(alloc, conn).ok()?;
+    let holds = holds(&mut outbox, expected) == Ok(true);
+    Some((calls::conn_of(outbox), holds))
+}
+
+/// An outbox on this database, with one entry, which is open.
+fn with_entry<S: Alter + Drop>(alloc: Global, conn: Connection<S>) -> Option<Outbox<S>> {
+    let mut outbox = calls::create(alloc, conn).ok()?;
+    match put(alloc, &mut outbox, "k-1", false, BODY) {
+        Ok(_) => Some(outbox),
+        Err(_) => None,
+    }
+}
+
+/// An outbox with one entry, after a statement on its tables.
+fn changed<S: Fresh>(alloc: Global, sql: &str) -> Option<Connection<S>> {
+    let outbox = with_entry(alloc, S::fresh(alloc).ok()?)?;
+    ran(calls::conn_of(outbox), sql)
+}
+
+/// How an opening is refused then, if it is; `None` where the statement is refused.
+fn fault_after<S: Fresh>(alloc: Global, sql: &str) -> Option<Option<OutboxFault>> {
+    let conn: Connection<S> = changed(alloc, sql)?;
+    Some(calls::open(alloc, conn).err())
 }
 
 /// A statement on the tables of an outbox with one entry, and what an opening answers after it.
-static CHANGES: [(&str, Option<OutboxFault>); 20] = [
+static CHANGES: [(&str, Option<OutboxFault>); 21] = [
     (
         "UPDATE entry SET state = 7",
         Some(OutboxFault::Damaged { row: 1 }),
@@ -95,6 +199,10 @@ static CHANGES: [(&str, Option<OutboxFault>); 20] = [
     ),
     (
         "UPDATE outbox_meta SET form = 3",
+        Some(OutboxFault::NotOurs),
+    ),
+    (
+        "UPDATE outbox_meta SET form = 1; DROP TABLE target",
         Some(OutboxFault::NotOurs),
     ),
     ("DROP TABLE outbox_meta", Some(OutboxFault::NotOurs)),
@@ -129,9 +237,12 @@ static CHANGES: [(&str, Option<OutboxFault>); 20] = [
 ];
 
 #[test]
-fn damage_is_told(rt: HostRuntime) -> Result<(), Fail> {
+fn damage_is_told(rt: HostRuntime) {
     for &(sql, fault) in &CHANGES {
-        assert_eq!(rt; fault_after::<MemStore>(rt.alloc(), sql)?, fault, "{sql}");
+        assert_eq!(rt;
+            fault_after::<MemStore>(rt.alloc(), sql),
+            Some(fault),
+            "{sql}"
+        );
     }
-    Ok(())
 }

@@ -1,17 +1,16 @@
 //! What is left of a database in files after a stop: it is changed on a disk of which one file stops at each call in turn, and is
 //! opened again from what the disk left.
 
-use crate::databases::{ENOUGH, connect, copies, crashed, fused, new_files};
+use crate::databases::{ENOUGH, connect, copies, crashed, fused, lasting, new_files};
 use crate::outbox::stops::Change;
+use crate::register::Request;
 use crate::register::migration::Form;
-use crate::register::stops::Request;
 use crate::{outbox, register};
-use outbox_core::Outbox;
-use register_store::{Store, StoreFault};
 use sqlite::{Alter, Connection, FileStore};
 use sqlite_disk::{Disk, Files, Fuse, Memory};
 use std::alloc::Global;
 use std::test::Fail;
+use table_rows::StoreFault;
 
 // What needs no disk by name is generic over the store. The rest is generic over the disk, and calls one function of the first, since
 // each such call costs much to prove.
@@ -47,20 +46,12 @@ struct Stop {
     crashes: bool,
 }
 
-/// What holds the connection to a database.
-#[derive(Drop)]
-pub enum Held<S: Alter> {
-    Nothing(Connection<S>),
-    Register(Store<S>),
-    Outbox(Outbox<S>),
-}
-
-/// What holds the database, once it has what it has before the change.
+/// The database of a trial with what it has before the change.
 fn made<S: Alter + Drop>(
     alloc: Global,
     conn: Connection<S>,
     trial: Trial,
-) -> Result<Held<S>, Fail> {
+) -> Option<Connection<S>> {
     match trial {
         Trial::Request(_) => register::stops::with_one(alloc, conn),
         Trial::Register(form) => register::migration::with_form(conn, form),
@@ -69,27 +60,28 @@ fn made<S: Alter + Drop>(
     }
 }
 
-/// What holds the database after the change, and whether that was answered; `None` where it is not opened.
+/// The database after the change, and whether that was answered; `None` where it is not opened.
 fn changed<S: Alter + Drop>(
     alloc: Global,
     conn: Connection<S>,
     trial: Trial,
-) -> Result<Option<(Held<S>, bool)>, Fail> {
+) -> Option<(Connection<S>, bool)> {
     match trial {
         Trial::Request(request) => register::stops::asked(alloc, conn, request),
-        Trial::Register(_) => register::migration::tried(alloc, conn),
+        Trial::Register(_) => register::calls::tried(alloc, conn),
         Trial::Change(change) => outbox::stops::changed(alloc, conn, change),
-        Trial::Outbox => outbox::migration::tried(alloc, conn),
+        Trial::Outbox => outbox::calls::tried(alloc, conn),
     }
 }
 
-/// What holds the database, and whether it has the rows of before or of after the change, and those of after where that was answered.
+/// The database, and whether it has the rows of before or of after the change, and those of after where that was answered; `None` where
+/// it is not opened.
 fn looked_at<S: Alter + Drop>(
     alloc: Global,
     conn: Connection<S>,
     trial: Trial,
     answered: bool,
-) -> Result<(Held<S>, bool), Fail> {
+) -> Option<(Connection<S>, bool)> {
     match trial {
         Trial::Request(request) => register::stops::looked_at(alloc, conn, request, answered),
         Trial::Register(form) => register::migration::looked_at(alloc, conn, form, answered),
@@ -98,42 +90,26 @@ fn looked_at<S: Alter + Drop>(
     }
 }
 
-/// What holds the database after a step, and what that comes to: whether a change was answered, or what a look finds is right.
+/// The database after a step, and what that comes to: whether a change was answered, or what a look finds is right. `None` where the
+/// database is not opened.
 fn done<S: Alter + Drop>(
     alloc: Global,
     conn: Connection<S>,
     trial: Trial,
     step: Step,
-) -> Result<Option<(Held<S>, bool)>, Fail> {
+) -> Option<(Connection<S>, bool)> {
     match step {
-        Step::Make => Ok(Some((made(alloc, conn, trial)?, true))),
+        Step::Make => Some((made(alloc, conn, trial)?, true)),
         Step::Change => changed(alloc, conn, trial),
-        Step::Look(answered) => Ok(Some(looked_at(alloc, conn, trial, answered)?)),
+        Step::Look(answered) => looked_at(alloc, conn, trial, answered),
     }
 }
 
-/// The files, whatever the close of the connection answers, and why it was refused.
-fn close_files<D: Disk + Drop>(conn: Connection<FileStore<D>>) -> (Files<D>, Option<StoreFault>) {
+/// The files, whatever the close of the database answers, and why it was refused.
+fn close<D: Disk + Drop>(conn: Connection<FileStore<D>>) -> (Files<D>, Option<StoreFault>) {
     match conn.close_files() {
         Ok(files) => (files, None),
         Err((error, store)) => (store.close(), Some(StoreFault::from(error))),
-    }
-}
-
-/// The same of an outbox.
-fn close_outbox<D: Disk + Drop>(outbox: Outbox<FileStore<D>>) -> (Files<D>, Option<StoreFault>) {
-    match outbox.close() {
-        Ok(files) => (files, None),
-        Err((fault, files)) => (files, Some(fault)),
-    }
-}
-
-/// The same of what holds the database.
-fn close<D: Disk + Drop>(held: Held<FileStore<D>>) -> (Files<D>, Option<StoreFault>) {
-    match held {
-        Held::Nothing(conn) => close_files(conn),
-        Held::Register(store) => register::calls::close(store),
-        Held::Outbox(outbox) => close_outbox(outbox),
     }
 }
 
@@ -145,13 +121,13 @@ fn is_told(step: Step, is_so: bool, fault: Option<StoreFault>) -> bool {
     }
 }
 
-/// The files of what holds the database after a step.
+/// The files of the database after a step.
 fn closed<D: Disk + Drop>(
-    held: Held<FileStore<D>>,
+    conn: Connection<FileStore<D>>,
     step: Step,
     is_so: bool,
 ) -> Result<Files<D>, Fail> {
-    let (files, fault) = close(held);
+    let (files, fault) = close(conn);
     if is_told(step, is_so, fault) {
         Ok(files)
     } else {
@@ -169,9 +145,9 @@ fn done_in<D: Disk + Drop>(
     let Some(conn) = connect(alloc, files) else {
         return Ok(None);
     };
-    match done(alloc, conn, trial, step)? {
+    match done(alloc, conn, trial, step) {
         None => Ok(None),
-        Some((held, is_so)) => Ok(Some((closed(held, step, is_so)?, is_so))),
+        Some((conn, is_so)) => Ok(Some((closed(conn, step, is_so)?, is_so))),
     }
 }
 
@@ -182,7 +158,9 @@ fn stopping(
     stop: Stop,
     calls: u64,
 ) -> Result<Files<Fuse<Memory>>, Fail> {
-    let (files, _) = done_in(alloc, new_files(alloc), trial, Step::Make)?.ok_or("no database")?;
+    let files = lasting(new_files(alloc));
+    let (files, _) = done_in(alloc, files, trial, Step::Make)?.ok_or("no database")?;
+    let files = copies(alloc, &files)?;
     if stop.stops_log {
         Ok(fused(files, calls, u64::MAX))
     } else {
@@ -199,7 +177,7 @@ fn left(
     if stop.crashes {
         Ok(crashed(files))
     } else {
-        Ok(fused(copies(alloc, &files)?, u64::MAX, u64::MAX))
+        Ok(lasting(copies(alloc, &files)?))
     }
 }
 

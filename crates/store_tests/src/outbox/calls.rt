@@ -9,38 +9,52 @@ use outbox_core::{
 };
 use sqlite::{Alter, Connection};
 use std::alloc::Global;
-use std::test::Fail;
 
+/// What `create` answers for `ACME`.
 pub(super) fn create<S: Alter + Drop>(
     alloc: Global,
     conn: Connection<S>,
-    filer: &str,
-) -> Result<Result<Outbox<S>, OutboxFault>, Fail> {
-    Ok(Outbox::create(alloc, ready(conn)?, filer))
+) -> Result<Outbox<S>, OutboxFault> {
+    match ready(conn) {
+        Some(conn) => Outbox::create(alloc, conn, "ACME"),
+        None => Err(OutboxFault::Disk),
+    }
 }
 
 pub(super) fn open<S: Alter + Drop>(
     alloc: Global,
     conn: Connection<S>,
-) -> Result<Result<Outbox<S>, OutboxFault>, Fail> {
-    Ok(Outbox::open(alloc, ready(conn)?))
+) -> Result<Outbox<S>, OutboxFault> {
+    match ready(conn) {
+        Some(conn) => Outbox::open(alloc, conn),
+        None => Err(OutboxFault::Disk),
+    }
 }
 
 pub(super) fn migrate<S: Alter + Drop>(
     alloc: Global,
     conn: Connection<S>,
-) -> Result<Result<Outbox<S>, OutboxFault>, Fail> {
-    Ok(Outbox::migrate(alloc, ready(conn)?))
+) -> Result<Outbox<S>, OutboxFault> {
+    match ready(conn) {
+        Some(conn) => Outbox::migrate(alloc, conn),
+        None => Err(OutboxFault::Disk),
+    }
 }
 
-/// The connection after a migration, and how it is refused, if it is.
+/// The connection after a migration, and how that is refused, if it is.
 pub(super) fn migrated<S: Alter + Drop>(
     alloc: Global,
     conn: Connection<S>,
-) -> Result<(Connection<S>, Option<OutboxFault>), Fail> {
+) -> Option<(Connection<S>, Option<OutboxFault>)> {
     let mut conn = ready(conn)?;
     let fault = migrate_outbox(alloc, &mut conn).err();
-    Ok((conn, fault))
+    Some((conn, fault))
+}
+
+/// The connection after a migration, and whether that was answered.
+pub fn tried<S: Alter + Drop>(alloc: Global, conn: Connection<S>) -> Option<(Connection<S>, bool)> {
+    let (conn, fault) = migrated(alloc, conn)?;
+    Some((conn, fault.is_none()))
 }
 
 pub(super) fn conn_of<S: Alter>(outbox: Outbox<S>) -> Connection<S> {

@@ -1,10 +1,10 @@
 //! Outboxes of an earlier version: what a migration makes of them, which it refuses, and what a stop in it leaves.
 
-use super::calls::{conn_of, entry, migrate, migrated, open, states};
-use super::memory::has_states;
-use super::{BODY, put};
-use crate::databases::{Fresh, run};
-use crate::stops::{Held, Trial, are_stopped};
+use super::calls::{conn_of, migrate, migrated};
+use super::memory::has_again;
+use super::{BODY, Expected, found, put};
+use crate::databases::{Fresh, ran};
+use crate::stops::{Trial, are_stopped};
 use outbox_core::{Outbox, OutboxFault, State};
 use sqlite::{Alter, Connection, MemStore};
 use std::alloc::Global;
@@ -14,8 +14,12 @@ use std::test::Fail;
 const TABLES: &str =
     "CREATE TABLE outbox_meta (id INTEGER PRIMARY KEY, kind TEXT NOT NULL, form INTEGER NOT NULL, filer TEXT NOT NULL) STRICT; CREATE TABLE entry (id INTEGER PRIMARY KEY, idem TEXT NOT NULL UNIQUE, body BLOB NOT NULL, state INTEGER NOT NULL, number INTEGER) STRICT; INSERT INTO outbox_meta VALUES (1, 'outbox', 1, 'ACME'); INSERT INTO entry VALUES (1, 'k-1', x'7b226661637473223a7b7d7d', 1, 1); INSERT INTO entry VALUES (2, 'k-2', x'7b226661637473223a7b7d7d', 0, NULL)";
 
-/// Their states.
-static STATES: [(u64, State); 2] = [(1, State::Confirmed(1)), (2, State::Open)];
+/// Its entries, and one that is put later.
+static THREE: [Expected; 3] = [
+    ("k-1", false, BODY, State::Confirmed(1)),
+    ("k-2", false, BODY, State::Open),
+    ("k-3", true, BODY, State::Open),
+];
 
 /// A statement on the tables, why a migration is refused then, and a statement that undoes the first.
 type Case = (&'static str, OutboxFault, &'static str);
@@ -84,154 +88,95 @@ static CASES: [Case; 12] = [
     ),
 ];
 
-/// Makes an outbox of form 1.
-fn filled<S: Alter + Drop>(conn: Connection<S>) -> Result<Connection<S>, Fail> {
-    let mut conn = conn;
-    run(&mut conn, TABLES)?;
-    Ok(conn)
+/// An outbox of form 1 in a new database; `None` where something is refused.
+fn earlier<S: Fresh>(alloc: Global) -> Option<Connection<S>> {
+    ran(S::fresh(alloc).ok()?, TABLES)
 }
 
-/// An outbox of form 1 in a new database.
-fn earlier<S: Fresh>(alloc: Global) -> Result<Connection<S>, Fail> {
-    filled(S::fresh(alloc)?)
-}
-
-/// Whether the entry has this key, and is otherwise as it was put in before there were targets.
-fn is_of_before<S: Alter>(outbox: &mut Outbox<S>, id: u64, key: &str) -> Result<bool, Fail> {
-    let entry = entry(outbox, id)?.ok_or("there is no such entry")?;
-    Ok(entry.key.as_str() == key && entry.target.is_none() && entry.body.as_slice() == BODY)
-}
-
-/// Whether the outbox has the two entries.
-fn has_both<S: Alter>(outbox: &mut Outbox<S>) -> Result<bool, Fail> {
-    Ok(
-        outbox.filer() == "ACME"
-            && states(outbox)?.as_slice() == STATES.as_slice()
-            && is_of_before(outbox, 1, "k-1")?
-            && is_of_before(outbox, 2, "k-2")?,
-    )
-}
-
-/// Which filing the entry is to replace.
-fn target_of<S: Alter>(outbox: &mut Outbox<S>, id: u64) -> Result<Option<u64>, Fail> {
-    let entry = entry(outbox, id)?.ok_or("there is no such entry")?;
-    Ok(entry.target)
-}
-
-/// Whether an outbox is migrated, takes an entry that is to replace a filing, and is found so when it is opened.
-fn is_taken_along<S: Fresh>(alloc: Global) -> Result<bool, Fail> {
-    let mut outbox: Outbox<S> = migrate(alloc, earlier(alloc)?)??;
-    let is_whole = has_both(&mut outbox)?;
-    put(alloc, &mut outbox, "k-3", true, BODY)??;
-    let mut outbox = open(alloc, conn_of(outbox))??;
-    Ok(
-        is_whole
-            && is_of_before(&mut outbox, 1, "k-1")?
-            && is_of_before(&mut outbox, 2, "k-2")?
-            && target_of(&mut outbox, 3)? == Some(1),
-    )
-}
-
-#[test]
-fn an_earlier_outbox_is_taken_along(rt: HostRuntime) -> Result<(), Fail> {
-    assert!(rt; is_taken_along::<MemStore>(rt.alloc())?);
-    Ok(())
-}
-
-/// What an opening answers of an outbox of form 1.
-fn opening_fault<S: Fresh>(alloc: Global) -> Result<Option<OutboxFault>, Fail> {
-    let conn: Connection<S> = earlier(alloc)?;
-    Ok(open(alloc, conn)?.err())
-}
-
-#[test]
-fn an_earlier_outbox_is_not_opened(rt: HostRuntime) -> Result<(), Fail> {
-    let fault = opening_fault::<MemStore>(rt.alloc())?;
-    assert_eq!(rt; fault, Some(OutboxFault::NotOurs));
-    Ok(())
-}
-
-/// Whether a migration is refused as the case says, and is made once the statement is undone, so the rows were left.
-fn is_refused<S: Fresh>(alloc: Global, case: &Case) -> Result<bool, Fail> {
-    let (sql, fault, undo) = *case;
-    let mut conn: Connection<S> = earlier(alloc)?;
-    run(&mut conn, sql)?;
-    let (conn, given) = migrated(alloc, conn)?;
-    let mut conn = conn;
-    run(&mut conn, undo)?;
-    let mut outbox = migrate(alloc, conn)??;
-    Ok(given == Some(fault) && has_both(&mut outbox)?)
-}
-
-#[test]
-fn others_are_refused_and_left(rt: HostRuntime) -> Result<(), Fail> {
-    for case in &CASES {
-        assert!(rt; is_refused::<MemStore>(rt.alloc(), case)?, "{}", case.0);
+/// The outbox after its migration and a new entry, which is to replace a filing; `None` where either is refused.
+fn continued<S: Alter + Drop>(alloc: Global, conn: Connection<S>) -> Option<Connection<S>> {
+    let mut outbox = migrate(alloc, conn).ok()?;
+    match put(alloc, &mut outbox, "k-3", true, BODY) {
+        Ok(_) => Some(conn_of(outbox)),
+        Err(_) => None,
     }
-    Ok(())
 }
 
-/// An outbox of form 1, unless something is refused.
-fn earlier_unless_refused<S: Fresh>(alloc: Global) -> Option<Connection<S>> {
-    let mut conn: Connection<S> = S::fresh(alloc).ok()?;
-    conn.execute_batch(TABLES).ok()?;
-    Some(conn)
+/// The database after a migration that is refused as the case says, and what undoes its statement.
+fn refused<S: Fresh>(alloc: Global, case: &Case) -> Option<Connection<S>> {
+    let (sql, fault, undo) = *case;
+    let (conn, given) = migrated(alloc, ran(earlier(alloc)?, sql)?)?;
+    if given == Some(fault) {
+        ran(conn, undo)
+    } else {
+        None
+    }
 }
 
-/// An outbox of form 1, made again where memory was refused.
-fn earlier_again<S: Fresh>(alloc: Global) -> Result<Connection<S>, Fail> {
-    match earlier_unless_refused(alloc) {
-        Some(conn) => Ok(conn),
-        None => earlier(alloc),
+/// Whether a migration is refused as the case says, and is made once the statement is undone, so the rows were left. The outbox takes a
+/// new entry then, and is found so when it is opened.
+fn is_left<S: Fresh>(alloc: Global, case: &Case) -> Option<bool> {
+    let conn: Connection<S> = continued(alloc, refused(alloc, case)?)?;
+    let (_, has) = found(alloc, conn, &THREE)?;
+    Some(has)
+}
+
+#[test]
+fn an_earlier_outbox_is_taken_along_and_others_are_left(rt: HostRuntime) {
+    for case in &CASES {
+        assert_eq!(rt;
+            is_left::<MemStore>(rt.alloc(), case),
+            Some(true),
+            "{}",
+            case.0
+        );
+    }
+}
+
+/// What a migration of a new outbox of form 1 answers.
+fn migrated_new<S: Fresh>(alloc: Global) -> Result<Outbox<S>, OutboxFault> {
+    match earlier(alloc) {
+        Some(conn) => migrate(alloc, conn),
+        None => Err(OutboxFault::Memory),
     }
 }
 
 /// The outbox, migrated. A refusal gives the database up, so another one is made then.
-fn migrated_again<S: Fresh>(alloc: Global) -> Result<Outbox<S>, Fail> {
-    match migrate(alloc, earlier_again(alloc)?)? {
-        Err(OutboxFault::Memory) => Ok(migrate(alloc, earlier_again(alloc)?)??),
-        answer => Ok(answer?),
+fn migrated_again<S: Fresh>(alloc: Global) -> Result<Outbox<S>, OutboxFault> {
+    match migrated_new(alloc) {
+        Err(OutboxFault::Memory) => migrated_new(alloc),
+        answer => answer,
     }
 }
 
 /// Whether a migration that is made again where memory was refused gives the outbox.
-fn survives_refusals<S: Fresh>(alloc: Global) -> Result<bool, Fail> {
-    let mut outbox: Outbox<S> = migrated_again(alloc)?;
-    has_states(&mut outbox, &STATES)
+fn survives_refusals<S: Fresh>(alloc: Global) -> Option<bool> {
+    let mut outbox: Outbox<S> = migrated_again(alloc).ok()?;
+    Some(has_again(&mut outbox, (&THREE[..2], 2)) == Ok(true))
 }
 
 /// Run it with each allocation refused too, one in a run.
 #[test]
-fn refused_memory_changes_nothing(rt: HostRuntime) -> Result<(), Fail> {
-    assert!(rt; survives_refusals::<MemStore>(rt.alloc())?);
-    Ok(())
+fn refused_memory_changes_nothing(rt: HostRuntime) {
+    assert_eq!(rt; survives_refusals::<MemStore>(rt.alloc()), Some(true));
 }
 
 /// An outbox of form 1, in a database.
-pub fn with_earlier<S: Alter + Drop>(conn: Connection<S>) -> Result<Held<S>, Fail> {
-    Ok(Held::Nothing(filled(conn)?))
+pub fn with_earlier<S: Alter + Drop>(conn: Connection<S>) -> Option<Connection<S>> {
+    ran(conn, TABLES)
 }
 
-/// The database after a migration, and whether that was answered.
-pub fn tried<S: Alter + Drop>(
-    alloc: Global,
-    conn: Connection<S>,
-) -> Result<Option<(Held<S>, bool)>, Fail> {
-    let (conn, fault) = migrated(alloc, conn)?;
-    Ok(Some((Held::Nothing(conn), fault.is_none())))
-}
-
-/// The outbox, and whether it is that of before, which is migrated then, or the new one, which it has to be where that was answered.
+/// The outbox, and whether it is that of before, which is migrated then, or the new one, which it has to be where that was answered; `None`
+/// where it is not opened.
 pub fn looked_at<S: Alter + Drop>(
     alloc: Global,
     conn: Connection<S>,
     answered: bool,
-) -> Result<(Held<S>, bool), Fail> {
+) -> Option<(Connection<S>, bool)> {
     let (conn, fault) = migrated(alloc, conn)?;
-    let is_new = fault == Some(OutboxFault::NotOurs);
-    let mut outbox = open(alloc, conn)??;
-    let is_so = (is_new || !answered && fault.is_none()) && has_both(&mut outbox)?;
-    Ok((Held::Outbox(outbox), is_so))
+    let (conn, has) = found(alloc, conn, &THREE[..2])?;
+    let is_old_or_new = fault == Some(OutboxFault::NotOurs) || !answered && fault.is_none();
+    Some((conn, has && is_old_or_new))
 }
 
 #[test]

@@ -3,50 +3,57 @@
 
 use crate::databases::ready;
 use crate::targets::first_if;
-use filing_model::FilingRow;
+use filing_model::{Answer, FilingRow};
+use intake_core::{Intake, Unavailable};
 use key_string::{KeyText, is_filer};
 use register_store::{
-    Completed, CreateFault, KeptRow, NewRow, OpenFault, Outcome, Registered, Store, StoreFault,
-    migrate_register,
+    Completed, CreateFault, KeptRow, OpenFault, Registered, Store, StoreFault, migrate_register,
 };
-use sqlite::{Alter, Connection, FileStore, Files};
-use sqlite_disk::Disk;
+use sqlite::{Alter, Connection};
 use std::alloc::Global;
-use std::test::Fail;
-use xbrl_report::{Fact, judge, judge_amendment};
+use xbrl_report::Fact;
 
 /// What `create` answers.
 pub fn create<S: Alter + Drop>(
     alloc: Global,
     conn: Connection<S>,
-) -> Result<Result<Store<S>, CreateFault>, Fail> {
-    Ok(Store::create(alloc, ready(conn)?))
+) -> Result<Store<S>, CreateFault> {
+    match ready(conn) {
+        Some(conn) => Store::create(alloc, conn),
+        None => Err(CreateFault::Disk),
+    }
 }
 
 /// What `open` answers.
-pub fn open<S: Alter + Drop>(
-    alloc: Global,
-    conn: Connection<S>,
-) -> Result<Result<Store<S>, OpenFault>, Fail> {
-    Ok(Store::open(alloc, ready(conn)?))
+pub fn open<S: Alter + Drop>(alloc: Global, conn: Connection<S>) -> Result<Store<S>, OpenFault> {
+    match ready(conn) {
+        Some(conn) => Store::open(alloc, conn),
+        None => Err(OpenFault::Disk),
+    }
 }
 
 /// What `migrate` answers.
-pub fn migrate<S: Alter + Drop>(
-    alloc: Global,
-    conn: Connection<S>,
-) -> Result<Result<Store<S>, OpenFault>, Fail> {
-    Ok(Store::migrate(alloc, ready(conn)?))
+pub fn migrate<S: Alter + Drop>(alloc: Global, conn: Connection<S>) -> Result<Store<S>, OpenFault> {
+    match ready(conn) {
+        Some(conn) => Store::migrate(alloc, conn),
+        None => Err(OpenFault::Disk),
+    }
 }
 
-/// The connection after a migration, and how it is refused, if it is.
+/// The connection after a migration, and how that is refused, if it is.
 pub fn migrated<S: Alter + Drop>(
     alloc: Global,
     conn: Connection<S>,
-) -> Result<(Connection<S>, Option<OpenFault>), Fail> {
+) -> Option<(Connection<S>, Option<OpenFault>)> {
     let mut conn = ready(conn)?;
     let fault = migrate_register(alloc, &mut conn).err();
-    Ok((conn, fault))
+    Some((conn, fault))
+}
+
+/// The connection after a migration, and whether that was answered.
+pub fn tried<S: Alter + Drop>(alloc: Global, conn: Connection<S>) -> Option<(Connection<S>, bool)> {
+    let (conn, fault) = migrated(alloc, conn)?;
+    Some((conn, fault.is_none()))
 }
 
 /// The connection of a store.
@@ -54,66 +61,33 @@ pub fn conn_of<S: Alter>(store: Store<S>) -> Connection<S> {
     store.into_conn()
 }
 
-/// How many requests are kept, and how many of them are registered.
-pub fn counts<S: Alter>(store: &Store<S>) -> Result<(u64, u64), StoreFault> {
-    Ok((store.kept_count()?, store.filing_count()?))
+/// An intake over a store, which keeps ten requests at most.
+pub fn intake_over<S: Alter>(alloc: Global, store: Store<S>) -> Intake<S> {
+    Intake::new(alloc, store, 10)
 }
 
-/// What `add` answers for a short report of ACME under a key, as it is judged. Want of memory to judge it is told as that of the
-/// store.
-pub fn add_short<S: Alter>(
-    alloc: Global,
-    store: &mut Store<S>,
+/// The store of an intake.
+pub fn store_of<S: Alter>(intake: Intake<S>) -> Store<S> {
+    intake.into_store()
+}
+
+/// What `submit` answers for a short report of ACME under a key, which is to replace filing 1 or none.
+pub fn submit<S: Alter>(
+    intake: &mut Intake<S>,
+    replaces: bool,
     key: &KeyText,
     body: &[u8],
-) -> Result<Result<Outcome, StoreFault>, Fail> {
+) -> Result<Answer, Unavailable> {
     let filer = "ACME";
-    if !is_filer(filer) || body.len() > 1000 || store.kept_count()? > 1000 {
-        return Err(Fail::from("not for this test"));
+    if !is_filer(filer) || body.len() > 1000 {
+        return Err(Unavailable::Down);
     }
-    match judge(alloc, filer, body) {
-        Ok(judged) => Ok(store.add(&NewRow {
-            filer,
-            key,
-            target: None,
-            body,
-            judged: &judged,
-        })),
-        Err(error) => Ok(Err(StoreFault::from(error))),
-    }
+    intake.submit(filer, first_if(replaces), key, body)
 }
 
-/// The same of a report that is to replace filing 1, which is free to be replaced or not.
-pub fn add_replacing<S: Alter>(
-    alloc: Global,
-    store: &mut Store<S>,
-    key: &KeyText,
-    body: &[u8],
-    free: bool,
-) -> Result<Result<Outcome, StoreFault>, Fail> {
-    let filer = "ACME";
-    if !is_filer(filer) || body.len() > 1000 || store.kept_count()? > 1000 {
-        return Err(Fail::from("not for this test"));
-    }
-    match judge_amendment(alloc, filer, body, free) {
-        Ok(judged) => Ok(store.add(&NewRow {
-            filer,
-            key,
-            target: first_if(true),
-            body,
-            judged: &judged,
-        })),
-        Err(error) => Ok(Err(StoreFault::from(error))),
-    }
-}
-
-/// What `replaceable` answers.
-pub fn replaceable<S: Alter>(
-    store: &mut Store<S>,
-    filer: &str,
-    number: u64,
-) -> Result<bool, StoreFault> {
-    store.replaceable(filer, number)
+/// What `replaceable` answers for ACME.
+pub fn replaceable<S: Alter>(store: &mut Store<S>, number: u64) -> Result<bool, StoreFault> {
+    store.replaceable("ACME", number)
 }
 
 /// How many requests are told the contents of before.
@@ -121,13 +95,17 @@ pub fn early_count<S: Alter>(store: &Store<S>) -> Result<u64, StoreFault> {
     store.early_count()
 }
 
-/// What `find` answers.
+/// How many requests are kept.
+pub fn kept_count<S: Alter>(store: &Store<S>) -> Result<u64, StoreFault> {
+    store.kept_count()
+}
+
+/// What `find` answers for ACME.
 pub fn look_up<S: Alter>(
     store: &mut Store<S>,
-    filer: &str,
     key: &KeyText,
 ) -> Result<Option<KeptRow>, StoreFault> {
-    store.find(filer, key)
+    store.find("ACME", key)
 }
 
 /// What `requests` answers.
@@ -135,9 +113,9 @@ pub fn requests<S: Alter>(store: &mut Store<S>) -> Result<Vec<Completed>, StoreF
     store.requests()
 }
 
-/// What `filings` answers.
-pub fn filings<S: Alter>(store: &mut Store<S>, filer: &str) -> Result<Vec<FilingRow>, StoreFault> {
-    store.filings(filer)
+/// What `filings` answers for ACME.
+pub fn filings<S: Alter>(store: &mut Store<S>) -> Result<Vec<FilingRow>, StoreFault> {
+    store.filings("ACME")
 }
 
 /// What `all_filings` answers.
@@ -148,12 +126,4 @@ pub fn all_filings<S: Alter>(store: &mut Store<S>) -> Result<Vec<Registered>, St
 /// What `facts` answers.
 pub fn facts<S: Alter>(store: &mut Store<S>, number: u64) -> Result<Option<Vec<Fact>>, StoreFault> {
     store.facts(number)
-}
-
-/// The files, whatever `close` answers, and why it was refused.
-pub fn close<D: Disk + Drop>(store: Store<FileStore<D>>) -> (Files<D>, Option<StoreFault>) {
-    match store.close() {
-        Ok(files) => (files, None),
-        Err((fault, files)) => (files, Some(fault)),
-    }
 }

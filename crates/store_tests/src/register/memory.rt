@@ -1,155 +1,117 @@
 //! The life of a register, where each call is made again that was refused because memory ran out: what is kept is that of
 //! before, and the second answer is that of ample memory. Run it with each allocation refused too, one in a run.
 
-use super::REPORT;
 use super::calls::{
-    add_short, all_filings, conn_of, counts, create, facts, filings, look_up, open, requests,
+    all_filings, conn_of, create, facts, filings, intake_over, open, requests, store_of,
 };
+use super::{ONE, Request, holds, submit};
 use crate::databases::Fresh;
-use key_string::{KeyFault, KeyText};
-use register_store::{CreateFault, KeptRow, OpenFault, Outcome, Store, StoreFault};
-use sqlite::{Alter, Connection, MemStore};
+use intake_core::{Intake, Unavailable};
+use register_store::{CreateFault, OpenFault, Store, StoreFault};
+use sqlite::{Alter, MemStore};
 use std::alloc::{AllocError, Global};
-use std::test::Fail;
 
-/// A new database.
-fn connected<S: Fresh>(alloc: Global) -> Result<Connection<S>, AllocError> {
+/// What making a new register answers.
+fn created<S: Fresh>(alloc: Global) -> Result<Store<S>, CreateFault> {
     match S::fresh(alloc) {
-        Err(AllocError) => S::fresh(alloc),
+        Ok(conn) => create(alloc, conn),
+        Err(AllocError) => Err(CreateFault::Memory),
+    }
+}
+
+/// The same. A refusal gives the database up, so another one is made then.
+fn created_again<S: Fresh>(alloc: Global) -> Result<Store<S>, CreateFault> {
+    match created(alloc) {
+        Err(CreateFault::Memory) => created(alloc),
         answer => answer,
     }
 }
 
-fn created<S: Fresh>(alloc: Global) -> Result<Store<S>, Fail> {
-    match create(alloc, connected(alloc)?)? {
-        Err(CreateFault::Memory) => Ok(create(alloc, connected(alloc)?)??),
-        answer => Ok(answer?),
-    }
-}
-
-fn key(alloc: Global) -> Result<KeyText, KeyFault> {
-    match KeyText::new(alloc, "k-1") {
-        Err(KeyFault::Memory) => KeyText::new(alloc, "k-1"),
-        answer => answer,
-    }
-}
-
-/// What keeping the report answers, which is not kept where memory is refused.
-fn added<S: Alter>(
+/// Whether the register has these requests and no others.
+pub fn holds_again<S: Alter>(
     alloc: Global,
     store: &mut Store<S>,
-    key: &KeyText,
-) -> Result<Result<Outcome, StoreFault>, Fail> {
-    let answer = add_short(alloc, store, key, REPORT)?;
-    if !matches!(answer, Err(StoreFault::Memory)) {
-        return Ok(answer);
-    }
-    if has_none(store, key)? {
-        add_short(alloc, store, key, REPORT)
-    } else {
-        Err(Fail::from("a refused report is kept"))
-    }
-}
-
-/// Whether nothing is kept.
-fn has_none<S: Alter>(store: &mut Store<S>, key: &KeyText) -> Result<bool, StoreFault> {
-    Ok(counts(store)? == (0, 0) && found(store, key)?.is_none())
-}
-
-fn found<S: Alter>(store: &mut Store<S>, key: &KeyText) -> Result<Option<KeptRow>, StoreFault> {
-    match look_up(store, "ACME", key) {
-        Err(StoreFault::Memory) => look_up(store, "ACME", key),
+    requests: &[Request],
+) -> Result<bool, StoreFault> {
+    match holds(alloc, store, requests) {
+        Err(StoreFault::Memory) => holds(alloc, store, requests),
         answer => answer,
     }
 }
 
-/// A register with the report.
-pub fn with_one<S: Fresh>(alloc: Global) -> Result<Store<S>, Fail> {
-    let mut store = created(alloc)?;
-    let key = key(alloc)?;
-    match added(alloc, &mut store, &key)? {
-        Ok(Outcome::Registered(1)) => Ok(store),
-        _ => Err(Fail::from("the report is not registered")),
+/// What an intake answers to a request, at once or, where memory was refused, to the same request again.
+fn submit_again<S: Alter>(
+    alloc: Global,
+    intake: &mut Intake<S>,
+    request: Request,
+) -> Result<(u64, bool), Unavailable> {
+    match submit(alloc, intake, request) {
+        Err(Unavailable::Memory) => submit(alloc, intake, request),
+        answer => answer,
     }
 }
 
-/// The database of such a register.
-fn conn_with_one<S: Fresh>(alloc: Global) -> Result<Connection<S>, Fail> {
-    Ok(conn_of(with_one(alloc)?))
+/// A register that was asked for each request; `None` where one has another answer than its own, or is told to be a repeat, as one would be
+/// that was kept where memory was refused.
+pub fn kept<S: Fresh>(alloc: Global, requests: &[Request]) -> Option<Store<S>> {
+    let mut intake = intake_over(alloc, created_again(alloc).ok()?);
+    for &request in requests {
+        if submit_again(alloc, &mut intake, request) != Ok((request.3, false)) {
+            return None;
+        }
+    }
+    Some(store_of(intake))
 }
 
-/// The register, opened again. A refusal gives the database up, so another one is made then.
-fn opened<S: Fresh>(alloc: Global) -> Result<Store<S>, Fail> {
-    match open(alloc, conn_with_one(alloc)?)? {
-        Err(OpenFault::Memory) => Ok(open(alloc, conn_with_one(alloc)?)??),
-        answer => Ok(answer?),
+/// What an opening of a register with one request answers.
+fn opened<S: Fresh>(alloc: Global) -> Result<Store<S>, OpenFault> {
+    match kept(alloc, &ONE) {
+        Some(store) => open(alloc, conn_of(store)),
+        None => Err(OpenFault::NotOurs),
     }
 }
 
-/// The keys of the requests that are kept.
-fn has_one_request<S: Alter>(store: &mut Store<S>) -> Result<bool, StoreFault> {
-    let list = match requests(store) {
-        Err(StoreFault::Memory) => requests(store)?,
-        answer => answer?,
-    };
+/// The same. A refusal gives the database up, so another one is made then.
+fn opened_again<S: Fresh>(alloc: Global) -> Result<Store<S>, OpenFault> {
+    match opened(alloc) {
+        Err(OpenFault::Memory) => opened(alloc),
+        answer => answer,
+    }
+}
+
+/// How many facts the first filing has, 0 where there is no filing.
+fn fact_count<S: Alter>(store: &mut Store<S>) -> Result<usize, StoreFault> {
+    match facts(store, 1)? {
+        Some(list) => Ok(list.len()),
+        None => Ok(0),
+    }
+}
+
+/// Whether each list has one item.
+fn lists_one<S: Alter>(store: &mut Store<S>) -> Result<bool, StoreFault> {
     Ok(
-        matches!(list.as_slice(), [request] if request.filer.as_str() == "ACME" && request.key.as_str() == "k-1" && request.body.as_slice() == REPORT),
+        requests(store)?.len() == 1
+            && filings(store)?.len() == 1
+            && all_filings(store)?.len() == 1
+            && fact_count(store)? == 1,
     )
 }
 
-fn has_one_filing<S: Alter>(store: &mut Store<S>) -> Result<bool, StoreFault> {
-    let list = match filings(store, "ACME") {
-        Err(StoreFault::Memory) => filings(store, "ACME")?,
-        answer => answer?,
-    };
-    Ok(matches!(list.as_slice(), [filing] if filing.number == 1 && filing.facts == 1))
-}
-
-fn has_one_number<S: Alter>(store: &mut Store<S>) -> Result<bool, StoreFault> {
-    let list = match all_filings(store) {
-        Err(StoreFault::Memory) => all_filings(store)?,
-        answer => answer?,
-    };
-    Ok(matches!(list.as_slice(), [filing] if filing.number == 1))
-}
-
-fn has_one_fact<S: Alter>(store: &mut Store<S>) -> Result<bool, StoreFault> {
-    let list = match facts(store, 1) {
-        Err(StoreFault::Memory) => facts(store, 1)?,
-        answer => answer?,
-    };
-    match list {
-        Some(list) => Ok(matches!(list.as_slice(), [fact] if fact.id.as_str() == "f1")),
-        None => Ok(false),
+fn lists_one_again<S: Alter>(store: &mut Store<S>) -> Result<bool, StoreFault> {
+    match lists_one(store) {
+        Err(StoreFault::Memory) => lists_one(store),
+        answer => answer,
     }
-}
-
-/// Whether the report is found, as it was registered.
-fn is_found<S: Alter>(alloc: Global, store: &mut Store<S>) -> Result<bool, Fail> {
-    let key = key(alloc)?;
-    let row = found(store, &key)?.ok_or("it is not kept")?;
-    Ok(row.body.as_slice() == REPORT && matches!(row.outcome, Outcome::Registered(1)))
-}
-
-/// Whether the register finds and lists the report, and nothing else.
-fn has_one<S: Alter>(alloc: Global, store: &mut Store<S>) -> Result<bool, Fail> {
-    Ok(
-        is_found(alloc, store)?
-            && has_one_request(store)?
-            && has_one_filing(store)?
-            && has_one_number(store)?
-            && has_one_fact(store)?,
-    )
 }
 
 /// Whether the register that is opened has the report.
-fn holds<S: Fresh>(alloc: Global) -> Result<bool, Fail> {
-    let mut store: Store<S> = opened(alloc)?;
-    Ok(counts(&store)? == (1, 1) && has_one(alloc, &mut store)?)
+fn lives<S: Fresh>(alloc: Global) -> Option<bool> {
+    let mut store: Store<S> = opened_again(alloc).ok()?;
+    let is_kept = holds_again(alloc, &mut store, &ONE) == Ok(true);
+    Some(is_kept && lists_one_again(&mut store) == Ok(true))
 }
 
 #[test]
-fn refused_memory_changes_nothing(rt: HostRuntime) -> Result<(), Fail> {
-    assert!(rt; holds::<MemStore>(rt.alloc())?);
-    Ok(())
+fn refused_memory_changes_nothing(rt: HostRuntime) {
+    assert_eq!(rt; lives::<MemStore>(rt.alloc()), Some(true));
 }

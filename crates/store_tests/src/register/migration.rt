@@ -1,12 +1,12 @@
 //! Registers of earlier versions: what a migration makes of them, which it refuses, and what a stop in it leaves.
 
-use super::add;
-use super::calls::{conn_of, counts, early_count, look_up, migrate, migrated, open};
-use crate::databases::{Fresh, run};
-use crate::stops::{Held, Trial, are_stopped};
-use filing_model::Style;
-use key_string::KeyText;
-use register_store::{OpenFault, Outcome, Store};
+use super::calls::{conn_of, early_count, intake_over, migrate, migrated, open, store_of};
+use super::memory::holds_again;
+use super::{Request, holds, submit};
+use crate::databases::{Fresh, ran};
+use crate::stops::{Trial, are_stopped};
+use example_texts::SMALLEST;
+use register_store::{OpenFault, Store, StoreFault};
 use sqlite::{Alter, Connection, MemStore};
 use std::alloc::Global;
 use std::test::Fail;
@@ -110,150 +110,128 @@ static CASES: [Case; 13] = [
     ),
 ];
 
-/// Makes a register of the form.
-fn filled<S: Alter + Drop>(conn: Connection<S>, form: Form) -> Result<Connection<S>, Fail> {
-    let mut conn = conn;
-    run(&mut conn, TABLES)?;
-    run(&mut conn, form.0)?;
-    Ok(conn)
+/// The requests of each form, and one that comes later.
+static THREE: [Request; 3] = [
+    ("k-1", false, SMALLEST, 1),
+    ("k-2", false, "", 0),
+    ("k-3", false, "{}", 0),
+];
+
+/// The statements of a form in a database; `None` where one is refused.
+pub fn with_form<S: Alter + Drop>(conn: Connection<S>, form: Form) -> Option<Connection<S>> {
+    ran(ran(conn, TABLES)?, form.0)
 }
 
 /// A register of the form in a new database.
-fn earlier<S: Fresh>(alloc: Global, form: Form) -> Result<Connection<S>, Fail> {
-    filled(S::fresh(alloc)?, form)
+fn earlier<S: Fresh>(alloc: Global, form: Form) -> Option<Connection<S>> {
+    with_form(S::fresh(alloc).ok()?, form)
 }
 
-/// Whether the register has the two requests, so many of them of before.
-fn has_both<S: Alter>(store: &Store<S>, early: u64) -> Result<bool, Fail> {
-    Ok(counts(store)? == (2, 1) && early_count(store)? == early)
+/// Whether the register has these requests, as many of them of before as the form says.
+fn has<S: Alter>(
+    alloc: Global,
+    store: &mut Store<S>,
+    form: Form,
+    requests: &[Request],
+) -> Result<bool, StoreFault> {
+    Ok(early_count(store)? == form.1 && holds(alloc, store, requests)?)
 }
 
-/// How the key's replies tell what is refused, and the number of its report, 0 where it was refused.
-fn told<S: Alter>(alloc: Global, store: &mut Store<S>, key: &str) -> Result<(Style, u64), Fail> {
-    let key = KeyText::new(alloc, key)?;
-    let row = look_up(store, "ACME", &key)?.ok_or("it is not kept")?;
-    if row.target.is_some() {
-        return Err(Fail::from("it has a target"));
+/// The register, and whether it has these requests, as many of them of before as the form says; `None` where it is not opened.
+fn found<S: Alter + Drop>(
+    alloc: Global,
+    conn: Connection<S>,
+    form: Form,
+    requests: &[Request],
+) -> Option<(Connection<S>, bool)> {
+    let mut store = open(alloc, conn).ok()?;
+    let has = has(alloc, &mut store, form, requests) == Ok(true);
+    Some((conn_of(store), has))
+}
+
+/// The register after its migration and a new request, which is refused; `None` where either has another answer.
+fn continued<S: Alter + Drop>(alloc: Global, conn: Connection<S>) -> Option<Connection<S>> {
+    let mut intake = intake_over(alloc, migrate(alloc, conn).ok()?);
+    match submit(alloc, &mut intake, THREE[2]) {
+        Ok((0, false)) => Some(conn_of(store_of(intake))),
+        _ => None,
     }
-    Ok(match row.outcome {
-        Outcome::Registered(number) => (row.style, number),
-        Outcome::Refused(_) => (row.style, 0),
-    })
 }
 
-/// Whether the requests of before, and no others, are told the contents of before.
-fn tells<S: Alter>(alloc: Global, store: &mut Store<S>, early: u64) -> Result<bool, Fail> {
-    let second = if early == 2 {
-        Style::Old
-    } else {
-        Style::Problem
-    };
-    Ok(told(alloc, store, "k-1")? == (Style::Old, 1) && told(alloc, store, "k-2")? == (second, 0))
-}
-
-/// Whether a register of the form is migrated, keeps a new request as one of after, and is found so when it is opened.
-fn is_taken_along<S: Fresh>(alloc: Global, form: Form) -> Result<bool, Fail> {
-    let mut store: Store<S> = migrate(alloc, earlier(alloc, form)?)??;
-    let is_whole = has_both(&store, form.1)? && tells(alloc, &mut store, form.1)?;
-    add(alloc, &mut store, ("k-3", b"{}"))??;
-    let mut store = open(alloc, conn_of(store))??;
-    Ok(
-        is_whole
-            && tells(alloc, &mut store, form.1)?
-            && told(alloc, &mut store, "k-3")? == (Style::Problem, 0),
-    )
-}
-
-#[test]
-fn earlier_registers_are_taken_along(rt: HostRuntime) -> Result<(), Fail> {
-    for form in [SECOND, THIRD] {
-        assert!(rt; is_taken_along::<MemStore>(rt.alloc(), form)?);
-    }
-    Ok(())
-}
-
-/// Whether a migration is refused as the case says, and is made once the statement is undone, so the rows were left.
-fn is_refused<S: Fresh>(alloc: Global, case: &Case) -> Result<bool, Fail> {
+/// The database after a migration that is refused as the case says, and what undoes its statement.
+fn refused<S: Fresh>(alloc: Global, case: &Case) -> Option<Connection<S>> {
     let (form, sql, fault, undo) = *case;
-    let mut conn: Connection<S> = earlier(alloc, form)?;
-    run(&mut conn, sql)?;
-    let (conn, given) = migrated(alloc, conn)?;
-    let mut conn = conn;
-    run(&mut conn, undo)?;
-    let store = migrate(alloc, conn)??;
-    Ok(given == Some(fault) && has_both(&store, form.1)?)
+    let (conn, given) = migrated(alloc, ran(earlier(alloc, form)?, sql)?)?;
+    if given == Some(fault) {
+        ran(conn, undo)
+    } else {
+        None
+    }
+}
+
+/// Whether a migration is refused as the case says, and is made once the statement is undone, so the rows were left. The register keeps a
+/// new request as one of after.
+fn is_left<S: Fresh>(alloc: Global, case: &Case) -> Option<bool> {
+    let conn: Connection<S> = continued(alloc, refused(alloc, case)?)?;
+    let (_, has) = found(alloc, conn, case.0, &THREE)?;
+    Some(has)
 }
 
 #[test]
-fn others_are_refused_and_left(rt: HostRuntime) -> Result<(), Fail> {
+fn earlier_registers_are_taken_along_and_others_are_left(rt: HostRuntime) {
     for case in &CASES {
-        assert!(rt; is_refused::<MemStore>(rt.alloc(), case)?, "{}", case.1);
+        assert_eq!(rt;
+            is_left::<MemStore>(rt.alloc(), case),
+            Some(true),
+            "{}",
+            case.1
+        );
     }
-    Ok(())
 }
 
-/// A register of the form, unless something is refused.
-fn earlier_unless_refused<S: Fresh>(alloc: Global, form: Form) -> Option<Connection<S>> {
-    let mut conn: Connection<S> = S::fresh(alloc).ok()?;
-    conn.execute_batch(TABLES).ok()?;
-    conn.execute_batch(form.0).ok()?;
-    Some(conn)
-}
-
-/// A register of the form, made again where memory was refused.
-fn earlier_again<S: Fresh>(alloc: Global, form: Form) -> Result<Connection<S>, Fail> {
-    match earlier_unless_refused(alloc, form) {
-        Some(conn) => Ok(conn),
-        None => earlier(alloc, form),
+/// What a migration of a new register of the form answers.
+fn migrated_new<S: Fresh>(alloc: Global, form: Form) -> Result<Store<S>, OpenFault> {
+    match earlier(alloc, form) {
+        Some(conn) => migrate(alloc, conn),
+        None => Err(OpenFault::Memory),
     }
 }
 
 /// The register, migrated. A refusal gives the database up, so another one is made then.
-fn migrated_again<S: Fresh>(alloc: Global, form: Form) -> Result<Store<S>, Fail> {
-    match migrate(alloc, earlier_again(alloc, form)?)? {
-        Err(OpenFault::Memory) => Ok(migrate(alloc, earlier_again(alloc, form)?)??),
-        answer => Ok(answer?),
+fn migrated_again<S: Fresh>(alloc: Global, form: Form) -> Result<Store<S>, OpenFault> {
+    match migrated_new(alloc, form) {
+        Err(OpenFault::Memory) => migrated_new(alloc, form),
+        answer => answer,
     }
 }
 
 /// Whether a migration that is made again where memory was refused gives the register.
-fn survives_refusals<S: Fresh>(alloc: Global, form: Form) -> Result<bool, Fail> {
-    let store: Store<S> = migrated_again(alloc, form)?;
-    has_both(&store, form.1)
+fn survives_refusals<S: Fresh>(alloc: Global, form: Form) -> Option<bool> {
+    let mut store: Store<S> = migrated_again(alloc, form).ok()?;
+    let is_kept = holds_again(alloc, &mut store, &THREE[..2]) == Ok(true);
+    Some(is_kept && early_count(&store) == Ok(form.1))
 }
 
 #[test]
-fn refused_memory_changes_nothing(rt: HostRuntime) -> Result<(), Fail> {
-    assert!(rt; survives_refusals::<MemStore>(rt.alloc(), SECOND)?);
-    Ok(())
+fn refused_memory_changes_nothing(rt: HostRuntime) {
+    assert_eq!(rt;
+        survives_refusals::<MemStore>(rt.alloc(), SECOND),
+        Some(true)
+    );
 }
 
-/// A register of the form, in a database.
-pub fn with_form<S: Alter + Drop>(conn: Connection<S>, form: Form) -> Result<Held<S>, Fail> {
-    Ok(Held::Nothing(filled(conn, form)?))
-}
-
-/// The database after a migration, and whether that was answered.
-pub fn tried<S: Alter + Drop>(
-    alloc: Global,
-    conn: Connection<S>,
-) -> Result<Option<(Held<S>, bool)>, Fail> {
-    let (conn, fault) = migrated(alloc, conn)?;
-    Ok(Some((Held::Nothing(conn), fault.is_none())))
-}
-
-/// The register, and whether it is that of before, which is migrated then, or the new one, which it has to be where that was answered.
+/// The register, and whether it is that of before, which is migrated then, or the new one, which it has to be where that was answered;
+/// `None` where it is not opened.
 pub fn looked_at<S: Alter + Drop>(
     alloc: Global,
     conn: Connection<S>,
     form: Form,
     answered: bool,
-) -> Result<(Held<S>, bool), Fail> {
+) -> Option<(Connection<S>, bool)> {
     let (conn, fault) = migrated(alloc, conn)?;
-    let is_new = fault == Some(OpenFault::NotOurs);
-    let store = open(alloc, conn)??;
-    let is_so = (is_new || !answered && fault.is_none()) && has_both(&store, form.1)?;
-    Ok((Held::Register(store), is_so))
+    let (conn, has) = found(alloc, conn, form, &THREE[..2])?;
+    let is_old_or_new = fault == Some(OpenFault::NotOurs) || !answered && fault.is_none();
+    Some((conn, has && is_old_or_new))
 }
 
 #[test]

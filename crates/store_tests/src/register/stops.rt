@@ -1,113 +1,59 @@
 //! Registers in files on disks in memory, which stop at a call of an intake.
 
-use super::calls::{open, requests};
-use super::{ONE, REPORT, made};
-use crate::stops::{Held, Trial, are_stopped};
-use crate::targets::first_if;
-use intake_core::{Answer, Intake, Unavailable};
-use key_string::{KeyText, is_filer};
-use register_store::Completed;
+use super::calls::{conn_of, intake_over, open, store_of};
+use super::{ONE, Request, are_answered, holds, made};
+use crate::stops::{Trial, are_stopped};
+use example_texts::REPORT;
+use register_store::{Store, StoreFault};
 use sqlite::{Alter, Connection};
 use std::alloc::Global;
 use std::test::Fail;
 
-/// A key of ACME, whether a report is to replace filing 1, and the report.
-pub type Request = (&'static str, bool, &'static [u8]);
-
-/// The request that is kept at first.
-const FIRST: Request = ("k-1", false, REPORT);
-
 /// A register of one report.
-pub fn with_one<S: Alter + Drop>(alloc: Global, conn: Connection<S>) -> Result<Held<S>, Fail> {
-    Ok(Held::Register(made(alloc, conn, &ONE)?))
+pub fn with_one<S: Alter + Drop>(alloc: Global, conn: Connection<S>) -> Option<Connection<S>> {
+    Some(conn_of(made(alloc, conn, &ONE)?))
 }
 
-/// Submits a request of `ACME`, which is to replace filing 1 or none.
-fn submit<S: Alter>(
-    intake: &mut Intake<S>,
-    replaces: bool,
-    key: &KeyText,
-    body: &[u8],
-) -> Result<Answer, Unavailable> {
-    let filer = "ACME";
-    if !is_filer(filer) || body.len() > 1000 {
-        return Err(Unavailable::Down);
-    }
-    intake.submit(filer, first_if(replaces), key, body)
-}
-
-/// Whether neither a key that may be remembered nor the list is answered.
-fn is_down<S: Alter>(intake: &mut Intake<S>, key: &KeyText) -> bool {
-    matches!(submit(intake, false, key, REPORT), Err(Unavailable::Down))
-        && matches!(intake.list("ACME"), Err(Unavailable::Down))
-}
-
-/// Whether an intake answers a repeat and then a new request; it is down where it doesn't.
-fn is_answered<S: Alter>(
-    alloc: Global,
-    intake: &mut Intake<S>,
-    (key, replaces, body): Request,
-) -> Result<bool, Fail> {
-    let first = KeyText::new(alloc, "k-1")?;
-    let key = KeyText::new(alloc, key)?;
-    let answered = submit(intake, false, &first, REPORT).is_ok()
-        && submit(intake, replaces, &key, body).is_ok();
-    if answered || is_down(intake, &first) {
-        Ok(answered)
-    } else {
-        Err(Fail::from("it goes on after a stop"))
-    }
-}
-
-/// A register that is opened and then asked to keep a second request, and whether it answers; `None` where it is not opened.
+/// A register that is opened and then asked for a repeat and for a second request, and whether it answers both; `None` where it is not
+/// opened.
 pub fn asked<S: Alter + Drop>(
     alloc: Global,
     conn: Connection<S>,
-    request: Request,
-) -> Result<Option<(Held<S>, bool)>, Fail> {
-    let Ok(store) = open(alloc, conn)? else {
-        return Ok(None);
-    };
-    let mut intake = Intake::new(alloc, store, 10);
-    let answered = is_answered(alloc, &mut intake, request)?;
-    Ok(Some((Held::Register(intake.into_store()), answered)))
+    second: Request,
+) -> Option<(Connection<S>, bool)> {
+    let mut intake = intake_over(alloc, open(alloc, conn).ok()?);
+    let are_answered = are_answered(alloc, &mut intake, &[ONE[0], second]);
+    Some((conn_of(store_of(intake)), are_answered))
 }
 
-/// Whether this is the request.
-fn is_request(found: &Completed, (key, replaces, body): Request) -> bool {
-    found.filer.as_str() == "ACME"
-        && found.key.as_str() == key
-        && found.target == first_if(replaces)
-        && found.body.as_slice() == body
+/// Whether the register has the first request and the second one, or the first alone where the second was not answered.
+fn is_left<S: Alter>(
+    alloc: Global,
+    store: &mut Store<S>,
+    second: Request,
+    answered: bool,
+) -> Result<bool, StoreFault> {
+    Ok(holds(alloc, store, &[ONE[0], second])? || (!answered && holds(alloc, store, &ONE)?))
 }
 
-/// Whether these are the first request and, where it was answered, the second.
-fn are_before_or_after(found: &[Completed], second: Request, answered: bool) -> bool {
-    match found {
-        [first] => !answered && is_request(first, FIRST),
-        [first, other] => is_request(first, FIRST) && is_request(other, second),
-        _ => false,
-    }
-}
-
-/// The register, and whether it has the requests of before or of after.
+/// The register, and whether it has the requests of before or of after; `None` where it is not opened.
 pub fn looked_at<S: Alter + Drop>(
     alloc: Global,
     conn: Connection<S>,
-    request: Request,
+    second: Request,
     answered: bool,
-) -> Result<(Held<S>, bool), Fail> {
-    let mut store = open(alloc, conn)??;
-    let is_so = are_before_or_after(&requests(&mut store)?, request, answered);
-    Ok((Held::Register(store), is_so))
+) -> Option<(Connection<S>, bool)> {
+    let mut store = open(alloc, conn).ok()?;
+    let is_left = is_left(alloc, &mut store, second, answered) == Ok(true);
+    Some((conn_of(store), is_left))
 }
 
 /// A report and a body that is none, and both to replace filing 1. A refused one is kept with its target, too.
 static REQUESTS: [Request; 4] = [
-    ("k-2", false, REPORT),
-    ("k-2", false, b""),
-    ("k-2", true, REPORT),
-    ("k-2", true, b""),
+    ("k-2", false, REPORT, 2),
+    ("k-2", false, "", 0),
+    ("k-2", true, REPORT, 2),
+    ("k-2", true, "", 0),
 ];
 
 #[test]
