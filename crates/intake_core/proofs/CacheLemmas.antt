@@ -1,14 +1,14 @@
 -- What a cache remembers under a name is kept for one filer's key alone, and gives the answer to a repeat.
-use Rattle.std.proofs.Common.{◌≡◌, ◌⊎◌, ℕ, Bool, true, List, [], ◌∷◌, Option, Some, ◌++◌, Result, Ok, Err, IsTrue, IfOk, IfSome, OnOk, OnErr, refl, sym, ap, ◌∙◌, subst, inl, inr, Contains, String, string_bytes, string_eq}
+use Rattle.std.proofs.Common.{◌≡◌, ◌⊎◌, ℕ, Bool, true, false, List, [], ◌∷◌, Option, Some, ◌++◌, Result, Ok, Err, IsTrue, IfOk, IfSome, OnOk, OnErr, refl, sym, ap, ◌∙◌, subst, inl, inr, Contains, String, string_bytes, string_eq}
 use Rattle.std.proofs.lemmas.Bool.{false≢true}
 use Rattle.std.proofs.lemmas.List.Elements.{All-head, All-tail}
 use Rattle.std.proofs.lemmas.Slice.Eq.{bytes_eq-Decides}
 use Rattle.std.specs.declared.alloc.Global.{Global}
 use Rattle.std.specs.Result.{result_ok}
 use Rattle.key_string.specs.Key.{is_printable, IsPrintable}
-use Rattle.filing_model.specs.Request.{Request, has_key}
+use Rattle.filing_model.specs.Request.{Request, same_content, has_key}
 use Rattle.filing_model.specs.Register.{Kept}
-use Rattle.filing_model.specs.Answer.{answer_from}
+use Rattle.filing_model.specs.Answer.{KeyReused, answer_by, answer_from}
 use Rattle.filing_model.specs.Style.{style_of, HasStyle}
 use Rattle.filing_model.specs.declared.served.Style.{Style}
 use Rattle.filing_model.specs.declared.answer.Answer.{Answer as Given}
@@ -53,6 +53,14 @@ if_some-known early requests filer key target body r (Ok a) known told =
     let k = kept_of filer key r in
     ((told.0 ∙ sym (answer_kept requests asked k known.0), subst (λ (s : Style). HasStyle s a) known.1 told.1), kept_has_key requests asked k known.0)
 if_some-known early requests filer key target body r (Err e) known told = tt
+
+-- a request that asks for the same is told what was kept
+pub told_same : (k : Kept) (r : Request) (repeat : Bool) → same_content k.request r ≡ true → answer_by k.outcome repeat ≡ answer_from (Some k) r repeat
+told_same k r repeat same = rw same refl
+
+-- and another one that its key was used
+pub told_other : (k : Kept) (r : Request) (repeat : Bool) → same_content k.request r ≡ false → KeyReused ≡ answer_from (Some k) r repeat
+told_other k r repeat other = rw other refl
 
 -- what is kept stays so
 pub IsKeptIn-more : (old new : List Request) (k : Kept) → IsKeptIn old k → IsKeptIn (old ++ new) k

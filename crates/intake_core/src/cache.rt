@@ -1,8 +1,8 @@
 //! A cache of answers: what the tables would answer, for the requests that came last.
 
-ghost use Rattle.std.specs.Prelude.{◌≡◌, ℕ, true, List, IfOk, IfSome, string_bytes};
+ghost use Rattle.std.specs.Prelude.{◌≡◌, ◌&&◌, ℕ, true, List, IfOk, IfSome, bytes_eq, string_bytes};
 ghost use Rattle.filing_model.specs.declared.served.Style.{Style};
-ghost use Rattle.filing_model.specs.Request.{Request, has_key};
+ghost use Rattle.filing_model.specs.Request.{Request, same_target, has_key};
 ghost use Rattle.filing_model.specs.Answer.{answer_by, answer_from};
 ghost use Rattle.filing_model.specs.Style.{style_of, HasStyle};
 ghost use Rattle.filing_model.specs.Views.{view_answer, the_request};
@@ -70,7 +70,7 @@ impl Remembered {
             ≡ answer_from (Some (kept_of filer key self.now)) (the_request filer key target body.now) true)
             × HasStyle self.now.style a) }
     {
-        if self.target != target || self.body.as_slice() != body {
+        if !asks_the_same(self.target, self.body.as_slice(), target, body) {
             return Ok(Answer::KeyReused { style: self.style });
         }
         Ok(answer_by(copied(alloc, &self.outcome)?, true, self.style))
@@ -154,6 +154,18 @@ pub(crate) fn name_of(alloc: Global, filer: &str, key: &KeyText) -> Result<Strin
     name.push_str("\n")?;
     name.push_str(filer)?;
     Ok(name)
+}
+
+/// Whether a request asks for what is kept under its key: to replace the same filing, or none, with the same body.
+pub(crate) fn asks_the_same(
+    kept_target: Option<u64>,
+    kept_body: &[u8],
+    target: Option<u64>,
+    body: &[u8],
+) -> bool
+    ensures { result ≡ bytes_eq kept_body.now body.now && same_target kept_target target }
+{
+    kept_body == body && kept_target == target
 }
 
 /// A copy of an outcome.

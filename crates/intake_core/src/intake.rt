@@ -1,9 +1,10 @@
 //! The intake: its register, and the answer to the next request.
 
-ghost use Rattle.std.specs.Prelude.{◌≡◌, ◌<◌, ◌≤◌, ◌^◌, ◌+◌, ◌++◌, ◌∷◌, ◌⊎◌, [], ℕ, List, length, map, true, false, Err, None, Some, IsTrue, IfOk, IfSome, OnOk, OnErr, ◌≢◌};
+ghost use Rattle.std.specs.Prelude.{◌≡◌, ◌↔◌, ◌<◌, ◌≤◌, ◌^◌, ◌+◌, ◌++◌, ◌∷◌, ◌⊎◌, [], ℕ, List, length, map, true, false, Err, None, Some, IsTrue, IfOk, IfSome, OnOk, OnErr, ◌≢◌};
 ghost use Rattle.key_string.specs.Filer.{is_filer};
 ghost use Rattle.http_wire.specs.Head.{max_body_len};
 ghost use Rattle.http_wire.specs.Posting.{IsTarget};
+ghost use Rattle.xbrl_report.specs.Judgement.{HasFacts};
 ghost use Rattle.filing_model.specs.Request.{Request, firsts, has_key};
 ghost use Rattle.filing_model.specs.Register.{is_free, kept, judged, register};
 ghost use Rattle.filing_model.specs.Listing.{listings};
@@ -12,11 +13,12 @@ ghost use Rattle.filing_model.specs.Style.{style_of, HasStyle};
 ghost use Rattle.filing_model.specs.Views.{view_answer, view_row, the_request};
 ghost use Rattle.register_store.specs.Outcomes.{view_outcome, kept_as};
 ghost use Rattle.register_store.specs.Store.{HasRequests};
+ghost use Rattle.register_store.specs.Calls.{AddsRequest};
 ghost use Rattle.register_opening.specs.Registers.{LeavesRegister};
 ghost use Rattle.intake_core.specs.declared.intake.Unavailable.TheVariants.{Down, Full, Memory, Store as StoreFailed};
 ghost use Rattle.table_rows.specs.Standing.{CommitsNothing};
 
-use crate::cache::{Cache, answer_by, name_of};
+use crate::cache::{Cache, answer_by, asks_the_same, name_of};
 use filing_model::{Answer, FilingRow, Style};
 use key_string::KeyText;
 use register_store::{KeptRow, NewRow, Outcome, Registered, Store, StoreFault};
@@ -60,6 +62,16 @@ impl From<StoreFault> for Unavailable {
             StoreFault::Memory => Unavailable::Memory,
             StoreFault::Store => Unavailable::Store,
         }
+    }
+}
+
+/// Whether a request got no answer because the database refused for another cause than memory.
+fn store_failed(answer: &Result<Answer, Unavailable>) -> bool
+    ensures { (result ≡ true) ↔ (answer.now ≡ Err StoreFailed) }
+{
+    match answer {
+        Err(Unavailable::Store) => true,
+        _ => false,
     }
 }
 
@@ -161,7 +173,7 @@ impl<S: Alter> Intake<S> {
             return Ok(answer);
         }
         let result = self.decide(filer, target, key, body, name);
-        self.is_down = matches!(result, Err(Unavailable::Store));
+        self.is_down = store_failed(&result);
         result
     }
 }
@@ -319,7 +331,7 @@ impl<S: Alter> Intake<S> {
             &row.outcome,
             row.style,
         );
-        if row.target == target && row.body.as_slice() == body {
+        if asks_the_same(row.target, row.body.as_slice(), target, body) {
             answer_by(row.outcome, true, row.style)
         } else {
             Answer::KeyReused { style: row.style }
@@ -344,6 +356,20 @@ impl<S: Alter> Intake<S> {
             None => Ok(true),
             Some(number) => Ok(self.store.replaceable(filer, number)?),
         }
+    }
+
+    /// Adds a judged request to the register, whether its report is valid or not.
+    fn add(&mut self, row: &NewRow<'_>) -> Result<Outcome, StoreFault>
+        requires filer { is_filer row.now.filer.now ≡ true }
+        requires body { length row.now.body.now ≤ max_body_len }
+        requires target { IsTarget row.now.target }
+        requires facts { HasFacts row.now.body.now row.now.judged.now }
+        requires room { (store_of self.old).kept < 2 ^ 62 }
+        ensures added { AddsRequest S.Store row.now (store_of self.old) (store_of self.new) result }
+        ensures rest { (self.new.cache ≡ self.old.cache) × (limit_of self.new ≡ limit_of self.old)
+            × (has_stopped self.new ≡ has_stopped self.old) }
+    {
+        self.store.add(row)
     }
 
     /// Judges a request of a new key, which is free to do what it is to do or not, and keeps it.
@@ -385,7 +411,7 @@ impl<S: Alter> Intake<S> {
             → OnOk result (IsTrue (shows S.Store self.new).is_open)) }
     {
         let judged = judge_amendment(self.alloc, filer, body, free)?;
-        let outcome = self.store.add(&NewRow {
+        let outcome = self.add(&NewRow {
             filer,
             key,
             target,

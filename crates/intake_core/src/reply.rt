@@ -6,7 +6,7 @@ ghost use Rattle.http_wire.specs.Replies.{reply_parts};
 ghost use Rattle.serde_json.specs.View.{view};
 ghost use Rattle.serde_json.specs.Written.{compact_text, has_float};
 ghost use Rattle.filing_model.specs.declared.served.Style.{Style};
-ghost use Rattle.filing_model.specs.Reply.{reply_as, list_reply, word_reply, answer_data, answer_kind, answer_status, listing_data, listings_data, list_data};
+ghost use Rattle.filing_model.specs.Reply.{reply_as, list_reply, word_reply, answer_data, answer_kind, answer_status, refusal_kind, listing_data, listings_data, list_data};
 ghost use Rattle.filing_model.specs.Style.{HasStyle};
 ghost use Rattle.filing_model.specs.Views.{view_answer, view_row};
 ghost use Rattle.intake_core.specs.Answered.{told_style};
@@ -87,10 +87,17 @@ fn answer_kind(answer: &Answer) -> Kind
 {
     match answer {
         Answer::Registered { .. } => Kind::Json,
-        Answer::Refused { style, .. } | Answer::KeyReused { style } => match style {
-            Style::Old => Kind::Json,
-            Style::Problem => Kind::Problem,
-        },
+        Answer::Refused { style, .. } | Answer::KeyReused { style } => refusal_kind(*style),
+    }
+}
+
+/// What the content is that says why something is refused, in this style.
+fn refusal_kind(style: Style) -> Kind
+    ensures { result ≡ refusal_kind style }
+{
+    match style {
+        Style::Old => Kind::Json,
+        Style::Problem => Kind::Problem,
     }
 }
 

@@ -18,6 +18,7 @@ no_such_cause event n cause.Memory is = absurd (cc)
 no_such_cause event n cause.Store is = absurd (cc)
 no_such_cause event n cause.Reopen is = absurd (cc)
 
+-- the fault that a cause is at an event tells that event
 pub tells_own : (event : ℕ) (why : Cause) → Tells event (fault_at event why)
 tells_own event cause.NoSuch = refl
 tells_own event cause.Memory = tt

@@ -1,11 +1,11 @@
 -- Entries of which one got another state, as the world names them.
-use Rattle.std.proofs.Common.{◌≡◌, ◌≢◌, ℕ, ◌<◌, ◌≤◌, ◌-◌, zero, suc, Bool, true, false, ◌∷◌, List, [], length, Option, Some, None, refl, sym, ap, ◌∙◌, arith, slice_set, slice_index_or, subst, Result, Ok, Err, OnOk}
+use Rattle.std.proofs.Common.{◌≡◌, ◌≢◌, ℕ, ◌<◌, ◌≤◌, ◌-◌, zero, suc, Bool, true, false, ◌∷◌, ◌++◌, List, [], length, Option, Some, None, refl, sym, ap, ◌∙◌, arith, slice_set, slice_index_or, subst, Result, Ok, Err, OnOk}
 use Rattle.http_wire.specs.Reply.{ReplyParts}
 use Rattle.filing_model.specs.Numbered.{changed_at}
 use Rattle.filing_model.specs.Outbox.{Entry, State}
 use Rattle.filing_model.specs.Stopping.{No, Before}
 use Rattle.filing_world.specs.World.{Outbox, numbered, renewed}
-use Rattle.filing_world.specs.Step.{heard_by, box_after}
+use Rattle.filing_world.specs.Step.{heard_by, box_after, takes, with_entry}
 use Rattle.filing_world.proofs.Lists.{changed_renewed, renewed_same, written}
 use Rattle.filing_model.specs.declared.state.State.{State as Stored}
 use Rattle.outbox_core.specs.Entries.{in_state, set_state}
@@ -51,6 +51,13 @@ box_heard box number e to entries up heard here is after still =
 -- an outbox that stops before a reply has heard nothing
 pub box_stopped : (box new : Outbox) (number place : ℕ) (e : Entry) → numbered box.entries number ≡ Some e → new ≡ record box { up = false } → new ≡ box_after box number e None (Before place)
 box_stopped box new number place e here is = is ∙ ap (λ es. record { filer = box.filer; entries = es; up = false }) (sym (renewed_same box.entries number e here))
+
+-- an outbox that took an entry, and one that did not
+pub box_taken : (box : Outbox) (entry : Entry) (entries : List Entry) (up : Bool) → takes box entry ≡ true → entries ≡ box.entries ++ entry ∷ [] → up ≡ box.up → record { filer = box.filer; entries = entries; up = up } ≡ with_entry box entry
+box_taken box entry entries up taken more still = rw taken (λ i. record { filer = box.filer; entries = more i; up = still i })
+
+pub box_not_taken : (box : Outbox) (entry : Entry) (entries : List Entry) (up : Bool) → takes box entry ≡ false → entries ≡ box.entries → up ≡ box.up → record { filer = box.filer; entries = entries; up = up } ≡ with_entry box entry
+box_not_taken box entry entries up taken same still = rw taken (λ i. record { filer = box.filer; entries = same i; up = still i })
 
 -- what an answer carries on to
 pub then_ok : {A E : Type 0} {P Q : Type 0} (answer : Result A E) → (P → Q) → OnOk answer P → OnOk answer Q

@@ -97,7 +97,8 @@ impl<D: Honest> Filer<D> {
     {
         let report = Report::open(self.alloc, key, target, body)?;
         self.entries.reserve(1)?;
-        if self.process.put(self.alloc, key, target, body)? {
+        let taken = self.process.put(self.alloc, key, target, body)?;
+        if taken {
             self.entries.push_reserved(report);
         }
         Ok(())

@@ -1,7 +1,6 @@
-use Rattle.std.proofs.Common.{◌≡◌, take, subst, Some, slice_get, ◌<◌, refl, inr, arith}
-use Rattle.std.proofs.lemmas.Grind.{common_steps}
+use Rattle.std.proofs.Common.{◌≡◌, ◌∙◌, ap, take, subst, Some, slice_get, ◌<◌, refl, inr}
 use Rattle.event_script.specs.Events.{view_crash}
-use Rattle.filing_world.specs.World.{numbered}
+use Rattle.filing_world.specs.World.{Output, numbered}
 use Rattle.filing_world.specs.Step.{IsAway}
 use Rattle.schedule.proofs.Steps.{element_at, element_is, named, hand_step}
 use Rattle.schedule.proofs.hand.hand.Goals as goal
@@ -16,8 +15,8 @@ returns-clause-step g c =
     let box = c.index_mut.result.now in
     let same : box ≡ up.1 = element_is boxes c.in-Some-up_at.index up.1 box there c.index_mut.ensures.value in
     let here = named c.args.outputs.now c.args.output c.in-Some.at from c.in-Some.ensures.some.0 (element_at c.args.outputs.now c.in-Some.at from c.in-Some.ensures.some.1 c.index-outputs-at.is) in
-    let given : c.first.result.now ≡ take c.args.bytes from.bytes = grind (arith, common_steps, c.first.ensures, c.as_slice-2.ensures.value, c.from.view_is) in
-    let item_is : c.from.inside.item ≡ from.item = grind (arith, common_steps, c.from.view_is) in
+    let given : c.first.result.now ≡ take c.args.bytes from.bytes = c.first.ensures ∙ ap (take c.args.bytes) (c.as_slice-2.ensures.value ∙ ap (λ (o : Output). o.bytes) c.from.view_is) in
+    let item_is : c.from.inside.item ≡ from.item = ap (λ (o : Output). o.item) c.from.view_is in
     let item_here = subst (λ n. numbered c.args.sent.now n ≡ Some sender.0) item_is sender.1 in
     hand_step boxes c.in-Some-up_at.index c.in_ok-outbox.outbox up.0 box (rw same there) (rw same up.3) c.args.sent.now c.args.outputs.now c.args.output c.args.bytes c.in_ok-outbox.entry (view_crash c.args.crash) from sender.0 here item_here sender.2
     c.hand.new.self c.hand.result (rw given at c.hand.ensures.heard)
@@ -38,6 +37,6 @@ returns-in_default-up_at-clause-no_such g c = λ e server.
     let from = c.index-outputs-at.result in
     let here = named c.args.outputs.now c.args.output c.in-Some.at from c.in-Some.ensures.some.0 (element_at c.args.outputs.now c.in-Some.at from c.in-Some.ensures.some.1 c.index-outputs-at.is) in
     let sender = c.in_ok-outbox.ensures.some in
-    let item_is : c.from.inside.item ≡ from.item = grind (arith, common_steps, c.from.view_is) in
+    let item_is : c.from.inside.item ≡ from.item = ap (λ (o : Output). o.item) c.from.view_is in
     let item_here = subst (λ n. numbered c.args.sent.now n ≡ Some sender.0) item_is sender.1 in
     inr (from, sender.0, here, item_here, inr (c.in_ok-outbox.outbox, c.in_ok-outbox.entry, sender.2, subst (λ bs. IsAway bs c.in_ok-outbox.outbox) c.as_slice.ensures.value (c.in_default-up_at.ensures.none refl)))

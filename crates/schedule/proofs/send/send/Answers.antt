@@ -11,7 +11,7 @@ returns-clause-step g c =
     let box = c.index_mut.result.now in
     let same : box ≡ up.1 = element_is boxes c.in-Some.at up.1 box there c.index_mut.ensures.value in
     send_step boxes c.in-Some.at c.args.outbox up.0 box (rw same there) (rw same up.3) c.args.entry c.in_ok-bytes.bytes.items c.args.sent.now.items c.push_reserved.new.self.items c.request.new.self
-    (c.in_ok-bytes.ensures.bytes) (c.in_ok-bytes.ensures.same) (search rules)
+    (c.in_ok-bytes.ensures.bytes) (c.in_ok-bytes.ensures.same) (rw c.reserve.ensures.items at c.push_reserved.ensures.items)
 
 pub index_mut-requires : goal.index_mut-requires
 index_mut-requires g c = subst (λ n. c.in-Some.at < n) c.as_slice.ensures.len c.in-Some.ensures.some.4

@@ -1,5 +1,4 @@
-use Rattle.std.proofs.Common.{◌≡◌, ◌++◌, ◌∙◌, sym, ap, subst, true, arith, length, ◌≤◌}
-use Rattle.std.proofs.lemmas.Grind.{common_steps}
+use Rattle.std.proofs.Common.{◌≡◌, ◌++◌, ◌∙◌, sym, ap, subst, true, length, ◌≤◌}
 use Rattle.event_script.specs.Events.{view_crash}
 use Rattle.filing_model.specs.Request.{firsts}
 use Rattle.filing_model.specs.Stopping.{ServesUntil}
@@ -8,6 +7,7 @@ use Rattle.filing_world.specs.Step.{is_no}
 use Rattle.gateway_server.specs.Stopping.{view_stop}
 use Rattle.gateway_server.proofs.Whole.{marked_arrivals}
 use Rattle.filing_ends.specs.IntakeProcess.{Keeps, is_up}
+use Rattle.schedule.specs.Played.{Served}
 use Rattle.schedule.proofs.server.Server.deliver.Goals as goal
 
 pub invariant_of-self-2 : goal.invariant_of-self-2
@@ -20,7 +20,7 @@ invariant_of-self-2 g c =
     let answered = c.in_ok-answered.answered in
     let marks = answered.marks.items in
     let keeps : Keeps c.replace-process.result limit (firsts done) = subst (λ p. Keeps p limit (firsts done)) (sym c.replace-process.ensures.value) c.self.invariant.1 in
-    let up : is_up c.replace-process.result ≡ true = grind (arith, common_steps, c.replace-process.ensures.value, c.requires, c.self.view_is) in
+    let up : is_up c.replace-process.result ≡ true = ap is_up c.replace-process.ensures.value ∙ ap (λ (s : Served). s.up) c.self.view_is ∙ c.requires in
     let came = c.in_ok-answered.ensures.serves limit done keeps up in
     let arrivals = came.0 in
     let ending = marked_arrivals limit done bytes crash arrivals marks answered.ended answered.text.items came.1 in
@@ -38,7 +38,7 @@ returns-clause-serves g c =
     let answered = c.in_ok-answered.answered in
     let marks = answered.marks.items in
     let keeps : Keeps c.replace-process.result limit (firsts done) = subst (λ p. Keeps p limit (firsts done)) (sym c.replace-process.ensures.value) c.self.invariant.1 in
-    let up : is_up c.replace-process.result ≡ true = grind (arith, common_steps, c.replace-process.ensures.value, c.requires, c.self.view_is) in
+    let up : is_up c.replace-process.result ≡ true = ap is_up c.replace-process.ensures.value ∙ ap (λ (s : Served). s.up) c.self.view_is ∙ c.requires in
     let came = c.in_ok-answered.ensures.serves limit done keeps up in
     let arrivals = came.0 in
     let ending = marked_arrivals limit done bytes crash arrivals marks answered.ended answered.text.items came.1 in
