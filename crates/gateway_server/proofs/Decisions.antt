@@ -9,10 +9,10 @@ use Rattle.filing_model.specs.Request.{Request}
 use Rattle.filing_model.specs.Serving.{kept_by}
 use Rattle.filing_model.specs.Text.{Route, ListFilings, FileReport, RouteFits, requests_of_route, bare}
 use Rattle.gateway_server.specs.declared.decide.Decided.{Decided}
-use Rattle.gateway_server.specs.declared.route.Route.TheVariants as asked
-use Rattle.gateway_server.specs.declared.route.Rejection.{Rejection}
+use Rattle.gateway_requests.specs.declared.route.Route.TheVariants as asked
+use Rattle.gateway_requests.specs.declared.route.Rejection.{Rejection}
 use Rattle.gateway_server.specs.Decided.{Decides, IsUnavailable, marked_reply, rejection_reply}
-use Rattle.gateway_server.specs.Route.{view_route}
+use Rattle.gateway_requests.specs.Route.{view_route}
 
 decides : (limit : ℕ) (early requests : List Request) (to : Route) (d : Decided) → IsUnavailable d → RouteFits limit requests to Unavailable → requests ≡ kept_by requests (requests_of_route to Unavailable) → Decides limit early requests requests to d
 decides limit early requests to d is fit kept = record {

@@ -1,6 +1,4 @@
 pub mod Progress
-pub mod Keys
-pub mod Numbers
 pub mod Statuses
 pub mod Decisions
 pub mod Listed
@@ -12,4 +10,3 @@ pub mod Whole
 pub mod Ending
 pub mod Stopping
 pub mod Transitions
-pub mod Completing

@@ -16,10 +16,10 @@ use Rattle.filing_model.specs.Answer.{Answer, Registered, Refused, KeyReused}
 use Rattle.filing_model.specs.Listing.{Listing}
 use Rattle.filing_model.specs.Reply.{reply_as, list_reply, refused_status, unavailable}
 use Rattle.filing_model.specs.Text.{fault_reply, refusal_reply}
-use Rattle.gateway_server.specs.declared.route.Rejection.{Rejection}
-use Rattle.gateway_server.specs.declared.route.Rejection.TheVariants.{NoPath, NoMethod, ContentCoding, KeyMissing, KeyBad}
+use Rattle.gateway_requests.specs.declared.route.Rejection.{Rejection}
+use Rattle.gateway_requests.specs.declared.route.Rejection.TheVariants.{NoPath, NoMethod, ContentCoding, KeyMissing, KeyBad}
 use Rattle.gateway_server.specs.Decided.{rejection_reply}
-use Rattle.gateway_server.specs.Route.{rejection_status}
+use Rattle.gateway_requests.specs.Route.{rejection_status}
 
 abbrev pub HasPhrase : ReplyParts → Type 0
 HasPhrase reply = IsSome (phrase reply.status)

@@ -10,8 +10,8 @@ use Rattle.filing_model.specs.Request.{Request}
 use Rattle.filing_model.specs.Serving.{kept_by}
 use Rattle.filing_model.specs.Text.{Route, RouteFits, reply_on, requests_of_route}
 use Rattle.gateway_server.specs.declared.decide.Decided.{Decided}
-use Rattle.gateway_server.specs.declared.route.Rejection.{Rejection as Why}
-use Rattle.gateway_server.specs.Route.{rejection_status, rejection_word}
+use Rattle.gateway_requests.specs.declared.route.Rejection.{Rejection as Why}
+use Rattle.gateway_requests.specs.Route.{rejection_status, rejection_word}
 
 -- the reply that depends on the message alone
 abbrev pub rejection_reply : Why → Bool → ReplyParts

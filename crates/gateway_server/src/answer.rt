@@ -10,11 +10,11 @@ ghost use Rattle.filing_model.specs.Text.{route, bare, is_head, refusal_reply, f
 ghost use Rattle.intake_core.specs.Held.{limit_of, IsClean, IsTransition};
 ghost use Rattle.gateway_server.specs.Decided.{IsPhrased};
 ghost use Rattle.gateway_server.specs.Answered.{IsDecided, Marks, WritesText, IsReplyFault};
-ghost use Rattle.gateway_server.specs.Route.{view_message, view_route, HasFiler};
+ghost use Rattle.gateway_requests.specs.Route.{view_message, view_route, HasFiler};
 
 use crate::decide::{Decided, decide};
-use crate::route::{Route, is_head, route_of};
 use filing_model::Mark;
+use gateway_requests::{Route, is_head, route_of};
 use http_wire::{ConnFault, HeadFault, Message, Refusal, Reply, Sink, write_reply};
 use intake_core::{Intake, word_reply};
 use sqlite::Alter;

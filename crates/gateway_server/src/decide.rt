@@ -9,12 +9,12 @@ ghost use Rattle.filing_model.specs.Text.{ListFilings as AsksList, FileReport as
 ghost use Rattle.filing_model.specs.Listing.{listings};
 ghost use Rattle.filing_model.specs.Register.{Filing};
 ghost use Rattle.filing_model.specs.Views.{the_request, view_row};
-ghost use Rattle.gateway_server.specs.Route.{view_route, HasFiler};
+ghost use Rattle.gateway_requests.specs.Route.{view_route, HasFiler};
 ghost use Rattle.intake_core.specs.Held.{limit_of, IsClean, IsTransition};
 ghost use Rattle.gateway_server.specs.Decided.{rejection_reply, Decides, IsUnavailable, IsPhrased};
 
-use crate::route::{Rejection, Route};
 use filing_model::{FilingRow, Mark};
+use gateway_requests::{Rejection, Route};
 use http_wire::{Kind, Reply};
 use intake_core::{Intake, list_reply, reply_of, word_reply};
 use key_string::KeyText;

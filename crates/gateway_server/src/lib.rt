@@ -3,16 +3,12 @@
 #![tactic(auto)]
 
 mod answer;
-mod completion;
 mod decide;
-mod line;
-mod path;
-mod route;
 mod serving;
 mod stop;
 
-pub use completion::completed;
 pub use filing_model::{Ended, Mark};
-pub use line::fact_line;
+pub use gateway_requests::completed;
+pub use intake_answers::fact_line;
 pub use serving::{Partly, Served, serve, serve_until};
 pub use stop::Stop;

@@ -1,4 +1,1 @@
-pub mod CacheLemmas
 pub mod Deciding
-pub mod Floats
-pub mod Styles

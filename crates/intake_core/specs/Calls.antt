@@ -8,7 +8,7 @@ use Rattle.register_opening.specs.Registers.{LeavesRegister}
 use Rattle.intake_core.specs.declared.intake.Intake.{Intake}
 use Rattle.intake_core.specs.declared.intake.Unavailable.{Unavailable}
 use Rattle.intake_core.specs.declared.intake.Unavailable.TheVariants.{Down, Full, Store}
-use Rattle.intake_core.specs.Answered.{IsAnswerTo}
+use Rattle.intake_answers.specs.Answered.{IsAnswerTo}
 use Rattle.intake_core.specs.Held.{shows, limit_of, early_of, early_in, has_stopped, HoldsRequests, IsClean, ForRequests, IsDurableAs, SurvivesAs, with_request}
 
 -- What `submit` does with a request, by the requests that the intake held before.

@@ -1,4 +1,2 @@
-pub mod Answered
-pub mod Cache
 pub mod Calls
 pub mod Held

@@ -18,8 +18,9 @@ ghost use Rattle.register_opening.specs.Registers.{LeavesRegister};
 ghost use Rattle.intake_core.specs.declared.intake.Unavailable.TheVariants.{Down, Full, Memory, Store as StoreFailed};
 ghost use Rattle.table_rows.specs.Standing.{CommitsNothing};
 
-use crate::cache::{Cache, answer_by, asks_the_same, name_of};
+
 use filing_model::{Answer, FilingRow, Style};
+use intake_answers::{Cache, answer_by, asks_the_same, name_of};
 use key_string::KeyText;
 use register_store::{KeptRow, NewRow, Outcome, Registered, Store, StoreFault};
 use sqlite::Alter;
@@ -209,8 +210,8 @@ impl<S: Alter> Intake<S> {
 }
 
 impl<S: Alter> Intake<S> {
-    ghost use Rattle.intake_core.specs.Answered.{IsAnswerTo};
-    ghost use Rattle.intake_core.specs.Cache.{IsKeptIn, IsNameIfAny};
+    ghost use Rattle.intake_answers.specs.Answered.{IsAnswerTo};
+    ghost use Rattle.intake_answers.specs.Cache.{IsKeptIn, IsNameIfAny};
     ghost use Rattle.intake_core.specs.Held.{store_of, shows, limit_of, early_of, early_in, has_stopped, HoldsRequests, IsClean, ForRequests, SurvivesAs, with_request};
 
     /// The answer to a request whose filer's key has this name, where the cache remembers it. The cache is made here,

@@ -1,5 +1,4 @@
 pub mod Ending
-pub mod Entries
 pub mod GoingThrough
 pub mod Lending
 pub mod Steps

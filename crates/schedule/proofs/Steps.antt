@@ -1,6 +1,6 @@
 -- What each event did to the parts of a world, said as its step.
 use Rattle.std.proofs.Common.{◌≡◌, ℕ, zero, suc, true, false, List, [], ◌∷◌, ◌++◌, Option, Some, None, Result, Ok, Err, refl, sym, ap, take, ◌∙◌, subst, ⊎_elim, slice_get, slice_set, slice_index_or, ◌<◌, ◌⊎◌, OnOk, length, arith}
-use Rattle.std.proofs.lemmas.Option.{slice_get-get_or, slice_get_past, get_or_from_slice_get}
+use Rattle.std.proofs.lemmas.Option.{slice_get_past, get_or_from_slice_get}
 use Rattle.key_string.specs.Key.{IsKey}
 use Rattle.http_wire.specs.Reply.{ReplyParts}
 use Rattle.http_wire.specs.Posting.{IsTarget}
@@ -12,11 +12,8 @@ use Rattle.filing_world.specs.Invariant.{AllOwn}
 use Rattle.filing_world.proofs.Lists.{renewed_same, written}
 use Rattle.filing_ends.specs.declared.cause.Cause.{Cause}
 use Rattle.filing_ends.specs.Outboxes.{IsRequest}
-use Rattle.schedule.specs.Played.{Served, world_of}
-
--- the element at a place within a list
-pub element_at : {X : Type 0} → (xs : List X) (at : ℕ) (x : X) → at < length xs → x ≡ slice_index_or xs at x → slice_get xs at ≡ Some x
-element_at xs at x within is = slice_get-get_or xs at x within ∙ ap Some (sym is)
+use Rattle.world_ends.specs.Served.{Served}
+use Rattle.schedule.specs.Played.{world_of}
 
 -- what is there stands at its place
 pub element_is : {X : Type 0} → (xs : List X) (at : ℕ) (x y : X) → slice_get xs at ≡ Some x → y ≡ slice_index_or xs at y → y ≡ x

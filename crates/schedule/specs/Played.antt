@@ -1,20 +1,14 @@
 -- The world as its parts show it, and what ended it.
-use Rattle.std.specs.Prelude.{◌≡◌, ℕ, ◌+◌, ◌-◌, ◌^◌, ◌⊎◌, Bool, true, List, Option, Some, min, take}
+use Rattle.std.specs.Prelude.{◌≡◌, ℕ, ◌+◌, ◌-◌, ◌^◌, ◌⊎◌, true, List, Option, Some, min, take}
 use Rattle.sqlite_disk.specs.declared.Disk.{Ghosts}
 use Rattle.sqlite_store.specs.declared.store.FileStore.{FileStore}
 use Rattle.sqlite.specs.Files.{over_files}
 use Rattle.outbox_core.specs.OutboxParts.{OutboxParts, HasEntries}
-use Rattle.filing_model.specs.Request.{Request}
 use Rattle.filing_world.specs.World.{Outbox, Sent, Output, World, Event, numbered}
 use Rattle.filing_world.specs.Step.{Run, CannotPlay}
+use Rattle.world_ends.specs.Served.{Served}
 use Rattle.schedule.specs.declared.fault.Fault.{Fault}
 use Rattle.schedule.specs.declared.fault.Fault.TheVariants.{NoSuch, Memory, Store, Reopen}
-
--- a limit, the requests that were completed so far, and whether the intake is up
-pub record Served : Type 0 where
-  pub limit : ℕ
-  pub done : List Request
-  pub up : Bool
 
 -- the world of these parts
 abbrev pub world_of : Served → List Sent → List Output → List Outbox → World

@@ -8,9 +8,9 @@ ghost use Rattle.schedule.specs.Played.{world_of};
 
 use crate::element::{first, index_of};
 use crate::lists::{Output, Sent};
-use crate::server::{Delivered, Server};
 use event_script::Crash;
 use filing_ends::{Cause, Honest};
+use world_ends::{Delivered, Server};
 
 pub(crate) fn deliver<D: Honest>(
     server: &mut Server<D>,

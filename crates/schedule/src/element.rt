@@ -5,11 +5,11 @@ ghost use Rattle.filing_world.specs.World.{Outbox as Ours, Sent as Item, numbere
 ghost use Rattle.filing_world.specs.Step.{IsAway};
 ghost use Rattle.schedule.specs.Played.{IsLent};
 
-use crate::filer::Filer;
 use crate::lists::Sent;
 use filing_ends::{Cause, Honest};
 use outbox_core::Outbox;
 use sqlite::FileStore;
+use world_ends::Filer;
 
 /// The index of the element of this number, where there are so many.
 pub(crate) fn index_of(number: u64, count: usize) -> Option<usize>

@@ -5,13 +5,14 @@ ghost use Rattle.event_script.specs.Events.{view_crash};
 ghost use Rattle.filing_world.specs.World.{Hand};
 ghost use Rattle.filing_world.specs.Step.{Hands, CannotPlay};
 ghost use Rattle.filing_world.specs.Invariant.{AllOwn};
-ghost use Rattle.schedule.specs.Played.{Served, world_of};
+ghost use Rattle.world_ends.specs.Served.{Served};
+ghost use Rattle.schedule.specs.Played.{world_of};
 
 use crate::element::{first, index_of, sender_of, up_at};
-use crate::filer::Filer;
 use crate::lists::{Output, Sent};
 use event_script::Crash;
 use filing_ends::{Cause, Honest};
+use world_ends::Filer;
 
 /// Where the items that were sent for entries carry these, it is a step of the world.
 pub(crate) fn hand<D: Honest>(

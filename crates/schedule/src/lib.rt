@@ -7,15 +7,12 @@
 mod deliver;
 mod element;
 mod fault;
-mod filer;
 mod hand;
 mod listing;
 mod lists;
 mod put;
-mod report;
 mod restart;
 mod send;
-mod server;
 mod world;
 
 pub use event_script::{Crash, Event};

@@ -5,10 +5,10 @@ ghost use Rattle.filing_world.specs.Headline.{states_from, number_in};
 ghost use Rattle.filing_ends.specs.Listed.{listed};
 ghost use Rattle.schedule.specs.Listed.{view_listed, are_up};
 
-use crate::filer::Filer;
 use filing_ends::Honest;
 use outbox_core::{State, StoreFault};
 use std::alloc::{AllocError, Global};
+use world_ends::Filer;
 
 fn are_up<D: Honest>(filers: &[Filer<D>]) -> bool
     ensures { result ≡ are_up filers.now }

@@ -5,12 +5,13 @@ ghost use Rattle.http_wire.specs.Posting.{IsTarget};
 ghost use Rattle.filing_world.specs.World.{Sent as Item, Output as Left, Put};
 ghost use Rattle.filing_world.specs.Step.{Puts, CannotPlay};
 ghost use Rattle.outbox_core.specs.Entries.{opened};
-ghost use Rattle.schedule.specs.Played.{Served, world_of};
+ghost use Rattle.world_ends.specs.Served.{Served};
+ghost use Rattle.schedule.specs.Played.{world_of};
 
 use crate::element::up_at;
-use crate::filer::Filer;
 use filing_ends::{Cause, Honest};
 use key_string::KeyText;
+use world_ends::Filer;
 
 pub(crate) fn put<D: Honest>(
     filers: &mut Vec<Filer<D>>,

@@ -3,11 +3,12 @@
 ghost use Rattle.std.specs.Prelude.{◌≡◌, List, OnOk, Err};
 ghost use Rattle.filing_world.specs.World.{Sent as Item, Output as Left, RestartOutbox};
 ghost use Rattle.filing_world.specs.Step.{Restarts, CannotPlay};
-ghost use Rattle.schedule.specs.Played.{Served, world_of};
+ghost use Rattle.world_ends.specs.Served.{Served};
+ghost use Rattle.schedule.specs.Played.{world_of};
 
 use crate::element::index_of;
-use crate::filer::Filer;
 use filing_ends::{Cause, Honest};
+use world_ends::Filer;
 
 pub(crate) fn restart_outbox<D: Honest>(
     filers: &mut Vec<Filer<D>>,

@@ -3,13 +3,14 @@
 ghost use Rattle.std.specs.Prelude.{◌≡◌, ◌∷◌, ◌++◌, [], List, OnOk, Err, None};
 ghost use Rattle.filing_world.specs.World.{Output as Left, Send};
 ghost use Rattle.filing_world.specs.Step.{Sends, CannotPlay};
-ghost use Rattle.schedule.specs.Played.{Served, world_of};
+ghost use Rattle.world_ends.specs.Served.{Served};
+ghost use Rattle.schedule.specs.Played.{world_of};
 
 use crate::element::up_at;
-use crate::filer::Filer;
 use crate::lists::Sent;
 use filing_ends::{Cause, Honest};
 use std::alloc::{AllocError, Global};
+use world_ends::Filer;
 
 pub(crate) fn send<D: Honest>(
     filers: &mut Vec<Filer<D>>,

@@ -17,14 +17,12 @@ ghost use Rattle.schedule.specs.Listed.{view_listed, are_up};
 use crate::deliver::deliver;
 use crate::element::outbox_at;
 use crate::fault::Fault;
-use crate::filer::Filer;
 use crate::hand::hand;
 use crate::listing::{all_states, confirmed_of};
 use crate::lists::{Output, Sent};
 use crate::put::put;
 use crate::restart::restart_outbox;
 use crate::send::{send, send_bytes};
-use crate::server::Server;
 use event_script::Event;
 use filing_ends::{Cause, Honest};
 use intake_core::{Intake, Unavailable};
@@ -33,6 +31,7 @@ use register_store::{Completed, Registered};
 use sqlite::FileStore;
 use std::alloc::Global;
 use std::marker::Model;
+use world_ends::{Filer, Server};
 
 /// An intake, the outboxes of its filers, and everything that was sent or written so far. The register and the
 /// outboxes lie in tables, on disks of the type `D`.

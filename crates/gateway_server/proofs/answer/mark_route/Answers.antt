@@ -1,7 +1,7 @@
 use Rattle.std.proofs.Common.{sym, ap, ◌∙◌}
 use Rattle.filing_model.specs.Text.{Route, bare}
 use Rattle.intake_core.specs.Held.{limit_of, early_in}
-use Rattle.gateway_server.specs.Route.{view_message, view_route}
+use Rattle.gateway_requests.specs.Route.{view_message, view_route}
 use Rattle.gateway_server.proofs.Answering.{IsDecided-message}
 use Rattle.gateway_server.proofs.answer.mark_route.Goals as goal
 

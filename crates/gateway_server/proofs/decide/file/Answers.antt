@@ -8,10 +8,10 @@ use Rattle.filing_model.specs.Reply.{reply_as, unavailable}
 use Rattle.filing_model.specs.Style.{style_of}
 use Rattle.filing_model.specs.Views.{the_request, view_answer}
 use Rattle.filing_model.proofs.Firsts.{firsts_short}
-use Rattle.intake_core.specs.Answered.{told_style}
+use Rattle.intake_answers.specs.Answered.{told_style}
 use Rattle.intake_core.specs.Held.{limit_of, early_in}
 use Rattle.intake_core.proofs.Deciding.{early_in-after}
-use Rattle.intake_core.proofs.Styles.{HasStyle-told}
+use Rattle.intake_answers.proofs.Styles.{HasStyle-told}
 use Rattle.gateway_server.proofs.Statuses.{phrase-reply_as, phrase-parts, phrase-unavailable}
 use Rattle.gateway_server.proofs.Decisions.{Decides-filed_unavailable}
 use Rattle.gateway_server.proofs.decide.file.Goals as goal

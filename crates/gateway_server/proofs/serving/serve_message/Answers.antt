@@ -10,7 +10,7 @@ use Rattle.filing_model.specs.Stopping.{ComeBefore}
 use Rattle.filing_model.specs.Text.{reply_text_with}
 use Rattle.intake_core.specs.Held.{limit_of, early_in}
 use Rattle.gateway_server.specs.Answered.{IsDecided}
-use Rattle.gateway_server.specs.Route.{view_message}
+use Rattle.gateway_requests.specs.Route.{view_message}
 use Rattle.gateway_server.specs.Stopping.{IsBefore, IsStoppedAfter, view_stop}
 use Rattle.gateway_server.proofs.Lent.{lent_is, body_short}
 use Rattle.gateway_server.proofs.Stopping.{IsCountAt-next}

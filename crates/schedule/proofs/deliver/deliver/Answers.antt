@@ -3,7 +3,8 @@ use Rattle.event_script.specs.Events.{view_crash}
 use Rattle.filing_model.specs.Stopping.{ServesUntil}
 use Rattle.filing_world.specs.World.{Sent, Output}
 use Rattle.schedule.specs.Played.{world_of}
-use Rattle.schedule.proofs.Steps.{element_at, named}
+use Rattle.world_ends.proofs.Entries.{element_at}
+use Rattle.schedule.proofs.Steps.{named}
 use Rattle.schedule.proofs.deliver.deliver.Goals as goal
 
 pub returns-clause-step : goal.returns-clause-step

@@ -1,6 +1,7 @@
 use Rattle.std.proofs.Common.{refl}
 use Rattle.schedule.proofs.Lending.{lent_at, not_lent}
-use Rattle.schedule.proofs.Steps.{element_at, away_past}
+use Rattle.world_ends.proofs.Entries.{element_at}
+use Rattle.schedule.proofs.Steps.{away_past}
 use Rattle.schedule.proofs.element.outbox_at.Goals as goal
 
 pub returns-in_err-at-clause-none : goal.returns-in_err-at-clause-none

@@ -1,5 +1,6 @@
 use Rattle.std.proofs.Common.{◌≡◌, ◌∙◌, Some, None, sym, refl}
-use Rattle.schedule.proofs.Steps.{element_at, away_past, away_down}
+use Rattle.world_ends.proofs.Entries.{element_at}
+use Rattle.schedule.proofs.Steps.{away_past, away_down}
 use Rattle.schedule.proofs.element.up_at.Goals as goal
 
 some_is_none : {X : Type 0} (x : X) → Some x ≡ None → ⊥

@@ -2,7 +2,8 @@ use Rattle.std.proofs.Common.{◌≡◌, ◌∙◌, ap, take, subst, Some, slice
 use Rattle.event_script.specs.Events.{view_crash}
 use Rattle.filing_world.specs.World.{Output, numbered}
 use Rattle.filing_world.specs.Step.{IsAway}
-use Rattle.schedule.proofs.Steps.{element_at, element_is, named, hand_step}
+use Rattle.world_ends.proofs.Entries.{element_at}
+use Rattle.schedule.proofs.Steps.{element_is, named, hand_step}
 use Rattle.schedule.proofs.hand.hand.Goals as goal
 
 pub returns-clause-step : goal.returns-clause-step

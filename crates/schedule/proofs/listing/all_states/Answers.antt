@@ -5,7 +5,8 @@ use Rattle.filing_world.specs.Headline.{states_of, states_from}
 use Rattle.filing_ends.specs.Listed.{listed}
 use Rattle.schedule.specs.Listed.{view_listed}
 use Rattle.schedule.proofs.GoingThrough.{states_next}
-use Rattle.schedule.proofs.Steps.{element_at, set_same}
+use Rattle.world_ends.proofs.Entries.{element_at}
+use Rattle.schedule.proofs.Steps.{set_same}
 use Rattle.schedule.proofs.listing.all_states.Goals as goal
 
 pub loop-at-init : goal.loop-at-init

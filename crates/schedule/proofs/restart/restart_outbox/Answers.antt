@@ -1,5 +1,6 @@
 use Rattle.std.proofs.Common.{◌<◌, length, arith}
-use Rattle.schedule.proofs.Steps.{element_at, restart_step}
+use Rattle.world_ends.proofs.Entries.{element_at}
+use Rattle.schedule.proofs.Steps.{restart_step}
 use Rattle.schedule.proofs.restart.restart_outbox.Goals as goal
 
 pub returns-clause-step : goal.returns-clause-step

@@ -5,7 +5,7 @@ use Rattle.filing_world.specs.Step.{CannotPlay, Puts, Delivers, Hands}
 use Rattle.filing_world.specs.Invariant.{AllOwn}
 use Rattle.outbox_core.specs.Entries.{opened}
 use Rattle.schedule.specs.Played.{world_of}
-use Rattle.schedule.proofs.Entries.{then_ok}
+use Rattle.world_ends.proofs.Entries.{then_ok}
 use Rattle.schedule.proofs.world.play_on.Goals as goal
 
 pub returns-in-Put-clause-step : goal.returns-in-Put-clause-step

@@ -13,7 +13,7 @@ use Rattle.filing_model.proofs.Keeping.{kept_has_key}
 use Rattle.register_store.specs.Outcomes.{kept_as}
 use Rattle.register_store.specs.Store.{shows}
 use Rattle.register_opening.specs.Registers.{LeavesRegister}
-use Rattle.intake_core.specs.Answered.{IsAnswerTo}
+use Rattle.intake_answers.specs.Answered.{IsAnswerTo}
 use Rattle.intake_core.specs.Held.{store_of, limit_of, has_stopped, early_of, early_in}
 use Rattle.intake_core.proofs.Deciding.{has_key-none, firsts-more, HoldsRequests-asked, HoldsRequests-repeat, HoldsRequests-new}
 use Rattle.intake_core.proofs.intake.Intake.decide.Given.{Over}

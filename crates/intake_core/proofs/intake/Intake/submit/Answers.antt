@@ -7,7 +7,7 @@ use Rattle.filing_model.proofs.Firsts.{firsts_repeat}
 use Rattle.register_store.specs.Store.{shows}
 use Rattle.register_opening.specs.Registers.{LeavesRegister}
 use Rattle.register_store.proofs.StoreLemmas.{leaves}
-use Rattle.intake_core.specs.Cache.{IsNameIfAny}
+use Rattle.intake_answers.specs.Cache.{IsNameIfAny}
 use Rattle.intake_core.specs.Held.{HoldsRequests, early_of}
 use Rattle.intake_core.proofs.Deciding.{IfSome-made, HoldsRequests-repeat}
 use Rattle.intake_core.proofs.intake.Intake.submit.Goals as goal

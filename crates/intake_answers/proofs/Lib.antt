@@ -1,0 +1,3 @@
+pub mod CacheLemmas
+pub mod Floats
+pub mod Styles

@@ -1,0 +1,14 @@
+use Rattle.std.proofs.Common.{sym, ap, ◌∙◌, subst, string_bytes}
+use Rattle.filing_model.specs.Register.{Kept}
+use Rattle.filing_model.specs.Style.{style_of}
+use Rattle.intake_answers.specs.Cache.{IsKeptIn}
+use Rattle.intake_answers.proofs.CacheLemmas.{AreKnownIn-put, IsKnownIn-named}
+use Rattle.intake_answers.proofs.cache.Cache.remember.Goals as goal
+
+pub returns-in-Ok : goal.returns-in-Ok
+returns-in-Ok c = λ early requests h filer key named new styled.
+    let r = c.in-Ok.request in
+    let made = c.in-Ok.ensures filer key in
+    AreKnownIn-put early requests c.args.self.now.answers c.put.new.self c.args.name r c.put.result c.put.ensures.entries c.put.ensures.err h
+    (IsKnownIn-named early requests filer key (string_bytes c.args.name) r named
+    (subst (IsKeptIn requests) (sym made.0) new) (made.1 ∙ styled ∙ ap (λ (k : Kept). style_of early k.request) (sym made.0)))

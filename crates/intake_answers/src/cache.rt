@@ -1,0 +1,193 @@
+//! A cache of answers: what the tables would answer, for the requests that came last.
+
+ghost use Rattle.std.specs.Prelude.{◌≡◌, ◌&&◌, ℕ, true, List, IfOk, IfSome, bytes_eq, string_bytes};
+ghost use Rattle.filing_model.specs.declared.served.Style.{Style};
+ghost use Rattle.filing_model.specs.Request.{Request, same_target, has_key};
+ghost use Rattle.filing_model.specs.Answer.{answer_by, answer_from};
+ghost use Rattle.filing_model.specs.Style.{style_of, HasStyle};
+ghost use Rattle.filing_model.specs.Views.{view_answer, the_request};
+ghost use Rattle.register_store.specs.Outcomes.{view_outcome};
+ghost use Rattle.intake_answers.specs.Answered.{IsAnswerTo};
+ghost use Rattle.intake_answers.specs.Cache.{kept_of, IsKeptIn, IsNameOf, Remembers};
+
+use filing_model::{Answer, Style};
+use key_string::KeyText;
+use lru::LruCache;
+use register_store::Outcome;
+use std::alloc::{AllocError, Global};
+use std::num::NonZeroUsize;
+
+/// How many requests are remembered.
+const CAPACITY: usize = 64;
+
+/// The most bytes of a body that is remembered.
+const MAX_CACHED_LEN: usize = 65_536;
+
+/// What is remembered of a kept request beside its filer and key, with its outcome and its style.
+#[derive(Drop)]
+pub(crate) struct Remembered {
+    target: Option<u64>,
+    body: Vec<u8>,
+    outcome: Outcome,
+    style: Style,
+}
+
+impl Remembered {
+    fn new(
+        alloc: Global,
+        target: Option<u64>,
+        body: &[u8],
+        outcome: &Outcome,
+        style: Style,
+    ) -> Result<Remembered, AllocError>
+        ensures { (filer key : List ℕ)
+            → IfOk result (λ r.
+            (kept_of filer key r ≡ record {
+              request = the_request filer key target body.now;
+              outcome = view_outcome outcome.now;
+            })
+            × (r.style ≡ style)) }
+    {
+        Ok(Remembered {
+            target,
+            body: Vec::from_slice(alloc, body)?,
+            outcome: copied(alloc, outcome)?,
+            style,
+        })
+    }
+
+    /// The answer to a request with its filer and key: what the first got, or that the key was used for another body, in its
+    /// style.
+    fn answer_to(
+        &self,
+        alloc: Global,
+        target: Option<u64>,
+        body: &[u8],
+    ) -> Result<Answer, AllocError>
+        ensures { (filer key : List ℕ)
+            → IfOk result (λ a.
+            (view_answer a
+            ≡ answer_from (Some (kept_of filer key self.now)) (the_request filer key target body.now) true)
+            × HasStyle self.now.style a) }
+    {
+        if !asks_the_same(self.target, self.body.as_slice(), target, body) {
+            return Ok(Answer::KeyReused { style: self.style });
+        }
+        Ok(answer_by(copied(alloc, &self.outcome)?, true, self.style))
+    }
+}
+
+/// The last answers, 64 at most, each under the name of its filer's key. A request that is not used for longest goes
+/// first.
+#[derive(Drop)]
+pub struct Cache {
+    answers: LruCache<String, Remembered>,
+}
+
+impl Cache {
+    /// A cache that remembers nothing yet.
+    pub fn new(alloc: Global) -> Result<Cache, AllocError>
+        ensures { (early requests : List Request) → IfOk result (Remembers early requests) }
+    {
+        let capacity = NonZeroUsize::new(CAPACITY).unwrap();
+        Ok(Cache {
+            answers: LruCache::new(alloc, capacity)?,
+        })
+    }
+
+    /// The answer to a request whose filer's key has this name, if it is remembered and there is memory for it.
+    pub fn recall(
+        &mut self,
+        alloc: Global,
+        name: &str,
+        target: Option<u64>,
+        body: &[u8],
+    ) -> Option<Answer>
+        ensures answer { (early requests : List Request) → Remembers early requests self.old
+            → (filer key : List ℕ) → IsNameOf filer key name.now
+            → IfSome result (λ a.
+            IsAnswerTo early requests (the_request filer key target body.now) a
+            × (has_key requests (the_request filer key target body.now) ≡ true)) }
+        ensures same { (early requests : List Request) → Remembers early requests self.old
+            → Remembers early requests self.new }
+    {
+        self.answers.get(name)?.answer_to(alloc, target, body).ok()
+    }
+
+    /// Remembers a kept request under the name of its filer's key, where the body is short and there is memory for it.
+    pub fn remember(
+        &mut self,
+        alloc: Global,
+        name: String,
+        target: Option<u64>,
+        body: &[u8],
+        outcome: &Outcome,
+        style: Style,
+    )
+        ensures { (early requests : List Request) → Remembers early requests self.old
+            → (filer key : List ℕ) → IsNameOf filer key (string_bytes name)
+            → IsKeptIn requests (record {
+              request = the_request filer key target body.now;
+              outcome = view_outcome outcome.now;
+            })
+            → style ≡ style_of early (the_request filer key target body.now)
+            → Remembers early requests self.new }
+    {
+        if body.len() > MAX_CACHED_LEN {
+            return;
+        }
+        // Where there is no room, it is not remembered.
+        if let Ok(request) = Remembered::new(alloc, target, body, outcome, style) {
+            let _ = self.answers.put(name, request);
+        }
+    }
+}
+
+/// The name of a filer's key. No key has a line feed, so no other filer's key has this name.
+pub fn name_of(alloc: Global, filer: &str, key: &KeyText) -> Result<String, AllocError>
+    ensures { IfOk result (λ name. IsNameOf filer.now key.now (string_bytes name)) }
+{
+    let key = key.as_str();
+    let length = filer.len().saturating_add(key.len()).saturating_add(1);
+    let mut name = String::with_capacity(alloc, length)?;
+    name.push_str(key)?;
+    name.push_str("\n")?;
+    name.push_str(filer)?;
+    Ok(name)
+}
+
+/// Whether a request asks for what is kept under its key: to replace the same filing, or none, with the same body.
+pub fn asks_the_same(
+    kept_target: Option<u64>,
+    kept_body: &[u8],
+    target: Option<u64>,
+    body: &[u8],
+) -> bool
+    ensures { result ≡ bytes_eq kept_body.now body.now && same_target kept_target target }
+{
+    kept_body == body && kept_target == target
+}
+
+/// A copy of an outcome.
+fn copied(alloc: Global, outcome: &Outcome) -> Result<Outcome, AllocError>
+    ensures { IfOk result (λ o. view_outcome o ≡ view_outcome outcome.now) }
+{
+    Ok(match outcome {
+        Outcome::Registered(number) => Outcome::Registered(*number),
+        Outcome::Refused(findings) => Outcome::Refused(findings.copied(alloc)?),
+    })
+}
+
+/// The answer that an outcome gives, to its own request or to a repeat, in this style.
+pub fn answer_by(outcome: Outcome, repeat: bool, style: Style) -> Answer
+    ensures { (view_answer result ≡ answer_by (view_outcome outcome) repeat) × HasStyle style result }
+{
+    match outcome {
+        Outcome::Registered(number) => Answer::Registered { number, repeat },
+        Outcome::Refused(findings) => Answer::Refused {
+            findings,
+            repeat,
+            style,
+        },
+    }
+}

@@ -1,0 +1,12 @@
+//! The answer of an intake once it is known: remembered for a repeat, and told as a reply. What may live here: which requests
+//! ask for the same, the last answers, and the bytes of replies and of facts. How a request is decided and where it is kept
+//! is not known here.
+#![tactic(auto)]
+
+mod cache;
+mod line;
+mod reply;
+
+pub use cache::{Cache, answer_by, asks_the_same, name_of};
+pub use line::fact_line;
+pub use reply::{list_reply, reply_of, word_reply};

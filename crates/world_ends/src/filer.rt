@@ -1,0 +1,195 @@
+//! The filer's end: the process that its outbox runs in, with a copy of its entries.
+
+ghost use Rattle.std.specs.Prelude.{◌≡◌, ◌≢◌, ◌↔◌, ℕ, map, true, false, Option, Some, None, IsSome, IfOk, IfSome, OnOk, Err};
+ghost use Rattle.key_string.specs.Key.{IsKey};
+ghost use Rattle.key_string.specs.Filer.{is_filer};
+ghost use Rattle.http_wire.specs.Reply.{ReplyParts};
+ghost use Rattle.filing_model.specs.Outbox.{Entry as Item};
+ghost use Rattle.filing_model.specs.Stopping.{No};
+ghost use Rattle.filing_world.specs.World.{numbered, new_outbox};
+ghost use Rattle.filing_world.specs.Step.{with_entry, Hears, box_after};
+ghost use Rattle.filing_world.specs.Headline.{states_of};
+ghost use Rattle.sqlite.specs.Files.{over_files};
+ghost use Rattle.http_wire.specs.Posting.{IsTarget};
+ghost use Rattle.outbox_core.specs.OutboxParts.{HasEntries};
+ghost use Rattle.outbox_core.specs.Entries.{opened};
+ghost use Rattle.event_script.specs.Events.{view_crash};
+ghost use Rattle.filing_ends.specs.Listed.{listed};
+ghost use Rattle.filing_ends.specs.Outboxes.{IsRequest};
+
+use crate::report::{Report, set_state};
+use event_script::Crash;
+use filing_ends::{Cause, Honest, OutboxProcess};
+use key_string::KeyText;
+use outbox_core::{Outbox, State, StoreFault};
+use sqlite::FileStore;
+use std::alloc::Global;
+use std::marker::Model;
+use std::mem;
+
+/// The outbox of a filer with copies of its entries, whether it is up or down.
+pub struct Filer<D: Honest> {
+    alloc: Global,
+    code: String,
+    entries: Vec<Report>,
+    process: OutboxProcess<D>,
+}
+
+impl<D: Honest> Model for Filer<D> {
+    ghost use Rattle.std.specs.Prelude.{string_bytes};
+    ghost use Rattle.filing_world.specs.World.{Outbox as Box};
+    ghost use Rattle.filing_ends.specs.OutboxProcess.{Keeps, is_up};
+
+    ghost Value = { Box };
+
+    ghost view = { λ f. record { filer = string_bytes f.code; entries = f.entries.items; up = is_up f.process } };
+
+    ghost invariant = { λ f. Keeps f.process (string_bytes f.code) f.entries.items };
+}
+
+impl<D: Honest> Drop for Filer<D> {
+    fn drop(self) {
+        let Filer {
+            alloc: _,
+            code: _,
+            entries: _,
+            process: _,
+        } = self;
+    }
+}
+
+impl<D: Honest> Filer<D> {
+    /// A filer with an outbox that is up and has no entry. For another cause than memory, `Reopen` comes
+    /// where its files were not opened, and `Store` where its tables were not made.
+    pub fn new(alloc: Global, code: &str) -> Result<Filer<D>, Cause>
+        requires { is_filer code.now ≡ true }
+        ensures made { IfOk result (λ f. f ≡ new_outbox code.now) }
+        ensures other { result ≢ Err Cause.NoSuch }
+    {
+        Ok(Filer {
+            alloc,
+            code: String::from_str(alloc, code)?,
+            entries: Vec::new(alloc),
+            process: OutboxProcess::new(alloc, code)?,
+        })
+    }
+
+    /// Whether the outbox is up.
+    pub fn is_up(&self) -> bool
+        ensures { result ≡ self.now.up }
+    {
+        matches!(self.process, OutboxProcess::Up(_))
+    }
+
+    /// Puts a report into the outbox. One whose body is too long, or whose key is used, is not taken, and
+    /// that is no error. `Store` comes where the outbox refused for another cause than memory.
+    pub fn put(
+        &mut self,
+        key: &KeyText,
+        target: Option<u64>,
+        body: &[u8],
+    ) -> Result<(), Cause>
+        requires up { self.old.up ≡ true }
+        requires target { IsTarget target }
+        ensures put { OnOk result (self.new ≡ with_entry self.old (opened key.now target body.now)) }
+        ensures key { OnOk result (IsKey key.now) }
+        ensures other { result ≢ Err Cause.NoSuch }
+    {
+        let report = Report::open(self.alloc, key, target, body)?;
+        self.entries.reserve(1)?;
+        let taken = self.process.put(self.alloc, key, target, body)?;
+        if taken {
+            self.entries.push_reserved(report);
+        }
+        Ok(())
+    }
+
+    /// The bytes of the request of the entry of this number, whatever its state. `NoSuch` comes where
+    /// there is none, and `Store` where the outbox refused for another cause than memory.
+    pub fn request(&mut self, entry: u64) -> Result<Vec<u8>, Cause>
+        requires { self.old.up ≡ true }
+        ensures bytes { IfOk result (λ text. IsRequest self.old.filer self.old.entries entry text.items) }
+        ensures same { OnOk result (self.new ≡ self.old) }
+        ensures no_such { result ≡ Err Cause.NoSuch → numbered self.old.entries entry ≡ None }
+    {
+        self.process.request(self.alloc, entry)
+    }
+
+    /// Hands these bytes to the entry of this number as the reply to its request. Bytes that give no reply
+    /// move nothing, and are no error. Before a stop nothing is read of them. For another cause than memory,
+    /// `Store` comes where the outbox did not take the reply, and `Reopen` where it did not give its files.
+    pub fn hand(&mut self, entry: u64, bytes: &[u8], crash: Crash) -> Result<(), Cause>
+        requires { self.old.up ≡ true }
+        ensures heard { OnOk result ((what : Item) → numbered self.old.entries entry ≡ Some what
+            → (heard : Option ReplyParts) × Hears bytes.now (view_crash crash) heard
+            × (self.new ≡ box_after self.old entry what heard (view_crash crash))) }
+        ensures other { result ≢ Err Cause.NoSuch }
+    {
+        match crash {
+            Crash::No => self.hear(entry, bytes),
+            Crash::Before(_) => self.stop(),
+            Crash::After(_) => {
+                self.hear(entry, bytes)?;
+                self.stop()
+            }
+        }
+    }
+
+    /// The same without a stop.
+    fn hear(&mut self, entry: u64, bytes: &[u8]) -> Result<(), Cause>
+        requires { self.old.up ≡ true }
+        ensures heard { OnOk result ((what : Item) → numbered self.old.entries entry ≡ Some what
+            → (heard : Option ReplyParts) × Hears bytes.now No heard
+            × (self.new ≡ box_after self.old entry what heard No)) }
+        ensures other { result ≢ Err Cause.NoSuch }
+    {
+        if let Some(state) = self.process.hear(self.alloc, entry, bytes)? {
+            set_state(&mut self.entries, entry, state);
+        }
+        Ok(())
+    }
+
+    /// Takes the files, where it is up. `Reopen` comes where they were not given for another cause than
+    /// memory.
+    fn stop(&mut self) -> Result<(), Cause>
+        ensures down { OnOk result (self.new ≡ record self.old { up = false }) }
+        ensures other { result ≢ Err Cause.NoSuch }
+    {
+        let process = mem::replace(&mut self.process, OutboxProcess::Gone);
+        self.process = process.stopped()?;
+        Ok(())
+    }
+
+    /// Takes the files, where it is up, and opens them. The outbox then has the entries that it had.
+    /// `Reopen` comes where it was not closed or opened for another cause than memory.
+    pub fn restart(&mut self) -> Result<(), Cause>
+        ensures restarted { OnOk result (self.new ≡ record self.old { up = true }) }
+        ensures other { result ≢ Err Cause.NoSuch }
+    {
+        let process = mem::replace(&mut self.process, OutboxProcess::Gone);
+        self.process = process.stopped()?.started(self.alloc)?;
+        Ok(())
+    }
+
+    /// The number and the state of each entry, in the order of the numbers. `Store` comes where it is down.
+    pub fn states(&mut self) -> Result<Vec<(u64, State)>, StoreFault>
+        ensures same { self.new ≡ self.old }
+        ensures list { IfOk result (λ s.
+            (number : ℕ) → map (listed number) s.items ≡ states_of number 1 self.old.entries) }
+        ensures down { self.old.up ≡ false → result ≡ Err StoreFault.Store }
+    {
+        self.process.states(self.alloc)
+    }
+
+    /// The outbox, where it is up.
+    pub fn outbox(&self) -> Option<&Outbox<FileStore<D>>>
+        ensures lent { IsSome result ↔ (self.now.up ≡ true) }
+        ensures keeps { IfSome result (λ b.
+            HasEntries over_files b.now self.now.entries × (b.now.filer ≡ self.now.filer)) }
+    {
+        match &self.process {
+            OutboxProcess::Up(outbox) => Some(outbox),
+            OutboxProcess::Down(_) | OutboxProcess::Gone => None,
+        }
+    }
+}

@@ -1,0 +1,204 @@
+//! The intake's end: the process that it runs in, with the requests that it completed.
+
+ghost use Rattle.std.specs.Prelude.{◌≡◌, ◌≢◌, ◌≤◌, ◌^◌, ◌++◌, ◌↔◌, [], ℕ, List, true, false, Some, IsSome, IfOk, IfSome, OnOk, Err, length};
+ghost use Rattle.http_wire.specs.Message.{Arrival, Ending};
+ghost use Rattle.event_script.specs.Events.{view_crash};
+ghost use Rattle.filing_model.specs.Request.{Request, firsts};
+ghost use Rattle.filing_model.specs.Register.{register};
+ghost use Rattle.filing_model.specs.Serving.{BeginsArrivals};
+ghost use Rattle.filing_model.specs.Stopping.{ServesUntil};
+ghost use Rattle.filing_model.specs.Text.{completed};
+ghost use Rattle.filing_world.specs.Step.{is_no};
+ghost use Rattle.sqlite.specs.Files.{over_files};
+ghost use Rattle.intake_core.specs.Held.{HoldsRequests};
+ghost use Rattle.gateway_server.specs.Stopping.{view_stop};
+ghost use Rattle.filing_ends.specs.IntakeProcess.{Keeps, is_up};
+
+use event_script::Crash;
+use filing_ends::{Answered, Cause, Honest, IntakeProcess};
+use filing_model::{Ended, Mark};
+use gateway_server::{Stop, completed};
+use intake_core::{Intake, Unavailable};
+use register_store::{Completed, Registered};
+use sqlite::FileStore;
+use std::alloc::{AllocError, Global};
+use std::marker::Model;
+use std::mem;
+
+/// The intake with the requests that it completed.
+pub struct Server<D: Honest> {
+    alloc: Global,
+    limit: u64,
+    done: Vec<Completed>,
+    process: IntakeProcess<D>,
+}
+
+impl<D: Honest> Model for Server<D> {
+    ghost use Rattle.std.specs.Prelude.{◌≤◌, ◌^◌};
+    ghost use Rattle.filing_model.specs.Request.{firsts};
+    ghost use Rattle.world_ends.specs.Served.{Served};
+    ghost use Rattle.filing_ends.specs.IntakeProcess.{Keeps, is_up};
+
+    ghost Value = { Served };
+
+    ghost view = { λ s. record { limit = s.limit; done = s.done.items; up = is_up s.process } };
+
+    ghost invariant = { λ s. (s.limit ≤ 2 ^ 62) × Keeps s.process s.limit (firsts s.done.items) };
+}
+
+impl<D: Honest> Drop for Server<D> {
+    fn drop(self) {
+        let Server {
+            alloc: _,
+            limit: _,
+            done: _,
+            process: _,
+        } = self;
+    }
+}
+
+/// What one delivery came to, after so many completed requests.
+#[derive(Drop)]
+pub struct Delivered {
+    pub before: usize,
+    pub marks: Vec<Mark>,
+    pub ended: Option<Ended>,
+    pub text: Vec<u8>,
+}
+
+/// Where serving a delivery stops.
+fn stop_of(crash: Crash) -> Stop
+    ensures { view_stop result ≡ view_crash crash }
+{
+    match crash {
+        Crash::No => Stop::Never,
+        Crash::Before(request) => Stop::Before(request),
+        Crash::After(request) => Stop::After(request),
+    }
+}
+
+/// The process after a delivery: with a crash the files, and else the process itself.
+fn after_delivery<D: Honest>(
+    process: IntakeProcess<D>,
+    crash: Crash,
+) -> Result<IntakeProcess<D>, Cause>
+    ensures kept { (limit : ℕ) (F : List Request) → Keeps process limit F
+        → IfOk result (λ it. Keeps it limit F) }
+    ensures up { is_up process ≡ true → IfOk result (λ it. is_up it ≡ is_no (view_crash crash)) }
+    ensures other { result ≢ Err Cause.NoSuch }
+{
+    match crash {
+        Crash::No => Ok(process),
+        Crash::Before(_) => process.stopped(),
+        Crash::After(_) => process.stopped(),
+    }
+}
+
+/// Appends the requests that these bytes completed.
+fn append_completed(
+    alloc: Global,
+    done: &mut Vec<Completed>,
+    bytes: &[u8],
+    marks: &[Mark],
+) -> Result<(), AllocError>
+    ensures { OnOk result ((arrivals : List Arrival) (ending : Ending)
+        → BeginsArrivals bytes.now arrivals ending → length marks.now ≤ length arrivals
+        → done.new.items ≡ done.old.items ++ completed arrivals marks.now) }
+{
+    for request in completed(alloc, bytes, marks)? {
+        done.reserve(1)?;
+        done.push_reserved(request);
+    }
+    Ok(())
+}
+
+impl<D: Honest> Server<D> {
+    /// An intake that is up, over an empty register, which keeps at most `limit` keys.
+    pub fn new(alloc: Global, limit: u64) -> Result<Server<D>, Cause>
+        requires { limit ≤ 2 ^ 62 }
+        ensures made { IfOk result (λ s. s ≡ record { limit = limit; done = []; up = true }) }
+        ensures other { result ≢ Err Cause.NoSuch }
+    {
+        Ok(Server {
+            alloc,
+            limit,
+            done: Vec::new(alloc),
+            process: IntakeProcess::new(alloc, limit)?,
+        })
+    }
+
+    pub fn is_up(&self) -> bool
+        ensures { result ≡ self.now.up }
+    {
+        matches!(self.process, IntakeProcess::Up(_))
+    }
+
+    /// The requests that were completed so far.
+    pub fn done(&self) -> &[Completed]
+        ensures { result.now ≡ self.now.done }
+    {
+        self.done.as_slice()
+    }
+
+    /// The intake, where it is up.
+    pub fn intake(&self) -> Option<&Intake<FileStore<D>>>
+        ensures lent { IsSome result ↔ (self.now.up ≡ true) }
+        ensures keeps { IfSome result (λ intake. HoldsRequests over_files intake.now (firsts self.now.done)) }
+    {
+        match &self.process {
+            IntakeProcess::Up(intake) => Some(intake),
+            IntakeProcess::Down(_files) => None,
+            IntakeProcess::Gone => None,
+        }
+    }
+
+    /// Serves the bytes of a delivery, and stops where the crash says.
+    pub fn deliver(&mut self, bytes: &[u8], crash: Crash) -> Result<Delivered, Cause>
+        requires { self.old.up ≡ true }
+        ensures before { IfOk result (λ d. d.before ≡ length self.old.done) }
+        ensures serves { IfOk result (λ d.
+            (arrivals : List Arrival)
+            × ServesUntil self.old.limit self.old.done bytes.now (view_crash crash) arrivals d.marks.items d.ended
+            d.text.items
+            × (self.new ≡ record self.old {
+              done = self.old.done ++ completed arrivals d.marks.items;
+              up = is_no (view_crash crash);
+            })) }
+        ensures other { result ≢ Err Cause.NoSuch }
+    {
+        let before = self.done.len();
+        let mut process = mem::replace(&mut self.process, IntakeProcess::Gone);
+        let answered = process.serve(self.alloc, bytes, stop_of(crash))?;
+        append_completed(self.alloc, &mut self.done, bytes, answered.marks.as_slice())?;
+        let after = after_delivery(process, crash)?;
+        self.process = after;
+        let Answered { marks, ended, text } = answered;
+        Ok(Delivered {
+            before,
+            marks,
+            ended,
+            text,
+        })
+    }
+
+    /// Gives the files back, where it is up, and opens them.
+    pub fn restart(&mut self) -> Result<(), Cause>
+        ensures restarted { OnOk result (self.new ≡ record self.old { up = true }) }
+        ensures other { result ≢ Err Cause.NoSuch }
+    {
+        let process = mem::replace(&mut self.process, IntakeProcess::Gone);
+        let files = process.stopped()?;
+        let opened = files.started(self.alloc, self.limit)?;
+        self.process = opened;
+        Ok(())
+    }
+
+    /// The registered requests under their numbers, ascending. `Down` comes where it is down, and after `Store`.
+    pub fn register(&mut self) -> Result<Vec<Registered>, Unavailable>
+        ensures list { IfOk result (λ rows. rows.items ≡ register self.old.done) }
+        ensures down { self.old.up ≡ false → result ≡ Err Unavailable.Down }
+        ensures same { self.new ≡ self.old }
+    {
+        self.process.register(self.alloc)
+    }
+}
