@@ -1,17 +1,10 @@
 -- Numbers that words write.
-use Rattle.std.proofs.Common.{◌≡◌, ℕ, ◌<◌, ◌≤◌, ◌^◌, ◌-◌, Bool, true, false, List, length, nat_le, Option, Some, None, refl, subst, leb-true, arith, rules}
+use Rattle.std.proofs.Common.{◌≡◌, ℕ, ◌<◌, ◌≤◌, ◌^◌, ◌-◌, Bool, true, false, List, length, nat_le, Option, Some, None, refl, subst, leb-true, arith}
 use Rattle.std.specs.Prelude.{option_and_then, if◌then◌else◌}
-use Rattle.std.specs.Char.{is_ascii_digit}
-use Rattle.std.specs.List.{list_all}
 use Rattle.std.specs.Str.Parse.{digits_value}
 use Rattle.std.proofs.lemmas.Bool.Decides.{nat_tests}
-use Rattle.std.proofs.lemmas.Str.Parse.{IsNumeralModel, numerals_by_value}
 use Rattle.http_wire.specs.Posting.{IsTarget}
 use Rattle.event_script.specs.Words.{number_up_to, number, filing_number}
-
--- the digits and their value are those of `parse`
-pub digits : IsNumeralModel (λ ds. list_all is_ascii_digit ds ≡ true) (digits_value 10)
-digits = numerals_by_value _ (search rules)
 
 -- a word that writes none, or too large a number, gives none
 pub number_up_to-none : (greatest : ℕ) (word : List ℕ) → greatest < 2 ^ 64 → ¬ ((0 < length word) × (digits_value 10 word < 2 ^ 64)) → number_up_to greatest word ≡ None

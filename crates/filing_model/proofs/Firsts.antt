@@ -135,11 +135,12 @@ firsts-firsts (x ∷ requests) = ap (λ rest. x ∷ rest)
     alike : (r s : Request) → same_key r s ≡ true → other r ≡ other s
     alike r s h = ap not (same_key-like r s x h).1
 
-short : (p : Request → Bool) (requests : List Request) → length (filter p requests) ≤ length requests
-short p requests = omega (arith, length-filter_both p (λ s. not (p s)) (λ s. refl) requests)
+-- a test picks no more than there are
+pub filter_short : {X : Type 0} (p : X → Bool) (xs : List X) → length (filter p xs) ≤ length xs
+filter_short p xs = omega (arith, length-filter_both p (λ x. not (p x)) (λ x. refl) xs)
 
 -- no more than there were
 pub firsts_short : (requests : List Request) → length (firsts requests) ≤ length requests
 unfolding firsts
 firsts_short [] = omega arith
-firsts_short (r ∷ requests) = omega (arith, short (λ s. not (same_key r s)) (firsts requests), firsts_short requests)
+firsts_short (r ∷ requests) = omega (arith, filter_short (λ s. not (same_key r s)) (firsts requests), firsts_short requests)

@@ -1,5 +1,5 @@
 -- The number of a filing that a path has: it is the decimal text of itself.
-use Rattle.std.proofs.Common.{◌≡◌, ◌≢◌, ℕ, zero, suc, ◌<◌, ◌≤◌, ◌^◌, ◌⊎◌, true, false, ◌&&◌, List, length, get_or, nat_le, nat_lt, leb-true, ltb-true, le-leb, lt-ltb, Some, None, Result, Ok, Err, refl, sym, subst, ap, ◌∙◌, inl, inr, ⊎_elim, arith, rules}
+use Rattle.std.proofs.Common.{◌≡◌, ◌≢◌, ℕ, zero, suc, ◌<◌, ◌≤◌, ◌^◌, ◌⊎◌, true, false, ◌&&◌, List, length, get_or, nat_le, nat_lt, leb-true, ltb-true, le-leb, lt-ltb, Some, None, Result, Ok, Err, refl, sym, subst, ap, ◌∙◌, inl, inr, ⊎_elim, arith}
 use Rattle.std.specs.Prelude.{bytes_eq, slice_index}
 use Rattle.std.specs.Char.{is_ascii_digit}
 use Rattle.std.specs.Fmt.{decimal}
@@ -11,14 +11,11 @@ use Rattle.std.proofs.lemmas.Bool.Decides.{nat_tests}
 use Rattle.std.proofs.lemmas.Fmt.{decimal_digit, decimal_nonempty, first_decimal, decimal-digits_value}
 use Rattle.std.proofs.lemmas.List.Sums.{list_all-from_AllPass}
 use Rattle.std.proofs.lemmas.Slice.Eq.{bytes_eq-Decides}
-use Rattle.std.proofs.lemmas.Str.Parse.{IsNumeralModel, numerals_by_value, parse_digits}
+use Rattle.std.proofs.lemmas.Str.Parse.{parse_digits}
+use Rattle.http_wire.proofs.DigitLemmas.{decimal_numerals}
 use Rattle.http_wire.proofs.ValueLemmas.{decimal-digits}
 use Rattle.filing_model.specs.Text.{target_in}
 use Rattle.gateway_requests.specs.Path.{is_decimal}
-
--- the digits and their value are those of `parse`
-pub digits : IsNumeralModel (λ ds. list_all is_ascii_digit ds ≡ true) (digits_value 10)
-digits = numerals_by_value _ (search rules)
 
 first_of_zero : (text : List ℕ) → decimal 0 ≡ text → slice_index text 0 ≡ 48
 first_of_zero text is = subst (λ t. slice_index t 0 ≡ 48) (sym (decimal_digit 0 (omega arith)) ∙ is) refl
@@ -38,7 +35,7 @@ module _ (text : List ℕ) (is : is_decimal text ≡ true) where
   all = grind (arith, nat_tests, is)
 
   spelled : digits_value 10 text < 2 ^ 63 → decimal (digits_value 10 text) ≡ text
-  spelled small = decimal-digits_value digits text all some (λ first. absurd (other (first_is first))) (omega (arith, small))
+  spelled small = decimal-digits_value decimal_numerals text all some (λ first. absurd (other (first_is first))) (omega (arith, small))
     where
       first_is : get_or text 0 0 ≡ 48 → slice_index text 0 ≡ 48
       first_is h = h
@@ -85,7 +82,7 @@ number-none text not_one = ⊎_elim
 -- what `parse` makes of such a text
 module _ {E : Type 0} (text read : List ℕ) (same : read ≡ text) (is : is_decimal text ≡ true) (r : Result ℕ E) (parsed : ParsesUnsigned 64 10 read r) where
   parses : OkIff r ((0 < length read) × (digits_value 10 read < 2 ^ 64)) (digits_value 10 read)
-  parses = parse_digits digits 64 read r parsed (subst (λ t. list_all is_ascii_digit t ≡ true) (sym same) (all text is))
+  parses = parse_digits decimal_numerals 64 read r parsed (subst (λ t. list_all is_ascii_digit t ≡ true) (sym same) (all text is))
 
   pub value_is : (n : ℕ) → r ≡ Ok n → n ≡ digits_value 10 text
   value_is n gives = let it : ((0 < length read) × (digits_value 10 read < 2 ^ 64)) × (n ≡ digits_value 10 read) = rw gives at parses in it.1 ∙ ap (digits_value 10) same

@@ -15,14 +15,20 @@ use std::alloc::{AllocError, Global};
 /// Why a message is answered without the register.
 #[derive(Clone, Copy, Debug, PartialEq, Eq)]
 pub enum Rejection {
+    /// The path names no filings.
     NoPath,
+    /// The method is neither GET nor POST.
     NoMethod,
+    /// The content is coded.
     ContentCoding,
+    /// There is no `Idempotency-Key`.
     KeyMissing,
+    /// There are several, or the one spells no key.
     KeyBad,
 }
 
 impl Rejection {
+    /// The status code of the reply (RFC 9110, section 15).
     pub fn status(self) -> u16
         ensures { result ≡ rejection_status self }
     {
@@ -34,6 +40,7 @@ impl Rejection {
         }
     }
 
+    /// The word by which the reply tells it (own rule).
     pub fn word(self) -> &'static str
         ensures { result.now ≡ rejection_word self }
     {
@@ -91,7 +98,7 @@ pub fn route_of<'a>(alloc: Global, message: &Message<'a>) -> Result<Route<'a>, A
     }
 }
 
-/// Whether the reply has no content.
+/// Whether the reply has no content, as one to a HEAD (RFC 9110, section 9.3.2).
 pub fn is_head(message: &Message) -> bool
     ensures { result ≡ is_head (view_message message.now) }
 {

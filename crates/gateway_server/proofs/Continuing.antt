@@ -1,5 +1,6 @@
 -- A connection that goes on by one arrival, or ends.
 use Rattle.std.proofs.Common.{arith, ◌≡◌, ◌≢◌, ℕ, ◌≤◌, Bool, true, false, List, [], ◌++◌, take, drop, length, Option, refl, sym, ap, ◌∙◌, subst, append_assoc, inl, inr, ◌⊎◌}
+use Rattle.std.proofs.KnownBytes.{Appends-nil, Appends-trans, Consumes-nil, Consumes-trans}
 use Rattle.std.proofs.lemmas.List.{length-append}
 use Rattle.std.specs.Io.KnownBytes.{Consumes, Appends, IsAtEnd}
 use Rattle.http_wire.specs.declared.inbox.Inbox.{Inbox}
@@ -14,7 +15,6 @@ use Rattle.http_wire.specs.Message.{Read, Refused, Rest, IsRest, IsRefused, inte
 use Rattle.http_wire.specs.Received.{max_reads}
 use Rattle.http_wire.specs.Request.{Request as Message}
 use Rattle.std.proofs.Math.Seq.{drop-nil}
-use Rattle.http_wire.proofs.DeviceLemmas.{Appends-join, Appends-nil, Consumes-join, Consumes-nil}
 use Rattle.filing_model.specs.declared.served.Ended.TheVariants.{Closed, InputEnded, Fault}
 use Rattle.filing_model.specs.declared.served.Mark.{Mark}
 use Rattle.filing_model.specs.Request.{Request}
@@ -50,7 +50,7 @@ module _ (requests : Keeping) (first from to : Streams) (old new : Inbox) (marks
   read_since = h.got ++ got old new
 
   consumed : Consumes first.left to.left read_since
-  consumed = Consumes-join first.left from.left to.left h.got (got old new) h.read r.given
+  consumed = Consumes-trans first.left from.left to.left h.got (got old new) h.read r.given
 
   served_held : HasServed requests read_since (held new) marks h.sent
   served_held = subst (λ (rest : List ℕ). HasServed requests read_since rest marks h.sent) (sym r.held_is) (HasServed-more requests h.got (unread old) (got old new) marks h.sent h.served)
@@ -59,7 +59,7 @@ module _ (requests : Keeping) (first from to : Streams) (old new : Inbox) (marks
   counted_since = subst (λ (n : ℕ). reads new ≤ n) (sym (length-append h.got (got old new))) (omega (arith, h.counted, r.each))
 
   wrote_more : (text : List ℕ) → Appends from.written to.written text → Appends first.written to.written (h.sent ++ text)
-  wrote_more text w = Appends-join first.written from.written to.written h.sent text h.wrote w
+  wrote_more text w = Appends-trans first.written from.written to.written h.sent text h.wrote w
 
   -- a message came
   pub HasMessage-next : LendsFirst new → Appends from.written to.written (interim_if (lent_awaits new)) → HasMessage requests first to new marks
@@ -116,7 +116,7 @@ module _ (requests : Keeping) (first : Streams) (left written : Option (List ℕ
   wrote_after : (written' : Option (List ℕ)) (text : List ℕ) → Appends written written' text → Appends first.written written' (h.sent ++ (interim_of (Read lent) ++ text))
   wrote_after written' text w =
       subst (Appends first.written written') (append_assoc h.sent (interim_if (lent_awaits inbox)) text ∙ ap (λ i. h.sent ++ (i ++ text)) same_interim)
-      (Appends-join first.written written written' (h.sent ++ interim_if (lent_awaits inbox)) text h.wrote w)
+      (Appends-trans first.written written written' (h.sent ++ interim_if (lent_awaits inbox)) text h.wrote w)
 
   -- the message was answered, and the connection closes
   pub Serves-closed : (after : List Request) (new : List Mark) (written' : Option (List ℕ)) → closes lent.head ≡ true → IsAnswered requests.limit requests.early requests.after after (Read lent) marks new written written' → ServesConnection (record requests { after = after }) first (streams left written') new Closed
@@ -173,7 +173,7 @@ module _ (requests : Keeping) (first : Streams) (left written : Option (List ℕ
 
 module _ (requests : Keeping) (first : Streams) (left written : Option (List ℕ)) (inbox : Inbox) (refusal : Refusal) (marks : List Mark) (h : HasRefusal requests first (streams left written) inbox refusal marks) where
   wrote_refusal : (written' : Option (List ℕ)) (text : List ℕ) → Appends written written' text → Appends first.written written' (h.sent ++ text)
-  wrote_refusal written' text w = Appends-join first.written written written' h.sent text h.wrote w
+  wrote_refusal written' text w = Appends-trans first.written written written' h.sent text h.wrote w
 
   -- it was answered
   pub Serves-refused : (new : List Mark) (written' : Option (List ℕ)) → IsAnswered requests.limit requests.early requests.after requests.after (Refused refusal) marks new written written' → ServesConnection requests first (streams left written') new Closed

@@ -1,5 +1,6 @@
 -- Which fault ends a connection, and what was read.
 use Rattle.std.proofs.Common.{arith, ℕ, List, ◌++◌, Option}
+use Rattle.std.proofs.KnownBytes.{Consumes-trans}
 use Rattle.std.proofs.lemmas.List.{length-append}
 use Rattle.http_wire.specs.declared.inbox.Inbox.{Inbox}
 use Rattle.http_wire.specs.declared.refusal.ConnFault.{ConnFault}
@@ -7,7 +8,6 @@ use Rattle.http_wire.specs.declared.refusal.ConnFault.TheVariants.{Write, ReadLi
 use Rattle.http_wire.specs.declared.refusal.ConnFault.TheVariants as fault
 use Rattle.http_wire.specs.Calls.{IsFault}
 use Rattle.http_wire.specs.Inbox.{held, reads}
-use Rattle.http_wire.proofs.DeviceLemmas.{Consumes-join}
 use Rattle.filing_model.specs.declared.served.Ended.TheVariants.{Fault}
 use Rattle.gateway_server.specs.Progress.{ReadsSome, TellsLimit}
 
@@ -24,6 +24,6 @@ TellsLimit-fault r r' w w' inbox Memory why = λ all u. let block = why.1 all in
 pub ReadsSome-join : (left left' left'' : Option (List ℕ)) (old mid new : Inbox) → ReadsSome left left' old mid → ReadsSome left' left'' mid new → ReadsSome left left'' old new
 ReadsSome-join left left' left'' old mid new first second = (
   first.0 ++ second.0,
-  Consumes-join left left' left'' first.0 second.0 first.1 second.1,
+  Consumes-trans left left' left'' first.0 second.0 first.1 second.1,
   omega (arith, first.2, second.2, length-append first.0 second.0),
 )

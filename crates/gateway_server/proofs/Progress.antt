@@ -2,7 +2,7 @@
 use Rattle.std.proofs.Common.{◌≡◌, ℕ, Bool, true, false, List, [], ◌∷◌, ◌++◌, drop, map, refl, sym, ap, ◌∙◌, subst, append_assoc, true≢false}
 use Rattle.std.specs.Prelude.{if◌then◌else◌}
 use Rattle.std.proofs.lemmas.Bool.{both_ways}
-use Rattle.std.proofs.lemmas.List.{map-append}
+use Rattle.std.proofs.lemmas.List.{map-append, drop-append-le}
 use Rattle.http_wire.specs.Head.{closes}
 use Rattle.http_wire.specs.Message.{Arrival, Read, Refused, Ending, Rest, BeginsRequest, IsRefused, IsRest, Asks, HasArrivals}
 use Rattle.http_wire.specs.Request.{Request as Message}
@@ -14,7 +14,6 @@ use Rattle.filing_model.specs.Request.{Request}
 use Rattle.filing_model.specs.Serving.{Keeping, keeping, kept_by, AreMarked, BeginsArrivals, IsServed, IsCutShort}
 use Rattle.filing_model.specs.Text.{text_with, MarksFit, completed, next_interim}
 use Rattle.filing_model.proofs.Lists.{append_nil}
-use Rattle.filing_model.proofs.Serving.{drop-more}
 use Rattle.filing_model.proofs.Appending.{completed-append, text-append, text_now, are_marked_now, kept_by-append, AreMarked-append}
 use Rattle.gateway_server.specs.Progress.{GoesThrough, HasServed}
 
@@ -24,7 +23,7 @@ use Rattle.gateway_server.specs.Progress.{GoesThrough, HasServed}
 goes-more : (bytes : List ℕ) (messages : List Message) (rest more : List ℕ) → GoesThrough bytes messages rest → GoesThrough (bytes ++ more) messages (rest ++ more)
 goes-more bytes [] rest more e = ap (λ bs. bs ++ more) e
 goes-more bytes (message ∷ messages) rest more (n, begins, open', goes) =
-    (n, BeginsRequest-more bytes more message n begins, open', subst (λ (bs : List ℕ). GoesThrough bs messages (rest ++ more)) (sym (drop-more n bytes more begins.whole)) (goes-more (drop n bytes) messages rest more goes))
+    (n, BeginsRequest-more bytes more message n begins, open', subst (λ (bs : List ℕ). GoesThrough bs messages (rest ++ more)) (sym (drop-append-le n bytes more begins.whole)) (goes-more (drop n bytes) messages rest more goes))
 
 goes-push : (bytes : List ℕ) (messages : List Message) (rest : List ℕ) (message : Message) (n : ℕ) → GoesThrough bytes messages rest → BeginsRequest rest message n → closes message.head ≡ false → GoesThrough bytes (messages ++ message ∷ []) (drop n rest)
 goes-push bytes [] rest message n e begins open' = (n, subst (λ (bs : List ℕ). BeginsRequest bs message n) e begins, open', ap (drop n) e)

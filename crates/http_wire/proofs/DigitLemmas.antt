@@ -1,5 +1,5 @@
 -- Digits without leading zeros, and the numbers that they write.
-use Rattle.std.proofs.Common.{◌≡◌, ℕ, ◌+◌, ◌*◌, ◌<◌, ◌≤◌, ◌==◌, eqb, ltb, Bool, true, false, ◌&&◌, List, [], ◌∷◌, length, min, refl, sym, ap, ◌∙◌, Decides, arith}
+use Rattle.std.proofs.Common.{◌≡◌, ℕ, ◌+◌, ◌*◌, ◌<◌, ◌≤◌, ◌==◌, eqb, ltb, Bool, true, false, ◌&&◌, List, [], ◌∷◌, length, min, refl, sym, ap, ◌∙◌, Decides, arith, rules}
 use Rattle.std.specs.Prelude.{bytes_eq}
 use Rattle.std.specs.Char.{is_ascii_digit, digit_value}
 use Rattle.std.specs.List.{list_all}
@@ -9,11 +9,16 @@ use Rattle.std.proofs.Math.Numerals.{one-add}
 use Rattle.std.proofs.lemmas.List.Recursion.{same_from_clauses}
 use Rattle.std.proofs.lemmas.Bool.Decides.{nat_tests, same_from_decides}
 use Rattle.std.proofs.lemmas.Slice.Eq.{bytes_eq-Decides}
+use Rattle.std.proofs.lemmas.Str.Parse.{IsNumeralModel, numerals_by_value}
 use Rattle.http_wire.specs.Head.{is_number, agree}
 use Rattle.http_wire.specs.Lists.{significant}
 
 abbrev are_digits : List ℕ → Bool
 are_digits = list_all is_ascii_digit
+
+-- the digits and their value are those of `parse`
+pub decimal_numerals : IsNumeralModel (λ ds. list_all is_ascii_digit ds ≡ true) (digits_value 10)
+decimal_numerals = numerals_by_value _ (search rules)
 
 -- the value of a digit
 digit-small : (d : ℕ) → is_ascii_digit d ≡ true → (digit_value d < 10) × (digit_value d + 48 ≡ d)

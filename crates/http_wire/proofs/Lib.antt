@@ -1,7 +1,6 @@
 pub mod AloneLemmas
 pub mod BlockLemmas
 pub mod BufferLemmas
-pub mod DeviceLemmas
 pub mod DigitLemmas
 pub mod FeedLemmas
 pub mod NextArrivalLemmas

@@ -1,10 +1,10 @@
 -- What several reads come to.
 use Rattle.std.proofs.Common.{◌≡◌, ℕ, ◌≤◌, List, [], ◌++◌, length, drop, Option, refl, sym, ap, ◌∙◌, subst, arith}
+use Rattle.std.proofs.KnownBytes.{Consumes-nil, Consumes-trans}
 use Rattle.std.proofs.lemmas.Grind.{common_steps}
 use Rattle.std.specs.Io.KnownBytes.{Consumes}
 use Rattle.http_wire.specs.declared.received.Received.{Received}
 use Rattle.http_wire.specs.Received.{held_bytes, Receives, ReceivesNothing}
-use Rattle.http_wire.proofs.DeviceLemmas.{Consumes-join, Consumes-nil}
 
 -- what was added in two steps
 drop-twice : (x y z : List ℕ) → y ≡ x ++ drop (length x) y → z ≡ y ++ drop (length y) z → drop (length x) z ≡ drop (length x) y ++ drop (length y) z
@@ -21,7 +21,7 @@ drop-once x y z first second =
 pub Receives-join : (a b c : Option (List ℕ)) (x y z : Received) → Receives a b x y → Receives b c y z → Receives a c x z
 Receives-join a b c x y z first second = record {
   bytes = drop-once (held_bytes x) (held_bytes y) (held_bytes z) first.bytes second.bytes;
-  given = subst (Consumes a c) (sym (drop-twice (held_bytes x) (held_bytes y) (held_bytes z) first.bytes second.bytes)) (Consumes-join a b c _ _ first.given second.given);
+  given = subst (Consumes a c) (sym (drop-twice (held_bytes x) (held_bytes y) (held_bytes z) first.bytes second.bytes)) (Consumes-trans a b c _ _ first.given second.given);
   reads = omega (arith, first.reads, second.reads);
   each =
       let both = ap length (drop-twice (held_bytes x) (held_bytes y) (held_bytes z) first.bytes second.bytes) in

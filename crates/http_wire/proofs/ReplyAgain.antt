@@ -4,7 +4,7 @@ use Rattle.std.specs.Prelude.{codes, nat_lt}
 use Rattle.std.specs.Io.KnownBytes.{Consumes, IsAtEnd}
 use Rattle.std.proofs.lemmas.Bool.Decides.{nat_tests}
 use Rattle.std.proofs.lemmas.Grind.{common_steps}
-use Rattle.std.proofs.lemmas.List.{append-nil}
+use Rattle.std.proofs.lemmas.List.{append-nil, drop-append-le}
 use Rattle.http_wire.specs.declared.refusal.ReplyFault.{ReplyFault}
 use Rattle.http_wire.specs.declared.refusal.ReplyFault.TheVariants.{Cut, Malformed, NoLength, TooLarge, Read, ReadLimit, Memory}
 use Rattle.http_wire.specs.Head.{values_named, parts_named, agreed_number}
@@ -14,7 +14,7 @@ use Rattle.http_wire.specs.ReplyFaults.{content_length, IsNoResponse, HasGiven, 
 use Rattle.http_wire.proofs.MoreBytes.{IsBlockEnd-more, IsBlockEnd-within, IsTooLong-more, block-more}
 use Rattle.http_wire.proofs.RefusedReply.{Refuses, refuses-of, Refuses-stops, Refuses-undeclared, GivesReply-begins}
 use Rattle.http_wire.proofs.ReplyRead.{reply-spells}
-use Rattle.http_wire.proofs.UniqueReply.{Stops-final, interims-same, drop-more, BeginsResponseHead-more, BeginsInterims-more, BeginsReply-more, BeginsReply-unique}
+use Rattle.http_wire.proofs.UniqueReply.{Stops-final, interims-same, BeginsResponseHead-more, BeginsInterims-more, BeginsReply-more, BeginsReply-unique}
 
 -- interim responses lie in the bytes
 interims-within : (bytes : List ℕ) (n : ℕ) → BeginsInterims bytes n → n ≤ length bytes
@@ -47,7 +47,7 @@ content_length-declared parts len d =
 pub front-not_refused : (front rest : List ℕ) (reply : ReplyParts) (n : ℕ) (fault : ReplyFault) → BeginsReply (front ++ rest) reply n → ¬ (IsRefusedReply front fault)
 front-not_refused front rest reply n fault b r =
     let at = refuses-of front fault r in
-    let place = drop-more at.0 front rest (interims-within front at.0 at.1) in
+    let place = sym (drop-append-le at.0 front rest (interims-within front at.0 at.1)) in
     let refused : Refuses (drop at.0 (front ++ rest)) = subst Refuses place (Refuses-more (drop at.0 front) rest at.2) in
     let same = interims-same (front ++ rest) at.0 b.skipped (BeginsInterims-more front rest at.0 at.1) (Refuses-stops _ refused) b.interims (Stops-final _ b.parts b.head_len b.head b.declares.final) in
     Refuses-undeclared (drop b.skipped (front ++ rest)) b.parts b.head_len (length reply.content) b.head (content_length-declared b.parts (length reply.content) b.declares) (subst (λ k. Refuses (drop k (front ++ rest))) same refused)

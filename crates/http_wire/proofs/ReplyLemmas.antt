@@ -1,5 +1,6 @@
 -- How a reply is read out of what the reader gave.
 use Rattle.std.proofs.Common.{◌≡◌, ℕ, ◌+◌, ◌-◌, ◌≤◌, true, false, List, [], ◌++◌, length, take, drop, Option, Ok, Err, sym, ap, ◌∙◌, subst, inl, inr, arith, append_assoc, length-append}
+use Rattle.std.proofs.KnownBytes.{Consumes-nil, Consumes-trans}
 use Rattle.std.specs.Prelude.{slice_range}
 use Rattle.std.specs.Io.KnownBytes.{Consumes}
 use Rattle.std.proofs.Math.Seq.{take-append_seam}
@@ -14,7 +15,6 @@ use Rattle.http_wire.specs.Reply.{ReplyParts}
 use Rattle.http_wire.specs.ReplyFaults.{content_length, HasGiven, IsReplyFailure}
 use Rattle.http_wire.specs.ReplyReading.{ShowsParts, Takes, TakesHead, IsHeadFailure, IsContentFailure}
 use Rattle.http_wire.specs.Response.{ResponseParts, BeginsResponseHead, BeginsInterims, BeginsReply, DeclaresContent, GivesReply, is_interim}
-use Rattle.http_wire.proofs.DeviceLemmas.{Consumes-join, Consumes-nil}
 use Rattle.http_wire.proofs.RefusedReply.{DeclaresContent-of, content_length-fault, IsLengthFault, IsCutReply-unended, IsCutReply-content}
 use Rattle.http_wire.proofs.UniqueReply.{interims-push, BeginsInterims-more, BeginsResponseHead-more, BeginsReply-front}
 
@@ -51,7 +51,7 @@ Given-takes first mid after old new taken text g t =
     let whole = joined taken (held_bytes old) t.read text (held_bytes new) t.bytes in
     let size = ap length whole ∙ length-append (taken ++ held_bytes old) t.read in
     record {
-      given = subst (Consumes first after) (sym whole) (Consumes-join first mid after (taken ++ held_bytes old) t.read g.given t.given);
+      given = subst (Consumes first after) (sym whole) (Consumes-trans first mid after (taken ++ held_bytes old) t.read g.given t.given);
       count = omega (arith, size, t.count, g.count);
     }
 

@@ -1,5 +1,6 @@
 -- What several calls take off the bytes that are held.
 use Rattle.std.proofs.Common.{◌≡◌, ◌≢◌, ℕ, ◌+◌, ◌-◌, ◌<◌, ◌≤◌, min, List, [], ◌++◌, length, take, drop, Option, sym, ap, ◌∙◌, subst, subst₂, arith, length-append, append_assoc}
+use Rattle.std.proofs.KnownBytes.{Consumes-nil, Consumes-trans}
 use Rattle.std.specs.Prelude.{slice_range}
 use Rattle.std.proofs.lemmas.Grind.{common_steps}
 use Rattle.std.proofs.lemmas.List.{append-nil, take-append-drop}
@@ -13,7 +14,6 @@ use Rattle.http_wire.specs.Device.{HasFailed}
 use Rattle.http_wire.specs.ReplyFaults.{fault_of_read}
 use Rattle.http_wire.specs.ReplyReading.{Takes, TakesHead, IsResponseBlock, IsContentFailure}
 use Rattle.http_wire.specs.Response.{ResponseParts, BeginsResponseHead}
-use Rattle.http_wire.proofs.DeviceLemmas.{Consumes-join, Consumes-nil}
 use Rattle.http_wire.proofs.MoreBytes.{IsBlockEnd-within}
 
 -- reads take nothing
@@ -37,7 +37,7 @@ join-bytes x r y s z t u first second =
 pub Takes-join : (a b c : Option (List ℕ)) (x y z : Received) (t u : List ℕ) → Takes a b x y t → Takes b c y z u → Takes a c x z (t ++ u)
 Takes-join a b c x y z t u first second = record {
   read = first.read ++ second.read;
-  given = Consumes-join a b c first.read second.read first.given second.given;
+  given = Consumes-trans a b c first.read second.read first.given second.given;
   bytes = join-bytes (held_bytes x) first.read (held_bytes y) second.read (held_bytes z) t u first.bytes second.bytes;
   count = omega (arith, first.count, second.count, length-append first.read second.read);
 }

@@ -114,7 +114,8 @@ impl Cache {
         self.answers.get(name)?.answer_to(alloc, target, body).ok()
     }
 
-    /// Remembers a kept request under the name of its filer's key, where the body is short and there is memory for it.
+    /// Remembers a kept request under the name of its filer's key, where its body has at most 65,536 bytes and there is memory
+    /// for it.
     pub fn remember(
         &mut self,
         alloc: Global,
@@ -178,7 +179,7 @@ fn copied(alloc: Global, outcome: &Outcome) -> Result<Outcome, AllocError>
     })
 }
 
-/// The answer that an outcome gives, to its own request or to a repeat, in this style.
+/// The answer that an outcome gives, to its own request or to a repeat, in this style; a number has none.
 pub fn answer_by(outcome: Outcome, repeat: bool, style: Style) -> Answer
     ensures { (view_answer result ≡ answer_by (view_outcome outcome) repeat) × HasStyle style result }
 {

@@ -18,7 +18,6 @@ ghost use Rattle.register_opening.specs.Registers.{LeavesRegister};
 ghost use Rattle.intake_core.specs.declared.intake.Unavailable.TheVariants.{Down, Full, Memory, Store as StoreFailed};
 ghost use Rattle.table_rows.specs.Standing.{CommitsNothing};
 
-
 use filing_model::{Answer, FilingRow, Style};
 use intake_answers::{Cache, answer_by, asks_the_same, name_of};
 use key_string::KeyText;

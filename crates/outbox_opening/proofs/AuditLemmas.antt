@@ -3,6 +3,7 @@ use Rattle.std.proofs.Common.{◌≡◌, ◌<◌, ◌≤◌, ◌^◌, ◌+◌, �
 use Rattle.std.specs.Prelude.{◌&&◌, ◌||◌, codes}
 use Rattle.std.specs.List.{AllByRecursion}
 use Rattle.std.proofs.Math.Seq.{drop-cons}
+use Rattle.std.proofs.lemmas.Bool.{and_parts, not-true}
 use Rattle.std.proofs.lemmas.Bool.Decides.{nat_tests}
 use Rattle.std.proofs.lemmas.Slice.Eq.{bytes_eq-Decides}
 use Rattle.std.proofs.lemmas.List.Elements.{recursion_from_All, All-from_recursion}
@@ -34,10 +35,6 @@ pub one_on : (targets rows : List Row) (i : ℕ) (row : Row) (b : Bool) → i < 
 one_on targets rows i row b low at is = rw (drop-cons rows i row low, at, is) refl
 
 -- ---- what a test says of a value
-
-pub both : (a b : Bool) → (a && b) ≡ true → (a ≡ true) × (b ≡ true)
-both true b h = (refl, h)
-both false b h = absurd (true≢false (sym h))
 
 never : {X : Type 0} → false ≡ true → X
 never h = absurd (true≢false (sym h))
@@ -74,7 +71,7 @@ body-of (Text t) h = never h
 body-of (Blob b) h = (b, refl, short (length b) h)
 
 fits : (n : ℕ) → (nat_le 1 n && nat_lt n (2 ^ 63)) ≡ true → (1 ≤ n) × (n < 2 ^ 63)
-fits n h = let p = both (nat_le 1 n) (nat_lt n (2 ^ 63)) h in let low = p.0 in let high = p.1 in (grind (arith, nat_tests), grind (arith, nat_tests))
+fits n h = let p = and_parts (nat_le 1 n) (nat_lt n (2 ^ 63)) h in let low = p.0 in let high = p.1 in (grind (arith, nat_tests), grind (arith, nat_tests))
 
 number-of : (v : Value) → is_number v ≡ true → (n : ℕ) × (v ≡ Int (pos n)) × (1 ≤ n) × (n < 2 ^ 63)
 number-of Null h = never h
@@ -94,7 +91,7 @@ state-of code number h = go (is_int 1 code) refl h
     others : (a b : Bool) → is_int 0 code ≡ a → is_int 2 code ≡ b → ((a || (b || is_int 3 code)) && is_absent number) ≡ true → (s : State) × AreState code number s
     others true b first two h = (Open, (is_int-of 0 code first, absent-of number h, tt))
     others false true first two h = (Refused, (is_int-of 2 code two, absent-of number h, tt))
-    others false false first two h = let p = both (is_int 3 code) (is_absent number) h in (Clashed, (is_int-of 3 code p.0, absent-of number p.1, tt))
+    others false false first two h = let p = and_parts (is_int 3 code) (is_absent number) h in (Clashed, (is_int-of 3 code p.0, absent-of number p.1, tt))
 
     go : (b : Bool) → is_int 1 code ≡ b → cond b (is_number number) ((is_int 0 code || (is_int 2 code || is_int 3 code)) && is_absent number) ≡ true → (s : State) × AreState code number s
     go true one h = let n = number-of number h in (Confirmed n.0, (is_int-of 1 code one, n.1, (n.2, n.3)))
@@ -146,14 +143,10 @@ within_later : (id count : ℕ) (row : Row) → IsWithin id (suc count) row → 
 within_later id count row w other =
     let k = w.0 in
     let test : not (nat_eq k id) ≡ true = sym (ap not (ap (is_int id) w.1 ∙ same_ids k id)) ∙ other in
-    let apart : nat_eq k id ≡ false = negated (nat_eq k id) test in
+    let apart : nat_eq k id ≡ false = not-true (nat_eq k id) test in
     let least = w.2 in
     let most = w.3 in
     (k, w.1, grind (arith, nat_tests), omega (arith, most))
-  where
-    negated : (b : Bool) → not b ≡ true → b ≡ false
-    negated true h = never h
-    negated false h = refl
 
 abbrev rows_after : ℕ → List Row → List Row
 rows_after id rows = filter (λ w. not (is_int id (column w 0))) rows
@@ -166,9 +159,9 @@ with_later id k rows low =
 
 sound-of : (id : ℕ) (row : Row) (o : Option ℕ) → HasFive row → is_entry id row ≡ true → IsTarget o → (e : Entry) × (row ≡ entry_row (id, e)) × IsKept e × (e.target ≡ o)
 sound-of id row o whole h fits =
-    let p = both (is_int id (column row 0)) _ h in
-    let q = both (is_key_text (column row 1)) _ p.1 in
-    let r = both (is_body (column row 2)) _ q.1 in
+    let p = and_parts (is_int id (column row 0)) _ h in
+    let q = and_parts (is_key_text (column row 1)) _ p.1 in
+    let r = and_parts (is_body (column row 2)) _ q.1 in
     let key = key-of (column row 1) q.0 in
     let body = body-of (column row 2) r.0 in
     let state = state-of (column row 3) (column row 4) r.1 in (
@@ -194,7 +187,7 @@ gathered targets id (row ∷ rows) ts whole pairs within same none =
     go : (b : Bool) → is_sound targets id row ≡ b → ◌≡◌ {A = Option ℕ} (cond b (first_damaged targets (suc id) rows) (Some id)) None
         → (first_damaged targets (suc id) rows ≡ None → AreEntries (suc id) rows (rows_after id ts)) → AreEntries id (row ∷ rows) ts
     go true sound none more =
-        let p = both (is_entry id row) _ sound in
+        let p = and_parts (is_entry id row) _ sound in
         let here = same id (le_refl id) in
         let t = target-of id (with_id id ts) (picked IsPair (λ w. is_int id (column w 0)) ts pairs) (ap is_target here ∙ p.1) in
         let e = sound-of id row t.0 whole.0 p.0 t.2 in
@@ -265,8 +258,8 @@ one_row form row filer whole h = go (is_int 1 (column row 0) && (is_outbox (colu
     go : (b : Bool) → (is_int 1 (column row 0) && (is_outbox (column row 1) && is_int form (column row 2))) ≡ b → ◌≡◌ {A = Option (List ℕ)} (cond b (filer_text (column row 3)) None) (Some filer)
         → (row ≡ form_row form filer) × (is_filer filer ≡ true)
     go true is h =
-        let p = both (is_int 1 (column row 0)) _ is in
-        let q = both (is_outbox (column row 1)) _ p.1 in
+        let p = and_parts (is_int 1 (column row 0)) _ is in
+        let q = and_parts (is_outbox (column row 1)) _ p.1 in
         let f = filer-of (column row 3) filer h in
         (whole ∙ four _ _ _ _ _ _ _ _ (is_int-of 1 (column row 0) p.0) (outbox-of (column row 1) q.0) (is_int-of form (column row 2) q.1) f.0, f.1)
     go false is h = absurd cc

@@ -1,5 +1,6 @@
 -- The keys of a table with a UNIQUE are distinct.
 use Rattle.std.proofs.Common.{◌≡◌, ◌⊎◌, inl, inr, ◌<◌, ℕ, suc, pos, Bool, true, false, not, List, [], ◌∷◌, map, bytes_eq, refl, sym, ap, subst, ◌∙◌, nat_eq, arith, true≢false}
+use Rattle.std.proofs.lemmas.Bool.{not-true}
 use Rattle.std.specs.Prelude.{◌&&◌}
 use Rattle.std.specs.List.{AllByRecursion, list_all, list_any}
 use Rattle.std.proofs.lemmas.Bool.Decides.{nat_tests}
@@ -43,10 +44,6 @@ has_all p (y ∷ ys) x all has = go (p y) refl all has (has_all p ys x)
     go true is all (inr later) more = more all later
     go false is all has more = absurd (true≢false (sym all))
 
-negated : (b : Bool) → not b ≡ true → b ≡ false
-negated true h = absurd (true≢false (sym h))
-negated false h = refl
-
 module _ (db : Database) (sound : IsDatabase db) (d : HasCommon db.schema) where
   abbrev b : Schema
   b = schema_with common_tables d.tables d.indexes d.views
@@ -61,7 +58,7 @@ module _ (db : Database) (sound : IsDatabase db) (d : HasCommon db.schema) where
       subst (λ (s : Schema). AllByRecursion (λ t. AllByRecursion (λ row. passes Unique s db.trees t row ≡ true) (db.trees t.tree)) s.tables) d.is (sound.obeys.rules Unique) in
       all_weaker _ _ (λ row pass.
       let one = has_all (λ (i : Index). not (guards i entry_table && clashes i.order i.columns (db.trees 1) row)) d.indexes (automatic entry_table 0 (2 ∷ []) index.0) pass index.1 in
-      let none : list_any (λ other. clash (shown entry_table row) (shown entry_table other)) (db.trees 1) ≡ false = negated _ one in
+      let none : list_any (λ other. clash (shown entry_table row) (shown entry_table other)) (db.trees 1) ≡ false = not-true _ one in
       none_from_any (λ other. clash (shown entry_table row) (shown entry_table other)) (db.trees 1) none) (db.trees 1) unique.1.0
 
   permuted : (P : Row → Type 0) (xs ys : List Row) → AllByRecursion P (map (shown entry_table) xs) → TableHas db entry_table ys → xs ≡ db.trees 1 → AllByRecursion P ys

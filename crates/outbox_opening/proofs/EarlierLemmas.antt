@@ -9,7 +9,7 @@ use Rattle.filing_model.specs.Outbox.{Entry}
 use Rattle.table_rows.specs.declared.cause.Cause.{Cause}
 use Rattle.table_rows.specs.declared.cause.Cause.TheVariants.{Disk as Stopped}
 use Rattle.sqlite.specs.Schema.{Schema}
-use Rattle.table_rows.proofs.CreateLemmas.{none_held}
+use Rattle.table_rows.proofs.CreateLemmas.{none_held, creates_beside}
 use Rattle.table_rows.proofs.GainLemmas.{same_rows}
 use Rattle.outbox_opening.specs.declared.fault.OutboxFault.{OutboxFault}
 use Rattle.outbox_opening.specs.declared.fault.OutboxFault.TheVariants.{Damaged, Memory, Disk}
@@ -21,7 +21,7 @@ use Rattle.outbox_opening.specs.Audit.{entries_text, StopsFor, ReadsFiler, IsDam
 use Rattle.outbox_opening.specs.Earlier.{IsAlone, IsEarlierOf, IsNotFound, IsHindered, Raises, is_blocked}
 use Rattle.outbox_opening.specs.Faults.{outbox_fault_by}
 use Rattle.outbox_opening.proofs.MakeLemmas.{second_schema, own_indexes, creates_target, declared}
-use Rattle.outbox_opening.proofs.MigrateTexts.{creates_beside, raises}
+use Rattle.outbox_opening.proofs.MigrateTexts.{raises}
 
 abbrev AreUntargeted : List Entry → Type 0
 AreUntargeted es = AllByRecursion (λ (e : Entry). e.target ≡ None) es

@@ -2,7 +2,7 @@
 use Rattle.std.proofs.Common.{◌≡◌, ◌≤◌, ◌<◌, ◌^◌, ◌+◌, ℕ, zero, suc, pos, true, false, not, List, [], ◌∷◌, ◌++◌, map, length, slice_get, nat_le, nat_lt, Option, None, Some, IsPermutation, refl, ap, subst, ◌∙◌, arith, ◌⊎◌, inl, inr}
 use Rattle.std.specs.Prelude.{◌&&◌, ◌≢◌, option_and_then}
 use Rattle.std.specs.List.{AllByRecursion}
-use Rattle.std.proofs.lemmas.Bool.Decides.{nat_tests, Decides-int_eq}
+use Rattle.std.proofs.lemmas.Bool.Decides.{nat_tests}
 use Rattle.std.proofs.lemmas.List.Sorted.{IsPermutation-sym, IsPermutation-trans, All-permutation}
 use Rattle.std.proofs.lemmas.List.Elements.{recursion_from_All, All-from_recursion}
 use Rattle.sqlite.specs.declared.types.Value.TheVariants.{Int}
@@ -30,12 +30,9 @@ use Rattle.outbox_opening.specs.Audit.{meta_text, targets_text, entries_text, is
 use Rattle.outbox_opening.proofs.Texts.{meta_terms, target_terms, entry_columns, by_id, meta_asks, meta_whole, targets_asks, targets_whole, entries_asks, entries_whole}
 use Rattle.outbox_opening.proofs.SelectLemmas.{entries_selected}
 use Rattle.outbox_opening.proofs.HeldLemmas.{meta_held}
-use Rattle.outbox_opening.proofs.TargetLemmas.{target_with, few_rows}
+use Rattle.outbox_opening.proofs.TargetLemmas.{own_id, target_with, few_rows}
 
 -- ---- an entry
-
-same_id : (n : ℕ) → is_int n (Int (pos n)) ≡ true
-same_id n = (Decides-int_eq (pos n) (pos n)).1 refl
 
 short : (n : ℕ) → n ≤ max_body_len → nat_le n max_body_len ≡ true
 short n low = grind (arith, nat_tests)
@@ -51,7 +48,7 @@ sound_state Clashed f = refl
 
 -- the row of an entry that an outbox keeps is one
 entry_sound : (id : ℕ) (e : Entry) → IsKept e → is_entry id (entry_row (id, e)) ≡ true
-entry_sound id e k = rw (same_id id, IsKey-is_key e.key k.key, short (length e.body) k.body, sound_state e.state k.number) refl
+entry_sound id e k = rw (own_id id, IsKey-is_key e.key k.key, short (length e.body) k.body, sound_state e.state k.number) refl
 
 none_damaged : (targets : List Row) (id : ℕ) (es : List Entry) → ((k : ℕ) → is_target (with_id k targets) ≡ true) → AllByRecursion IsKept es → first_damaged targets id (map entry_row (numbered_from id es)) ≡ None
 none_damaged targets id [] sound all = refl
@@ -110,7 +107,7 @@ none_unsound es targets kept same =
 -- ---- the filer
 
 filer_told : (form : ℕ) (filer : List ℕ) → is_filer filer ≡ true → filer_in form (form_row form filer ∷ []) ≡ Some filer
-filer_told form filer is = rw (same_id form, is) refl
+filer_told form filer is = rw (own_id form, is) refl
 
 -- ---- the database of an outbox, in any form
 

@@ -1,6 +1,6 @@
 -- A walk over the entries, from one to the next.
-use Rattle.std.proofs.Common.{◌≡◌, ◌<◌, ◌≤◌, ℕ, ◌+◌, suc, pos, Bool, true, false, cond, List, [], ◌∷◌, ◌++◌, map, filter, length, length-append, get_or, nat_eq, Option, Some, None, refl, sym, ap, subst, ◌∙◌, arith, IsPermutation}
-use Rattle.std.proofs.lemmas.Bool.Decides.{nat_tests}
+use Rattle.std.proofs.Common.{◌≡◌, ◌≤◌, ℕ, ◌+◌, suc, pos, Bool, true, false, cond, List, [], ◌∷◌, ◌++◌, map, filter, length, length-append, nat_eq, Option, Some, None, refl, ap, subst, ◌∙◌, arith, IsPermutation}
+use Rattle.std.proofs.lemmas.Bool.{and_parts}
 use Rattle.std.proofs.lemmas.List.Sorted.{IsPermutation-refl}
 use Rattle.sqlite.specs.declared.types.Value.TheVariants.{Int}
 use Rattle.sqlite.specs.Order.{Row, column}
@@ -8,7 +8,7 @@ use Rattle.sqlite.specs.Term.{col}
 use Rattle.sqlite.specs.Effect.{Database}
 use Rattle.sqlite.specs.State.{State, Shown}
 use Rattle.table_rows.specs.Picking.{rows_in, has_number, Picks}
-use Rattle.table_rows.proofs.OrderLemmas.{same_number, and_true}
+use Rattle.table_rows.proofs.OrderLemmas.{same_number, and_true, lower_apart}
 use Rattle.table_rows.proofs.ReadingLemmas.{reads_rows}
 use Rattle.table_rows.proofs.TakeLemmas.{take_out}
 use Rattle.outbox_opening.specs.Schema.{common_tables, HasCommon, entry_table}
@@ -16,7 +16,7 @@ use Rattle.outbox_opening.specs.Audit.{is_int, is_entry, is_sound, first_damaged
 use Rattle.outbox_opening.specs.Walk.{Walked}
 use Rattle.outbox_opening.proofs.Texts.{equals, entry_columns, by_id_text, by_id_asks}
 use Rattle.outbox_opening.proofs.SelectLemmas.{id_column}
-use Rattle.outbox_opening.proofs.AuditLemmas.{both, is_int-of}
+use Rattle.outbox_opening.proofs.AuditLemmas.{is_int-of}
 
 -- ---- the rows that are picked
 
@@ -50,16 +50,13 @@ sound_push targets id (x ∷ xs) row none is =
 number_of : (n id : ℕ) (row : Row) → is_int id (column row 0) ≡ true → has_number n row ≡ nat_eq id n
 number_of n id row is = rw (is_int-of id (column row 0) is) (and_true _ ∙ same_number id n)
 
-apart : (n m : ℕ) → m < n → nat_eq m n ≡ false
-apart n m low = grind (arith, nat_tests, low)
-
 none_with : (targets : List Row) (n id : ℕ) (rows : List Row) → first_damaged targets id rows ≡ None → id + length rows ≤ n → filter (has_number n) rows ≡ []
 none_with targets n id [] none low = refl
 none_with targets n id (row ∷ rows) none low =
     let p = sound_parts targets id row rows none in
-    let q = both (is_entry id row) _ p.0 in
-    let here = both (is_int id (column row 0)) _ q.0 in
-    rw (number_of n id row here.0 ∙ apart n id (omega (arith, low))) (none_with targets n (suc id) rows p.1 (omega (arith, low)))
+    let q = and_parts (is_entry id row) _ p.0 in
+    let here = and_parts (is_int id (column row 0)) _ q.0 in
+    rw (number_of n id row here.0 ∙ lower_apart n id (omega (arith, low))) (none_with targets n (suc id) rows p.1 (omega (arith, low)))
 
 -- ---- one entry more
 
@@ -79,9 +76,3 @@ walked_on targets total count db rows row was picked is =
       all = out.1;
       in_all = omega (arith, long, all);
     }
-
--- one row alone
-pub one_row : (rows : List Row) (row : Row) → length rows ≡ 1 → row ≡ get_or rows 0 row → rows ≡ row ∷ []
-one_row [] row one is = absurd (omega (arith, one))
-one_row (x ∷ []) row one is = ap (λ r. r ∷ []) (sym is)
-one_row (x ∷ y ∷ rows) row one is = absurd (omega (arith, one))

@@ -1,7 +1,6 @@
 -- What the statements of a migration mean, and what each of them makes.
-use Rattle.std.proofs.Common.{◌≡◌, ℕ, pos, not, false, true, List, [], ◌∷◌, codes, map, filter, Ok, refl, sym, ap, subst, ◌∙◌, arith, is_eq, Bool, IsPermutation}
-use Rattle.std.specs.Prelude.{None}
-use Rattle.std.specs.List.{AllByRecursion, list_all}
+use Rattle.std.proofs.Common.{◌≡◌, ℕ, pos, not, false, true, List, [], ◌∷◌, codes, map, filter, Ok, refl, ap, subst, arith, is_eq, Bool, IsPermutation}
+use Rattle.std.specs.List.{list_all}
 use Rattle.std.proofs.lemmas.List.Sorted.{IsPermutation-refl, length_permutation}
 use Rattle.sqlite_schema.specs.declared.schema.Index.{Index}
 use Rattle.sqlite_schema.specs.declared.schema.View.{View}
@@ -16,13 +15,11 @@ use Rattle.sqlite.specs.Query.{Query, Output}
 use Rattle.sqlite.specs.Program.{overlay}
 use Rattle.sqlite.specs.Source.TheVariants.{Values}
 use Rattle.sqlite.specs.Command.{Command}
-use Rattle.sqlite.specs.Command.TheVariants.{Insert, Update, CreateTable}
-use Rattle.sqlite.specs.Change.{created, next_tree}
+use Rattle.sqlite.specs.Command.TheVariants.{Insert, Update}
 use Rattle.sqlite.specs.Cast.{cast_row}
 use Rattle.sqlite.specs.Effect.{Database, IsDatabase}
-use Rattle.sqlite.specs.Does.{Tally, lacks_sequence}
 use Rattle.sqlite.specs.Listing.{understood}
-use Rattle.sqlite.specs.State.{State, Writes, Executes, ExecutesInside}
+use Rattle.sqlite.specs.State.{State, Executes, ExecutesInside}
 use Rattle.sqlite.proofs.Callers.{IsPlain, command_of, runs_as, statement_of, one_permutation}
 use Rattle.sqlite_sql.specs.Ops.{binary, is_true}
 use Rattle.sqlite_sql.specs.Query.{IsSureAnswer}
@@ -36,10 +33,8 @@ use Rattle.sqlite_tied.specs.Compute.{everything}
 use Rattle.sqlite_typed.proofs.TestLemmas.{at_ints, last_term}
 use Rattle.table_rows.specs.Tables.{schema_with}
 use Rattle.table_rows.specs.Rows.{shown, TableHas, KeepsOthers}
-use Rattle.table_rows.proofs.CreateLemmas.{IsCreation}
 use Rattle.table_rows.proofs.GainLemmas.{inside, gained, cast_int, cast_null}
 use Rattle.table_rows.proofs.InsertLemmas.{inserts}
-use Rattle.table_rows.proofs.PartLemmas.{went, same_value}
 use Rattle.table_rows.proofs.SelectLemmas.{one_table, selects}
 use Rattle.table_rows.proofs.UpdateLemmas.{other_rows, updated}
 use Rattle.register_rows.specs.Schema.{register_tables, meta_table, migrated_table}
@@ -47,34 +42,6 @@ use Rattle.register_rows.specs.Register.{form_row, meta_row, migrated_row}
 use Rattle.register_opening.specs.Gains.{GainsRows}
 use Rattle.register_opening.specs.Migrating.{insert_early, raise_form}
 use Rattle.register_opening.proofs.CreateTexts.{own_indexes}
-
--- ---- a table beside others
-
--- it is made, with no row, and the rows of the others stay
-pub record IsBeside (before : Schema) (table : Table) (old new : Database) : Type 0 where
-  pub schema_is : new.schema ≡ created before table
-  pub others : AllByRecursion (λ t. new.trees t.tree ≡ old.trees t.tree) before.tables
-  pub empty : new.trees (next_tree before) ≡ []
-
-pub creates_beside : (before : Schema) (text : List ℕ) (table : Table) (old new : State) (count : ℕ) → IsCreation before text table → lacks_sequence (created before table) ≡ false
-    → old.now.schema ≡ before → Executes text [] old new (Ok count) → IsBeside before table old.now new.now
-creates_beside before text table old new count is plain was h =
-    let w = subst (λ t. Writes old new None CreateTable t [] count) is.statement (runs_as text [] old new before was CreateTable is.command is.plain count h) in
-    let all = went w.changed in
-    let first = went all.1 in
-    let made = first.1 in
-    let both : Ok made.table ≡ Ok table = sym made.defined ∙ is.defined in
-    let same : made.table ≡ table = cc in
-    let schema : first.0.schema ≡ created before table = made.is ∙ ap (λ s. created s made.table) was ∙ ap (created before) same in
-    let none : lacks_sequence first.0.schema ≡ false = ap lacks_sequence schema ∙ plain in
-    let now : new.now ≡ first.0 = ap (λ (p : Tally × Database). p.1) (same_value all.2) ∙ same_value (rw none at first.2) in
-    let trees = ap (λ (d : Database). d.trees) now in
-    record {
-      schema_is = ap (λ (d : Database). d.schema) now ∙ schema;
-      others = subst (λ (n : Trees). AllByRecursion (λ t. n t.tree ≡ old.now.trees t.tree) before.tables) (sym trees)
-          (subst (λ s. AllByRecursion (λ t. first.0.trees t.tree ≡ old.now.trees t.tree) s.tables) was made.others);
-      empty = ap (λ (n : Trees). n (next_tree before)) trees ∙ subst (λ s. first.0.trees (next_tree s) ≡ []) was made.empty;
-    }
 
 -- ---- the row of `migrated`
 

@@ -5,7 +5,7 @@ use Rattle.sqlite.specs.Store.{Ghosts}
 use Rattle.sqlite.specs.Held.{Held, state}
 use Rattle.filing_model.specs.Request.{Request}
 use Rattle.table_rows.specs.Rows.{TableHas, Gains}
-use Rattle.table_rows.proofs.CreateLemmas.{none_held}
+use Rattle.table_rows.proofs.CreateLemmas.{none_held, IsBeside, creates_beside}
 use Rattle.table_rows.proofs.GainLemmas.{same_rows}
 use Rattle.register_opening.specs.declared.migrate.earlier.Earlier.{Earlier}
 use Rattle.register_opening.specs.declared.migrate.earlier.Earlier.TheVariants.{Second, Third}
@@ -17,7 +17,7 @@ use Rattle.register_rows.specs.Schema.{IsDeclared, register_tables, meta_table, 
 use Rattle.register_opening.specs.Registers.{IsRegisterOf}
 use Rattle.register_opening.specs.Walk.{AreAllOf}
 use Rattle.register_opening.proofs.CreateTexts.{creates_migrated, creates_amends, fifth_schema, sixth_schema, own_indexes}
-use Rattle.register_opening.proofs.MigrateTexts.{IsBeside, IsRaised, creates_beside, early_gains, raises, whole_schema}
+use Rattle.register_opening.proofs.MigrateTexts.{IsRaised, early_gains, raises, whole_schema}
 
 -- all tables are there, with the rows of these requests, but `intake_meta` still tells the form of before
 pub record HasAll (form early : ℕ) (F : List Request) (db : Database) : Type 0 where

@@ -1,5 +1,5 @@
 -- What the texts of a walk mean under the declared tables.
-use Rattle.std.proofs.Common.{ℕ, List, [], ◌∷◌, codes, refl, sym, subst}
+use Rattle.std.proofs.Common.{ℕ, List, [], ◌∷◌, codes, refl}
 use Rattle.sqlite_schema.specs.declared.schema.Index.{Index}
 use Rattle.sqlite_schema.specs.declared.schema.View.{View}
 use Rattle.sqlite.specs.Table.{Table}
@@ -16,9 +16,8 @@ use Rattle.table_rows.proofs.ReadingLemmas.{by_each}
 use Rattle.table_rows.proofs.QueryLemmas.{Asks}
 use Rattle.table_rows.proofs.TextLemmas.{IsQueryText}
 use Rattle.register_rows.specs.Schema.{common_tables, HasCommon}
-use Rattle.register_opening.proofs.ReadTexts.{columns, equals}
+use Rattle.register_opening.proofs.ReadTexts.{columns, equals, on_ours}
 use Rattle.sqlite_tied.specs.Listing.{counting}
-use Rattle.sqlite.specs.Query.{Query}
 
 -- the filer and the key equal the parameters
 abbrev pub same_filer_and_key : List Term
@@ -128,10 +127,6 @@ module _ (tables : List Table) (indexes : List Index) (views : List View) where
   means_count_facts : Asks schema count_facts_text (counting (one_table 7 [] [] []))
   unfolding understood everything
   means_count_facts = record { names = codes "count(*)" ∷ []; is = refl; plain = (refl, refl); listing = refl }
-
--- the same of any schema that begins with our tables
-on_ours : (text : List ℕ) (q : Query) → ((tables : List Table) (indexes : List Index) (views : List View) → Asks (schema_with common_tables tables indexes views) text q) → (s : Schema) → HasCommon s → Asks s text q
-on_ours text q asks s d = subst (λ t. Asks t text q) (sym d.is) (asks d.tables d.indexes d.views)
 
 pub asks_kept_at : (s : Schema) → HasCommon s → Asks s kept_at_text (one_table 1 (equals 0) (columns (0 ∷ 2 ∷ 3 ∷ 4 ∷ 5 ∷ [])) (by_each (col 1 0 ∷ [])))
 asks_kept_at = on_ours _ _ means_kept_at

@@ -1,9 +1,7 @@
 -- A walk over a register's tables, from one kept request to the next.
-use Rattle.std.proofs.Common.{◌≡◌, ◌⊎◌, inl, inr, ◌<◌, ◌≤◌, ℕ, ◌+◌, suc, pos, true, false, List, [], ◌∷◌, ◌++◌, map, filter, length, Option, Some, None, refl, sym, ap, ap₂, subst, ◌∙◌, IsPermutation, nat_eq, arith, append-nil, ⊎_elim, Bool, append_assoc, length-append, get_or, IfSome, Result, Ok, Err, IfOk}
+use Rattle.std.proofs.Common.{◌≡◌, ◌⊎◌, inl, inr, ◌<◌, ◌≤◌, ℕ, ◌+◌, suc, pos, true, false, List, [], ◌∷◌, ◌++◌, map, filter, length, Option, Some, None, refl, sym, ap, ap₂, subst, ◌∙◌, IsPermutation, nat_eq, arith, append-nil, ⊎_elim, Bool, append_assoc, length-append, IfSome, Result, Ok, Err, IfOk}
 use Rattle.std.specs.Prelude.{bytes_eq}
 use Rattle.std.proofs.lemmas.Bool.{cases_Bool}
-use Rattle.std.proofs.lemmas.Bool.Decides.{nat_tests}
-use Rattle.std.proofs.lemmas.Slice.Eq.{bytes_eq-Decides}
 use Rattle.std.proofs.lemmas.List.Sorted.{length_permutation}
 use Rattle.std.proofs.lemmas.List.Elements.{filter-append}
 use Rattle.sqlite.specs.declared.types.Value.TheVariants.{Int}
@@ -12,10 +10,10 @@ use Rattle.xbrl_report.specs.Pair.{Pair}
 use Rattle.filing_model.specs.Request.{Request, same_key, has_key, firsts}
 use Rattle.filing_model.specs.Register.{Kept, kept, Outcome, Filing, filings, kept_after, judged, register}
 use Rattle.filing_model.specs.Views.{the_request}
-use Rattle.filing_model.proofs.Firsts.{firsts_new}
+use Rattle.filing_model.proofs.Firsts.{firsts_new, same_key-refl}
 use Rattle.filing_model.proofs.Keeping.{requests_of_kept, kept_new, register_numbered, all_push}
 use Rattle.table_rows.specs.Rows.{counted_from}
-use Rattle.table_rows.proofs.OrderLemmas.{same_text, same_number, and_true}
+use Rattle.table_rows.proofs.OrderLemmas.{same_text, same_number, and_true, lower_apart}
 use Rattle.register_rows.specs.Schema.{kept_table, finding_table, HasCommon, filing_table, fact_table}
 use Rattle.register_rows.specs.Outcomes.{filings_by, outcome_of}
 use Rattle.register_rows.specs.Register.{kept_row, finding_row, finding_rows, findings_of, amends_rows, amends_rows_by, joined_from, IsCompleted, filing_rows, filing_rows_by, fact_row, fact_rows, fact_rows_by}
@@ -53,9 +51,6 @@ module _ (filer key : List ℕ) (target : Option ℕ) (body : List ℕ) where
 
 -- ---- rows of requests before
 
-apart : (n m : ℕ) → m < n → nat_eq m n ≡ false
-apart n m low = grind (arith, nat_tests, low)
-
 kept_number : (n at : ℕ) (k : Kept) → has_number n (kept_row at k) ≡ nat_eq at n
 kept_number n at k = and_true _ ∙ same_number at n
 
@@ -64,11 +59,11 @@ filing_number n m at = and_true _ ∙ same_number m n
 
 no_kept : (n at : ℕ) (ks : List Kept) → at + length ks ≤ n → filter (has_number n) (counted_from kept_row at ks) ≡ []
 no_kept n at [] low = refl
-no_kept n at (k ∷ ks) low = rw (kept_number n at k ∙ apart n at (omega (arith, low))) (no_kept n (at + 1) ks (omega (arith, low)))
+no_kept n at (k ∷ ks) low = rw (kept_number n at k ∙ lower_apart n at (omega (arith, low))) (no_kept n (at + 1) ks (omega (arith, low)))
 
 none_counted : {X : Type 0} (n m : ℕ) (made : ℕ → X → Row) → ((i : ℕ) (x : X) → has_number n (made i x) ≡ nat_eq m n) → m < n → (at : ℕ) (xs : List X) → filter (has_number n) (counted_from made at xs) ≡ []
 none_counted n m made is low at [] = refl
-none_counted n m made is low at (x ∷ xs) = rw (is at x ∙ apart n m low) (none_counted n m made is low (at + 1) xs)
+none_counted n m made is low at (x ∷ xs) = rw (is at x ∙ lower_apart n m low) (none_counted n m made is low (at + 1) xs)
 
 no_finding : (n at : ℕ) (ks : List Kept) → at + length ks ≤ n → filter (has_number n) (joined_from finding_rows at ks) ≡ []
 no_finding n at [] low = refl
@@ -86,7 +81,7 @@ no_filing n at [] low = refl
 no_filing n at (k ∷ ks) low = filter-append (has_number n) (filing_rows at k) (joined_from filing_rows (at + 1) ks) ∙ ap₂ ◌++◌ (one k.outcome low.0) (no_filing n (at + 1) ks low.1)
   where
     one : (o : Outcome) → Below n o → filter (has_number n) (filing_rows_by at o) ≡ []
-    one (Registered m) below = rw (filing_number n m at ∙ apart n m below) refl
+    one (Registered m) below = rw (filing_number n m at ∙ lower_apart n m below) refl
     one (Refused found) below = refl
 
 no_fact : (n at : ℕ) (ks : List Kept) → AllByRecursion (λ k. Below n k.outcome) ks → filter (has_number n) (joined_from fact_rows at ks) ≡ []
@@ -120,9 +115,6 @@ all_below F = numbers_below 1 (suc (length (register F))) (kept F) (register_num
 
 -- ---- the filer and key
 
-same_as_itself : (r : Request) → same_key r r ≡ true
-same_as_itself r = rw ((bytes_eq-Decides r.filer r.filer).1 refl, (bytes_eq-Decides r.key r.key).1 refl) refl
-
 none_has : (r : Request) (at : ℕ) (ks : List Kept) → length (filter (has_texts r.filer r.key) (counted_from kept_row at ks)) ≡ 0 → has_key (map (λ (k : Kept). k.request) ks) r ≡ false
 none_has r at [] none = refl
 none_has r at (k ∷ ks) none = ⊎_elim
@@ -137,7 +129,7 @@ is_new r seq k ks all more is are one =
     let p = has_texts r.filer r.key in
     let J = counted_from kept_row 1 ks in
     let row = kept_row seq k in
-    let here : p row ≡ true = has_its r.filer r.key r.target r.body seq k ∙ ap (λ q. same_key q r) is ∙ same_as_itself r in
+    let here : p row ≡ true = has_its r.filer r.key r.target r.body seq k ∙ ap (λ q. same_key q r) is ∙ same_key-refl r in
     let single : filter p (row ∷ []) ≡ row ∷ [] = rw here refl in
     let parts : filter p ((J ++ row ∷ []) ++ more) ≡ (filter p J ++ row ∷ []) ++ filter p more = filter-append p (J ++ row ∷ []) more ∙ ap (λ l. l ++ filter p more) (filter-append p J (row ∷ []) ∙ ap (λ l. filter p J ++ l) single) in
     let long : length (filter p all) ≡ length (filter p ((J ++ row ∷ []) ++ more)) = length_permutation (filter p ((J ++ row ∷ []) ++ more)) (filter p all) (IsPermutation-filter p ((J ++ row ∷ []) ++ more) all are) in
@@ -302,11 +294,6 @@ at_kept P Given k is (Some tail) says = says k is
 pub at_filed : (P : Kept → Left → Type 0) (Given Has : Kept → Type 0) (k : Kept) → Given k → Has k → (passed : Option Left) → IfSome passed (λ tail. (x : Kept) → Given x → Has x → P x tail) → IfSome passed (P k)
 at_filed P Given Has k is has None says = tt
 at_filed P Given Has k is has (Some tail) says = says k is has
-
-pub one_row : (rows : List Row) (row : Row) → length rows ≡ 1 → row ≡ get_or rows 0 row → rows ≡ row ∷ []
-one_row [] row one is = absurd (omega (arith, one))
-one_row (x ∷ []) row one is = ap (λ r. r ∷ []) (sym is)
-one_row (x ∷ y ∷ rows) row one is = absurd (omega (arith, one))
 
 -- ---- a kept row, judged after these requests
 

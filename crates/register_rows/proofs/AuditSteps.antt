@@ -8,7 +8,7 @@ use Rattle.sqlite.specs.Order.{Row}
 use Rattle.filing_model.specs.Request.{Request, firsts, has_key, same_key}
 use Rattle.filing_model.specs.Register.{Outcome, Kept, judged, kept, register}
 use Rattle.filing_model.specs.Register.Outcome.{Registered, Refused}
-use Rattle.filing_model.proofs.Firsts.{firsts_new, firsts-append, firsts_short}
+use Rattle.filing_model.proofs.Firsts.{firsts_new, firsts-append, firsts_short, filter_short}
 use Rattle.filing_model.proofs.Keeping.{kept_new, requests_of_kept, all_push}
 use Rattle.table_rows.specs.Rows.{counted_from}
 use Rattle.register_rows.specs.Audit.{OtherRows, IsNext}
@@ -89,10 +89,6 @@ module _ (all rest tail : OtherRows) (F : List Request) (front : List Row) (row 
 
   pub register_more : length (register (F ++ request_in target row ∷ [])) ≡ length (register F) + filings_by (judged (kept F) (request_in target row)).outcome
   register_more = registered_more F r sound.fresh
-
-filter_short : (p : Request → Bool) (F : List Request) → length (filter p F) ≤ length F
-filter_short p [] = omega arith
-filter_short p (q ∷ F) = ⊎_elim (λ (h : p q ≡ true). rw h (let m = filter_short p F in omega (arith, m))) (λ (h : p q ≡ false). rw h (let m = filter_short p F in omega (arith, m))) (cases_Bool (p q))
 
 -- a request among firsts has a filer and key that none before it has
 pub apart_from : (F G : List Request) (r : Request) → firsts F ≡ F → firsts (F ++ r ∷ G) ≡ F ++ r ∷ G → has_key F r ≡ false

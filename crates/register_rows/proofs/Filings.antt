@@ -4,7 +4,7 @@ use Rattle.std.specs.Prelude.{find, option_map, nat_eq, nat_lt, nat_le, bytes_eq
 use Rattle.std.specs.Option.{option_or}
 use Rattle.std.specs.List.{list_any, range_with_len, AllByRecursion}
 use Rattle.std.proofs.Math.Bool.{and-false}
-use Rattle.std.proofs.lemmas.Bool.{cases_Bool, and_parts}
+use Rattle.std.proofs.lemmas.Bool.{cases_Bool, and_parts, not-true}
 use Rattle.std.proofs.lemmas.Bool.Decides.{nat_tests}
 use Rattle.std.proofs.lemmas.List.{get_or-map, map-append}
 use Rattle.std.proofs.lemmas.List.Folds.{find-append}
@@ -178,10 +178,6 @@ module _ (fs : List Filing) (filed : Filed) (held : AreFiled fs filed) where
       let free : is_none entry.replaced_by ≡ not (list_any (is_amendment_of n) fs) = ap (λ (l : Line). is_none l.replaced_by) line ∙ ap (λ m. is_none (replacing fs m)) number ∙ is_unreplaced fs n in
       rw (owner, sym free, sym (ap (λ (l : Line). l.filer) line)) refl
 
-negated : (b : Bool) → not b ≡ true → b ≡ false
-negated true e = absurd (cc)
-negated false e = refl
-
 module _ (fs : List Filing) (filed : Filed) (held : AreFiled fs filed) where
   -- what may be replaced is one of these, and none of these replaces it
   pub free_within : (filer : List ℕ) (target : Option ℕ) (n : ℕ) → is_free fs filer target ≡ true → target ≡ Some n → (0 < n) × (n ≤ length fs)
@@ -202,7 +198,7 @@ module _ (fs : List Filing) (filed : Filed) (held : AreFiled fs filed) where
   free_unreplaced filer None n free is = absurd (cc)
   free_unreplaced filer (Some m) n free is =
       let same : m ≡ n = cc is in
-      ap (λ k. list_any (is_amendment_of k) fs) (sym same) ∙ negated (list_any (is_amendment_of m) fs) (and_parts _ _ free).1
+      ap (λ k. list_any (is_amendment_of k) fs) (sym same) ∙ not-true (list_any (is_amendment_of m) fs) (and_parts _ _ free).1
 
   -- a filing more
   module _ (r : Request) (free : is_free fs r.filer r.target ≡ true) where

@@ -7,7 +7,7 @@ use Rattle.std.specs.List.{list_any}
 use Rattle.std.specs.Cmp.Lexicographic.{slice_cmp}
 use Rattle.std.specs.Ordering.{nat_cmp, ordering_then, match_ordering}
 use Rattle.std.proofs.Math.Bool.{or_comm}
-use Rattle.std.proofs.lemmas.Bool.{cases_Bool}
+use Rattle.std.proofs.lemmas.Bool.{cases_Bool, and_parts}
 use Rattle.std.proofs.lemmas.Bool.Decides.{nat_tests}
 use Rattle.std.proofs.lemmas.List.{take_more, map-append}
 use Rattle.std.proofs.lemmas.List.Folds.{list_any-append}
@@ -36,11 +36,6 @@ or_swap true true r = refl
 or_swap true false r = refl
 or_swap false q r = refl
 
-both : (p q : Bool) → (p && q) ≡ true → (p ≡ true) × (q ≡ true)
-both true true h = (refl, refl)
-both true false h = absurd cc
-both false q h = absurd cc
-
 -- keys that are pairs of texts
 module _ {K : Type 0} (first second : K → List ℕ) where
   abbrev pair_cmp : K → K → Ordering
@@ -54,7 +49,7 @@ module _ {K : Type 0} (first second : K → List ℕ) where
 
   alike : (f k : List ℕ) (x y : K) → pair_cmp y x ≡ Equal → has f k x ≡ has f k y
   alike f k x y tied =
-      let same = both _ _ (sym (has_is (first y) (second y) x) ∙ ap is_eq tied) in
+      let same = and_parts _ _ (sym (has_is (first y) (second y) x) ∙ ap is_eq tied) in
       let one = (bytes_eq-Decides (first y) (first x)).0 same.0 in
       let two = (bytes_eq-Decides (second y) (second x)).0 same.1 in
       has_is f k x ∙ ap₂ (λ p q. bytes_eq f p && bytes_eq k q) (sym one) (sym two) ∙ sym (has_is f k y)

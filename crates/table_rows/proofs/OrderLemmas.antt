@@ -1,9 +1,10 @@
 -- Rows that rise by whole numbers.
-use Rattle.std.proofs.Common.{◌≡◌, ℕ, ◌+◌, ◌<◌, pos, Bool, true, false, List, [], ◌∷◌, map, Some, Less, refl, ap, ◌∙◌, arith, int_cmp, nat_eq}
-use Rattle.std.specs.Prelude.{◌&&◌, bytes_eq}
+use Rattle.std.proofs.Common.{◌≡◌, ℕ, ◌+◌, ◌<◌, pos, Bool, true, false, List, [], ◌∷◌, map, length, get_or, Some, Less, refl, sym, ap, ◌∙◌, arith, int_cmp, nat_eq}
+use Rattle.std.specs.Prelude.{bytes_eq}
 use Rattle.std.specs.Ordering.{is_eq}
 use Rattle.std.proofs.lemmas.Map.Text.{is_eq-slice_cmp}
 use Rattle.std.proofs.lemmas.Bool.Decides.{nat_tests}
+pub use Rattle.std.proofs.Math.Bool.{and-true as and_true}
 use Rattle.sqlite.specs.Collation.TheVariants.{Binary}
 use Rattle.sqlite.specs.Ops.{binary, is_true, from_truth}
 use Rattle.sqlite_sql.specs.declared.ops.BinaryOp.TheVariants.{Compare}
@@ -54,6 +55,12 @@ same_number m n = truth_of _ ∙ ap is_eq (value_cmp-Int (pos m) (pos n)) ∙ by
     by_numbers : is_eq (int_cmp (pos m) (pos n)) ≡ nat_eq m n
     by_numbers = grind (arith, ints, nat_tests)
 
-pub and_true : (b : Bool) → (b && true) ≡ b
-and_true true = refl
-and_true false = refl
+-- a lower number is another
+pub lower_apart : (n m : ℕ) → m < n → nat_eq m n ≡ false
+lower_apart n m low = grind (arith, nat_tests, low)
+
+-- one row alone
+pub one_row : (rows : List Row) (row : Row) → length rows ≡ 1 → row ≡ get_or rows 0 row → rows ≡ row ∷ []
+one_row [] row one is = absurd (omega (arith, one))
+one_row (x ∷ []) row one is = ap (λ r. r ∷ []) (sym is)
+one_row (x ∷ y ∷ rows) row one is = absurd (omega (arith, one))

@@ -83,12 +83,7 @@ impl<D: Honest> Filer<D> {
 
     /// Puts a report into the outbox. One whose body is too long, or whose key is used, is not taken, and
     /// that is no error. `Store` comes where the outbox refused for another cause than memory.
-    pub fn put(
-        &mut self,
-        key: &KeyText,
-        target: Option<u64>,
-        body: &[u8],
-    ) -> Result<(), Cause>
+    pub fn put(&mut self, key: &KeyText, target: Option<u64>, body: &[u8]) -> Result<(), Cause>
         requires up { self.old.up ≡ true }
         requires target { IsTarget target }
         ensures put { OnOk result (self.new ≡ with_entry self.old (opened key.now target body.now)) }

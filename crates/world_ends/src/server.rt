@@ -57,12 +57,16 @@ impl<D: Honest> Drop for Server<D> {
     }
 }
 
-/// What one delivery came to, after so many completed requests.
+/// What one delivery came to.
 #[derive(Drop)]
 pub struct Delivered {
+    /// How many requests were completed before it.
     pub before: usize,
+    /// The marks of its requests, in order.
     pub marks: Vec<Mark>,
+    /// How its connection ended, unless it was stopped.
     pub ended: Option<Ended>,
+    /// The bytes that were written.
     pub text: Vec<u8>,
 }
 
@@ -127,6 +131,7 @@ impl<D: Honest> Server<D> {
         })
     }
 
+    /// Whether the intake is up.
     pub fn is_up(&self) -> bool
         ensures { result ≡ self.now.up }
     {

@@ -1,5 +1,6 @@
 -- A unit of one measure.
 use Rattle.std.proofs.Common.{◌≡◌, ℕ, List, [], ◌∷◌, ◌||◌, not, Bool, true, false, eqb, Option, None, refl, true≢false, sym}
+use Rattle.std.proofs.lemmas.Bool.{or_parts, not-true}
 use Rattle.std.specs.List.{list_any}
 use Rattle.serde_json.specs.Data.{Data}
 use Rattle.xbrl_report.specs.Dimension.{is_bound, is_unbound_unit}
@@ -15,32 +16,24 @@ unmarked false false true closing h = absurd (true≢false h)
 unmarked false true opening closing h = absurd (true≢false h)
 unmarked true slash opening closing h = absurd (true≢false h)
 
-neither : (a b : Bool) → (a || b) ≡ false → (a ≡ false) × (b ≡ false)
-neither false b h = (refl, h)
-neither true b h = absurd (true≢false h)
-
-negated : (b : Bool) → not b ≡ true → b ≡ false
-negated false h = refl
-negated true h = absurd (true≢false (sym h))
-
 no_slash : (s : List ℕ) → list_any is_unit_mark s ≡ false → list_any is_slash s ≡ false
 no_slash [] h = refl
 no_slash (x ∷ xs) h =
-    let n = neither (is_unit_mark x) (list_any is_unit_mark xs) h in
+    let n = or_parts (is_unit_mark x) (list_any is_unit_mark xs) h in
     let u = unmarked (eqb x 42) (eqb x 47) (eqb x 40) (eqb x 41) n.0 in
     rw u.1 (no_slash xs n.1)
 
 one_factor : (s : List ℕ) → list_any is_unit_mark s ≡ false → factors s ≡ s ∷ []
 one_factor [] h = refl
 one_factor (x ∷ xs) h =
-    let n = neither (is_unit_mark x) (list_any is_unit_mark xs) h in
+    let n = or_parts (is_unit_mark x) (list_any is_unit_mark xs) h in
     let u = unmarked (eqb x 42) (eqb x 47) (eqb x 40) (eqb x 41) n.0 in
     rw (u.0, one_factor xs n.1) refl
 
 not_opened : (s : List ℕ) → list_any is_unit_mark s ≡ false → after_opening s ≡ None
 not_opened [] h = refl
 not_opened (x ∷ xs) h =
-    let n = neither (is_unit_mark x) (list_any is_unit_mark xs) h in
+    let n = or_parts (is_unit_mark x) (list_any is_unit_mark xs) h in
     let u = unmarked (eqb x 42) (eqb x 47) (eqb x 40) (eqb x 41) n.0 in
     rw u.2 refl
 
@@ -51,7 +44,7 @@ module _ (s : List ℕ) (measure : is_measure s ≡ true) where
 
   plain : list_any is_unit_mark s ≡ false
   unfolding is_measure
-  plain = negated (list_any is_unit_mark s) (right_of (is_qname s) _ measure)
+  plain = not-true (list_any is_unit_mark s) (right_of (is_qname s) _ measure)
 
   pub measure-is_unit : is_unit s ≡ true
   unfolding is_unit is_measure_list

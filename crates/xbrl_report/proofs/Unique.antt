@@ -1,5 +1,6 @@
 -- A body has one list of findings.
 use Rattle.std.proofs.Common.{◌≡◌, ℕ, ◌↔◌, List, [], ◌∷◌, length, true, cond, refl, sym, ap, ◌∙◌, subst, arith, eqb, nat_le, inl, inr, Decides, Ordering, Less, Equal, Greater, is_eq, true≢false}
+use Rattle.std.proofs.lemmas.Bool.{and_from}
 use Rattle.std.specs.List.{AllByRecursion, IsDistinct}
 use Rattle.std.specs.List.Sorted.{IsStrictlySortedBy}
 use Rattle.std.specs.Ordering.{match_ordering, ordering_reverse, eq_by_cmp}
@@ -18,8 +19,8 @@ use Rattle.xbrl_report.specs.Findings.{AreFindings, IsAllFindings, HasTooMany}
 use Rattle.xbrl_report.specs.InOrder.{put_pair, in_order}
 use Rattle.xbrl_report.specs.Pair.{Pair, pair_cmp, fits, IsAscending}
 use Rattle.xbrl_report.proofs.Members.{In, in_from_contains, contains_from_in}
-use Rattle.xbrl_report.proofs.Bools.{both, left_of, right_of}
-use Rattle.xbrl_report.proofs.Parts.{tied_pairs}
+use Rattle.xbrl_report.proofs.Bools.{left_of, right_of}
+use Rattle.xbrl_report.proofs.Parts.{all_by, tied_pairs}
 use Rattle.xbrl_report.proofs.Pairs.{pair_cmp-total}
 
 -- ---- pairs that tie are the same
@@ -181,10 +182,6 @@ all_in P [] h z i = absurd i
 all_in P (x ∷ xs) h z (inl e) = subst P e h.0
 all_in P (x ∷ xs) h z (inr i) = all_in P xs h.1 z i
 
-all_by : (P : Pair → Type 0) (xs : List Pair) → ((z : Pair) → In z xs → P z) → AllByRecursion P xs
-all_by P [] h = tt
-all_by P (x ∷ xs) h = (h x (inl refl), all_by P xs (λ z i. h z (inr i)))
-
 -- what fits, fits with fewer
 pub fits_fewer : (some xs : List Pair) → IsDistinct (eq_by_cmp pair_cmp) some → ((z : Pair) → In z some → In z xs) → fits xs ≡ true → fits some ≡ true
 unfolding fits
@@ -195,7 +192,7 @@ fits_fewer some xs distinct among fit =
     let len = length-le_from_is_member (eq_by_cmp_equiv pair_cmp-total) some xs distinct (λ z m. in_member z xs (among z (member_in z some m))) in
     let many = left_of (nat_le (length xs) 1000) _ fit in
     let few : nat_le (length some) 1000 ≡ true = grind (arith, nat_tests) in
-    both _ _ few all
+    and_from _ _ few all
 
 distinct_ascending : (xs : List Pair) → IsAscending xs → IsDistinct (eq_by_cmp pair_cmp) xs
 unfolding IsStrictlySortedBy IsDistinct

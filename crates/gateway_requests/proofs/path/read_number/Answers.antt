@@ -2,7 +2,8 @@ use Rattle.std.proofs.Common.{◌≡◌, ◌∙◌, Some, sym, ap, inl, inr, tru
 use Rattle.std.proofs.lemmas.Fmt.{IsAscii-from_digits}
 use Rattle.std.proofs.lemmas.Str.{IsUtf8-from_ascii}
 use Rattle.gateway_requests.specs.Path.{is_decimal}
-use Rattle.gateway_requests.proofs.Numbers.{digits, all, number-read, number-above, number-none, value_is, large_is}
+use Rattle.http_wire.proofs.DigitLemmas.{decimal_numerals}
+use Rattle.gateway_requests.proofs.Numbers.{all, number-read, number-above, number-none, value_is, large_is}
 use Rattle.gateway_requests.proofs.path.read_number.Goals as goal
 
 pub returns-then-not-is_decimal-clause-value : goal.returns-then-not-is_decimal-clause-value
@@ -13,7 +14,7 @@ returns-then-not-is_decimal-clause-value c =
 pub returns-in_default-clause-value : goal.returns-in_default-clause-value
 returns-in_default-clause-value c =
     let is : is_decimal c.args.text.now ≡ true = search rules in
-    absurd (c.in_default.ensures.cases.0 (IsUtf8-from_ascii c.args.text.now (IsAscii-from_digits c.args.text.now (digits.to c.args.text.now (all c.args.text.now is)))))
+    absurd (c.in_default.ensures.cases.0 (IsUtf8-from_ascii c.args.text.now (IsAscii-from_digits c.args.text.now (decimal_numerals.to c.args.text.now (all c.args.text.now is)))))
 
 pub returns-in-Ok-parse-clause-value : goal.returns-in-Ok-parse-clause-value
 returns-in-Ok-parse-clause-value c =

@@ -1,5 +1,5 @@
-use Rattle.http_wire.proofs.DeviceLemmas.{Appends-nil}
 use Rattle.gateway_server.proofs.answer.write_decided.Goals as goal
+use Rattle.std.proofs.KnownBytes.{Appends-nil}
 
 -- where there was no memory for the reply, nothing of it is written
 pub returns-in-Err-clause-written : goal.returns-in-Err-clause-written

@@ -1,11 +1,11 @@
 use Rattle.std.proofs.Common.{[], false, Ok, refl, sym, ap, ◌∙◌, subst, inl, inr, rules}
+use Rattle.std.proofs.KnownBytes.{Appends-nil}
 use Rattle.std.proofs.lemmas.Result.{err_from_is_err_and}
 use Rattle.std.specs.Prelude.{slice_range, IfErr}
 use Rattle.http_wire.specs.Block.{skipped_len}
 use Rattle.http_wire.specs.Calls.{HoldsArrival, WritesUpTo, IsFault}
 use Rattle.http_wire.specs.Head.{IsHeadFault}
 use Rattle.http_wire.specs.Received.{held_bytes, read_count}
-use Rattle.http_wire.proofs.DeviceLemmas.{Appends-nil}
 use Rattle.http_wire.proofs.NextArrivalLemmas.{Asks-unended, WritesUpTo-read, IsFault-read, HoldsArrival-ended}
 use Rattle.http_wire.proofs.ReceivedLemmas.{Receives-join, ReceivesNothing-join}
 use Rattle.http_wire.proofs.arrival.find_arrival.Goals as goal

@@ -1,9 +1,9 @@
 use Rattle.std.proofs.Common.{◌≡◌, true, refl, sym, ◌∙◌, inl, arith, rules}
+use Rattle.std.proofs.KnownBytes.{Appends-nil}
 use Rattle.std.proofs.lemmas.Bool.{false≢true}
 use Rattle.std.proofs.lemmas.Grind.{common_steps}
 use Rattle.http_wire.specs.Inbox.{is_over, is_failed}
 use Rattle.http_wire.specs.declared.inbox.Phase.TheVariants.{Open}
-use Rattle.http_wire.proofs.DeviceLemmas.{Appends-nil}
 use Rattle.http_wire.proofs.InboxLemmas.{ReadsNothing-after, LendsFirst-found, is_over-opened, is_open-tested, or-none}
 use Rattle.http_wire.proofs.inbox.Inbox.next.Goals as goal
 

@@ -1,5 +1,5 @@
 use Rattle.std.proofs.Common.{◌≡◌, length, arith, ◌∙◌, sym}
-use Rattle.outbox_opening.proofs.WalkLemmas.{one_row}
+use Rattle.table_rows.proofs.OrderLemmas.{one_row}
 use Rattle.outbox_opening.proofs.opening.walk.is_sound_one.Goals as goal
 
 pub returns-in-len1 : goal.returns-in-len1

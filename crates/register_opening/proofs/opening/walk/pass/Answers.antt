@@ -9,7 +9,8 @@ use Rattle.register_opening.specs.Reads.{has_texts}
 use Rattle.table_rows.specs.Picking.{has_number, Picks, rows_in}
 use Rattle.register_rows.specs.Schema.{HasCommon, kept_table}
 use Rattle.table_rows.proofs.StopLemmas.{stopped_after}
-use Rattle.register_opening.proofs.WalkLemmas.{one_row, passes_all}
+use Rattle.table_rows.proofs.OrderLemmas.{one_row}
+use Rattle.register_opening.proofs.WalkLemmas.{passes_all}
 use Rattle.register_opening.proofs.opening.walk.pass.Goals as goal
 
 pub returns-in-Ok-true-clause-stopped : goal.returns-in-Ok-true-clause-stopped
