@@ -5,7 +5,7 @@
     tools/count_trusted.py --names    the same, with the name of each definition
     tools/count_trusted.py --check    whether docs/TRUST.md has these tables; status 1 where it has others
 
-It reads the contracts in the file of `run`, and follows each name in them through `ghost use`, `use` and `pub use` to the
+It reads the contracts of `run` and of the calls that show its world, and follows each name in them through `ghost use`, `use` and `pub use` to the
 definition that it stands for, and so on, down to the kit's own definitions, which it names and doesn't enter. Every line of a
 definition counts that is neither blank nor a comment. A file comes after those that cite it.
 
@@ -21,10 +21,11 @@ from collections import defaultdict
 ROOT = pathlib.Path(__file__).resolve().parent.parent
 PAGE = ROOT / "docs" / "TRUST.md"
 BEGIN, END = "<!-- counted by tools/count_trusted.py -->", "<!-- end of what is counted -->"
-WORLD = "crates/schedule/src/world.rt"
+RUN = "crates/schedule/src/events.rt"
+WORLD = "crates/world_events/src/world.rt"
 # The contract to believe, the calls that show the world that it answers, and the calls that lend the ends in it.
-HEADLINE = ["run", "register", "states", "confirmed", "done", "sent", "outputs", "World"]
-ENDS = ["intake", "outbox"]
+HEADLINE = [(RUN, "run")] + [(WORLD, name) for name in ("register", "states", "confirmed", "done", "sent", "outputs", "World")]
+ENDS = [(WORLD, "intake"), (WORLD, "outbox")]
 
 IMPORT = re.compile(r"\s*(?:ghost |pub )*use (Rattle\.[\w.]+?)(?:\.\{(.*)\}|(?: as (\w+))?);?\s*$")
 RUST_IMPORT = re.compile(r"^use (\w+(?:::\w+)*?)::(?:\{([^}]*)\}|(\w+));", re.MULTILINE)
@@ -162,9 +163,9 @@ class Reached:
     def __init__(self, names):
         self.files, self.definitions, self.cites = {}, {}, defaultdict(set)
         self.kit = defaultdict(lambda: defaultdict(set))
-        world = self.file(WORLD)
-        for name in names:
-            self.reach(world.type_named(name) if name[0].isupper() else world.contract(name))
+        for path, name in names:
+            file = self.file(path)
+            self.reach(file.type_named(name) if name[0].isupper() else file.contract(name))
 
     def file(self, path):
         if path not in self.files:

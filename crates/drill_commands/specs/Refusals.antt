@@ -8,7 +8,7 @@ use Rattle.filing_model.specs.Register.{Filing, register}
 use Rattle.filing_world.specs.World.{World}
 use Rattle.filing_world.specs.Headline.{start}
 use Rattle.key_string.specs.Key.{IsTextFault}
-use Rattle.schedule.specs.Played.{EndsBy}
+use Rattle.schedule.specs.Ending.{EndsBy}
 use Rattle.drill_commands.specs.declared.fault.Fault.{Fault}
 use Rattle.drill_commands.specs.declared.fault.Fault.TheVariants as fault
 

@@ -6,7 +6,7 @@ ghost use Rattle.command_line.specs.declared.fault.CommandFault.TheVariants.{Mem
 ghost use Rattle.intake_core.specs.declared.intake.Unavailable.TheVariants.{Down};
 ghost use Rattle.drill_commands.specs.Refusals.{AreNotShown, IsNotShown};
 ghost use Rattle.drill_commands.specs.Shown.{filing_shown, entry_shown, world_shown};
-ghost use Rattle.schedule.specs.Listed.{view_listed, are_up};
+ghost use Rattle.world_events.specs.Listed.{view_listed, are_up};
 
 use crate::fault::Fault;
 use event_script::{append_done, append_entry, append_filing};

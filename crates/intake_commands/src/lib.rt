@@ -9,7 +9,6 @@ mod finding;
 mod limit;
 mod log;
 mod note;
-mod options;
 mod progress;
 mod register;
 mod serving;

@@ -1,7 +1,5 @@
 //! What is noted of a connection while it is served: the first bytes that came, and the statuses that went out.
 
-ghost use Rattle.std.specs.Prelude.{◌≡◌};
-
 use gateway_server::{Ended, Served};
 use http_wire::{DeviceFailed, Sink, Source};
 use register_store::Completed;

@@ -4,31 +4,18 @@ ghost use Rattle.std.specs.Prelude.{◌≡◌, None, false};
 
 use crate::calls;
 use crate::fault::Fault;
-use crate::options::DEFAULT_LIMIT;
 use crate::progress::Progress;
 use command_files::{Cache, FileSystem, Left, Opening, Verdict, Work, on_database};
 use command_line::show;
 use gateway_server::fact_line;
 use intake_core::{FilingRow, Intake, list_reply};
+use intake_options::{DEFAULT_LIMIT, Errand};
 use register_store::{Counts, Store};
 use sqlite::{Alter, Connection, Error};
 use sqlite_disk::Disk;
 use std::alloc::{AllocError, Global};
 use std::io::Write;
 use xbrl_report::Fact;
-
-/// What is done with a register that is there.
-#[derive(Clone, Copy)]
-pub enum Errand<'a> {
-    /// Show the filings of a filer.
-    List { filer: &'a str },
-    /// Show the facts of a filing.
-    Show { number: u64 },
-    /// Say whether the register is sound.
-    Check,
-    /// Make a register of an earlier version one of this version.
-    Migrate,
-}
 
 /// An errand to the register of the file with this name.
 #[derive(Drop)]

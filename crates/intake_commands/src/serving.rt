@@ -13,6 +13,7 @@ use command_line::show;
 use gateway_server::{Ended, Served};
 use http_wire::{Device, Sink, Source};
 use intake_core::Intake;
+use intake_options::Serving;
 use register_store::Store;
 use sqlite::{Alter, Connection};
 use sqlite_disk::Disk;
@@ -20,21 +21,6 @@ use std::alloc::{AllocError, Global};
 use std::io::{self, Write};
 use std::net::{TcpListener, TcpStream};
 use std::time::Instant;
-
-/// What is served, and how.
-#[derive(Clone, Copy)]
-pub struct Serving<'a> {
-    pub database: &'a str,
-    pub port: u16,
-    /// How many connections are served.
-    pub connections: u32,
-    /// How many keys are kept at most.
-    pub limit: u64,
-    /// The register is made, and not opened.
-    pub new: bool,
-    /// A line for each connection is printed.
-    pub log: bool,
-}
 
 /// What answers the requests of a connection.
 trait Answers {

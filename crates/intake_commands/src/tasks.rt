@@ -2,14 +2,14 @@
 
 use crate::fault::Fault;
 use crate::limit::Limit;
-use crate::options::Task;
-use crate::register::{Errand, run_errand};
+use crate::register::run_errand;
 use crate::serving::serve_file;
-use crate::{calls, finding, options};
+use crate::{calls, finding};
 use command_files::{FileSystem, SystemFiles, report, show_verdict};
 use command_line::{CommandFault, DONE, show, show_refusal, words};
 use gateway_server::Ended;
 use http_wire::Device;
+use intake_options::{Errand, Task};
 use key_string::is_filer;
 use sqlite_disk::Disk;
 use std::alloc::{AllocError, Global};
@@ -158,7 +158,7 @@ fn perform_words<'a, D: Disk + Drop, F: FileSystem<D>, R: Read, O: Write, E: Wri
     output: &mut O,
     errors: &mut E,
 ) -> Result<u8, Fault<'a>> {
-    match options::read(rt.alloc(), words) {
+    match intake_options::read(rt.alloc(), words) {
         Ok(Some(task)) => perform_task(rt, system, &task, input, output, errors),
         Ok(None) => Err(CommandFault::NoTask.into()),
         Err(error) => Ok(show_refusal(&error, output, errors)?),

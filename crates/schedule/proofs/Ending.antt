@@ -4,26 +4,10 @@ use Rattle.std.proofs.lemmas.List.{take-map}
 use Rattle.std.proofs.lemmas.Option.{slice_get-map, slice_get-get_or}
 use Rattle.filing_world.specs.World.{World, Event}
 use Rattle.filing_world.specs.Step.{Run, CannotPlay}
-use Rattle.filing_ends.specs.declared.cause.Cause.{Cause}
-use Rattle.filing_ends.specs.declared.cause.Cause.TheVariants as cause
-use Rattle.schedule.specs.declared.fault.Fault.{Fault}
-use Rattle.schedule.specs.declared.fault.Fault.TheVariants.{NoSuch, Memory, Store, Reopen}
-use Rattle.schedule.specs.Faults.{fault_at}
-use Rattle.schedule.specs.Played.{next_number, Tells, Comes, EndsBy}
-
--- what is told as NoSuch was it
-pub no_such_cause : (event n : ℕ) (why : Cause) → fault_at event why ≡ NoSuch n → why ≡ cause.NoSuch
-no_such_cause event n cause.NoSuch is = refl
-no_such_cause event n cause.Memory is = absurd (cc)
-no_such_cause event n cause.Store is = absurd (cc)
-no_such_cause event n cause.Reopen is = absurd (cc)
-
--- the fault that a cause is at an event tells that event
-pub tells_own : (event : ℕ) (why : Cause) → Tells event (fault_at event why)
-tells_own event cause.NoSuch = refl
-tells_own event cause.Memory = tt
-tells_own event cause.Store = refl
-tells_own event cause.Reopen = refl
+use Rattle.world_events.specs.declared.fault.Fault.{Fault}
+use Rattle.world_events.specs.declared.fault.Fault.TheVariants.{NoSuch, Memory, Store, Reopen}
+use Rattle.world_events.specs.Played.{next_number, Tells}
+use Rattle.schedule.specs.Ending.{Comes, EndsBy}
 
 -- no count that a u64 has stops the number of the next event
 pub next_is : (before : ℕ) → before + 1 < 2 ^ 64 → next_number before ≡ before + 1

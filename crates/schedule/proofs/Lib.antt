@@ -1,4 +1,1 @@
 pub mod Ending
-pub mod GoingThrough
-pub mod Lending
-pub mod Steps

@@ -1,4 +1,1 @@
-pub mod Faults
-pub mod Listed
-pub mod Played
-pub mod Playing
+pub mod Ending

@@ -1,22 +1,10 @@
-//! The intake, the outboxes of its filers and the network between them, run over lists of events. What may
-//! live here: the world that the events run on. How its databases are made, stopped and opened again is known by
-//! `filing_ends`. What an event may do is said by `filing_world`; that the world does no other is the contract of
-//! `World::play`.
+//! The headline: a list of events, played on a new world. What may live here: the run of a list, and why one ended. What one
+//! event does to the world is known by `world_events`.
 #![tactic(auto)]
 
-mod deliver;
-mod element;
-mod fault;
-mod hand;
-mod listing;
-mod lists;
-mod put;
-mod restart;
-mod send;
-mod world;
+mod events;
 
 pub use event_script::{Crash, Event};
-pub use fault::Fault;
+pub use events::run;
 pub use filing_ends::{Durable, Honest};
-pub use lists::{Output, Sent};
-pub use world::{World, run};
+pub use world_events::{Fault, Output, Sent, World};

@@ -1,21 +1,15 @@
-//! The worked examples of the protocol: each runs one example over the public calls, and tells whether the result is
-//! the expected one. What may live here: the examples as data, written out by hand, and what runs and compares them.
+//! The worked examples of the protocol by their numbers: each runs one example over the public calls, and tells whether the
+//! result is the expected one. What may live here: the examples of what is kept, in an outbox or in a database that is closed
+//! and opened again, written out by hand, and what runs and compares them. Those of one connection are `connection_rows`.
 #![tactic(auto)]
 
-mod amendments;
-mod connection;
-mod examples;
 mod files;
-mod history;
-mod keys;
 mod migration;
 mod outbox;
 mod outbox_migration;
 mod register;
-mod replies;
-mod reports;
 mod rows;
-mod stop;
+mod serving;
 mod visits;
 
 pub use rows::{first_over, run};

@@ -2,11 +2,10 @@
 
 ghost use Rattle.std.specs.Prelude.{◌≡◌, false, None};
 
-use crate::examples::{REQUEST, filing};
 use crate::files::execute;
-use crate::history::{self, served};
-use crate::stop::{Stop, refusal};
+use crate::serving::goes;
 use crate::visits::{Visit, visits};
+use connection_rows::{Part, REQUEST, Stop, refusal};
 use example_texts::NOT_JSON;
 use gateway_server::{Ended, Mark};
 use intake_core::Intake;
@@ -120,17 +119,15 @@ fn migrate_fault<S: Alter + Drop>(
 
 /// Whether the old key is told what it was told before, and a new one problem details.
 fn tells_both<S: Alter>(alloc: Global, intake: &mut Intake<S>) -> Result<bool, Stop> {
-    let old = filing(alloc, "ACME", "k-1", "")?;
-    let new = filing(alloc, "ACME", "k-2", "")?;
-    let given = format!(in alloc; "{old}{REQUEST}{new}")?;
-    let written = format!(in alloc; "{NOT_JSON_BEFORE}{KEY_REUSED_BEFORE}{NOT_JSON}")?;
-    let mut output = Vec::new(alloc);
-    let served = served(alloc, intake, given.as_bytes(), &mut output);
-    history::Connection {
-        given: given.as_bytes(),
-        written: &written,
+    let expected = connection_rows::Connection {
+        given: &[
+            Part::Filing("ACME", "k-1", ""),
+            Part::Text(REQUEST),
+            Part::Filing("ACME", "k-2", ""),
+        ],
+        written: &[NOT_JSON_BEFORE, KEY_REUSED_BEFORE, NOT_JSON],
         marks: &[Mark::Done; 3],
         ended: Ended::InputEnded,
-    }
-    .is_so(&served, &output)
+    };
+    goes(alloc, intake, &expected)
 }

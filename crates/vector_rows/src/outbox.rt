@@ -2,9 +2,8 @@
 
 ghost use Rattle.std.specs.Prelude.{◌≡◌, false, None, IfOk};
 
-use crate::examples::{front, repeated};
-use crate::stop::{Stop, refusal};
 use crate::visits::{Visit, visits};
+use connection_rows::{Stop, front, refusal, repeated};
 use example_texts::{REGISTERED_CLOSED, REPORT, SMALLEST};
 use filer_client::{ExchangeFault, exchange};
 use http_wire::{Device, Kind, MAX_BODY_LEN, Reply, ReplyFault, append_request};

@@ -3,8 +3,8 @@
 ghost use Rattle.std.specs.Prelude.{◌≡◌, false, None};
 
 use crate::files::execute;
-use crate::stop::{Stop, refusal};
 use crate::visits::{Visit, visits};
+use connection_rows::{Stop, refusal};
 use example_texts::REPORT;
 use outbox_core::{Entry, Outbox, OutboxFault, State};
 use sqlite::{Alter, Connection, params};

@@ -2,10 +2,9 @@
 
 ghost use Rattle.std.specs.Prelude.{◌≡◌, false, None};
 
-use crate::examples::REQUEST;
-use crate::history::{self, served};
-use crate::stop::{Stop, refusal};
+use crate::serving::goes;
 use crate::visits::{Visit, visits};
+use connection_rows::{Part, REQUEST, Stop, refusal};
 use example_texts::{REGISTERED, REPORT, SMALLEST};
 use gateway_server::{Ended, Mark};
 use intake_core::Intake;
@@ -65,17 +64,13 @@ fn empty_intake<S: Alter + Drop>(alloc: Global, conn: Connection<S>) -> Result<I
 
 /// Whether three times the same request is told three times that it is registered.
 fn takes_once<S: Alter>(alloc: Global, intake: &mut Intake<S>) -> Result<bool, Stop> {
-    let given = format!(in alloc; "{REQUEST}{REQUEST}{REQUEST}")?;
-    let written = format!(in alloc; "{REGISTERED}{REGISTERED}{REGISTERED}")?;
-    let mut output = Vec::new(alloc);
-    let served = served(alloc, intake, given.as_bytes(), &mut output);
-    history::Connection {
-        given: given.as_bytes(),
-        written: &written,
+    let expected = connection_rows::Connection {
+        given: &[Part::Text(REQUEST); 3],
+        written: &[REGISTERED; 3],
         marks: &[Mark::Done; 3],
         ended: Ended::InputEnded,
-    }
-    .is_so(&served, &output)
+    };
+    goes(alloc, intake, &expected)
 }
 
 /// Finds the one request in this database, and no other.

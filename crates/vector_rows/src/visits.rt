@@ -3,8 +3,8 @@
 ghost use Rattle.std.specs.Prelude.{◌≡◌, false, None, IfOk, IfSome, IsTrue};
 
 use crate::files::{close, connect, new_files};
-use crate::stop::Stop;
 use crate::{migration, outbox, outbox_migration, register};
+use connection_rows::Stop;
 use sqlite::{Alter, Connection, Files};
 use sqlite_disk::Disk;
 use std::alloc::Global;

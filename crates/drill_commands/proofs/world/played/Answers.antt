@@ -2,7 +2,7 @@ use Rattle.std.proofs.Common.{rules, ◌≡◌, Err, map, string_bytes, subst}
 use Rattle.event_script.specs.Events.{view_event}
 use Rattle.filing_world.specs.Headline.{start}
 use Rattle.filing_world.specs.Step.{Run}
-use Rattle.schedule.specs.Played.{EndsBy}
+use Rattle.schedule.specs.Ending.{EndsBy}
 use Rattle.drill_commands.specs.declared.fault.Fault.TheVariants as fault
 use Rattle.drill_commands.proofs.world.played.Goals as goal
 

@@ -1,0 +1,91 @@
+//! The vector of reports that replace filings.
+
+use crate::examples::{KEY_REUSED, REQUEST, report};
+use crate::history::{Connection, History, Part};
+use crate::stop::Stop;
+use example_texts::{REGISTERED, REGISTERED_SECOND, REPORT};
+use gateway_server::{Ended, Mark};
+use http_wire::append_request;
+use key_string::KeyText;
+use std::alloc::Global;
+
+/// The list of a filing and the one that replaces it: 88 bytes.
+const BOTH: &str =
+    "HTTP/1.1 200 OK\r\nContent-Type: application/json\r\nContent-Length: 88\r\n\r\n{\"filings\":[{\"facts\":1,\"number\":1,\"replaced_by\":2},{\"facts\":1,\"number\":2,\"replaces\":1}]}";
+
+/// The reply where the filing cannot be replaced: 137 bytes.
+const NOT_REPLACEABLE: &str =
+    "HTTP/1.1 422 Unprocessable Content\r\nContent-Type: application/problem+json\r\nContent-Length: 137\r\n\r\n{\"findings\":[{\"code\":\"not-replaceable\",\"place\":\"\"}],\"reason\":\"refused\",\"status\":422,\"title\":\"Unprocessable Content\",\"type\":\"about:blank\"}";
+
+/// The reply where the path names no filings.
+const NO_PATH: &str =
+    "HTTP/1.1 404 Not Found\r\nContent-Type: application/problem+json\r\nContent-Length: 74\r\n\r\n{\"reason\":\"no-path\",\"status\":404,\"title\":\"Not Found\",\"type\":\"about:blank\"}";
+
+/// The report filed again to replace filing 1, under another key, and under a third.
+const SECOND: Part<'static> = Part::Filing("ACME/1", "k-2", REPORT);
+
+const THIRD: Part<'static> = Part::Filing("ACME/1", "k-3", REPORT);
+
+/// A connection with one request, whose input ends behind it.
+fn asked<'a>(given: &'a [Part<'a>], written: &'a [&'a str], marks: &'a [Mark]) -> Connection<'a> {
+    Connection {
+        given,
+        written,
+        marks,
+        ended: Ended::InputEnded,
+    }
+}
+
+/// Vector 26: a filing is replaced once, by a report of its own filer; a number that is none is no path.
+pub(crate) fn amended(alloc: Global) -> Result<bool, Stop> {
+    Ok(replaced_once(alloc)? && request_length(alloc)? == 539)
+}
+
+fn replaced_once(alloc: Global) -> Result<bool, Stop> {
+    let body = report(
+        alloc,
+        "f1",
+        "100",
+        "lei:BETA",
+        "2024-12-31T00:00:00",
+        "iso4217:EUR",
+    )?;
+    let other = [Part::Filing("BETA/1", "k-1", &body)];
+    let connections = [
+        asked(&[Part::Text(REQUEST)], &[REGISTERED], &[Mark::Done]),
+        asked(&[SECOND], &[REGISTERED_SECOND], &[Mark::Done]),
+        asked(
+            &[Part::Text("GET /filings/ACME HTTP/1.1\r\nHost: localhost\r\n\r\n")],
+            &[BOTH],
+            &[Mark::NotFiled],
+        ),
+        asked(&[SECOND], &[REGISTERED_SECOND], &[Mark::Done]),
+        asked(&[THIRD], &[NOT_REPLACEABLE], &[Mark::Done]),
+        asked(&[THIRD], &[NOT_REPLACEABLE], &[Mark::Done]),
+        asked(
+            &[Part::Filing("ACME/2", "k-2", REPORT)],
+            &[KEY_REUSED],
+            &[Mark::Done],
+        ),
+        asked(&other, &[NOT_REPLACEABLE], &[Mark::Done]),
+        asked(
+            &[Part::Filing("ACME/0", "k-4", REPORT)],
+            &[NO_PATH],
+            &[Mark::NotFiled],
+        ),
+        asked(
+            &[Part::Filing("ACME/01", "k-4", REPORT)],
+            &[NO_PATH],
+            &[Mark::NotFiled],
+        ),
+    ];
+    History::of(&connections, 4, 2).holds(alloc)
+}
+
+/// How long the request is by which `ACME` files the report to replace filing 1.
+fn request_length(alloc: Global) -> Result<usize, Stop> {
+    let mut request = Vec::new(alloc);
+    let key = KeyText::new(alloc, "k-1")?;
+    append_request("ACME", Some(1), &key, REPORT.as_bytes(), &mut request)?;
+    Ok(request.len())
+}

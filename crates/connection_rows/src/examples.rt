@@ -1,0 +1,47 @@
+//! The bytes that several vectors share: requests and replies.
+
+use crate::stop::Stop;
+use std::alloc::Global;
+
+/// The request that files the report of one fact for `ACME` under the key `k-1`, 486 bytes.
+pub const REQUEST: &str =
+    "POST /filings/ACME HTTP/1.1\r\nHost: localhost\r\nIdempotency-Key: \"k-1\"\r\nContent-Length: 393\r\n\r\n{\"documentInfo\":{\"documentType\":\"https://xbrl.org/2021/xbrl-json\",\"namespaces\":{\"eg\":\"http://example.com/eg\",\"iso4217\":\"http://www.xbrl.org/2003/iso4217\",\"lei\":\"http://standards.iso.org/iso/17442\"},\"taxonomy\":[\"http://example.com/eg.xsd\"]},\"facts\":{\"f1\":{\"value\":\"100\",\"decimals\":0,\"dimensions\":{\"concept\":\"eg:Assets\",\"entity\":\"lei:ACME\",\"period\":\"2024-12-31T00:00:00\",\"unit\":\"iso4217:EUR\"}}}}";
+
+/// The reply where the key was used for another body.
+pub(crate) const KEY_REUSED: &str =
+    "HTTP/1.1 422 Unprocessable Content\r\nContent-Type: application/problem+json\r\nContent-Length: 89\r\n\r\n{\"reason\":\"key-reused\",\"status\":422,\"title\":\"Unprocessable Content\",\"type\":\"about:blank\"}";
+
+/// The end of a head before the example report.
+pub(crate) const LENGTH: &str = "Content-Length: 393\r\n\r\n";
+
+/// The interim response, 25 bytes.
+pub(crate) const CONTINUE: &str = "HTTP/1.1 100 Continue\r\n\r\n";
+
+/// The report of one fact but for these parts.
+pub(crate) fn report(
+    alloc: Global,
+    fact: &str,
+    value: &str,
+    entity: &str,
+    period: &str,
+    unit: &str,
+) -> Result<String, Stop> {
+    Ok(format!(in alloc;
+        "{{\"documentInfo\":{{\"documentType\":\"https://xbrl.org/2021/xbrl-json\",\"namespaces\":{{\"eg\":\"http://example.com/eg\",\"iso4217\":\"http://www.xbrl.org/2003/iso4217\",\"lei\":\"http://standards.iso.org/iso/17442\"}},\"taxonomy\":[\"http://example.com/eg.xsd\"]}},\"facts\":{{\"{fact}\":{{\"value\":\"{value}\",\"decimals\":0,\"dimensions\":{{\"concept\":\"eg:Assets\",\"entity\":\"{entity}\",\"period\":\"{period}\",\"unit\":\"{unit}\"}}}}}}}}"
+    )?)
+}
+
+/// A character so many times.
+pub fn repeated(alloc: Global, character: char, count: u32) -> Result<String, Stop> {
+    let mut text = String::new(alloc);
+    for _ in 0..count {
+        text.push(character)?;
+    }
+    Ok(text)
+}
+
+/// The first bytes of a text, at most so many.
+pub fn front(text: &str, most: usize) -> &[u8] {
+    let bytes = text.as_bytes();
+    &bytes[..most.min(bytes.len())]
+}

@@ -1,0 +1,33 @@
+//! The vectors by their numbers.
+
+use crate::stop::Stop;
+use crate::{amendments, connection, history, keys, replies, reports};
+use std::alloc::Global;
+
+/// Runs the vector of this number over an intake of its own in memory, and tells whether it passed. A number that is none of
+/// these fails.
+pub fn run(alloc: Global, number: u32) -> Result<bool, Stop> {
+    match number {
+        1 => connection::registered(alloc, history::LIMIT),
+        2 => connection::repeated_request(alloc),
+        3 => connection::key_reused(alloc),
+        4 => connection::two_filers(alloc),
+        5 => connection::refused(alloc),
+        6 => connection::escaped_place(alloc),
+        7 => connection::empty_body(alloc),
+        8 => keys::keys(alloc),
+        9 => connection::content_lengths(alloc),
+        10 => connection::long_bodies(alloc),
+        11 => connection::long_heads(alloc),
+        12 => connection::byte_by_byte(alloc),
+        13 => connection::cut_off(alloc),
+        14 => connection::full_register(alloc),
+        17 => connection::other_requests(alloc),
+        18 => reports::all_findings(alloc),
+        19 => reports::many_findings(alloc),
+        20 => reports::units_and_periods(alloc),
+        21 => replies::replies(alloc),
+        26 => amendments::amended(alloc),
+        _ => Ok(false),
+    }
+}

@@ -1,0 +1,4 @@
+pub mod GoingThrough
+pub mod Lending
+pub mod Steps
+pub mod Telling

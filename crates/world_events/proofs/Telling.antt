@@ -1,0 +1,21 @@
+-- As what fault a cause is told.
+use Rattle.std.proofs.Common.{◌≡◌, ℕ, refl}
+use Rattle.filing_ends.specs.declared.cause.Cause.{Cause}
+use Rattle.filing_ends.specs.declared.cause.Cause.TheVariants as cause
+use Rattle.world_events.specs.declared.fault.Fault.TheVariants.{NoSuch}
+use Rattle.world_events.specs.Faults.{fault_at}
+use Rattle.world_events.specs.Played.{Tells}
+
+-- what is told as NoSuch was it
+pub no_such_cause : (event n : ℕ) (why : Cause) → fault_at event why ≡ NoSuch n → why ≡ cause.NoSuch
+no_such_cause event n cause.NoSuch is = refl
+no_such_cause event n cause.Memory is = absurd (cc)
+no_such_cause event n cause.Store is = absurd (cc)
+no_such_cause event n cause.Reopen is = absurd (cc)
+
+-- the fault that a cause is at an event tells that event
+pub tells_own : (event : ℕ) (why : Cause) → Tells event (fault_at event why)
+tells_own event cause.NoSuch = refl
+tells_own event cause.Memory = tt
+tells_own event cause.Store = refl
+tells_own event cause.Reopen = refl

@@ -1,0 +1,15 @@
+use Rattle.std.proofs.Common.{sym, subst}
+use Rattle.filing_world.specs.Invariant.{Keeps}
+use Rattle.world_events.specs.Played.{world_of}
+use Rattle.world_events.proofs.world.World.states.Goals as goal
+
+pub invariant_of-self : goal.invariant_of-self
+invariant_of-self g c = λ none.
+    let inside = c.self.inside in
+    subst (λ boxes. Keeps (world_of inside.server inside.sent.items inside.outputs.items boxes)) (sym c.all_states.ensures.same) (c.self.invariant none)
+
+pub returns-clause-list : goal.returns-clause-list
+returns-clause-list g c = rw (sym c.self.view_is) c.all_states.ensures.list
+
+pub returns-clause-down : goal.returns-clause-down
+returns-clause-down g c = rw (sym c.self.view_is) c.all_states.ensures.down

@@ -1,0 +1,4 @@
+pub mod Faults
+pub mod Listed
+pub mod Played
+pub mod Playing

@@ -1,0 +1,23 @@
+-- What playing one event does.
+use Rattle.std.specs.Prelude.{◌≡◌, ℕ, None, Some, Result, Err, IfErr, OnOk}
+use Rattle.filing_world.specs.World.{Event}
+use Rattle.filing_world.specs.Step.{Step, CannotPlay}
+use Rattle.filing_world.specs.Headline.{Holds}
+use Rattle.world_events.specs.declared.fault.Fault.{Fault}
+use Rattle.world_events.specs.declared.fault.Fault.TheVariants.{NoSuch}
+use Rattle.world_events.specs.Played.{Played, next_number, Tells}
+
+-- What `play` does with the next event.
+pub record Plays (old new : Played) (event : Event) (result : Result (Unit {0}) Fault) : Type 0 where
+  -- the world takes a step, and what the headline says holds of it
+  pub step : OnOk result (Step old.world event new.world)
+  pub holds : OnOk result (Holds new.world)
+  -- NoSuch tells of an event that can't be played
+  pub no_such : (n : ℕ) → result ≡ Err (NoSuch n) → old.fault ≡ None → CannotPlay old.world event
+  -- events are counted as they come, and a fault tells the number of its own
+  pub counts : old.fault ≡ None → new.events ≡ next_number old.events
+  pub numbered : old.fault ≡ None → IfErr result (Tells new.events)
+  -- after a fault each later call answers it again, and plays nothing
+  pub ended : (fault : Fault) → old.fault ≡ Some fault → (result ≡ Err fault) × (new ≡ old)
+  pub stops : IfErr result (λ fault. new.fault ≡ Some fault)
+  pub goes_on : OnOk result ((old.fault ≡ None) × (new.fault ≡ None))

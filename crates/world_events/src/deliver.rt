@@ -1,0 +1,53 @@
+//! The first bytes of an item arrive at the intake.
+
+ghost use Rattle.std.specs.Prelude.{◌≡◌, List, OnOk, Err};
+ghost use Rattle.event_script.specs.Events.{view_crash};
+ghost use Rattle.filing_world.specs.World.{Outbox, Deliver};
+ghost use Rattle.filing_world.specs.Step.{Delivers, CannotPlay};
+ghost use Rattle.world_events.specs.Played.{world_of};
+
+use crate::element::{first, index_of};
+use crate::lists::{Output, Sent};
+use event_script::Crash;
+use filing_ends::{Cause, Honest};
+use world_ends::{Delivered, Server};
+
+pub(crate) fn deliver<D: Honest>(
+    server: &mut Server<D>,
+    sent: &[Sent],
+    outputs: &mut Vec<Output>,
+    item: u64,
+    bytes: usize,
+    crash: Crash,
+) -> Result<(), Cause>
+    ensures step { OnOk result ((outboxes : List Outbox)
+        → Delivers (world_of server.old sent.now outputs.old.items outboxes) item bytes (view_crash crash)
+        (world_of server.new sent.now outputs.new.items outboxes)) }
+    ensures no_such { result ≡ Err Cause.NoSuch → (outboxes : List Outbox)
+        → CannotPlay (world_of server.old sent.now outputs.old.items outboxes) (Deliver item bytes (view_crash crash)) }
+{
+    if !server.is_up() {
+        return Err(Cause::NoSuch);
+    }
+    let Some(at) = index_of(item, sent.len()) else {
+        return Err(Cause::NoSuch);
+    };
+    outputs.reserve(1)?;
+    let from = &sent[at];
+    let given = first(from.bytes.as_slice(), bytes);
+    let Delivered {
+        before,
+        marks,
+        ended,
+        text,
+    } = server.deliver(given, crash)?;
+    outputs.push_reserved(Output {
+        item,
+        given: given.len(),
+        before,
+        marks,
+        ended,
+        bytes: text,
+    });
+    Ok(())
+}

@@ -1,0 +1,41 @@
+//! The first bytes of an output arrive at the outbox whose entry's request it answers.
+
+ghost use Rattle.std.specs.Prelude.{◌≡◌, OnOk, Err};
+ghost use Rattle.event_script.specs.Events.{view_crash};
+ghost use Rattle.filing_world.specs.World.{Hand};
+ghost use Rattle.filing_world.specs.Step.{Hands, CannotPlay};
+ghost use Rattle.filing_world.specs.Invariant.{AllOwn};
+ghost use Rattle.world_ends.specs.Served.{Served};
+ghost use Rattle.world_events.specs.Played.{world_of};
+
+use crate::element::{first, index_of, sender_of, up_at};
+use crate::lists::{Output, Sent};
+use event_script::Crash;
+use filing_ends::{Cause, Honest};
+use world_ends::Filer;
+
+/// Where the items that were sent for entries carry these, it is a step of the world.
+pub(crate) fn hand<D: Honest>(
+    filers: &mut Vec<Filer<D>>,
+    sent: &[Sent],
+    outputs: &[Output],
+    output: u64,
+    bytes: usize,
+    crash: Crash,
+) -> Result<(), Cause>
+    ensures step { OnOk result ((server : Served) → AllOwn filers.old.items sent.now
+        → Hands (world_of server sent.now outputs.now filers.old.items) output bytes (view_crash crash)
+        (world_of server sent.now outputs.now filers.new.items)) }
+    ensures no_such { result ≡ Err Cause.NoSuch → (server : Served)
+        → CannotPlay (world_of server sent.now outputs.now filers.old.items) (Hand output bytes (view_crash crash)) }
+{
+    let Some(at) = index_of(output, outputs.len()) else {
+        return Err(Cause::NoSuch);
+    };
+    let from = &outputs[at];
+    let (outbox, entry) = sender_of(sent, from.item)?;
+    let Some(index) = up_at(filers.as_slice(), outbox) else {
+        return Err(Cause::NoSuch);
+    };
+    filers[index].hand(entry, first(from.bytes.as_slice(), bytes), crash)
+}

@@ -1,0 +1,34 @@
+//! A report is put into an outbox.
+
+ghost use Rattle.std.specs.Prelude.{◌≡◌, List, OnOk, Err};
+ghost use Rattle.http_wire.specs.Posting.{IsTarget};
+ghost use Rattle.filing_world.specs.World.{Sent as Item, Output as Left, Put};
+ghost use Rattle.filing_world.specs.Step.{Puts, CannotPlay};
+ghost use Rattle.outbox_core.specs.Entries.{opened};
+ghost use Rattle.world_ends.specs.Served.{Served};
+ghost use Rattle.world_events.specs.Played.{world_of};
+
+use crate::element::up_at;
+use filing_ends::{Cause, Honest};
+use key_string::KeyText;
+use world_ends::Filer;
+
+pub(crate) fn put<D: Honest>(
+    filers: &mut Vec<Filer<D>>,
+    outbox: u64,
+    key: &KeyText,
+    target: Option<u64>,
+    body: &[u8],
+) -> Result<(), Cause>
+    requires { IsTarget target }
+    ensures step { OnOk result ((server : Served) (sent : List Item) (outputs : List Left)
+        → Puts (world_of server sent outputs filers.old.items) outbox (opened key.now target body.now)
+        (world_of server sent outputs filers.new.items)) }
+    ensures no_such { result ≡ Err Cause.NoSuch → (server : Served) (sent : List Item) (outputs : List Left)
+        → CannotPlay (world_of server sent outputs filers.old.items) (Put outbox key.now target body.now) }
+{
+    let Some(at) = up_at(filers.as_slice(), outbox) else {
+        return Err(Cause::NoSuch);
+    };
+    filers[at].put(key, target, body)
+}

@@ -1,0 +1,54 @@
+//! The request of an entry is sent, or someone else's bytes.
+
+ghost use Rattle.std.specs.Prelude.{◌≡◌, ◌∷◌, ◌++◌, [], List, OnOk, Err, None};
+ghost use Rattle.filing_world.specs.World.{Output as Left, Send};
+ghost use Rattle.filing_world.specs.Step.{Sends, CannotPlay};
+ghost use Rattle.world_ends.specs.Served.{Served};
+ghost use Rattle.world_events.specs.Played.{world_of};
+
+use crate::element::up_at;
+use crate::lists::Sent;
+use filing_ends::{Cause, Honest};
+use std::alloc::{AllocError, Global};
+use world_ends::Filer;
+
+pub(crate) fn send<D: Honest>(
+    filers: &mut Vec<Filer<D>>,
+    sent: &mut Vec<Sent>,
+    outbox: u64,
+    entry: u64,
+) -> Result<(), Cause>
+    ensures step { OnOk result ((server : Served) (outputs : List Left)
+        → Sends (world_of server sent.old.items outputs filers.old.items) outbox entry
+        (world_of server sent.new.items outputs filers.new.items)) }
+    ensures no_such { result ≡ Err Cause.NoSuch → (server : Served) (outputs : List Left)
+        → CannotPlay (world_of server sent.old.items outputs filers.old.items) (Send outbox entry) }
+{
+    let Some(at) = up_at(filers.as_slice(), outbox) else {
+        return Err(Cause::NoSuch);
+    };
+    sent.reserve(1)?;
+    let bytes = filers[at].request(entry)?;
+    sent.push_reserved(Sent {
+        from: Some((outbox, entry)),
+        bytes,
+    });
+    Ok(())
+}
+
+pub(crate) fn send_bytes(
+    alloc: Global,
+    sent: &mut Vec<Sent>,
+    bytes: &[u8],
+) -> Result<(), AllocError>
+    ensures { OnOk result (sent.new.items ≡ sent.old.items ++ record { from = None; bytes = bytes.now } ∷ []) }
+{
+    let mut copy = Vec::new(alloc);
+    copy.extend_from_slice(bytes)?;
+    sent.reserve(1)?;
+    sent.push_reserved(Sent {
+        from: None,
+        bytes: copy,
+    });
+    Ok(())
+}
