@@ -26,6 +26,16 @@ front-of_part xs a b c = grind (arith, common_steps)
 pub before_query-at : (block : List ℕ) (start end : ℕ) → take (length (before_query (slice_range block start end))) (drop start block) ≡ before_query (slice_range block start end)
 before_query-at block start end = front-of_part (drop start block) _ _ (end - start)
 
+-- it has no more bytes than the part
+front-short : (xs : List ℕ) (a b c : ℕ) → length (take a (take b (take c xs))) ≤ c
+front-short xs a b c = grind (arith, common_steps)
+
+-- and it ends where the target does, or before
+pub before_query-end : (block text shown : List ℕ) (target : Span) → IsWithin (length block) target → text ≡ span_bytes block target → shown ≡ before_query text → target.start + length shown ≤ target.end
+before_query-end block text shown target within covers is =
+    let short : length shown ≤ target.end - target.start = rw (is, covers) (front-short (drop target.start block) _ _ (target.end - target.start)) in
+    omega (arith, within.0, short)
+
 -- the end of a front, by its place
 pub end-at : (block shown : List ℕ) (start len : ℕ) → take (length shown) (drop start block) ≡ shown → len ≤ length shown
     → slice_range block (start + length shown - len) (start + length shown) ≡ drop (length shown - len) shown

@@ -137,3 +137,11 @@ pub HoldsArrival-ended : (bytes : List ℕ) → HoldsArrival bytes → ¬ (IsUne
 HoldsArrival-ended bytes (inl (request, n, begins)) u = u.unended begins.head.block.0 begins.head.block.1.short begins.head.block.1.ends
 HoldsArrival-ended bytes (inr (HeadTooLarge, refused)) u = omega (arith, refused.full, u.room)
 HoldsArrival-ended bytes (inr (Head fault, refused)) u = u.unended refused.1.0 refused.1.1.short refused.1.1.ends
+
+-- what went out of the interim response, where a write of it failed
+pub WritesUpTo-send : (before after : Option (List ℕ)) (bytes : List ℕ) (asks : Bool) (fault : ConnFault) (w w' : ℕ)
+    → Asks bytes asks → IsSendFault before after w w' asks fault → WritesUpTo before after bytes fault
+WritesUpTo-send before after bytes asks Read w w' asked f = absurd f
+WritesUpTo-send before after bytes asks (Write sent) w w' asked f = (subst (Asks bytes) f.0 asked, f.2, f.3)
+WritesUpTo-send before after bytes asks ReadLimit w w' asked f = absurd f
+WritesUpTo-send before after bytes asks Memory w w' asked f = absurd f

@@ -1,10 +1,15 @@
 -- What several reads come to.
-use Rattle.std.proofs.Common.{◌≡◌, ℕ, ◌≤◌, List, [], ◌++◌, length, drop, Option, refl, sym, ap, ◌∙◌, subst, arith}
-use Rattle.std.proofs.KnownBytes.{Consumes-nil, Consumes-trans}
+use Rattle.std.proofs.Common.{◌≡◌, ℕ, ◌+◌, ◌<◌, ◌≤◌, Bool, true, false, List, [], ◌++◌, length, drop, Option, Result, Ok, Err, is_ok, refl, sym, ap, ◌∙◌, subst, append-nil, le_of_eq, arith}
+use Rattle.std.proofs.KnownBytes.{Consumes-nil, Consumes-trans, Consumes-kept}
+use Rattle.std.proofs.lemmas.Bool.{false≢true}
 use Rattle.std.proofs.lemmas.Grind.{common_steps}
-use Rattle.std.specs.Io.KnownBytes.{Consumes}
+use Rattle.std.proofs.lemmas.List.{drop_all}
+use Rattle.std.specs.Io.KnownBytes.{Consumes, Keeps}
 use Rattle.http_wire.specs.declared.received.Received.{Received}
-use Rattle.http_wire.specs.Received.{held_bytes, Receives, ReceivesNothing}
+use Rattle.http_wire.specs.declared.refusal.ConnFault.{ConnFault}
+use Rattle.http_wire.specs.declared.refusal.ConnFault.TheVariants.{Read, Write, ReadLimit, Memory}
+use Rattle.http_wire.specs.Fill.{IsFillFault}
+use Rattle.http_wire.specs.Received.{held_bytes, read_count, max_reads, Receives, ReceivesNothing, IsReadFault}
 
 -- what was added in two steps
 drop-twice : (x y z : List ℕ) → y ≡ x ++ drop (length x) y → z ≡ y ++ drop (length y) z → drop (length x) z ≡ drop (length x) y ++ drop (length y) z
@@ -48,3 +53,50 @@ ReceivesNothing-join a b c x y z first second = record {
   bytes = second.bytes ∙ first.bytes;
   reads = second.reads ∙ first.reads;
 }
+
+-- a read of so many bytes, which is counted only if there are some
+pub Receives-count : (a b : Option (List ℕ)) (x y : Received) (count : ℕ) → held_bytes y ≡ held_bytes x ++ drop (length (held_bytes x)) (held_bytes y)
+    → Consumes a b (drop (length (held_bytes x)) (held_bytes y)) → length (held_bytes y) ≡ length (held_bytes x) + count
+    → read_count x ≤ read_count y → read_count y ≤ read_count x + count → (read_count y ≡ read_count x → count ≡ 0) → Receives a b x y
+Receives-count a b x y count kept given more low high none = record {
+  bytes = kept;
+  given = given;
+  reads = low;
+  each = let size : length (drop (length (held_bytes x)) (held_bytes y)) ≡ count = grind (arith, common_steps, more) in omega (arith, high, size);
+  idle = λ same. let size : length (held_bytes y) ≡ length (held_bytes x) = omega (arith, more, none same) in grind (arith, common_steps, kept, size);
+}
+
+-- a read that failed
+pub Receives-kept : (a b : Option (List ℕ)) (x y : Received) → held_bytes y ≡ held_bytes x → read_count y ≡ read_count x → Keeps a b → Receives a b x y
+Receives-kept a b x y same count keeps =
+    let none : drop (length (held_bytes x)) (held_bytes y) ≡ [] = drop_all _ _ (le_of_eq (ap length same)) in
+    record {
+      bytes = same ∙ sym (append-nil (held_bytes x)) ∙ ap (λ l. held_bytes x ++ l) (sym none);
+      given = subst (Consumes a b) (sym none) (Consumes-kept a a b [] (Consumes-nil a) keeps);
+      reads = omega (arith, count);
+      each = omega (arith, count);
+      idle = λ _. same;
+    }
+
+-- why a read failed, where one more may give bytes
+pub IsReadFault-fill : (a b : ℕ) (r : Received) (fault : ConnFault) → read_count r < max_reads → IsFillFault a b fault → IsReadFault a b r fault
+IsReadFault-fill a b r Read low f = f
+IsReadFault-fill a b r (Write sent) low f = f
+IsReadFault-fill a b r ReadLimit low f = absurd f
+IsReadFault-fill a b r Memory low f = (f, low)
+
+-- the exit of a `?` gives no answer
+pub no_answer : {T E : Type 0} {r : Result T E} {x : T} {e : E} → r ≡ Err e → r ≡ Ok x → ⊥
+no_answer failed given = false≢true (sym (ap is_ok failed) ∙ ap is_ok given)
+
+-- an answer that says that nothing was read doesn't say that something was
+pub no_more : {E : Type 0} {r : Result Bool E} → r ≡ Ok false → r ≡ Ok true → ⊥
+no_more none some = grind (arith, none, some)
+
+-- a result has one error
+pub one_error : {T E : Type 0} {r : Result T E} {x y : E} → r ≡ Err x → r ≡ Err y → x ≡ y
+one_error first second = cc
+
+-- and one answer
+pub one_answer : {T E : Type 0} {r : Result T E} {x y : T} → r ≡ Ok x → r ≡ Ok y → x ≡ y
+one_answer first second = cc

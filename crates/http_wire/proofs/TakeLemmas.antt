@@ -1,5 +1,5 @@
 -- What several calls take off the bytes that are held.
-use Rattle.std.proofs.Common.{◌≡◌, ◌≢◌, ℕ, ◌+◌, ◌-◌, ◌<◌, ◌≤◌, min, List, [], ◌++◌, length, take, drop, Option, sym, ap, ◌∙◌, subst, subst₂, arith, length-append, append_assoc}
+use Rattle.std.proofs.Common.{◌≡◌, ◌≢◌, ℕ, ◌+◌, ◌-◌, ◌<◌, ◌≤◌, min, List, [], ◌++◌, length, take, drop, Option, sym, ap, ◌∙◌, subst, subst₂, arith, length-append, length-drop, append_assoc}
 use Rattle.std.proofs.KnownBytes.{Consumes-nil, Consumes-trans}
 use Rattle.std.specs.Prelude.{slice_range}
 use Rattle.std.proofs.lemmas.Grind.{common_steps}
@@ -9,11 +9,12 @@ use Rattle.http_wire.specs.Received.{held_bytes, read_count, Receives, IsReadFau
 use Rattle.http_wire.specs.declared.refusal.ConnFault.{ConnFault}
 use Rattle.http_wire.specs.declared.refusal.ConnFault.TheVariants.{Read, Write, ReadLimit, Memory}
 use Rattle.http_wire.specs.declared.response.ResponseHead.{ResponseHead}
-use Rattle.http_wire.specs.Block.{IsBlockEnd, skipped_len}
+use Rattle.http_wire.specs.Block.{IsBlockEnd, from_block, skipped_len}
 use Rattle.http_wire.specs.Device.{HasFailed}
 use Rattle.http_wire.specs.ReplyFaults.{fault_of_read}
-use Rattle.http_wire.specs.ReplyReading.{Takes, TakesHead, IsResponseBlock, IsContentFailure}
+use Rattle.http_wire.specs.ReplyReading.{Takes, TakesHead, IsResponseBlock, IsHeadFailure, IsContentFailure}
 use Rattle.http_wire.specs.Response.{ResponseParts, BeginsResponseHead}
+use Rattle.http_wire.proofs.BlockLemmas.{EndsAt-within}
 use Rattle.http_wire.proofs.MoreBytes.{IsBlockEnd-within}
 
 -- reads take nothing
@@ -65,7 +66,7 @@ TakesHead-found a b old mid new head n reads end is bytes count = record {
 -- ---- the content, in turns
 
 -- a turn takes the first bytes that are held
-Takes-turn : (a b : Option (List ℕ)) (old mid new : Received) (part items held : List ℕ) (n : ℕ) → Takes a b old mid part → held ≡ held_bytes mid → items ≡ part ++ take n held
+pub Takes-turn : (a b : Option (List ℕ)) (old mid new : Received) (part items held : List ℕ) (n : ℕ) → Takes a b old mid part → held ≡ held_bytes mid → items ≡ part ++ take n held
     → held_bytes new ≡ drop n (held_bytes mid) → read_count new ≡ read_count mid → Takes a b old new items
 Takes-turn a b old mid new part items held n before same made bytes count =
     let whole : items ≡ part ++ take n (held_bytes mid) = made ∙ ap (λ l. part ++ take n l) same in
@@ -109,3 +110,22 @@ content_failure a b p q r s old new part len Read takes empty short same f last 
 content_failure a b p q r s old new part len (Write sent) takes empty short same f last = absurd f
 content_failure a b p q r s old new part len ReadLimit takes empty short same f last = (last ∙ f.0 ∙ same, (part, takes, empty, short), f.1)
 content_failure a b p q r s old new part len Memory takes empty short same f last = last ∙ f.0 ∙ same
+
+-- ---- why a read gave no head
+
+-- a read that failed
+pub head_failure-read : (a b : Option (List ℕ)) (p q : ℕ) (old new : Received) (fault : ConnFault) → Receives a b old new → IsReadFault p q new fault → IsHeadFailure a b p q old new (fault_of_read fault)
+head_failure-read a b p q old new Read reads f = f
+head_failure-read a b p q old new (Write sent) reads f = absurd f
+head_failure-read a b p q old new ReadLimit reads f = (f.0, Takes-receives a b old new reads, f.1)
+head_failure-read a b p q old new Memory reads f = f
+
+-- a head that is taken after reads that gave nothing leaves less
+pub head-shorter : (a b : Option (List ℕ)) (old mid new : Received) (n : ℕ) → Receives a b old mid → IsBlockEnd (held_bytes mid) n
+    → held_bytes new ≡ drop n (held_bytes mid) → read_count new ≡ read_count mid → read_count new ≡ read_count old → length (held_bytes new) < length (held_bytes old)
+head-shorter a b old mid new n reads end bytes count same =
+    let idle = ap length (reads.idle (sym count ∙ same)) in
+    let some = EndsAt-within (from_block (held_bytes mid)) end.0 end.1.ends in
+    let within = IsBlockEnd-within (held_bytes mid) n end in
+    let left : length (held_bytes new) ≡ length (held_bytes mid) - n = ap length bytes ∙ length-drop n (held_bytes mid) in
+    omega (arith, idle, some.0, end.2, within.0, left)

@@ -1,8 +1,8 @@
 -- How the characters of a String are read one after another.
-use Rattle.std.proofs.Common.{◌≡◌, ℕ, ◌≤◌, List, [], ◌∷◌, ◌++◌, length, IsTrue, arith, refl, sym, ◌∙◌, append_assoc}
+use Rattle.std.proofs.Common.{◌≡◌, ℕ, ◌<◌, ◌≤◌, List, [], ◌∷◌, ◌++◌, length, IsTrue, arith, refl, sym, ◌∙◌, append_assoc}
 use Rattle.std.proofs.lemmas.Grind.{common_steps}
 use Rattle.std.proofs.lemmas.List.Concat.{flat_map-append}
-use Rattle.std.proofs.lemmas.List.Elements.{All-push, All-head, All-tail}
+use Rattle.std.proofs.lemmas.List.Elements.{All-nil, All-push, All-head, All-tail}
 use Rattle.std.proofs.lemmas.Bool.Decides.{nat_tests}
 use Rattle.std.specs.List.{flat_map}
 use Rattle.key_string.specs.Key.{double_quote, is_printable, IsPrintable, character, SpellsKey, IsCharacterAt, BeginsNoCharacter}
@@ -74,3 +74,15 @@ SpellsKey-same bytes text other s t =
 pub length-characters : (text : List ℕ) → length text ≤ length (flat_map character text)
 length-characters [] = omega arith
 length-characters (c ∷ text) = grind (arith, common_steps, nat_tests, length-characters text)
+
+-- a character of a String is ASCII
+pub printable-ascii : (c : ℕ) → IsTrue (is_printable c) → c < 128
+printable-ascii c printable = grind (arith, nat_tests, printable)
+
+-- the bytes after a character are fewer
+pub shorter : (bytes after : List ℕ) (c : ℕ) → IsCharacterAt bytes c after → length after < length bytes
+shorter bytes after c next = grind (arith, common_steps, nat_tests, next.1)
+
+-- nothing was read yet
+pub HasReadText-none : (bytes : List ℕ) → HasReadText bytes bytes []
+HasReadText-none bytes = record { printable = All-nil Printable; spelled = refl }

@@ -12,12 +12,12 @@ use Rattle.sqlite.specs.Schema.{Schema}
 use Rattle.table_rows.proofs.CreateLemmas.{none_held, creates_beside}
 use Rattle.table_rows.proofs.GainLemmas.{same_rows}
 use Rattle.outbox_opening.specs.declared.fault.OutboxFault.{OutboxFault}
-use Rattle.outbox_opening.specs.declared.fault.OutboxFault.TheVariants.{Damaged, Memory, Disk}
+use Rattle.outbox_opening.specs.declared.fault.OutboxFault.TheVariants.{NotOurs, Damaged, Memory, Disk}
 use Rattle.outbox_opening.specs.Schema.{HasCommon, meta_table, entry_table, target_table}
 use Rattle.outbox_opening.specs.Entries.{Contents}
 use Rattle.outbox_opening.specs.Rows.{IsOutboxOf, target_rows_from, target_rows}
 use Rattle.outbox_opening.specs.Making.{create_target}
-use Rattle.outbox_opening.specs.Audit.{entries_text, StopsFor, ReadsFiler, IsDamagedAt}
+use Rattle.outbox_opening.specs.Audit.{meta_text, entries_text, StopsFor, IsNoOutbox, ReadsFiler, IsDamagedAt}
 use Rattle.outbox_opening.specs.Earlier.{IsAlone, IsEarlierOf, IsNotFound, IsHindered, Raises, is_blocked}
 use Rattle.outbox_opening.specs.Faults.{outbox_fault_by}
 use Rattle.outbox_opening.proofs.MakeLemmas.{second_schema, own_indexes, creates_target, declared}
@@ -67,6 +67,13 @@ module _ {S : Type 0} (g : Ghosts S) (a z : Held S) (it : Contents) where
         };
         list = is.list;
       }
+
+-- why none was found, as the filer was looked for
+pub not_found_first : {S : Type 0} (g : Ghosts S) (fault : OutboxFault) (old new : Held S) → (fault ≡ NotOurs) ⊎ ((fault ≡ Memory) ⊎ (fault ≡ Disk)) → (fault ≡ NotOurs → IsNoOutbox 1 (state g old) (state g new))
+    → (fault ≡ Disk → StopsFor Stopped meta_text (state g old) (state g new)) → IsNotFound g fault old new
+not_found_first g fault old new (inl none) ours disk = subst (λ f. IsNotFound g f old new) (sym none) (ours none)
+not_found_first g fault old new (inr (inl memory)) ours disk = subst (λ f. IsNotFound g f old new) (sym memory) tt
+not_found_first g fault old new (inr (inr stopped)) ours disk = subst (λ f. IsNotFound g f old new) (sym stopped) (inl (disk stopped))
 
 -- why none was found, once the filer was
 pub not_found_later : {S : Type 0} (g : Ghosts S) (fault : OutboxFault) (old mid new : Held S) → ReadsFiler 1 (state g old) (state g mid)

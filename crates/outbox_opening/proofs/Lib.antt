@@ -12,4 +12,5 @@ pub mod RefusalLemmas
 pub mod MigrateTexts
 pub mod EarlierLemmas
 pub mod StopLemmas
+pub mod SaidLemmas
 pub mod WalkLemmas

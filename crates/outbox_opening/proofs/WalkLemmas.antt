@@ -1,6 +1,7 @@
 -- A walk over the entries, from one to the next.
-use Rattle.std.proofs.Common.{◌≡◌, ◌≤◌, ℕ, ◌+◌, suc, pos, Bool, true, false, cond, List, [], ◌∷◌, ◌++◌, map, filter, length, length-append, nat_eq, Option, Some, None, refl, ap, subst, ◌∙◌, arith, IsPermutation}
+use Rattle.std.proofs.Common.{◌≡◌, ◌≤◌, ℕ, ◌+◌, suc, pos, Bool, true, false, cond, List, [], ◌∷◌, ◌++◌, map, filter, length, length-append, nat_eq, Option, Some, None, refl, ap, sym, subst, ◌∙◌, arith, IsPermutation}
 use Rattle.std.proofs.lemmas.Bool.{and_parts}
+use Rattle.std.proofs.lemmas.List.{append-nil, nil_from_length}
 use Rattle.std.proofs.lemmas.List.Sorted.{IsPermutation-refl}
 use Rattle.sqlite.specs.declared.types.Value.TheVariants.{Int}
 use Rattle.sqlite.specs.Order.{Row, column}
@@ -12,8 +13,8 @@ use Rattle.table_rows.proofs.OrderLemmas.{same_number, and_true, lower_apart}
 use Rattle.table_rows.proofs.ReadingLemmas.{reads_rows}
 use Rattle.table_rows.proofs.TakeLemmas.{take_out}
 use Rattle.outbox_opening.specs.Schema.{common_tables, HasCommon, entry_table}
-use Rattle.outbox_opening.specs.Audit.{is_int, is_entry, is_sound, first_damaged}
-use Rattle.outbox_opening.specs.Walk.{Walked}
+use Rattle.outbox_opening.specs.Audit.{is_int, is_entry, is_sound, first_damaged, is_left_over}
+use Rattle.outbox_opening.specs.Walk.{AreCounted, Walked}
 use Rattle.outbox_opening.proofs.Texts.{equals, entry_columns, by_id_text, by_id_asks}
 use Rattle.outbox_opening.proofs.SelectLemmas.{id_column}
 use Rattle.outbox_opening.proofs.AuditLemmas.{is_int-of}
@@ -75,4 +76,18 @@ walked_on targets total count db rows row was picked is =
       rest = out.0;
       all = out.1;
       in_all = omega (arith, long, all);
+    }
+
+-- ---- all entries
+
+-- past all of them, where no row of `target` is left over
+pub walked_all : (targets : List Row) (count : ℕ) (db : Database) (rows : List Row) → Walked targets count count db rows → is_left_over count targets ≡ false → AreCounted targets count db
+walked_all targets count db rows was none =
+    let whole = was.in_all in
+    let empty : was.rest ≡ [] = nil_from_length was.rest (omega (arith, whole)) in
+    record {
+      rows = rows;
+      held = subst (λ l. IsPermutation l (rows_in db entry_table)) (ap (λ l. rows ++ l) empty ∙ append-nil rows) was.all;
+      sound = rw (was.many, none, was.sound) refl;
+      many = sym was.many;
     }

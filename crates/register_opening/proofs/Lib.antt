@@ -1,3 +1,4 @@
+pub mod Calls
 pub mod CommonLemmas
 pub mod CreateTexts
 pub mod EarlierReads
@@ -17,5 +18,7 @@ pub mod ReadTexts
 pub mod RisingLemmas
 pub mod Surveyed
 pub mod Texts
+pub mod Undone
+pub mod WalkEnds
 pub mod WalkLemmas
 pub mod WalkOpens

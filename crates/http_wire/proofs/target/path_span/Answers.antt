@@ -3,7 +3,7 @@ use Rattle.std.specs.Prelude.{if◌then◌else◌}
 use Rattle.httparse.specs.Spans.{span_bytes}
 use Rattle.http_uri.specs.Uri.{uri_path}
 use Rattle.http_wire.specs.Head.{before_query, written_path}
-use Rattle.http_wire.proofs.HeadLemmas.{before_query-at, end-at, written_path-at}
+use Rattle.http_wire.proofs.HeadLemmas.{before_query-at, before_query-end, end-at, written_path-at}
 use Rattle.http_wire.proofs.target.path_span.Goals as goal
 use Rattle.http_wire.proofs.target.path_span.Goals.{then-ends_with, else-ends_with}
 
@@ -22,3 +22,19 @@ returns-clause-ok c =
     let uri = c.in-Ok.uri in
     let same : path ≡ uri_path uri = cc in
     (uri, rw (← c.of-text.ensures) c.in-Ok.ensures.ok, place ∙ written ∙ ap (written_path target) same)
+
+pub overflow_add-end : goal.overflow_add-end
+overflow_add-end c =
+    let end = before_query-end c.args.block.now _ _ c.args.target c.requires c.of-text.ensures c.before_query-shown.ensures in
+    omega (arith, end)
+
+pub overflow_sub-result : goal.overflow_sub-result
+overflow_sub-result c = elim c.if-ends_with.branch [
+  | then-ends_with w ↦ omega (arith, w.len-is, c.ends_with.ensures.bound w.if-ends_with.true)
+  | else-ends_with w ↦ omega (arith, w.len-is)
+]
+
+pub returns-clause-within : goal.returns-clause-within
+returns-clause-within c =
+    let end = before_query-end c.args.block.now _ _ c.args.target c.requires c.of-text.ensures c.before_query-shown.ensures in
+    (omega arith, omega (arith, end, c.requires.1))

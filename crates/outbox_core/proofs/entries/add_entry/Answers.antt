@@ -1,4 +1,4 @@
-use Rattle.std.proofs.Common.{◌≡◌, arith, sym, ◌∙◌, Some, None, ap, find}
+use Rattle.std.proofs.Common.{◌≡◌, ◌⊎◌, ℕ, Result, Ok, Err, IfErr, inl, inr, subst, arith, sym, ◌∙◌, Some, None, ap, find}
 use Rattle.sqlite.specs.Held.{state}
 use Rattle.sqlite.specs.State.{HasCleanDisk}
 use Rattle.sqlite.proofs.StateLemmas.{survives_weaker, survives_then}
@@ -7,7 +7,25 @@ use Rattle.outbox_core.specs.Entries.{has_text}
 use Rattle.outbox_opening.specs.Entries.{numbered}
 use Rattle.outbox_core.proofs.ReadLemmas.{none_found}
 use Rattle.outbox_core.proofs.ListLemmas.{one_more}
+use Rattle.outbox_core.specs.declared.fault.PutFault.{PutFault}
+use Rattle.outbox_core.specs.declared.fault.PutFault.TheVariants as put
 use Rattle.outbox_core.proofs.entries.add_entry.Goals as goal
+
+abbrev IsCaused : PutFault → Type 0
+IsCaused fault = (fault ≡ put.Memory) ⊎ (fault ≡ put.Store)
+
+-- a refusal by memory or the store is no other
+caused : (r : Result ℕ PutFault) (fault : PutFault) → IfErr r IsCaused → r ≡ Err fault → IsCaused fault
+caused (Ok id) fault why is = absurd cc
+caused (Err f) fault why is = let same : f ≡ fault = cc in subst IsCaused same why
+
+not_used : (id : ℕ) → IsCaused (put.KeyUsed id) → ⊥
+not_used id (inl is) = absurd cc
+not_used id (inr is) = absurd cc
+
+not_large : IsCaused put.TooLarge → ⊥
+not_large (inl is) = absurd cc
+not_large (inr is) = absurd cc
 
 pub returns-in-Ok-None-clause-added : goal.returns-in-Ok-None-clause-added
 returns-in-Ok-None-clause-added g c clean it was counted =
@@ -54,3 +72,9 @@ returns-in-Ok-Some-clause-crash g c =
 pub returns-in-Err-clause-crash : goal.returns-in-Err-clause-crash
 returns-in-Err-clause-crash g c =
     survives_weaker (state g.S.Store c.args.conn.now) (state g.S.Store c.id_of_key.new.conn) _ _ (λ _ trees none. absurd none) c.id_of_key.ensures.crash
+
+pub returns-in-Ok-None-clause-used : goal.returns-in-Ok-None-clause-used
+returns-in-Ok-None-clause-used g c clean it was id is = absurd (not_used id (caused c.insert_next.result (put.KeyUsed id) c.insert_next.ensures.causes is))
+
+pub returns-in-Ok-None-clause-any_size : goal.returns-in-Ok-None-clause-any_size
+returns-in-Ok-None-clause-any_size g c is = not_large (caused c.insert_next.result put.TooLarge c.insert_next.ensures.causes is)

@@ -7,7 +7,15 @@ use Rattle.sqlite.proofs.Callers.{survives_begin}
 use Rattle.filing_model.specs.Outbox.{Entry}
 use Rattle.outbox_core.specs.Entries.{opened}
 use Rattle.outbox_core.specs.Changes.{Adds, AddsRows, AddsTo}
+use Rattle.outbox_core.proofs.write.keep_entry.Given as given
 use Rattle.outbox_core.proofs.write.keep_entry.Goals as goal
+
+-- the connection that comes back is that of the commit
+ended : (g : given.Over) (c : goal.After-conn-2-1 g) → c.commit.new.self.0 ≡ c.conn-2-1.given.0
+ended g c = search rules
+
+still_clean : (g : given.Over) (c : goal.After-conn-2-1 g) → HasCleanDisk (state g.S.Store c.conn-2-1.given.0) → HasCleanDisk (state g.S.Store c.commit.new.self.0)
+still_clean g c clean = subst (λ h. HasCleanDisk (state g.S.Store h)) (sym (ended g c)) clean
 
 pub returns-clause-adds : goal.returns-clause-adds
 returns-clause-adds g c clean =
@@ -15,8 +23,8 @@ returns-clause-adds g c clean =
     let last = c.write_entry.new.tx.conn.now in
     let begun = c.transaction-tx.ensures.begun in
     let end = c.commit.new.self.0 in
-    let same : end ≡ c.conn-2-1.given.0 = search rules in
-    let late : HasCleanDisk (state g.S.Store end) = search rules in
+    let same = ended g c in
+    let late = still_clean g c clean in
     let mid : HasCleanDisk (state g.S.Store last) = omega (arith, c.commit.ensures.survives.clean) in
     let e : Entry = opened c.args.key.now c.args.target c.args.body.now in
     let written = c.in_ok-write_entry.ensures.adds mid in
@@ -38,7 +46,7 @@ returns-clause-crash g c =
     let last = c.write_entry.new.tx.conn.now in
     let begun = c.transaction-tx.ensures.begun in
     let end = c.commit.new.self.0 in
-    let same : end ≡ c.conn-2-1.given.0 = search rules in
+    let same = ended g c in
     let e : Entry = opened c.args.key.now c.args.target c.args.body.now in
     let P = AddsTo c.args.id e (state g.S.Store old).now in
     let rows : HasCleanDisk (state g.S.Store last) → AddsRows c.args.id e (state g.S.Store old).now (state g.S.Store last).now = λ mid. rw begun at (c.in_ok-write_entry.ensures.adds mid).adds in

@@ -2,6 +2,7 @@ use Rattle.std.proofs.Common.{arith}
 use Rattle.std.proofs.lemmas.Result.{IfOk-weaker}
 use Rattle.sqlite.specs.Held.{state}
 use Rattle.sqlite.specs.State.{HasCleanDisk}
+use Rattle.table_rows.proofs.StepLemmas.{keeps_then, nothing_left}
 use Rattle.outbox_core.proofs.InsertLemmas.{adds_alone, adds_both}
 use Rattle.outbox_core.proofs.write.write_entry.Goals as goal
 
@@ -16,3 +17,13 @@ returns-in-Some-clause-adds g c clean =
 pub returns-in-None-clause-adds : goal.returns-in-None-clause-adds
 returns-in-None-clause-adds g c clean =
     rw c.in-None.is (adds_alone c.args.id c.args.key.now c.args.body.now (state g.S.Store c.args.tx.now.conn.now) (state g.S.Store c.insert_entry.new.tx.conn.now) (c.in_ok-insert_entry.ensures.gains clean))
+
+pub returns-in-Some-clause-keeps : goal.returns-in-Some-clause-keeps
+returns-in-Some-clause-keeps g c clean =
+    let mid = state g.S.Store c.insert_entry.new.tx.conn.now in
+    let early : HasCleanDisk mid = omega (arith, c.insert_target.ensures.survives.clean) in
+    keeps_then (state g.S.Store c.args.tx.now.conn.now) mid (state g.S.Store c.insert_target.new.tx.conn.now) (c.insert_entry.ensures.keeps early) (c.insert_target.ensures.keeps clean)
+
+pub returns-in-Some-clause-survives : goal.returns-in-Some-clause-survives
+returns-in-Some-clause-survives g c =
+    nothing_left (state g.S.Store c.args.tx.now.conn.now) (state g.S.Store c.insert_entry.new.tx.conn.now) (state g.S.Store c.insert_target.new.tx.conn.now) c.insert_entry.ensures.survives c.insert_target.ensures.survives

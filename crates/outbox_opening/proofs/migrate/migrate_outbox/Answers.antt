@@ -11,23 +11,23 @@ use Rattle.outbox_opening.proofs.migrate.migrate_outbox.Goals as goal
 
 pub returns-then-is_used : goal.returns-then-is_used
 returns-then-is_used g c = record {
-  autocommit = search rules;
-  migrated = search rules;
-  «open» = search rules;
-  code = search rules;
-  few = search rules;
+  autocommit = c.read_earlier.ensures.mode c.requires.autocommit;
+  migrated = λ clean alone. tt;
+  «open» = λ clean. tt;
+  code = tt;
+  few = tt;
   refused = λ clean.
       let used : is_blocked (state g.S.Store c.read_earlier.new.conn).now.schema ≡ true = let told = rw c.schema.ensures.value at c.if-is_used.ensures in sym told in
       inr (c.read_earlier.new.conn, c.in-Ok.ensures.read clean, used);
   sound = search rules;
-  undone = search rules;
+  undone = c.read_earlier.ensures.kept;
   crash = search rules;
-  durable = search rules;
+  durable = λ clean. tt;
 }
 
 pub returns-in-Ok-write : goal.returns-in-Ok-write
 returns-in-Ok-write g c = record {
-  autocommit = search rules;
+  autocommit = c.write.ensures.autocommit;
   migrated = λ clean alone.
       let early : HasCleanDisk (state g.S.Store c.read_earlier.new.conn) = omega (arith, c.write.ensures.crash.clean) in
       let found = c.in-Ok.ensures.found early (alone_common _ alone) (λ alive. (c.is_settled.ensures.live alive).0) in
@@ -37,23 +37,23 @@ returns-in-Ok-write g c = record {
       let outbox = c.in-Ok-write.ensures.migrated clean it still (subst (IsEarlierOf it) same found.1) in
       let settled = c.in-Ok-write.ensures.committed clean in
       (found.0, found.1, record { autocommit = c.write.ensures.autocommit; now = λ _. outbox; committed = λ _. settled.1 }, found.2);
-  «open» = search rules;
-  code = search rules;
-  few = search rules;
-  refused = search rules;
-  sound = search rules;
-  undone = search rules;
+  «open» = λ clean. (c.in-Ok-write.ensures.committed clean).0;
+  code = c.in-Ok.ensures.code;
+  few = c.in-Ok.ensures.few;
+  refused = λ clean. tt;
+  sound = λ clean. tt;
+  undone = λ clean. tt;
   crash = search rules;
-  durable = search rules;
+  durable = c.in-Ok-write.ensures.durable;
 }
 
 pub returns-in-Err-write : goal.returns-in-Err-write
 returns-in-Err-write g c = record {
-  autocommit = search rules;
-  migrated = search rules;
-  «open» = search rules;
-  code = search rules;
-  few = search rules;
+  autocommit = c.write.ensures.autocommit;
+  migrated = λ clean alone. tt;
+  «open» = λ clean. tt;
+  code = tt;
+  few = tt;
   refused = λ clean.
       let early : HasCleanDisk (state g.S.Store c.read_earlier.new.conn) = omega (arith, c.write.ensures.crash.clean) in
       let free : is_blocked (state g.S.Store c.read_earlier.new.conn).now.schema ≡ false = let told = rw c.schema.ensures.value at c.if-is_used.ensures in sym told in
@@ -70,5 +70,5 @@ returns-in-Err-write g c = record {
       let same = sym (c.in-Ok.ensures.found early (alone_common _ alone) (λ alive. (c.is_settled.ensures.live alive).0)).3.0.now_is in
       left it (subst (λ (d : Database). IsAlone d.schema) same alone) (subst (IsEarlierOf it) same is))
       c.read_earlier.ensures.crash c.write.ensures.crash;
-  durable = search rules;
+  durable = λ clean. tt;
 }

@@ -1,9 +1,11 @@
-use Rattle.std.proofs.Common.{inr, sym, subst, ◌∙◌}
+use Rattle.std.proofs.Common.{◌≡◌, inl, inr, Err, sym, ap, subst, ◌∙◌}
 use Rattle.std.proofs.lemmas.Result.{IfOk-weaker}
 use Rattle.std.proofs.lemmas.List.Sorted.{IsPermutation-sym, IsPermutation-trans}
 use Rattle.sqlite.specs.Effect.{Database}
 use Rattle.sqlite.proofs.Callers.{unchanged_then}
 use Rattle.table_rows.specs.Rows.{TableHas}
+use Rattle.table_rows.proofs.StepLemmas.{keeps_then}
+use Rattle.outbox_opening.specs.declared.fault.OutboxFault.TheVariants as fault
 use Rattle.outbox_opening.specs.Schema.{HasCommon, entry_table}
 use Rattle.outbox_opening.specs.Rows.{IsOutboxOf, entry_rows}
 use Rattle.outbox_opening.proofs.AuditLemmas.{targets_paired}
@@ -46,3 +48,18 @@ returns-in-Ok-clause-whole g c clean it is unlimited =
     let here : IsOutboxOf it (state g.S.Store c.read_targets.new.conn).now = subst (IsOutboxOf it) (sym held.1.0.now_is) is in
     let targets = IsPermutation-trans _ _ _ is.rows.targets_are (IsPermutation-sym c.in-Ok.targets.items _ held.0) in
     c.count_entries.ensures.whole clean it.entries (has_common _ here.rows.declared) here.rows.entries_are (kept_entries it is.list) (rw c.as_slice.ensures.value targets) (c.read_targets.ensures.limit ∙ unlimited)
+
+pub returns-in-Ok-clause-kept : goal.returns-in-Ok-clause-kept
+returns-in-Ok-clause-kept g c clean =
+    let early : HasCleanDisk (state g.S.Store c.read_targets.new.conn) = c.count_entries.ensures.clean clean in
+    keeps_then (state g.S.Store c.args.conn.now) (state g.S.Store c.read_targets.new.conn) (state g.S.Store c.count_entries.new.conn) (c.read_targets.ensures.kept early) (c.count_entries.ensures.kept clean)
+
+pub returns-in-Err-clause-damaged : goal.returns-in-Err-clause-damaged
+returns-in-Err-clause-damaged g c clean row is =
+    let same : c.in-Err.fault ≡ fault.Damaged row = cc in
+    inl (c.in-Err.ensures.damaged clean row (ap Err same))
+
+pub returns-in-Err-clause-disk : goal.returns-in-Err-clause-disk
+returns-in-Err-clause-disk g c clean is =
+    let same : c.in-Err.fault ≡ fault.Disk = cc in
+    inl (c.in-Err.ensures.disk clean (ap Err same))

@@ -1,6 +1,14 @@
-use Rattle.std.proofs.Common.{◌∙◌}
+use Rattle.std.proofs.Common.{◌∙◌, inl, sym, subst}
+use Rattle.std.proofs.lemmas.Result.{IfOk-weaker}
+use Rattle.sqlite.specs.Effect.{Database}
+use Rattle.sqlite.proofs.Callers.{unchanged_then}
+use Rattle.table_rows.specs.Rows.{TableHas}
+use Rattle.outbox_opening.specs.Schema.{HasCommon, entry_table}
+use Rattle.outbox_opening.specs.Rows.{entry_rows}
+use Rattle.table_rows.proofs.StepLemmas.{keeps_then, nothing_left}
+use Rattle.table_rows.proofs.TextLemmas.{keeps_commit}
 use Rattle.sqlite.specs.Held.{state}
-use Rattle.sqlite.specs.State.{HasCleanDisk}
+use Rattle.sqlite.specs.State.{HasCleanDisk, IsUnchanged}
 use Rattle.table_rows.specs.declared.cause.Cause.TheVariants as cause
 use Rattle.outbox_opening.proofs.AuditLemmas.{entries_found}
 use Rattle.outbox_opening.proofs.StopLemmas.{stops_before, damaged_before}
@@ -25,3 +33,32 @@ returns-in-Ok-None-clause-disk g c clean is =
     let early : HasCleanDisk (state g.S.Store c.count_one_by_one.new.conn) = c.count_whole.ensures.clean clean in
     stops_before (state g.S.Store c.args.conn.now) (state g.S.Store c.count_one_by_one.new.conn) (state g.S.Store c.count_whole.new.conn) (c.in-Ok-None.ensures.same early) walked.limit walked.counts
     cause.Disk (c.count_whole.ensures.disk clean is)
+
+pub returns-in-Ok-None-clause-counted : goal.returns-in-Ok-None-clause-counted
+returns-in-Ok-None-clause-counted g c clean common pairs =
+    let old = state g.S.Store c.args.conn.now in
+    let mid = state g.S.Store c.count_one_by_one.new.conn in
+    let early : HasCleanDisk mid = c.count_whole.ensures.clean clean in
+    let same : IsUnchanged old mid = c.in-Ok-None.ensures.same early in
+    let there : HasCommon mid.now.schema = subst (λ (db : Database). HasCommon db.schema) (sym same.0.now_is) common in
+    IfOk-weaker c.count_whole.result _ _
+    (λ count found. (found.0, subst (λ (db : Database). TableHas db entry_table (entry_rows found.0)) same.0.now_is found.1, found.2, found.3, found.4, unchanged_then old mid (state g.S.Store c.count_whole.new.conn) same found.5))
+    (c.count_whole.ensures.counted clean there pairs)
+
+pub returns-in-Ok-None-clause-whole : goal.returns-in-Ok-None-clause-whole
+returns-in-Ok-None-clause-whole g c clean entries common held kept are unlimited =
+    let mid = state g.S.Store c.count_one_by_one.new.conn in
+    let early : HasCleanDisk mid = c.count_whole.ensures.clean clean in
+    let back = sym (c.in-Ok-None.ensures.same early).0.now_is in
+    let there : HasCommon mid.now.schema = subst (λ (db : Database). HasCommon db.schema) back common in
+    c.count_whole.ensures.whole clean entries there (subst (λ (db : Database). TableHas db entry_table (entry_rows entries)) back held) kept are (c.count_one_by_one.ensures.survives.limit ∙ unlimited)
+
+pub returns-in-Ok-None-clause-crash : goal.returns-in-Ok-None-clause-crash
+returns-in-Ok-None-clause-crash g c = nothing_left (state g.S.Store c.args.conn.now) (state g.S.Store c.count_one_by_one.new.conn) (state g.S.Store c.count_whole.new.conn) c.count_one_by_one.ensures.survives c.count_whole.ensures.crash
+
+pub returns-in-Ok-None-clause-kept : goal.returns-in-Ok-None-clause-kept
+returns-in-Ok-None-clause-kept g c clean =
+    let old = state g.S.Store c.args.conn.now in
+    let mid = state g.S.Store c.count_one_by_one.new.conn in
+    let early : HasCleanDisk mid = c.count_whole.ensures.clean clean in
+    keeps_then old mid (state g.S.Store c.count_whole.new.conn) (keeps_commit old mid (inl (c.in-Ok-None.ensures.same early))) (c.count_whole.ensures.kept clean)

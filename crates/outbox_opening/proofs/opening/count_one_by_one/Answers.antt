@@ -2,9 +2,12 @@ use Rattle.std.proofs.Common.{sym}
 use Rattle.sqlite.specs.Held.{state}
 use Rattle.table_rows.specs.declared.cause.Cause.TheVariants as cause
 use Rattle.outbox_opening.specs.Audit.{entries_text}
-use Rattle.outbox_opening.proofs.StopLemmas.{stops_for}
+use Rattle.outbox_opening.proofs.StopLemmas.{stops_for, unchanged_other}
 use Rattle.outbox_opening.proofs.opening.count_one_by_one.Goals as goal
 
 pub returns-in-Disk-clause-disk : goal.returns-in-Disk-clause-disk
 returns-in-Disk-clause-disk g c clean is =
     stops_for entries_text (state g.S.Store c.args.conn.now) (state g.S.Store c.count_by_walk.new.conn) c.in-Err.error cause.Disk (λ e. cc) (sym c.in-Disk.ensures) (c.in-Err.ensures.stopped clean)
+
+pub returns-in-Other-clause-same : goal.returns-in-Other-clause-same
+returns-in-Other-clause-same g c clean = unchanged_other (state g.S.Store c.args.conn.now) (state g.S.Store c.count_by_walk.new.conn) c.in-Err.error (sym c.in-Other.ensures) (c.in-Err.ensures.stopped clean)

@@ -1,8 +1,10 @@
-use Rattle.std.proofs.Common.{◌≡◌, None, Some, length, sym, ◌∙◌, rules}
+use Rattle.std.proofs.Common.{◌≡◌, None, Some, inl, inr, length, sym, ap, ◌∙◌, rules}
 use Rattle.sqlite.specs.Held.{state}
 use Rattle.outbox_opening.specs.Audit.{damaged_row}
 use Rattle.outbox_opening.proofs.AuditLemmas.{entries_found}
 use Rattle.table_rows.specs.Causes.{cause_of}
+use Rattle.outbox_opening.specs.declared.fault.OutboxFault.TheVariants as fault
+use Rattle.outbox_opening.proofs.RefusalLemmas.{entry_other, entry_stopped}
 use Rattle.outbox_opening.proofs.SoundLemmas.{no_damage, entries_readable, unlisted}
 use Rattle.outbox_opening.proofs.opening.count_whole.Goals as goal
 
@@ -28,3 +30,20 @@ returns-clause-whole g c clean entries common held kept same unlimited =
 pub returns-in-None-clause-read : goal.returns-in-None-clause-read
 returns-in-None-clause-read g c clean =
     (c.in-Ok.rows.items, c.in-Ok.ensures.shown clean, rw c.as_slice.ensures.value at (sym c.in_ok-damaged_row-in-Ok.ensures ∙ c.in-None.is))
+
+pub returns-in-Ok-clause-damaged : goal.returns-in-Ok-clause-damaged
+returns-in-Ok-clause-damaged g c clean row is =
+    let some : damaged_row c.args.targets.now c.in-Ok.rows.items ≡ Some c.in-Some.row = rw c.as_slice.ensures.value at (sym c.in_ok-damaged_row-in-Ok.ensures ∙ c.in-Some.is) in
+    let same : c.in-Some.row ≡ row = cc in
+    inl (c.in-Ok.rows.items, c.in-Ok.ensures.shown clean, some ∙ ap Some same)
+
+pub returns-clause-damaged : goal.returns-clause-damaged
+returns-clause-damaged g c clean row is =
+    let told : c.entry_fault.result ≡ fault.Damaged row = cc in
+    let other = entry_other (cause_of c.in-Err.error) row (sym c.entry_fault.ensures ∙ told) in
+    inr (other.0, (c.in-Err.error, c.in-Err.ensures.failed clean, other.1))
+
+pub returns-clause-disk : goal.returns-clause-disk
+returns-clause-disk g c clean is =
+    let told : c.entry_fault.result ≡ fault.Disk = cc in
+    (c.in-Err.error, c.in-Err.ensures.failed clean, entry_stopped (cause_of c.in-Err.error) (sym c.entry_fault.ensures ∙ told))

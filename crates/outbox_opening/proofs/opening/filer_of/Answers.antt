@@ -1,4 +1,4 @@
-use Rattle.std.proofs.Common.{◌≡◌, [], ◌∷◌, true, None, Some, option_map, sym, ap, subst, ◌∙◌}
+use Rattle.std.proofs.Common.{◌≡◌, [], ◌∷◌, true, None, Some, inl, inr, option_map, sym, ap, subst, ◌∙◌}
 use Rattle.sqlite.specs.Held.{state}
 use Rattle.key_string.specs.Filer.{is_filer}
 use Rattle.table_rows.specs.Rows.{TableHas}
@@ -7,6 +7,8 @@ use Rattle.outbox_opening.specs.Rows.{form_row}
 use Rattle.outbox_opening.specs.Audit.{filer_in}
 use Rattle.outbox_opening.proofs.AuditLemmas.{filer_found, filer_code, is_some}
 use Rattle.table_rows.specs.Causes.{cause_of}
+use Rattle.outbox_opening.specs.declared.fault.OutboxFault.TheVariants as fault
+use Rattle.outbox_opening.proofs.RefusalLemmas.{meta_other, meta_stopped}
 use Rattle.outbox_opening.proofs.SoundLemmas.{filer_is, meta_readable, unread}
 use Rattle.outbox_opening.proofs.opening.filer_of.Goals as goal
 
@@ -39,3 +41,18 @@ pub returns-clause-ours : goal.returns-clause-ours
 returns-clause-ours g c clean filer common held is unlimited =
     let readable = meta_readable (state g.S.Store c.args.conn.now) (state g.S.Store c.meta_rows.new.conn) common unlimited c.in-Err.error (c.in-Err.ensures.failed clean) in
     rw c.meta_fault.ensures (unread (cause_of c.in-Err.error) readable)
+
+pub returns-clause-not_ours : goal.returns-clause-not_ours
+returns-clause-not_ours g c clean is =
+    let ours : c.meta_fault.result ≡ fault.NotOurs = cc in
+    inr (c.in-Err.error, c.in-Err.ensures.failed clean, meta_other (cause_of c.in-Err.error) (sym c.meta_fault.ensures ∙ ours))
+
+pub returns-clause-disk : goal.returns-clause-disk
+returns-clause-disk g c clean is =
+    let stopped : c.meta_fault.result ≡ fault.Disk = cc in
+    (c.in-Err.error, c.in-Err.ensures.failed clean, meta_stopped (cause_of c.in-Err.error) (sym c.meta_fault.ensures ∙ stopped))
+
+pub returns-in-Ok-clause-not_ours : goal.returns-in-Ok-clause-not_ours
+returns-in-Ok-clause-not_ours g c clean is =
+    let none : filer_in c.args.form c.in-Ok.rows.items ≡ None = rw c.as_slice.ensures.value at (sym c.filer_in.ensures ∙ ap (option_map (λ f. f.now)) c.in-None.is) in
+    inl (c.in-Ok.rows.items, c.in-Ok.ensures.shown clean, none)

@@ -1,7 +1,7 @@
 use Rattle.std.proofs.Common.{◌≡◌, inl, inr, not, true, false, IsTrue, refl, sym, ap, ◌∙◌, rules, arith}
 use Rattle.sqlite.specs.Held.{state}
 use Rattle.sqlite.specs.State.{HasCleanDisk}
-use Rattle.sqlite.proofs.StateLemmas.{survives_then}
+use Rattle.sqlite.proofs.StateLemmas.{survives_then, survives_weaker}
 use Rattle.register_opening.specs.declared.migrate.earlier.Earlier.{Earlier}
 use Rattle.register_opening.specs.Earlier.{is_blocked, ForEarlier}
 use Rattle.register_opening.specs.Migrating.{IsMigrated, MigratesTo}
@@ -12,11 +12,11 @@ use Rattle.register_opening.proofs.migrate.migrate_register.Goals as goal
 
 pub returns-then-is_blocked : goal.returns-then-is_blocked
 returns-then-is_blocked g c = record {
-  autocommit = search rules;
-  migrated = search rules;
-  only = search rules;
-  few = search rules;
-  ran = search rules;
+  autocommit = c.read_earlier.ensures.mode c.requires.autocommit;
+  migrated = λ clean form alone. tt;
+  only = λ clean. tt;
+  few = tt;
+  ran = λ clean. tt;
   refused = λ clean.
       let used : is_blocked (state g.S.Store c.read_earlier.new.conn).now.schema c.in-Ok.found.form ≡ true = let told = rw c.schema.ensures.value at c.if-is_blocked.ensures in sym told in
       inr (c.in-Ok.found.form, c.in-Ok.found.counts, c.read_earlier.new.conn, c.in-Ok.ensures.found clean, inl (refl, used, refl));
@@ -27,8 +27,8 @@ returns-then-is_blocked g c = record {
       let settled : IsTrue c.is_settled.result = c.is_settled.ensures.value ∙ ap not c.requires.autocommit in
       adds_nothing (state g.S.Store c.args.conn.now) (state g.S.Store c.read_earlier.new.conn) (c.is_settled.ensures.settled settled)
       (inl (to_end g.S.Store c.args.conn.now c.read_earlier.new.conn c.in-Ok.found.form c.in-Ok.found.counts (c.in-Ok.ensures.found clean)));
-  crash = search rules;
-  durable = search rules;
+  crash = survives_weaker (state g.S.Store c.args.conn.now) (state g.S.Store c.read_earlier.new.conn) _ _ (λ _ db none. absurd none) c.read_earlier.ensures.survives;
+  durable = λ clean. tt;
 }
 
 pub returns-in-Ok-write : goal.returns-in-Ok-write
@@ -43,16 +43,16 @@ returns-in-Ok-write g c =
     let done = ran clean in
     migrates_only g.S.Store c.args.conn.now c.write.new.conn done.0 form c.in-Ok.found.counts done.1 c.write.ensures.autocommit early F alone is in
     record {
-      autocommit = search rules;
+      autocommit = c.write.ensures.autocommit;
       migrated = λ clean form alone.
           let done = ran clean in
           migrates g.S.Store c.args.conn.now c.write.new.conn done.0 form c.in-Ok.found.counts done.1 c.write.ensures.autocommit c.is_settled.ensures.live alone;
       only = only;
-      few = search rules;
+      few = c.in-Ok.ensures.few;
       ran = ran;
-      refused = search rules;
-      sound = search rules;
-      neither = search rules;
+      refused = λ clean. tt;
+      sound = λ clean. tt;
+      neither = λ clean. tt;
       crash =
           survives_then (state g.S.Store c.args.conn.now) (state g.S.Store c.read_earlier.new.conn) (state g.S.Store c.write.new.conn) _ _ (MigratesTo g.S.Store c.args.conn.now) (λ _ db none. absurd none)
           (λ late db is. record { form = c.in-Ok.found.form; counts = c.in-Ok.found.counts; mid = c.read_earlier.new.conn; surveyed = c.in-Ok.ensures.found (omega (arith, c.write.ensures.crash.clean)); written = is })
@@ -65,11 +65,11 @@ returns-in-Ok-write g c =
 
 pub returns-in-Err-write : goal.returns-in-Err-write
 returns-in-Err-write g c = record {
-  autocommit = search rules;
-  migrated = search rules;
-  only = search rules;
-  few = search rules;
-  ran = search rules;
+  autocommit = c.write.ensures.autocommit;
+  migrated = λ clean form alone. tt;
+  only = λ clean. tt;
+  few = tt;
+  ran = λ clean. tt;
   refused = λ clean.
       let mid : HasCleanDisk (state g.S.Store c.read_earlier.new.conn) = omega (arith, c.write.ensures.crash.clean) in
       let free : is_blocked (state g.S.Store c.read_earlier.new.conn).now.schema c.in-Ok.found.form ≡ false = let told = rw c.schema.ensures.value at c.if-is_blocked.ensures in sym told in
@@ -83,21 +83,21 @@ returns-in-Err-write g c = record {
       survives_then (state g.S.Store c.args.conn.now) (state g.S.Store c.read_earlier.new.conn) (state g.S.Store c.write.new.conn) _ _ (MigratesTo g.S.Store c.args.conn.now) (λ _ db none. absurd none)
       (λ late db is. record { form = c.in-Ok.found.form; counts = c.in-Ok.found.counts; mid = c.read_earlier.new.conn; surveyed = c.in-Ok.ensures.found (omega (arith, c.write.ensures.crash.clean)); written = is })
       c.read_earlier.ensures.survives c.write.ensures.crash;
-  durable = search rules;
+  durable = λ clean. tt;
 }
 
 pub returns-in-Err : goal.returns-in-Err
 returns-in-Err g c = record {
-  autocommit = search rules;
-  migrated = search rules;
-  only = search rules;
-  few = search rules;
-  ran = search rules;
-  refused = search rules;
+  autocommit = c.read_earlier.ensures.mode c.requires.autocommit;
+  migrated = λ clean form alone. tt;
+  only = λ clean. tt;
+  few = tt;
+  ran = λ clean. tt;
+  refused = λ clean. inl (c.in-Err.ensures.refused clean);
   sound = λ clean form early F is free. survey_sound g.S.Store c.read_earlier.new.conn F c.args.conn.now c.requires.unlimited form early is c.in-Err.fault (c.in-Err.ensures.refused clean);
   neither = λ clean.
       let settled : IsTrue c.is_settled.result = c.is_settled.ensures.value ∙ ap not c.requires.autocommit in
       adds_nothing (state g.S.Store c.args.conn.now) (state g.S.Store c.read_earlier.new.conn) (c.is_settled.ensures.settled settled) (not_surveyed_keeps g.S.Store c.in-Err.fault c.args.conn.now c.read_earlier.new.conn (c.in-Err.ensures.refused clean));
-  crash = search rules;
-  durable = search rules;
+  crash = survives_weaker (state g.S.Store c.args.conn.now) (state g.S.Store c.read_earlier.new.conn) _ _ (λ _ db none. absurd none) c.read_earlier.ensures.survives;
+  durable = λ clean. tt;
 }

@@ -18,6 +18,7 @@ use Rattle.register_opening.specs.declared.opening.Tables.{Tables}
 use Rattle.register_opening.proofs.OpenLemmas.{got_four, reads_on}
 use Rattle.register_opening.proofs.ReadTexts.{query_kept, query_findings, query_filings, query_facts}
 use Rattle.register_opening.proofs.WalkOpens.{are_read_before, stops_before, counted_whole}
+use Rattle.table_rows.proofs.StepLemmas.{nothing_left}
 use Rattle.register_opening.proofs.opening.count_all.Goals as goal
 
 abbrev rows_of : Later → Rows
@@ -75,3 +76,9 @@ pub returns-in-Err-clause-refused : goal.returns-in-Err-clause-refused
 returns-in-Err-clause-refused g c clean =
     let failed = c.in-Err.ensures.failed clean in
     rw failed.1 (unread_after g.S.Store (rows_of c.args.later.now) c.args.conn.now c.count_one_by_one.new.conn failed.0 failed.2)
+
+pub returns-in-Ok-clause-survives : goal.returns-in-Ok-clause-survives
+returns-in-Ok-clause-survives g c = nothing_left _ _ _ c.count_one_by_one.ensures.survives c.read_tables.ensures.survives
+
+pub returns-in-Err-read_tables-clause-survives : goal.returns-in-Err-read_tables-clause-survives
+returns-in-Err-read_tables-clause-survives g c = nothing_left _ _ _ c.count_one_by_one.ensures.survives c.read_tables.ensures.survives

@@ -2,6 +2,7 @@ use Rattle.std.proofs.Common.{inl, inr, refl, arith}
 use Rattle.sqlite.specs.Held.{state}
 use Rattle.sqlite.specs.State.{HasCleanDisk}
 use Rattle.register_opening.proofs.OpenLemmas.{is_read}
+use Rattle.table_rows.proofs.StepLemmas.{nothing_left}
 use Rattle.register_opening.proofs.opening.read_later.Goals as goal
 
 pub returns-in-Ok-amends_rows-clause-read : goal.returns-in-Ok-amends_rows-clause-read
@@ -21,3 +22,9 @@ returns-in-Err-amends_rows-clause-failed g c clean =
       is_read g.S.Store _ c.args.conn.now c.migrated_rows.new.conn c.in-Ok.migrated.items (c.in-Ok.ensures.shown first) c.migrated_rows.ensures.survives.limit,
       inl (c.in-Err-amends_rows.error, c.in-Err-amends_rows.ensures.failed clean, refl),
     )
+
+pub returns-in-Ok-amends_rows-clause-survives : goal.returns-in-Ok-amends_rows-clause-survives
+returns-in-Ok-amends_rows-clause-survives g c = nothing_left _ _ _ c.migrated_rows.ensures.survives c.amends_rows.ensures.survives
+
+pub returns-in-Err-amends_rows-clause-survives : goal.returns-in-Err-amends_rows-clause-survives
+returns-in-Err-amends_rows-clause-survives g c = nothing_left _ _ _ c.migrated_rows.ensures.survives c.amends_rows.ensures.survives

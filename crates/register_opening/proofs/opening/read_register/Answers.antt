@@ -1,7 +1,8 @@
-use Rattle.std.proofs.Common.{not, IsTrue, IfErr, ap, ◌∙◌, rules, arith}
+use Rattle.std.proofs.Common.{not, IsTrue, IfErr, ap, ◌∙◌, arith}
 use Rattle.std.proofs.lemmas.Result.{IfOk-weaker, IfErr-weaker}
 use Rattle.sqlite.specs.Held.{state}
 use Rattle.sqlite.specs.State.{HasCleanDisk}
+use Rattle.table_rows.proofs.StepLemmas.{nothing_left}
 use Rattle.table_rows.proofs.TextLemmas.{keeps_commit}
 use Rattle.register_opening.specs.Opening.{Later as Rows, IsRefused}
 use Rattle.register_opening.specs.declared.opening.Later.{Later}
@@ -32,7 +33,7 @@ returns-in-Ok-read_later g c =
           let settled : IsTrue c.is_settled.result = c.is_settled.ensures.value ∙ ap not c.requires.autocommit in
           IfOk-weaker c.count_all.result _ _ (λ counts h early F is. counts_them g.S.Store c.args.conn.now c.read_meta.new.conn c.read_later.new.conn c.count_all.new.conn (rows_of c.in-Ok-read_later.later) (c.in-Ok.ensures.read first) (c.in-Ok-read_later.ensures.read mid) h.0
           is.rows.rows.declared c.is_settled.ensures.live c.requires.autocommit (c.is_settled.ensures.settled settled) counts h.1 early F is) (c.count_all.ensures.counted clean);
-      few = search rules;
+      few = c.count_all.ensures.few;
       refused = refused;
       sound = λ clean. IfErr-weaker c.count_all.result _ _ (λ fault h. by_memory_or_disk g.S.Store fault c.args.conn.now c.count_all.new.conn c.requires.unlimited h) (refused clean);
       same = λ clean.
@@ -40,8 +41,8 @@ returns-in-Ok-read_later g c =
           let first : HasCleanDisk (state g.S.Store c.read_meta.new.conn) = omega (arith, c.read_later.ensures.survives.clean, mid) in
           IfOk-weaker c.count_all.result _ _ (λ counts h. same_all g.S.Store c.args.conn.now c.read_meta.new.conn c.read_later.new.conn c.count_all.new.conn (rows_of c.in-Ok-read_later.later) (c.in-Ok.ensures.read first) (c.in-Ok-read_later.ensures.read mid) h.0) (c.count_all.ensures.counted clean);
       keeps = λ clean. IfErr-weaker c.count_all.result _ _ (λ fault h. keeps_commit _ _ (refused_keeps g.S.Store fault c.args.conn.now c.count_all.new.conn h)) (refused clean);
-      mode = search rules;
-      survives = search rules;
+      mode = c.count_all.ensures.mode (c.read_later.ensures.mode (c.read_meta.ensures.mode c.requires.autocommit));
+      survives = nothing_left _ _ _ (nothing_left _ _ _ c.read_meta.ensures.survives c.read_later.ensures.survives) c.count_all.ensures.survives;
     }
 
 pub returns-in-Err-read_later : goal.returns-in-Err-read_later
@@ -51,26 +52,26 @@ returns-in-Err-read_later g c =
     let first : HasCleanDisk (state g.S.Store c.read_meta.new.conn) = omega (arith, c.read_later.ensures.survives.clean) in
     rw c.table_fault.ensures (unread g.S.Store c.args.conn.now c.read_meta.new.conn (c.in-Ok.ensures.read first) c.read_later.new.conn c.in-Err-read_later.error (c.in-Err-read_later.ensures.failed clean)) in
     record {
-      found = search rules;
-      only = search rules;
-      few = search rules;
+      found = λ clean d. tt;
+      only = λ clean. tt;
+      few = tt;
       refused = refused;
       sound = λ clean. by_memory_or_disk g.S.Store c.table_fault.result c.args.conn.now c.read_later.new.conn c.requires.unlimited (refused clean);
-      same = search rules;
+      same = λ clean. tt;
       keeps = λ clean. keeps_commit _ _ (refused_keeps g.S.Store c.table_fault.result c.args.conn.now c.read_later.new.conn (refused clean));
-      mode = search rules;
-      survives = search rules;
+      mode = c.read_later.ensures.mode (c.read_meta.ensures.mode c.requires.autocommit);
+      survives = nothing_left _ _ _ c.read_meta.ensures.survives c.read_later.ensures.survives;
     }
 
 pub returns-in-Err : goal.returns-in-Err
 returns-in-Err g c = record {
-  found = search rules;
-  only = search rules;
-  few = search rules;
-  refused = search rules;
+  found = λ clean d. tt;
+  only = λ clean. tt;
+  few = tt;
+  refused = c.in-Err.ensures.refused;
   sound = λ clean. by_memory_or_disk g.S.Store c.in-Err.fault c.args.conn.now c.read_meta.new.conn c.requires.unlimited (c.in-Err.ensures.refused clean);
-  same = search rules;
+  same = λ clean. tt;
   keeps = λ clean. keeps_commit _ _ (refused_keeps g.S.Store c.in-Err.fault c.args.conn.now c.read_meta.new.conn (c.in-Err.ensures.refused clean));
-  mode = search rules;
-  survives = search rules;
+  mode = c.read_meta.ensures.mode c.requires.autocommit;
+  survives = c.read_meta.ensures.survives;
 }

@@ -1,92 +1,93 @@
-use Rattle.std.proofs.Common.{◌≡◌, true, refl, sym, ◌∙◌, inl, arith, rules}
+use Rattle.std.proofs.Common.{◌≡◌, ℕ, true, List, Option, Result, IfOk, IfErr, OnOk, OnErr, is_err, refl, sym, ◌∙◌, inl, inr}
 use Rattle.std.proofs.KnownBytes.{Appends-nil}
 use Rattle.std.proofs.lemmas.Bool.{false≢true}
-use Rattle.std.proofs.lemmas.Grind.{common_steps}
-use Rattle.http_wire.specs.Inbox.{is_over, is_failed}
-use Rattle.http_wire.specs.declared.inbox.Phase.TheVariants.{Open}
-use Rattle.http_wire.proofs.InboxLemmas.{ReadsNothing-after, LendsFirst-found, is_over-opened, is_open-tested, or-none}
+use Rattle.http_wire.specs.declared.inbox.Inbox.{Inbox}
+use Rattle.http_wire.specs.declared.refusal.ConnFault.{ConnFault}
+use Rattle.http_wire.specs.declared.refusal.Next.{Next}
+use Rattle.http_wire.specs.Calls.{HoldsArrival, WritesUpTo, IsFault}
+use Rattle.http_wire.specs.Inbox.{held, unread, reads, is_over, is_failed, ReadsNothing, IsNext, WritesInterim}
+use Rattle.http_wire.specs.ReadingOn.{FindsNext}
+use Rattle.http_wire.specs.Received.{Receives, ReceivesNothing}
+use Rattle.http_wire.proofs.InboxLemmas.{ReadsNothing-after, ReadsOn-after, LendsFirst-found, WasOpen, WasOpen-tested, is_over-tested, or-none}
+use Rattle.http_wire.proofs.ReceivedLemmas.{Receives-nil}
 use Rattle.http_wire.proofs.inbox.Inbox.next.Goals as goal
+
+-- what a call on an inbox that was open comes to
+opened : {R W : Type 0} {left : R → Option (List ℕ)} {read_failures : R → ℕ} {written : W → Option (List ℕ)} {write_failures : W → ℕ} {r r' : R} {w w' : W} {old : Inbox} (mid : Inbox) {new : Inbox} {result : Result Next ConnFault}
+    → WasOpen old mid → held mid ≡ unread old → reads mid ≡ reads old → Receives (left r) (left r') mid.received new.received → (HoldsArrival (held mid) → ReceivesNothing r r' mid.received new.received)
+    → IfOk result (IsNext (left r') old new) → IfOk result (WritesInterim (written w) (written w') old new) → IfErr result (WritesUpTo (written w) (written w') (held new))
+    → OnOk result ((read_failures r' ≡ read_failures r) × (write_failures w' ≡ write_failures w))
+    → IfErr result (IsFault (read_failures r) (read_failures r') (write_failures w) (write_failures w') (reads new) (held new))
+    → is_failed new ≡ is_err result → OnErr result (is_over new ≡ true)
+    → FindsNext left read_failures written write_failures r r' w w' old new result
+opened {old = old} mid {new} was held_is count read lazy arrival interim part fine fault failed closed = record {
+  reads = ReadsOn-after _ _ old mid new held_is count read;
+  lazy = ReadsNothing-after _ _ old mid new held_is count lazy;
+  bound = new.received.bounded;
+  arrival = arrival;
+  over = λ over. absurd (false≢true (sym was.more ∙ over));
+  interim = interim;
+  part = part;
+  fine = fine;
+  fault = fault;
+  failed = rw was.fine failed;
+  closed = closed;
+}
 
 pub returns-then-ne : goal.returns-then-ne
 returns-then-ne g c =
-    let over : is_over c.args.self.now ≡ true = search rules in
+    let old = c.args.self.now in
+    let mid = c.drop_message.new.self in
+    let dropped = c.drop_message.ensures in
+    let ended : is_over mid ≡ true = is_over-tested _ _ c.if-ne.ensures in
+    let over = sym dropped.over ∙ ended in
+    let nothing : ReadsNothing c.args.reader.now c.args.reader.now old mid = record { reader = refl; count = dropped.count; held_is = dropped.held } in
     record {
-      reads = grind (arith, common_steps);
-      lazy = search rules;
-      bound = search rules;
-      arrival = search rules;
-      over = search rules;
+      reads = ReadsOn-after _ _ old mid mid dropped.held dropped.count (Receives-nil _ mid.received);
+      lazy = λ _. nothing;
+      bound = mid.received.bounded;
+      arrival = (ended, inl over);
+      over = λ _. (refl, refl, nothing);
       interim = inl (over, Appends-nil _);
-      part = search rules;
-      fine = search rules;
-      fault = search rules;
-      failed = search rules;
-      closed = search rules;
+      part = tt;
+      fine = (refl, refl);
+      fault = tt;
+      failed = dropped.failed ∙ or-none (is_failed old);
+      closed = tt;
     }
 
 pub returns-in-Ok-Request : goal.returns-in-Ok-Request
 returns-in-Ok-Request g c =
-    let opened : c.drop_message.new.self.phase ≡ Open = is_open-tested _ c.if-ne.ensures in
-    let more = is_over-opened c.drop_message.new.self opened c.drop_message.ensures.none in
-    let found = rw c.in-Ok-Request.field-0-is at c.in-Ok-Request.ensures.found in
-    record {
-      reads = search rules;
-      lazy = ReadsNothing-after _ _ c.args.self.now c.drop_message.new.self _ c.drop_message.ensures.held c.drop_message.ensures.count c.find_arrival.ensures.lazy;
-      bound = search rules;
-      arrival = (sym c.drop_message.ensures.over ∙ more, LendsFirst-found _ c.in-Ok-Request.parsed opened refl found.0 found.1);
-      over = λ over. absurd (false≢true (sym more ∙ c.drop_message.ensures.over ∙ over));
-      interim = search rules;
-      part = search rules;
-      fine = search rules;
-      fault = search rules;
-      failed = c.drop_message.ensures.failed ∙ or-none (is_failed c.args.self.now);
-      closed = search rules;
-    }
+    let mid = c.drop_message.new.self in
+    let dropped = c.drop_message.ensures in
+    let was = WasOpen-tested c.args.self.now mid dropped.over dropped.failed dropped.none c.if-ne.ensures in
+    let told = c.in-Ok-Request.ensures in
+    let found = rw c.in-Ok-Request.field-0-is at told.found in
+    opened mid was dropped.held dropped.count told.reads told.lazy (was.more, LendsFirst-found _ c.in-Ok-Request.parsed was.opened refl found.0 found.1)
+    (rw c.in-Ok-Request.field-0-is at told.interim) tt told.fine tt (dropped.failed ∙ was.fine) tt
 
 pub returns-in-Ok-Refused : goal.returns-in-Ok-Refused
 returns-in-Ok-Refused g c =
-    record {
-      reads = search rules;
-      lazy = ReadsNothing-after _ _ c.args.self.now c.drop_message.new.self _ c.drop_message.ensures.held c.drop_message.ensures.count c.find_arrival.ensures.lazy;
-      bound = search rules;
-      arrival = search rules;
-      over = grind (arith, common_steps);
-      interim = search rules;
-      part = search rules;
-      fine = search rules;
-      fault = search rules;
-      failed = search rules;
-      closed = search rules;
-    }
+    let mid = c.drop_message.new.self in
+    let dropped = c.drop_message.ensures in
+    let was = WasOpen-tested c.args.self.now mid dropped.over dropped.failed dropped.none c.if-ne.ensures in
+    let told = c.in-Ok-Refused.ensures in
+    opened mid was dropped.held dropped.count told.reads told.lazy (was.more, refl, rw c.in-Ok-Refused.field-0-is at told.found)
+    (rw c.in-Ok-Refused.field-0-is at told.interim) tt told.fine tt refl tt
 
 pub returns-in-Ok-Rest : goal.returns-in-Ok-Rest
 returns-in-Ok-Rest g c =
-    record {
-      reads = search rules;
-      lazy = ReadsNothing-after _ _ c.args.self.now c.drop_message.new.self _ c.drop_message.ensures.held c.drop_message.ensures.count c.find_arrival.ensures.lazy;
-      bound = search rules;
-      arrival = search rules;
-      over = grind (arith, common_steps);
-      interim = search rules;
-      part = search rules;
-      fine = search rules;
-      fault = search rules;
-      failed = search rules;
-      closed = search rules;
-    }
+    let mid = c.drop_message.new.self in
+    let dropped = c.drop_message.ensures in
+    let was = WasOpen-tested c.args.self.now mid dropped.over dropped.failed dropped.none c.if-ne.ensures in
+    let told = c.in-Ok-Rest.ensures in
+    opened mid was dropped.held dropped.count told.reads told.lazy (refl, inr (rw c.in-Ok-Rest.field-0-is at told.found))
+    (inr (rw c.in-Ok-Rest.field-0-is at told.interim)) tt told.fine tt refl tt
 
 pub returns-in-Err : goal.returns-in-Err
 returns-in-Err g c =
-    record {
-      reads = search rules;
-      lazy = ReadsNothing-after _ _ c.args.self.now c.drop_message.new.self _ c.drop_message.ensures.held c.drop_message.ensures.count c.find_arrival.ensures.lazy;
-      bound = search rules;
-      arrival = search rules;
-      over = grind (arith, common_steps);
-      interim = search rules;
-      part = search rules;
-      fine = search rules;
-      fault = search rules;
-      failed = search rules;
-      closed = search rules;
-    }
+    let mid = c.drop_message.new.self in
+    let dropped = c.drop_message.ensures in
+    let was = WasOpen-tested c.args.self.now mid dropped.over dropped.failed dropped.none c.if-ne.ensures in
+    let told = c.in-Err.ensures in
+    opened mid was dropped.held dropped.count told.reads told.lazy tt tt told.part tt told.fault refl refl

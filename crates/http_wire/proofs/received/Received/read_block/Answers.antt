@@ -1,9 +1,17 @@
-use Rattle.std.proofs.Common.{ℕ, List, ◌++◌, length, drop, subst, refl, sym, inl, inr, rules}
-use Rattle.http_wire.specs.Block.{from_block, HasNoEndUpTo, IsUnended}
-use Rattle.http_wire.specs.Received.{held_bytes}
+use Rattle.std.proofs.Common.{ℕ, List, ◌++◌, ◌⊎◌, length, drop, Ok, subst, subst₂, refl, sym, ap, ◌∙◌, inl, inr, rules}
+use Rattle.std.proofs.lemmas.Bool.{false≢true}
+use Rattle.std.proofs.lemmas.Result.{err_from_is_err_and}
+use Rattle.http_wire.specs.Block.{from_block, HasNoEndUpTo, IsBlock, IsUnended}
+use Rattle.http_wire.specs.Received.{held_bytes, ReceivesNothing, IsReadFault}
+use Rattle.http_wire.specs.declared.received.Received.{Received}
 use Rattle.http_wire.proofs.BlockLemmas.{HasNoEndUpTo-zero}
-use Rattle.http_wire.proofs.ReceivedLemmas.{Receives-join, Receives-nil}
+use Rattle.http_wire.proofs.ReceivedLemmas.{Receives-join, Receives-nil, no_answer, one_answer}
 use Rattle.http_wire.proofs.received.Received.read_block.Goals as goal
+
+-- bytes that hold no end of a block held none at first
+first-unended : {R : Type 0} (a b : R) (x y : Received) → ReceivesNothing a b x y ⊎ IsUnended (held_bytes x) → IsUnended (held_bytes y) → IsUnended (held_bytes x)
+first-unended a b x y (inl same) unended = subst IsUnended same.bytes unended
+first-unended a b x y (inr first) unended = first
 
 pub loop-block-init : goal.loop-block-init
 loop-block-init g c = record {
@@ -13,18 +21,61 @@ loop-block-init g c = record {
   lazy = inl (record { reader = refl; bytes = refl; reads = refl });
 }
 
-pub returns-in_err-read_more-clause-reads : goal.returns-in_err-read_more-clause-reads
-returns-in_err-read_more-clause-reads g c =
-    Receives-join _ _ _ c.args.self.now c.loop-block.self c.read_more.new.self c.loop-block.invariant.reads c.read_more.ensures.reads
+pub returns-then-ne : goal.returns-then-ne
+returns-then-ne g c =
+    let before = c.loop-block.invariant in
+    record {
+      reads = before.reads;
+      lazy = λ ended. elim before.lazy [ inl same ↦ same | inr first ↦ absurd (ended first) ];
+      block = subst (λ bytes. IsBlock bytes c.find_block_from-block.result) c.bytes.ensures.value c.find_block_from-block.ensures;
+      end = λ more. absurd (false≢true (sym (rw (one_answer refl more) at c.if-ne.ensures)));
+      unended = tt;
+      fine = before.fine;
+      fault = tt;
+    }
+
+pub returns-in_err-read_more : goal.returns-in_err-read_more
+returns-in_err-read_more g c =
+    let new = c.read_more.new.self in
+    let before = c.loop-block.invariant in
+    let unended : IsUnended (held_bytes c.loop-block.self) = search rules in
+    let first = first-unended _ _ c.args.self.now c.loop-block.self before.lazy unended in
+    let gives = err_from_is_err_and c.from_residual.result c.from_residual.ensures.1 in
+    record {
+      reads = Receives-join _ _ _ c.args.self.now c.loop-block.self new before.reads c.read_more.ensures.reads;
+      lazy = λ ended. absurd (ended first);
+      block = rw gives.1 tt;
+      end = λ same. absurd (no_answer gives.1 same);
+      unended = rw gives.1 (subst IsUnended (sym c.in_err-read_more.ensures.same) unended);
+      fine = rw gives.1 tt;
+      fault = rw gives.1 (subst₂ (λ count fault. IsReadFault count (g.R.Source.read_failures c.read_more.new.reader) new fault) before.fine (sym gives.2) c.in_err-read_more.ensures.fault);
+    }
+
+pub returns-then-not-branch : goal.returns-then-not-branch
+returns-then-not-branch g c =
+    let before = c.loop-block.invariant in
+    let unended : IsUnended (held_bytes c.loop-block.self) = search rules in
+    let first = first-unended _ _ c.args.self.now c.loop-block.self before.lazy unended in
+    let ended = c.read_more.ensures.end (c.in_ok-read_more.was ∙ ap Ok c.if-not-branch.true) in
+    record {
+      reads = Receives-join _ _ _ c.args.self.now c.loop-block.self c.read_more.new.self before.reads c.read_more.ensures.reads;
+      lazy = λ ended. absurd (ended first);
+      block = subst IsUnended (sym ended.0) unended;
+      end = λ _. ended.1;
+      unended = tt;
+      fine = c.in_ok-read_more.ensures.fine ∙ before.fine;
+      fault = tt;
+    }
 
 pub loop-block-preserved : goal.loop-block-preserved
 loop-block-preserved g c =
     let here = c.loop-block.self in
+    let before = c.loop-block.invariant in
     let searched = subst (λ bytes. (more : List ℕ) → HasNoEndUpTo (from_block (bytes ++ more)) c.searched_len-searched.result) c.bytes-in-loop-block.ensures.value c.searched_len-searched.ensures.unended in
     let unended : IsUnended (held_bytes here) = search rules in
     record {
       searched = subst (λ bytes. HasNoEndUpTo (from_block bytes) c.searched_len-searched.result) (sym c.read_more.ensures.reads.bytes) (searched (drop (length (held_bytes here)) (held_bytes c.read_more.new.self)));
-      reads = Receives-join _ _ _ c.args.self.now here c.read_more.new.self c.loop-block.invariant.reads c.read_more.ensures.reads;
-      fine = search rules;
-      lazy = elim c.loop-block.invariant.lazy [ inl same ↦ inr (subst IsUnended same.bytes unended) | inr first ↦ inr first ];
+      reads = Receives-join _ _ _ c.args.self.now here c.read_more.new.self before.reads c.read_more.ensures.reads;
+      fine = c.in_ok-read_more.ensures.fine ∙ before.fine;
+      lazy = inr (first-unended _ _ c.args.self.now here before.lazy unended);
     }

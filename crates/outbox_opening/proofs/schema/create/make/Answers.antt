@@ -10,15 +10,23 @@ use Rattle.outbox_opening.specs.Entries.{empty}
 use Rattle.outbox_opening.specs.Rows.{IsOutboxOf}
 use Rattle.outbox_opening.specs.Making.{RunsAll, AreMade}
 use Rattle.outbox_opening.proofs.MakeLemmas.{all_made, begun_keeps, commit_keeps}
+use Rattle.outbox_opening.proofs.schema.create.make.Given as given
 use Rattle.outbox_opening.proofs.schema.create.make.Goals as goal
+
+-- the connection that comes back is that of the commit
+ended : (g : given.Over) (c : goal.After-conn-2-1 g) → c.commit.new.self.0 ≡ c.conn-2-1.given.0
+ended g c = search rules
+
+still_clean : (g : given.Over) (c : goal.After-conn-2-1 g) → HasCleanDisk (state g.S.Store c.conn-2-1.given.0) → HasCleanDisk (state g.S.Store c.commit.new.self.0)
+still_clean g c clean = subst (λ h. HasCleanDisk (state g.S.Store h)) (sym (ended g c)) clean
 
 pub returns-clause-ran : goal.returns-clause-ran
 returns-clause-ran g c clean =
     let last = c.make_tables.new.tx.conn.now in
     let begun = c.transaction-tx.ensures.begun in
     let end = c.commit.new.self.0 in
-    let same : end ≡ c.conn-2-1.given.0 = search rules in
-    let late : HasCleanDisk (state g.S.Store end) = search rules in
+    let same = ended g c in
+    let late = still_clean g c clean in
     let mid : HasCleanDisk (state g.S.Store last) = omega (arith, c.commit.ensures.survives.clean) in
     let all = rw begun at (c.in_ok-make_tables.ensures.ran mid) in
     IfOk-weaker c.commit.result _ _ (λ _ done.
@@ -33,8 +41,8 @@ returns-clause-made g c clean none =
     let last = c.make_tables.new.tx.conn.now in
     let begun = c.transaction-tx.ensures.begun in
     let end = c.commit.new.self.0 in
-    let same : end ≡ c.conn-2-1.given.0 = search rules in
-    let late : HasCleanDisk (state g.S.Store end) = search rules in
+    let same = ended g c in
+    let late = still_clean g c clean in
     let mid : HasCleanDisk (state g.S.Store last) = omega (arith, c.commit.ensures.survives.clean) in
     let outbox = all_made g.S.Store c.args.filer.now c.args.conn.now c.requires.filer last (rw begun at (c.in_ok-make_tables.ensures.ran mid)) none in
     IfOk-weaker c.commit.result _ _ (λ _ done.
@@ -48,8 +56,8 @@ IsCommitted s = IsTrue s.is_open × (s.committed ≡ s.now)
 pub returns-clause-committed : goal.returns-clause-committed
 returns-clause-committed g c clean =
     let end = c.commit.new.self.0 in
-    let same : end ≡ c.conn-2-1.given.0 = search rules in
-    let late : HasCleanDisk (state g.S.Store end) = search rules in
+    let same = ended g c in
+    let late = still_clean g c clean in
     IfOk-weaker c.commit.result _ _ (λ _ done.
     let there : IsCommitted (state g.S.Store end) = (done.1.is_open, done.1.committed_is ∙ sym done.1.now_is) in
     let here : IsCommitted (state g.S.Store c.conn-2-1.given.0) = subst (λ h. IsCommitted (state g.S.Store h)) same there in
@@ -61,7 +69,7 @@ returns-clause-crash g c =
     let last = c.make_tables.new.tx.conn.now in
     let begun = c.transaction-tx.ensures.begun in
     let end = c.commit.new.self.0 in
-    let same : end ≡ c.conn-2-1.given.0 = search rules in
+    let same = ended g c in
     let P = AreMade g.S.Store c.args.filer.now old in
     let ran : HasCleanDisk (state g.S.Store last) → RunsAll g.S.Store c.args.filer.now (record old { in_transaction = true }) last = λ mid. rw begun at (c.in_ok-make_tables.ensures.ran mid) in
     let whole = survives_then (state g.S.Store old) (state g.S.Store last) (state g.S.Store end) _ _ P (λ _ db none. absurd none)
@@ -72,8 +80,8 @@ returns-clause-crash g c =
 pub returns-clause-durable : goal.returns-clause-durable
 returns-clause-durable g c clean =
     let end = c.commit.new.self.0 in
-    let same : end ≡ c.conn-2-1.given.0 = search rules in
-    let late : HasCleanDisk (state g.S.Store end) = search rules in
+    let same = ended g c in
+    let late = still_clean g c clean in
     IfOk-weaker c.commit.result _ _ (λ _ done. let r : (trees : Trees) → (state g.S.Store c.conn-2-1.given.0).may_leave trees → trees ≡ (state g.S.Store c.conn-2-1.given.0).now.trees =
     subst (λ h. (trees : Trees) → (state g.S.Store h).may_leave trees → trees ≡ (state g.S.Store h).now.trees) same
     (λ trees left. g.met.S.Store.settled end.store trees done.1.is_open left ∙ ap (λ (d : Database). d.trees) (done.1.committed_is ∙ sym done.1.now_is)) in r) (c.commit.ensures.ok late)
@@ -84,8 +92,8 @@ returns-clause-undone g c clean =
     let last = c.make_tables.new.tx.conn.now in
     let begun = c.transaction-tx.ensures.begun in
     let end = c.commit.new.self.0 in
-    let same : end ≡ c.conn-2-1.given.0 = search rules in
-    let late : HasCleanDisk (state g.S.Store end) = search rules in
+    let same = ended g c in
+    let late = still_clean g c clean in
     let mid : HasCleanDisk (state g.S.Store last) = omega (arith, c.commit.ensures.survives.clean) in
     let kept = begun_keeps g.S.Store old (state g.S.Store last) (rw begun at (c.in_ok-make_tables.ensures.keeps mid)) in
     IfErr-weaker c.commit.result _ _ (λ e failed. subst (λ h. KeepsCommit (state g.S.Store old) (state g.S.Store h)) same (commit_keeps (state g.S.Store old) (state g.S.Store last) (state g.S.Store end) kept e failed)) (c.commit.ensures.err late)

@@ -1,42 +1,54 @@
-use Rattle.std.proofs.Common.{◌≡◌, true, rules}
+use Rattle.std.proofs.Common.{◌≡◌, Result, Ok, Err, String, Global, true, false, inl, inr, sym, ◌∙◌, true≢false, rules}
 use Rattle.key_string.specs.Filer.{is_filer}
 use Rattle.sqlite.specs.Held.{state}
 use Rattle.sqlite.proofs.StateLemmas.{survives_weaker}
+use Rattle.table_rows.specs.Causes.{cause_of}
+use Rattle.outbox_opening.specs.Schema.{is_taken}
+use Rattle.outbox_opening.specs.declared.fault.OutboxFault.{OutboxFault}
 use Rattle.outbox_opening.proofs.MakeLemmas.{made_leaves}
+use Rattle.outbox_opening.proofs.RefusalLemmas.{of_making, unmade}
 use Rattle.outbox_opening.proofs.schema.create.make_outbox.Goals as goal
 
+never : {X : Type 0} (code : String Global) (fault : OutboxFault) → ◌≡◌ {A = Result (String Global) OutboxFault} (Ok code) (Err fault) → X
+never code fault e = absurd cc
+
 pub returns-in-Ok : goal.returns-in-Ok
-returns-in-Ok g c = record {
-  autocommit = search rules;
-  code = search rules;
-  made = search rules;
-  committed = search rules;
-  bad_filer = search rules;
-  taken = search rules;
-  untouched = search rules;
-  no_other = search rules;
-  ran = c.in-Ok.ensures.ran;
-  undone = search rules;
-  crash =
-      let is : is_filer c.args.filer.now ≡ true = search rules in
-      survives_weaker (state g.S.Store c.args.conn.now) (state g.S.Store c.make.new.conn) _ _ (λ _ trees made. (made, made_leaves g.S.Store c.args.filer.now c.args.conn.now is trees made)) c.make.ensures.crash;
-  durable = search rules;
-}
+returns-in-Ok g c =
+    let old = state g.S.Store c.args.conn.now in
+    let is : is_filer c.args.filer.now ≡ true = search rules in
+    let free : is_taken old.now.schema ≡ false = search rules in
+    record {
+      autocommit = c.make.ensures.autocommit;
+      code = c.in_ok-code.ensures.ok;
+      made = c.in-Ok.ensures.made;
+      committed = c.in-Ok.ensures.committed;
+      bad_filer = (λ e. never _ _ e, λ no. absurd (true≢false (sym is ∙ no)));
+      taken = (λ e. never _ _ e, λ both. absurd (true≢false (sym both.1 ∙ free)));
+      untouched = search rules;
+      no_other = tt;
+      ran = c.in-Ok.ensures.ran;
+      undone = λ clean. tt;
+      crash = survives_weaker old (state g.S.Store c.make.new.conn) _ _ (λ _ trees made. (made, made_leaves g.S.Store c.args.filer.now c.args.conn.now is trees made)) c.make.ensures.crash;
+      durable = c.in-Ok.ensures.durable;
+    }
 
 pub returns-in-Err : goal.returns-in-Err
-returns-in-Err g c = record {
-  autocommit = search rules;
-  code = search rules;
-  made = search rules;
-  committed = search rules;
-  bad_filer = search rules;
-  taken = search rules;
-  untouched = search rules;
-  no_other = search rules;
-  ran = search rules;
-  undone = search rules;
-  crash =
-      let is : is_filer c.args.filer.now ≡ true = search rules in
-      survives_weaker (state g.S.Store c.args.conn.now) (state g.S.Store c.make.new.conn) _ _ (λ _ trees made. (made, made_leaves g.S.Store c.args.filer.now c.args.conn.now is trees made)) c.make.ensures.crash;
-  durable = search rules;
-}
+returns-in-Err g c =
+    let old = state g.S.Store c.args.conn.now in
+    let is : is_filer c.args.filer.now ≡ true = search rules in
+    let free : is_taken old.now.schema ≡ false = search rules in
+    let neither = unmade (cause_of c.in-Err.error) c.from.result c.from.ensures in
+    record {
+      autocommit = c.make.ensures.autocommit;
+      code = tt;
+      made = λ clean none. tt;
+      committed = λ clean. tt;
+      bad_filer = (λ e. absurd (neither (inl e)), λ no. absurd (true≢false (sym is ∙ no)));
+      taken = (λ e. absurd (neither (inr e)), λ both. absurd (true≢false (sym both.1 ∙ free)));
+      untouched = λ either. absurd (neither either);
+      no_other = rw c.from.ensures (of_making (cause_of c.in-Err.error));
+      ran = λ clean. tt;
+      undone = c.in-Err.ensures.undone;
+      crash = survives_weaker old (state g.S.Store c.make.new.conn) _ _ (λ _ trees made. (made, made_leaves g.S.Store c.args.filer.now c.args.conn.now is trees made)) c.make.ensures.crash;
+      durable = λ clean. tt;
+    }

@@ -4,6 +4,7 @@ use Rattle.sqlite.specs.Held.{state}
 use Rattle.sqlite.specs.State.{HasCleanDisk}
 use Rattle.register_opening.proofs.EarlierReads.{third_counted, third_unsaid, third_uncounted}
 use Rattle.register_opening.proofs.OpenLemmas.{is_read}
+use Rattle.table_rows.proofs.StepLemmas.{nothing_left}
 use Rattle.register_opening.proofs.migrate.earlier.count_third.Goals as goal
 
 pub returns-in-Ok-count_four-clause-counted : goal.returns-in-Ok-count_four-clause-counted
@@ -25,3 +26,9 @@ returns-in-Ok-clause-refused g c clean =
     let mid : HasCleanDisk (state g.S.Store c.migrated_rows.new.conn) = omega (arith, c.count_four.ensures.survives.clean) in
     third_uncounted g.S.Store c.args.conn.now c.migrated_rows.new.conn c.count_four.new.conn c.in-Ok.migrated.items c.in-Err-count_four.fault
     (is_read g.S.Store _ c.args.conn.now c.migrated_rows.new.conn c.in-Ok.migrated.items (c.in-Ok.ensures.shown mid) c.migrated_rows.ensures.survives.limit) (c.in-Err-count_four.ensures.refused clean)
+
+pub returns-in-Ok-count_four-clause-survives : goal.returns-in-Ok-count_four-clause-survives
+returns-in-Ok-count_four-clause-survives g c = nothing_left _ _ _ c.migrated_rows.ensures.survives c.count_four.ensures.survives
+
+pub returns-in-Ok-clause-survives : goal.returns-in-Ok-clause-survives
+returns-in-Ok-clause-survives g c = nothing_left _ _ _ c.migrated_rows.ensures.survives c.count_four.ensures.survives

@@ -7,6 +7,9 @@ use Rattle.register_rows.specs.Schema.{HasCommon, finding_table, filing_table, f
 use Rattle.table_rows.specs.Picking.{CountsTo}
 use Rattle.table_rows.proofs.StopLemmas.{stopped_after}
 use Rattle.register_opening.proofs.WalkLemmas.{start_of}
+use Rattle.std.proofs.lemmas.Option.{IfSome_then}
+use Rattle.table_rows.proofs.StepLemmas.{nothing_left}
+use Rattle.register_opening.proofs.Calls.{looks, looks_then}
 use Rattle.register_opening.proofs.opening.walk.count_tables.Goals as goal
 
 pub returns-in-Ok-count_facts-clause-start : goal.returns-in-Ok-count_facts-clause-start
@@ -64,3 +67,25 @@ returns-in-Err-count_findings-clause-stopped g c clean =
     let one = state g.S.Store c.count_kept.new.conn in
     let first : HasCleanDisk one = omega (arith, c.count_findings.ensures.survives.clean) in
     stopped_after old one (state g.S.Store c.count_findings.new.conn) c.in-Err-count_findings.error (c.in-Ok.ensures.same first) c.count_kept.ensures.survives.counts (c.in-Err-count_findings.ensures.stopped clean)
+
+pub returns-in-Ok-count_facts-clause-first : goal.returns-in-Ok-count_facts-clause-first
+returns-in-Ok-count_facts-clause-first g c = IfSome_then c.sizes_of.result c.sizes_of.ensures (λ s h. (h.4, h.5))
+
+pub returns-in-Ok-count_facts-clause-same : goal.returns-in-Ok-count_facts-clause-same
+returns-in-Ok-count_facts-clause-same g c =
+    (looks_then (looks_then (looks_then (looks c.in-Ok.ensures.same c.count_kept.ensures.survives) (looks c.in-Ok-count_findings.ensures.same c.count_findings.ensures.survives))
+    (looks c.in-Ok-count_filings.ensures.same c.count_filings.ensures.survives)) (looks c.in-Ok-count_facts.ensures.same c.count_facts.ensures.survives)).same
+
+pub returns-in-Ok-count_facts-clause-survives : goal.returns-in-Ok-count_facts-clause-survives
+returns-in-Ok-count_facts-clause-survives g c =
+    nothing_left _ _ _ (nothing_left _ _ _ (nothing_left _ _ _ c.count_kept.ensures.survives c.count_findings.ensures.survives) c.count_filings.ensures.survives) c.count_facts.ensures.survives
+
+pub returns-in-Err-count_facts-clause-survives : goal.returns-in-Err-count_facts-clause-survives
+returns-in-Err-count_facts-clause-survives g c =
+    nothing_left _ _ _ (nothing_left _ _ _ (nothing_left _ _ _ c.count_kept.ensures.survives c.count_findings.ensures.survives) c.count_filings.ensures.survives) c.count_facts.ensures.survives
+
+pub returns-in-Err-count_filings-clause-survives : goal.returns-in-Err-count_filings-clause-survives
+returns-in-Err-count_filings-clause-survives g c = nothing_left _ _ _ (nothing_left _ _ _ c.count_kept.ensures.survives c.count_findings.ensures.survives) c.count_filings.ensures.survives
+
+pub returns-in-Err-count_findings-clause-survives : goal.returns-in-Err-count_findings-clause-survives
+returns-in-Err-count_findings-clause-survives g c = nothing_left _ _ _ c.count_kept.ensures.survives c.count_findings.ensures.survives

@@ -1,5 +1,5 @@
 use Rattle.std.proofs.Common.{◌≡◌, ◌∷◌, [], length, filter, sym, subst, ◌∙◌, IsTrue, None, arith, rules}
-use Rattle.std.proofs.lemmas.Result.{IfErr-weaker}
+use Rattle.std.proofs.lemmas.Result.{IfErr-weaker, IfOk-weaker}
 use Rattle.sqlite.specs.Held.{state}
 use Rattle.sqlite.specs.State.{HasCleanDisk, IsUnchanged}
 use Rattle.sqlite.specs.Effect.{Database}
@@ -11,6 +11,8 @@ use Rattle.register_rows.specs.Schema.{HasCommon, kept_table}
 use Rattle.table_rows.proofs.StopLemmas.{stopped_after}
 use Rattle.table_rows.proofs.OrderLemmas.{one_row}
 use Rattle.register_opening.proofs.WalkLemmas.{passes_all}
+use Rattle.table_rows.proofs.StepLemmas.{nothing_left}
+use Rattle.register_opening.proofs.Calls.{looks, looks_then}
 use Rattle.register_opening.proofs.opening.walk.pass.Goals as goal
 
 pub returns-in-Ok-true-clause-stopped : goal.returns-in-Ok-true-clause-stopped
@@ -54,3 +56,20 @@ returns-in-Ok-true-clause-passes g c clean d F held number =
     (subst (λ (db : Database). length (filter (has_texts (request_in None row).filer (request_in None row).key) (rows_in db kept_table)) ≡ 1) u.0.now_is
     (c.in-Ok-true.ensures.found second there so))
     c.pass_judged.result (c.pass_judged.ensures.row F held number)
+
+pub returns-in-Ok-true-clause-same : goal.returns-in-Ok-true-clause-same
+returns-in-Ok-true-clause-same g c clean =
+    let before = (looks_then (looks c.in-Ok.ensures.same c.kept_at.ensures.survives) (looks c.in-Ok-true.ensures.same c.is_alone.ensures.survives)).same (omega (arith, c.pass_judged.ensures.survives.clean)) in
+    IfOk-weaker c.pass_judged.result _ _ (λ _ u. unchanged_then _ _ _ before u) (c.pass_judged.ensures.same clean before.0.is_open)
+
+pub returns-in-Ok-true-clause-survives : goal.returns-in-Ok-true-clause-survives
+returns-in-Ok-true-clause-survives g c = nothing_left _ _ _ (nothing_left _ _ _ c.kept_at.ensures.survives c.is_alone.ensures.survives) c.pass_judged.ensures.survives
+
+pub returns-in-Ok-false-clause-same : goal.returns-in-Ok-false-clause-same
+returns-in-Ok-false-clause-same g c = (looks_then (looks c.in-Ok.ensures.same c.kept_at.ensures.survives) (looks c.in-Ok-false.ensures.same c.is_alone.ensures.survives)).same
+
+pub returns-in-Ok-false-clause-survives : goal.returns-in-Ok-false-clause-survives
+returns-in-Ok-false-clause-survives g c = nothing_left _ _ _ c.kept_at.ensures.survives c.is_alone.ensures.survives
+
+pub returns-in-len1-clause-survives : goal.returns-in-len1-clause-survives
+returns-in-len1-clause-survives g c = nothing_left _ _ _ c.kept_at.ensures.survives c.is_alone.ensures.survives

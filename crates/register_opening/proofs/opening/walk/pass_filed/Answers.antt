@@ -7,6 +7,7 @@ use Rattle.register_rows.specs.Outcomes.{outcome_of}
 use Rattle.register_rows.specs.Register.{kept_row}
 use Rattle.register_opening.specs.Walk.{Beyond}
 use Rattle.register_opening.proofs.WalkLemmas.{judged_so}
+use Rattle.xbrl_report.specs.Judgement.{HasFacts}
 use Rattle.register_opening.proofs.opening.walk.pass_filed.Goals as goal
 
 pub returns-in-Ok-note-clause-row : goal.returns-in-Ok-note-clause-row
@@ -24,3 +25,9 @@ returns-in-Ok-note-clause-beyond g c clean d F held number =
     let told : (judged (kept F) r).outcome ≡ outcome_of (suc (length (register F))) j = c.in-Ok.ensures.judged F r held (sym c.requires.filer) refl (sym c.bytes_at.ensures) in
     let past = rw c.in-Ok-Some.field-0-is at c.in-Ok-Some.ensures.beyond clean d c.args.target in
     subst (λ (k : Kept). Beyond c.args.seq k c.args.left c.in-Ok-Some.tail (state g.S.Store c.args.conn.now).now) (judged_so F r j c.args.left.number number told) past
+
+pub pass_as-requires-clause-facts : goal.pass_as-requires-clause-facts
+pass_as-requires-clause-facts g c = subst (λ body. HasFacts body c.in-Ok.judged) c.bytes_at.ensures c.in-Ok.ensures.facts
+
+pub returns-in-Ok-note-clause-rest : goal.returns-in-Ok-note-clause-rest
+returns-in-Ok-note-clause-rest g c = rw c.in-Ok-Some.field-0-is at c.in-Ok-Some.ensures.rest

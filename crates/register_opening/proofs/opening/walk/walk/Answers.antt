@@ -3,11 +3,12 @@ use Rattle.sqlite.specs.Held.{state}
 use Rattle.sqlite.specs.State.{HasCleanDisk, IsUnchanged}
 use Rattle.sqlite.specs.Effect.{Database}
 use Rattle.sqlite.proofs.Callers.{unchanged_then}
-use Rattle.table_rows.proofs.StepLemmas.{nothing_left}
+use Rattle.table_rows.proofs.StepLemmas.{nothing_left, nothing_yet}
 use Rattle.register_rows.specs.Schema.{HasCommon}
 use Rattle.register_opening.specs.Walk.{Passes}
 use Rattle.table_rows.proofs.StopLemmas.{stopped_after}
-use Rattle.register_opening.proofs.WalkLemmas.{walked_on, filed_on}
+use Rattle.register_opening.proofs.WalkLemmas.{walked_on, filed_on, none_filed}
+use Rattle.sqlite.proofs.StateLemmas.{unchanged}
 use Rattle.register_opening.proofs.opening.walk.walk.Goals as goal
 
 pub loop-at-preserved : goal.loop-at-preserved
@@ -48,3 +49,25 @@ returns-in-Err-clause-stopped g c clean alive =
     let was = c.loop-at.invariant in
     let early : HasCleanDisk mid = omega (arith, c.pass.ensures.survives.clean) in
     stopped_after old mid now c.in-Err.error (was.same early alive) was.survives.counts (c.in-Err.ensures.stopped clean)
+
+pub loop-at-init : goal.loop-at-init
+loop-at-init g c = record {
+  walked = λ clean d alive start. ([], start, none_filed c.new-filed.result c.new-filed.ensures);
+  same = λ clean alive. unchanged (state g.S.Store c.args.conn.now) alive;
+  number = omega (arith, c.requires.first);
+  mode = λ idle. idle;
+  survives = nothing_yet (state g.S.Store c.args.conn.now);
+}
+
+pub returns-in-Ok-None-clause-same : goal.returns-in-Ok-None-clause-same
+returns-in-Ok-None-clause-same g c clean alive =
+    let old = state g.S.Store c.args.conn.now in
+    let mid = state g.S.Store c.loop-at.conn in
+    let early : HasCleanDisk mid = omega (arith, c.pass.ensures.survives.clean) in
+    unchanged_then old mid (state g.S.Store c.pass.new.conn) (c.loop-at.invariant.same early alive) (c.in-Ok-None.ensures.same clean)
+
+pub returns-in-Ok-None-clause-survives : goal.returns-in-Ok-None-clause-survives
+returns-in-Ok-None-clause-survives g c = nothing_left _ _ _ c.loop-at.invariant.survives c.pass.ensures.survives
+
+pub returns-in-Err-clause-survives : goal.returns-in-Err-clause-survives
+returns-in-Err-clause-survives g c = nothing_left _ _ _ c.loop-at.invariant.survives c.pass.ensures.survives

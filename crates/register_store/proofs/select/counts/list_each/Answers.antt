@@ -56,3 +56,9 @@ returns-clause-rows g c clean e F was filer are by =
     let fs = own_filings filer F in
     let all : take c.loop-filing.filing-index fs ≡ fs = take_all c.loop-filing.filing-index fs (omega (arith, c.loop-filing-test.false, ap length are ∙ length-map own_of fs)) in
     c.loop-filing.invariant.rows clean e F was filer are by ∙ ap (map (listing fs)) all ∙ listings_own filer F
+
+pub returns-in_err-facts-clause-survives : goal.returns-in_err-facts-clause-survives
+returns-in_err-facts-clause-survives g c = nothing_left _ _ _ c.loop-filing.invariant.survives c.count_facts.ensures.survives
+
+pub returns-in_err-push-clause-survives : goal.returns-in_err-push-clause-survives
+returns-in_err-push-clause-survives g c = nothing_left _ _ _ c.loop-filing.invariant.survives c.count_facts.ensures.survives

@@ -1,4 +1,4 @@
-use Rattle.std.proofs.Common.{◌≡◌, ◌+◌, ◌<◌, ◌++◌, ◌∷◌, [], map, take, filter, length, get_or, false, sym, ap, ◌∙◌, rules, arith}
+use Rattle.std.proofs.Common.{◌≡◌, ◌+◌, ◌<◌, ◌++◌, ◌∷◌, [], map, take, filter, length, get_or, sym, ap, ◌∙◌, rules, arith}
 use Rattle.std.proofs.lemmas.List.{take_all}
 use Rattle.sqlite.specs.Held.{state}
 use Rattle.sqlite.specs.State.{HasCleanDisk}
@@ -62,3 +62,9 @@ returns-clause-own g c clean e F was filer rows =
     let are : AreAt 1 (kept F) c.args.places.now gs = rw rows (are_own filer 1 (kept F)) in
     let all : take c.loop-place.place-index gs ≡ gs = take_all c.loop-place.place-index gs (omega (arith, c.loop-place-test.false, as_many_at 1 (kept F) gs c.args.places.now are)) in
     c.loop-place.invariant.own clean e F was filer rows ∙ ap (λ ks. map own_of (filings ks)) all
+
+pub returns-in_err-found-clause-survives : goal.returns-in_err-found-clause-survives
+returns-in_err-found-clause-survives g c = nothing_left _ _ _ c.loop-place.invariant.survives c.own_at.ensures.survives
+
+pub returns-in_err-push-clause-survives : goal.returns-in_err-push-clause-survives
+returns-in_err-push-clause-survives g c = nothing_left _ _ _ c.loop-place.invariant.survives c.own_at.ensures.survives

@@ -61,3 +61,9 @@ returns-clause-found g c clean e F was number rows =
     let are : AreAt 1 (kept F) c.args.rows.now gs = rw rows (are_at number 1 (kept F)) in
     let all : take c.loop-row.row-index gs ≡ gs = take_all c.loop-row.row-index gs (omega (arith, c.loop-row-test.false, as_many_at 1 (kept F) gs c.args.rows.now are)) in
     sym (c.loop-row.invariant.none clean e F was number rows) ∙ ap (list_any (λ (k : Kept). is_some (number_of k.outcome))) all ∙ any_filing number (kept F)
+
+pub returns-in_err-is_filing-clause-survives : goal.returns-in_err-is_filing-clause-survives
+returns-in_err-is_filing-clause-survives g c = nothing_left _ _ _ c.loop-row.invariant.survives c.is_filing.ensures.survives
+
+pub returns-then-branch-clause-survives : goal.returns-then-branch-clause-survives
+returns-then-branch-clause-survives g c = nothing_left _ _ _ c.loop-row.invariant.survives c.is_filing.ensures.survives

@@ -25,9 +25,9 @@ returns-in-Ok g c = record {
           within = within_more g.S.Store store r row.judged.now completed F was new_key is;
         },
       ));
-  same = search rules;
+  same = λ clean F has. tt;
   count = search rules;
-  counts = search rules;
+  counts = tt;
   early = search rules;
   crash =
       let row = c.args.row.now in
@@ -50,9 +50,9 @@ returns-in-Ok g c = record {
 
 pub returns-in-Err : goal.returns-in-Err
 returns-in-Err g c = record {
-  added = search rules;
+  added = λ clean F has new_key is. tt;
   same = search rules;
-  count = search rules;
+  count = tt;
   counts = search rules;
   early = search rules;
   -- the outcome is let go, whichever it is
@@ -63,5 +63,5 @@ returns-in-Err g c = record {
       let store : StoreParts _ = record { conn = c.self.inside.conn; kept = c.self.inside.kept; filings = c.self.inside.filings; early = c.self.inside.early } in
       let left = crash_more g.S.Store store r row.judged.now completed (state g.S.Store c.keep.new.conn) c.keep.ensures.crash in
       elim c.match-outcome.branch [ in-Refused-1 w ↦ rw (w.self-is, ← c.self.view_is) left | in-Registered-1 w ↦ rw (w.self-is, ← c.self.view_is) left ];
-  durable = search rules;
+  durable = λ clean F has new_key is. tt;
 }
