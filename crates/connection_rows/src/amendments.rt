@@ -1,10 +1,11 @@
 //! The vector of reports that replace filings.
 
-use crate::examples::{KEY_REUSED, REQUEST, report};
-use crate::history::{Connection, History, Part};
+use crate::connection::{FIRST, answered};
+use crate::examples::{KEY_REUSED, report};
+use crate::history::{History, Part};
 use crate::stop::Stop;
 use example_texts::{REGISTERED, REGISTERED_SECOND, REPORT};
-use gateway_server::{Ended, Mark};
+use gateway_server::Mark;
 use http_wire::append_request;
 use key_string::KeyText;
 use std::alloc::Global;
@@ -26,16 +27,6 @@ const SECOND: Part<'static> = Part::Filing("ACME/1", "k-2", REPORT);
 
 const THIRD: Part<'static> = Part::Filing("ACME/1", "k-3", REPORT);
 
-/// A connection with one request, whose input ends behind it.
-fn asked<'a>(given: &'a [Part<'a>], written: &'a [&'a str], marks: &'a [Mark]) -> Connection<'a> {
-    Connection {
-        given,
-        written,
-        marks,
-        ended: Ended::InputEnded,
-    }
-}
-
 /// Vector 26: a filing is replaced once, by a report of its own filer; a number that is none is no path.
 pub(crate) fn amended(alloc: Global) -> Result<bool, Stop> {
     Ok(replaced_once(alloc)? && request_length(alloc)? == 539)
@@ -52,28 +43,28 @@ fn replaced_once(alloc: Global) -> Result<bool, Stop> {
     )?;
     let other = [Part::Filing("BETA/1", "k-1", &body)];
     let connections = [
-        asked(&[Part::Text(REQUEST)], &[REGISTERED], &[Mark::Done]),
-        asked(&[SECOND], &[REGISTERED_SECOND], &[Mark::Done]),
-        asked(
+        answered(&[FIRST], &[REGISTERED], &[Mark::Done]),
+        answered(&[SECOND], &[REGISTERED_SECOND], &[Mark::Done]),
+        answered(
             &[Part::Text("GET /filings/ACME HTTP/1.1\r\nHost: localhost\r\n\r\n")],
             &[BOTH],
             &[Mark::NotFiled],
         ),
-        asked(&[SECOND], &[REGISTERED_SECOND], &[Mark::Done]),
-        asked(&[THIRD], &[NOT_REPLACEABLE], &[Mark::Done]),
-        asked(&[THIRD], &[NOT_REPLACEABLE], &[Mark::Done]),
-        asked(
+        answered(&[SECOND], &[REGISTERED_SECOND], &[Mark::Done]),
+        answered(&[THIRD], &[NOT_REPLACEABLE], &[Mark::Done]),
+        answered(&[THIRD], &[NOT_REPLACEABLE], &[Mark::Done]),
+        answered(
             &[Part::Filing("ACME/2", "k-2", REPORT)],
             &[KEY_REUSED],
             &[Mark::Done],
         ),
-        asked(&other, &[NOT_REPLACEABLE], &[Mark::Done]),
-        asked(
+        answered(&other, &[NOT_REPLACEABLE], &[Mark::Done]),
+        answered(
             &[Part::Filing("ACME/0", "k-4", REPORT)],
             &[NO_PATH],
             &[Mark::NotFiled],
         ),
-        asked(
+        answered(
             &[Part::Filing("ACME/01", "k-4", REPORT)],
             &[NO_PATH],
             &[Mark::NotFiled],

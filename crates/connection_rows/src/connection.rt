@@ -14,7 +14,7 @@ use std::alloc::Global;
 use xbrl_report::Fact;
 
 /// A connection whose input ends after what is answered.
-fn answered<'a>(
+pub(crate) fn answered<'a>(
     given: &'a [Part<'a>],
     written: &'a [&'a str],
     marks: &'a [Mark],
@@ -38,7 +38,7 @@ fn closed<'a>(given: &'a [Part<'a>], written: &'a [&'a str], marks: &'a [Mark]) 
 }
 
 /// The example request.
-const FIRST: Part<'static> = Part::Text(REQUEST);
+pub(crate) const FIRST: Part<'static> = Part::Text(REQUEST);
 
 /// Vector 1: a valid report is registered, listed, and shown by its facts.
 pub fn registered(alloc: Global, limit: u32) -> Result<bool, Stop> {

@@ -25,6 +25,7 @@ pub enum Part<'a> {
 pub struct Connection<'a> {
     pub given: &'a [Part<'a>],
     pub written: &'a [&'a str],
+    /// A mark for each request that came, in order.
     pub marks: &'a [Mark],
     pub ended: Ended,
 }
