@@ -3,7 +3,7 @@
 ghost use Rattle.std.specs.Prelude.{◌≡◌, ◌++◌, ◌+◌, ◌<◌, ◌≤◌, ℕ, List, drop, length, slice_range, vec_len, IfOk, IfErr, OnOk, Ok, Err};
 ghost use Rattle.std.specs.Io.KnownBytes.{Consumes, IsAtEnd};
 ghost use Rattle.http_wire.specs.Device.{HasFailed};
-ghost use Rattle.http_wire.specs.Received.{max_reads};
+ghost use Rattle.http_messages.specs.Reads.{max_reads};
 ghost use Rattle.command_line.specs.declared.bytes.ReadFault.TheVariants.{Read, ReadLimit, Memory};
 
 use http_wire::{MAX_READS, Source};

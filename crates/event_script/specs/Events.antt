@@ -1,6 +1,6 @@
 -- Events without where they lie in memory: what the world knows them as.
 use Rattle.std.specs.Prelude.{List, All}
-use Rattle.http_wire.specs.Posting.{IsTarget}
+use Rattle.http_messages.specs.Posting.{IsTarget}
 use Rattle.filing_model.specs.Stopping.{Crash}
 use Rattle.filing_world.specs.World.{Event}
 use Rattle.event_script.specs.declared.event.Crash.{Crash as Told}

@@ -2,7 +2,7 @@
 
 ghost use Rattle.std.specs.Prelude.{◌≡◌, ◌<◌, ◌≤◌, length, option_map, false, IfOk, IfSome};
 ghost use Rattle.key_string.specs.Key.{key_of_field};
-ghost use Rattle.http_wire.specs.Posting.{IsTarget};
+ghost use Rattle.http_messages.specs.Posting.{IsTarget};
 ghost use Rattle.event_script.specs.Events.{view_event, HasTarget};
 ghost use Rattle.event_script.specs.Lines.{closing_quote, string_length, key_and_body, put_of, amendment_of, amend_of};
 

@@ -3,9 +3,9 @@ use Rattle.std.proofs.Common.{◌≡◌, ℕ, Ok, Err, refl, inl}
 use Rattle.sqlite.specs.Store.{Ghosts}
 use Rattle.sqlite.proofs.StateLemmas.{survives_weaker}
 use Rattle.http_wire.specs.declared.device.Source.{Ghosts as Reads}
-use Rattle.http_wire.specs.Reply.{ReplyParts}
+use Rattle.http_messages.specs.Reply.{ReplyParts}
 use Rattle.http_wire.specs.ReplyFaults.{HasGiven}
-use Rattle.http_wire.specs.Response.{GivesReply}
+use Rattle.http_messages.specs.Response.{GivesReply}
 use Rattle.outbox_core.specs.Calls.{MovesEntry}
 use Rattle.outbox_core.specs.declared.fault.TakeFault.{TakeFault}
 use Rattle.outbox_core.specs.OutboxParts.{OutboxParts, shows}

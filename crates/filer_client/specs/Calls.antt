@@ -4,7 +4,7 @@ use Rattle.sqlite.specs.Store.{Ghosts}
 use Rattle.sqlite.specs.State.{HasCleanDisk}
 use Rattle.http_wire.specs.declared.device.Source.{Ghosts as Reads}
 use Rattle.http_wire.specs.declared.device.Sink.{Ghosts as Writes}
-use Rattle.http_wire.specs.declared.refusal.ReplyFault.{ReplyFault}
+use Rattle.http_messages.specs.declared.refusal.ReplyFault.{ReplyFault}
 use Rattle.filing_model.specs.Outbox.{Entry}
 use Rattle.table_rows.specs.Standing.{CommitsNothing}
 use Rattle.outbox_core.specs.declared.fault.TakeFault.{TakeFault}

@@ -3,9 +3,9 @@ use Rattle.std.specs.Prelude.{◌≡◌, ◌≢◌, ◌⊎◌, ◌≤◌, ℕ, L
 use Rattle.std.specs.Io.KnownBytes.{Appends}
 use Rattle.http_wire.specs.declared.device.Source.{Ghosts as Reads}
 use Rattle.http_wire.specs.Device.{HasFailed}
-use Rattle.http_wire.specs.Reply.{ReplyParts}
+use Rattle.http_messages.specs.Reply.{ReplyParts}
 use Rattle.http_wire.specs.ReplyFaults.{HasGiven, IsReplyFailure}
-use Rattle.http_wire.specs.Response.{GivesReply}
+use Rattle.http_messages.specs.Response.{GivesReply}
 use Rattle.sqlite.specs.Store.{Ghosts}
 use Rattle.filing_model.specs.Outbox.{Entry, State, Open, bytes_of, request_of, moved}
 use Rattle.outbox_core.specs.declared.fault.TakeFault.TheVariants.{NoEntry, Memory, Store}

@@ -2,8 +2,8 @@
 
 ghost use Rattle.std.specs.Prelude.{◌≡◌, ◌≤◌, length, true, Some, IfOk, IfErr};
 ghost use Rattle.key_string.specs.Filer.{is_filer};
-ghost use Rattle.http_wire.specs.Posting.{IsTarget};
-ghost use Rattle.http_wire.specs.Head.{max_body_len};
+ghost use Rattle.http_messages.specs.Posting.{IsTarget};
+ghost use Rattle.http_messages.specs.Head.{max_body_len};
 ghost use Rattle.filing_model.specs.Outbox.{bytes_of, request_of};
 ghost use Rattle.outbox_core.specs.Entries.{found_at};
 ghost use Rattle.outbox_core.specs.Reading.{view_entry};

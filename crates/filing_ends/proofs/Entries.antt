@@ -4,7 +4,7 @@ use Rattle.std.specs.List.{list_any}
 use Rattle.std.specs.Prelude.{nat_le}
 use Rattle.std.proofs.lemmas.Bool.{cases_Bool}
 use Rattle.std.proofs.lemmas.Bool.Decides.{nat_tests}
-use Rattle.http_wire.specs.Head.{max_body_len}
+use Rattle.http_messages.specs.Head.{max_body_len}
 use Rattle.filing_model.specs.Outbox.{Entry, State, request_of, bytes_of}
 use Rattle.filing_world.specs.World.{numbered}
 use Rattle.filing_world.specs.Step.{takes}

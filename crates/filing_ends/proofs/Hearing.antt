@@ -2,15 +2,16 @@
 use Rattle.std.proofs.Common.{◌≡◌, ℕ, ◌≤◌, List, ◌++◌, length, take, drop, Option, Some, None, sym, ap, ◌∙◌, subst, inl, inr, arith, length-append, ⊎_elim}
 use Rattle.std.proofs.lemmas.Grind.{common_steps}
 use Rattle.std.proofs.lemmas.List.{append-nil}
-use Rattle.http_wire.specs.declared.refusal.ReplyFault.{ReplyFault}
-use Rattle.http_wire.specs.declared.refusal.ReplyFault.TheVariants.{Cut, Malformed, NoLength, TooLarge, Read, ReadLimit, Memory}
+use Rattle.http_messages.specs.declared.refusal.ReplyFault.{ReplyFault}
+use Rattle.http_messages.specs.declared.refusal.ReplyFault.TheVariants.{Cut, Malformed, NoLength, TooLarge, Read, ReadLimit, Memory}
 use Rattle.http_wire.specs.Device.{HasFailed}
-use Rattle.http_wire.specs.Reply.{ReplyParts}
-use Rattle.http_wire.specs.Response.{BeginsReply, SpellsReply, GivesReply}
-use Rattle.http_wire.specs.ReplyFaults.{HasGiven, IsRefusedReply, IsReplyFailure}
-use Rattle.http_wire.proofs.RefusedReply.{GivesReply-begins}
-use Rattle.http_wire.proofs.ReplyAgain.{front-not_refused}
-use Rattle.http_wire.proofs.UniqueReply.{BeginsReply-more, BeginsReply-front}
+use Rattle.http_messages.specs.Reply.{ReplyParts}
+use Rattle.http_messages.specs.Response.{BeginsReply, SpellsReply, GivesReply}
+use Rattle.http_wire.specs.ReplyFaults.{HasGiven, IsReplyFailure}
+use Rattle.http_messages.specs.ReplyFaults.{IsRefusedReply}
+use Rattle.http_messages.proofs.RefusedReply.{GivesReply-begins}
+use Rattle.http_messages.proofs.NotRefused.{front-not_refused}
+use Rattle.http_messages.proofs.UniqueReply.{BeginsReply-more, BeginsReply-front}
 use Rattle.filing_model.specs.Outbox.{Entry, State, moved}
 use Rattle.filing_model.specs.Stopping.{No}
 use Rattle.filing_world.specs.World.{numbered}

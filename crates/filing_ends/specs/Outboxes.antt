@@ -1,7 +1,7 @@
 -- What contracts see of an outbox in files.
 use Rattle.std.specs.Prelude.{◌≡◌, ℕ, true, List, Option, Some, None, Result, Ok, Err}
 use Rattle.key_string.specs.Filer.{is_filer}
-use Rattle.http_wire.specs.declared.refusal.ReplyFault.TheVariants.{Cut, Malformed, NoLength, TooLarge, Read, ReadLimit, Memory}
+use Rattle.http_messages.specs.declared.refusal.ReplyFault.TheVariants.{Cut, Malformed, NoLength, TooLarge, Read, ReadLimit, Memory}
 use Rattle.filing_model.specs.Outbox.{Entry, State, request_of, bytes_of}
 use Rattle.filing_world.specs.World.{Outbox, numbered}
 use Rattle.outbox_core.specs.declared.fault.TakeFault.TheVariants as take

@@ -1,7 +1,7 @@
 //! The process that an intake runs in, over a register in files.
 
 ghost use Rattle.std.specs.Prelude.{◌≡◌, ◌≢◌, ◌≤◌, ◌^◌, ◌++◌, [], ℕ, List, true, false, IfOk, Err};
-ghost use Rattle.http_wire.specs.Message.{Arrival};
+ghost use Rattle.http_messages.specs.Message.{Arrival};
 ghost use Rattle.filing_model.specs.Request.{Request, firsts};
 ghost use Rattle.filing_model.specs.Register.{register};
 ghost use Rattle.filing_model.specs.Stopping.{ServesUntil};

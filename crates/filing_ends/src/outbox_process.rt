@@ -2,8 +2,8 @@
 
 ghost use Rattle.std.specs.Prelude.{◌≡◌, ◌≢◌, ◌++◌, ◌∷◌, [], ℕ, List, map, true, false, Option, Some, None, IfOk, Err, if◌then◌else◌};
 ghost use Rattle.key_string.specs.Filer.{is_filer};
-ghost use Rattle.http_wire.specs.Posting.{IsTarget};
-ghost use Rattle.http_wire.specs.Reply.{ReplyParts};
+ghost use Rattle.http_messages.specs.Posting.{IsTarget};
+ghost use Rattle.http_messages.specs.Reply.{ReplyParts};
 ghost use Rattle.filing_model.specs.Outbox.{Entry as Item};
 ghost use Rattle.filing_model.specs.Stopping.{No};
 ghost use Rattle.filing_world.specs.World.{numbered};

@@ -3,7 +3,7 @@
 
 ghost use Rattle.std.specs.Prelude.{◌≡◌, ◌≢◌, ◌++◌, ◌∷◌, [], ℕ, List, map, true, false, Option, Some, None, IfOk, Err, if◌then◌else◌};
 ghost use Rattle.key_string.specs.Filer.{is_filer};
-ghost use Rattle.http_wire.specs.Reply.{ReplyParts};
+ghost use Rattle.http_messages.specs.Reply.{ReplyParts};
 ghost use Rattle.filing_model.specs.Outbox.{Entry as Item};
 ghost use Rattle.filing_model.specs.Stopping.{No};
 ghost use Rattle.filing_world.specs.World.{Outbox as Ours, numbered};
@@ -11,7 +11,7 @@ ghost use Rattle.filing_world.specs.Step.{takes, Hears, heard_by};
 ghost use Rattle.filing_world.specs.Headline.{states_of};
 ghost use Rattle.sqlite.specs.Files.{over_files};
 ghost use Rattle.sqlite.specs.Held.{state};
-ghost use Rattle.http_wire.specs.Posting.{IsTarget};
+ghost use Rattle.http_messages.specs.Posting.{IsTarget};
 ghost use Rattle.outbox_core.specs.OutboxParts.{contents, HasEntries};
 ghost use Rattle.outbox_opening.specs.Entries.{Contents};
 ghost use Rattle.outbox_core.specs.Entries.{opened};

@@ -3,8 +3,8 @@
 //! costs much to prove.
 
 ghost use Rattle.std.specs.Prelude.{◌≡◌, ◌≢◌, ◌≤◌, ◌^◌, ◌++◌, [], ℕ, List, Some, None, IfOk, Err, true, false};
-ghost use Rattle.http_wire.specs.Message.{Arrival};
-ghost use Rattle.http_wire.specs.declared.refusal.ConnFault.TheVariants.{Write};
+ghost use Rattle.http_messages.specs.Message.{Arrival};
+ghost use Rattle.http_messages.specs.declared.refusal.ConnFault.TheVariants.{Write};
 ghost use Rattle.filing_model.specs.declared.served.Ended.TheVariants.{Fault};
 ghost use Rattle.filing_model.specs.Request.{Request, firsts};
 ghost use Rattle.filing_model.specs.Register.{register};

@@ -2,10 +2,10 @@
 use Rattle.std.proofs.Common.{◌≡◌, ℕ, ◌<◌, true, not, List, [], ◌∷◌, ◌++◌, length, refl, sym, ap, ◌∙◌, subst, ⊎_elim, inl, inr}
 use Rattle.std.specs.Prelude.{filter}
 use Rattle.std.proofs.lemmas.List.Elements.{filter_agree}
-use Rattle.http_wire.specs.Head.{closes}
-use Rattle.http_wire.specs.Message.{Arrival, Ending}
-use Rattle.http_wire.specs.Request.{Request as Message}
-use Rattle.http_wire.specs.Reply.{render}
+use Rattle.http_messages.specs.Head.{closes}
+use Rattle.http_messages.specs.Message.{Arrival, Ending}
+use Rattle.http_messages.specs.Request.{Request as Message}
+use Rattle.http_messages.specs.Reply.{render}
 use Rattle.filing_model.specs.Request.{Request, has_key, firsts}
 use Rattle.filing_model.specs.Register.{register}
 use Rattle.filing_model.specs.Answer.{answer}

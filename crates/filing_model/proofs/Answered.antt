@@ -1,10 +1,10 @@
 -- What was neither stopped nor ended by a fault has answered every arrival.
 use Rattle.std.proofs.Common.{◌≡◌, ◌≢◌, ◌≤◌, ℕ, List, length, take, Some, refl, sym, ap, ◌∙◌, ⊎_elim, arith}
 use Rattle.std.proofs.lemmas.Bool.Decides.{nat_tests}
-use Rattle.http_wire.specs.declared.refusal.ConnFault.{ConnFault}
-use Rattle.http_wire.specs.declared.refusal.ConnFault.TheVariants.{ReadLimit, Memory}
-use Rattle.http_wire.specs.Message.{Arrival, Ending}
-use Rattle.http_wire.specs.Received.{max_reads}
+use Rattle.http_messages.specs.declared.refusal.ConnFault.{ConnFault}
+use Rattle.http_messages.specs.declared.refusal.ConnFault.TheVariants.{ReadLimit, Memory}
+use Rattle.http_messages.specs.Message.{Arrival, Ending}
+use Rattle.http_messages.specs.Reads.{max_reads}
 use Rattle.filing_model.specs.declared.served.Mark.{Mark}
 use Rattle.filing_model.specs.declared.served.Ended.{Ended}
 use Rattle.filing_model.specs.declared.served.Ended.TheVariants.{Fault}

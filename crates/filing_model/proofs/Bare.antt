@@ -1,11 +1,11 @@
 -- What a HEAD is answered.
 use Rattle.std.proofs.Common.{◌≡◌, ℕ, true, List, [], Option, Some, None, refl, ap, ◌∙◌, subst}
 use Rattle.std.specs.Prelude.{codes, bytes_eq}
-use Rattle.http_wire.specs.Head.{closes}
-use Rattle.http_wire.specs.Message.{Arrival}
-use Rattle.http_wire.specs.Request.{Request as Message}
-use Rattle.http_wire.specs.declared.reply.Kind.TheVariants.{Problem}
-use Rattle.http_wire.specs.Reply.{render}
+use Rattle.http_messages.specs.Head.{closes}
+use Rattle.http_messages.specs.Message.{Arrival}
+use Rattle.http_messages.specs.Request.{Request as Message}
+use Rattle.http_messages.specs.declared.reply.Kind.TheVariants.{Problem}
+use Rattle.http_messages.specs.Reply.{render}
 use Rattle.filing_model.specs.declared.served.Mark.{Mark}
 use Rattle.filing_model.specs.declared.served.Mark.TheVariants.{Done, Unavailable, NotFiled}
 use Rattle.filing_model.specs.Request.{Request}

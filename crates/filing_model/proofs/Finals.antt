@@ -4,8 +4,8 @@ use Rattle.std.specs.Prelude.{nat_eq, nat_le, nat_lt, ◌&&◌, IsSome}
 use Rattle.std.specs.Fmt.{digits}
 use Rattle.std.specs.List.{AllByRecursion}
 use Rattle.std.proofs.lemmas.Bool.{cases_Bool, le-leb, lt-ltb}
-use Rattle.http_wire.specs.Reply.{phrase}
-use Rattle.http_wire.specs.Response.{max_content_len, IsReadable}
+use Rattle.http_messages.specs.Reply.{phrase}
+use Rattle.http_messages.specs.Response.{max_content_len, IsReadable}
 use Rattle.serde_json.specs.Written.{compact_text}
 use Rattle.serde_json.proofs.OnLiterals.{serde_json_on_literals}
 use Rattle.xbrl_report.specs.CodeNumber.{number_of}

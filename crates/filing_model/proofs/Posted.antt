@@ -12,11 +12,11 @@ use Rattle.http_uri.specs.ByteClasses.{split_once_front, index_of}
 use Rattle.key_string.specs.Filer.{is_filer, is_filer_byte}
 use Rattle.key_string.specs.Key.{IsKey, spelling}
 use Rattle.key_string.proofs.Fields.{key_of_field-spelled}
-use Rattle.http_wire.specs.Coding.{has_content_coding}
-use Rattle.http_wire.specs.Head.{RequestParts, values_named}
-use Rattle.http_wire.specs.Posting.{IsTarget, resource_of}
-use Rattle.http_wire.specs.Request.{Request as Message}
-use Rattle.http_wire.proofs.ValueLemmas.{decimal-read}
+use Rattle.http_messages.specs.Coding.{has_content_coding}
+use Rattle.http_messages.specs.Head.{RequestParts, values_named}
+use Rattle.http_messages.specs.Posting.{IsTarget, resource_of}
+use Rattle.http_messages.specs.Request.{Request as Message}
+use Rattle.http_messages.proofs.ValueLemmas.{decimal-read}
 use Rattle.filing_model.specs.Text.{Route, FileReport, target_in, resource_in, resource_of_path, route_by_key, route_by_keys, route_by_method, route_by_resource, bare, route}
 
 -- ---- the resource in a path

@@ -6,9 +6,9 @@ use Rattle.serde_json.specs.Find.{get, as_str, as_number, as_u64}
 use Rattle.key_string.specs.Key.{IsKey}
 use Rattle.key_string.specs.Filer.{is_filer}
 use Rattle.xbrl_report.specs.Findings.{tree}
-use Rattle.http_wire.specs.Head.{max_body_len}
-use Rattle.http_wire.specs.Posting.{IsTarget, render_post}
-use Rattle.http_wire.specs.Reply.{ReplyParts}
+use Rattle.http_messages.specs.Head.{max_body_len}
+use Rattle.http_messages.specs.Posting.{IsTarget, render_post}
+use Rattle.http_messages.specs.Reply.{ReplyParts}
 use Rattle.filing_model.specs.Request.{Request}
 
 -- what is known of a report: nothing yet; its number in the register; that it was refused; or that its key stands for another body

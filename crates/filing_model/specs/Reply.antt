@@ -5,9 +5,9 @@ use Rattle.serde_json.specs.Written.{compact_text}
 use Rattle.serde_json.specs.View.{items_of}
 use Rattle.xbrl_report.specs.Pair.{Pair}
 use Rattle.xbrl_report.specs.CodeNumber.{number_of, text_of}
-use Rattle.http_wire.specs.declared.reply.Kind.{Kind}
-use Rattle.http_wire.specs.declared.reply.Kind.TheVariants.{Json}
-use Rattle.http_wire.specs.Reply.{ReplyParts, phrase}
+use Rattle.http_messages.specs.declared.reply.Kind.{Kind}
+use Rattle.http_messages.specs.declared.reply.Kind.TheVariants.{Json}
+use Rattle.http_messages.specs.Reply.{ReplyParts, phrase}
 use Rattle.filing_model.specs.declared.served.Style.{Style}
 use Rattle.filing_model.specs.declared.served.Style.TheVariants.{Old, Problem}
 use Rattle.filing_model.specs.Answer.{Answer}

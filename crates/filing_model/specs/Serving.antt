@@ -1,6 +1,6 @@
 -- What serving a connection may mark, write and end with.
 use Rattle.std.specs.Prelude.{◌≡◌, ℕ, true, false, List, [], ◌∷◌, ◌++◌, length}
-use Rattle.http_wire.specs.Message.{Arrival, Ending, Rest, Asks, ArrivalsThen, HasArrivals}
+use Rattle.http_messages.specs.Message.{Arrival, Ending, Rest, Asks, ArrivalsThen, HasArrivals}
 use Rattle.filing_model.specs.declared.served.Mark.{Mark}
 use Rattle.filing_model.specs.declared.served.Ended.{Ended}
 use Rattle.filing_model.specs.declared.served.Ended.TheVariants.{Closed, InputEnded, Fault}

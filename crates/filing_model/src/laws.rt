@@ -3,13 +3,13 @@
 //! code that decides requests has contracts by the same definitions.
 
 ghost use Rattle.std.specs.Prelude.{◌≡◌, ◌≢◌, ◌↔◌, ℕ, ◌^◌, ◌<◌, ◌≤◌, Bool, true, List, [], ◌++◌, length, filter, codes, Option, Some};
-ghost use Rattle.http_wire.specs.declared.refusal.ConnFault.{ConnFault};
-ghost use Rattle.http_wire.specs.declared.reply.Kind.TheVariants.{Problem};
-ghost use Rattle.http_wire.specs.Head.{closes};
-ghost use Rattle.http_wire.specs.Message.{Arrival};
-ghost use Rattle.http_wire.specs.Reply.{render};
-ghost use Rattle.http_wire.specs.Request.{Request as Message};
-ghost use Rattle.http_wire.specs.Response.{IsReadable};
+ghost use Rattle.http_messages.specs.declared.refusal.ConnFault.{ConnFault};
+ghost use Rattle.http_messages.specs.declared.reply.Kind.TheVariants.{Problem};
+ghost use Rattle.http_messages.specs.Head.{closes};
+ghost use Rattle.http_messages.specs.Message.{Arrival};
+ghost use Rattle.http_messages.specs.Reply.{render};
+ghost use Rattle.http_messages.specs.Request.{Request as Message};
+ghost use Rattle.http_messages.specs.Response.{IsReadable};
 ghost use Rattle.filing_model.specs.declared.served.Ended.{Ended};
 ghost use Rattle.filing_model.specs.declared.served.Ended.TheVariants.{Fault};
 ghost use Rattle.filing_model.specs.declared.served.Mark.{Mark};

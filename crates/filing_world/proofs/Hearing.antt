@@ -4,13 +4,13 @@ use Rattle.serde_json.specs.Data.{Data}
 use Rattle.xbrl_report.specs.Findings.{tree}
 use Rattle.xbrl_report.specs.Pair.{Pair}
 use Rattle.xbrl_report.specs.CodeNumber.{number_of}
-use Rattle.http_wire.specs.Head.{closes}
-use Rattle.http_wire.specs.Message.{Arrival, Ending}
-use Rattle.http_wire.specs.Request.{Request as Message}
-use Rattle.http_wire.specs.Reply.{ReplyParts, render}
-use Rattle.http_wire.specs.Response.{SpellsReply, GivesReply, IsReadable}
-use Rattle.http_wire.proofs.ReplyRead.{reply-alone}
-use Rattle.http_wire.proofs.UniqueReply.{SpellsReply-nothing}
+use Rattle.http_messages.specs.Head.{closes}
+use Rattle.http_messages.specs.Message.{Arrival, Ending}
+use Rattle.http_messages.specs.Request.{Request as Message}
+use Rattle.http_messages.specs.Reply.{ReplyParts, render}
+use Rattle.http_messages.specs.Response.{SpellsReply, GivesReply, IsReadable}
+use Rattle.http_messages.proofs.ReplyRead.{reply-alone}
+use Rattle.http_messages.proofs.UniqueReply.{SpellsReply-nothing}
 use Rattle.filing_model.specs.declared.served.Style.TheVariants.{Problem}
 use Rattle.filing_model.specs.declared.served.Mark.{Mark}
 use Rattle.filing_model.specs.declared.served.Mark.TheVariants.{Done, Unavailable, NotFiled}

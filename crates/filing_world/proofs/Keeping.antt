@@ -6,10 +6,10 @@ use Rattle.std.proofs.lemmas.Bool.{cases_Bool, and_parts, both_ways, leb-true, n
 use Rattle.std.proofs.lemmas.Slice.Eq.{bytes_eq-Decides}
 use Rattle.std.proofs.lemmas.Option.{some_pair_parts}
 use Rattle.key_string.specs.Key.{IsKey}
-use Rattle.http_wire.specs.Head.{max_body_len}
-use Rattle.http_wire.specs.Reply.{ReplyParts}
-use Rattle.http_wire.specs.Response.{GivesReply}
-use Rattle.http_wire.specs.Posting.{IsTarget}
+use Rattle.http_messages.specs.Head.{max_body_len}
+use Rattle.http_messages.specs.Reply.{ReplyParts}
+use Rattle.http_messages.specs.Response.{GivesReply}
+use Rattle.http_messages.specs.Posting.{IsTarget}
 use Rattle.filing_model.specs.Request.{Request, firsts}
 use Rattle.filing_model.specs.Answer.{IsRegistered}
 use Rattle.filing_model.specs.Outbox.{State, Open, Confirmed, Refused, Clashed, moved, Entry, request_of, bytes_of}

@@ -4,12 +4,12 @@ use Rattle.std.specs.Prelude.{slice_get, filter}
 use Rattle.std.specs.List.{range_with_len}
 use Rattle.std.proofs.lemmas.Bool.{cases_Bool, and_parts}
 use Rattle.std.proofs.lemmas.Slice.Eq.{bytes_eq-Decides}
-use Rattle.http_wire.specs.Head.{closes}
-use Rattle.http_wire.specs.Message.{Arrival, Ending}
-use Rattle.http_wire.specs.Request.{Request as Message}
-use Rattle.http_wire.specs.Reply.{ReplyParts, render}
-use Rattle.http_wire.specs.Response.{SpellsReply, GivesReply, IsReadable}
-use Rattle.http_wire.proofs.ReplyRead.{reply-spells, reply-alone}
+use Rattle.http_messages.specs.Head.{closes}
+use Rattle.http_messages.specs.Message.{Arrival, Ending}
+use Rattle.http_messages.specs.Request.{Request as Message}
+use Rattle.http_messages.specs.Reply.{ReplyParts, render}
+use Rattle.http_messages.specs.Response.{SpellsReply, GivesReply, IsReadable}
+use Rattle.http_messages.proofs.ReplyRead.{reply-spells, reply-alone}
 use Rattle.filing_model.specs.declared.served.Style.TheVariants.{Problem}
 use Rattle.filing_model.specs.declared.served.Mark.{Mark}
 use Rattle.filing_model.specs.declared.served.Mark.TheVariants.{Done, Unavailable, NotFiled}

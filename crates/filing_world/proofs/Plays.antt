@@ -2,12 +2,12 @@
 use Rattle.std.proofs.Common.{◌≡◌, ◌⊎◌, ℕ, ◌<◌, ◌≤◌, Bool, true, false, List, [], ◌∷◌, ◌++◌, length, take, Option, Some, None, refl, sym, ap, ◌∙◌, subst, inl, arith}
 use Rattle.std.proofs.lemmas.Bool.{both_ways, le-leb}
 use Rattle.std.proofs.lemmas.Grind.{common_steps}
-use Rattle.http_wire.specs.Head.{closes, max_body_len}
-use Rattle.http_wire.specs.Message.{Read, Ending, Rest, HasArrivals, awaits}
-use Rattle.http_wire.specs.Reply.{ReplyParts, render}
-use Rattle.http_wire.specs.Response.{BeginsReply, SpellsReply, GivesReply, IsReadable}
-use Rattle.http_wire.proofs.ReplyRead.{reply-spells}
-use Rattle.http_wire.proofs.UniqueReply.{BeginsReply-more, BeginsReply-unique}
+use Rattle.http_messages.specs.Head.{closes, max_body_len}
+use Rattle.http_messages.specs.Message.{Read, Ending, Rest, HasArrivals, awaits}
+use Rattle.http_messages.specs.Reply.{ReplyParts, render}
+use Rattle.http_messages.specs.Response.{BeginsReply, SpellsReply, GivesReply, IsReadable}
+use Rattle.http_messages.proofs.ReplyRead.{reply-spells}
+use Rattle.http_messages.proofs.UniqueReply.{BeginsReply-more, BeginsReply-unique}
 use Rattle.filing_model.specs.declared.served.Mark.TheVariants.{Done}
 use Rattle.filing_model.specs.declared.served.Ended.TheVariants.{Closed, InputEnded}
 use Rattle.filing_model.specs.Prefix.{IsPrefixOf}

@@ -3,14 +3,14 @@ use Rattle.std.proofs.Common.{◌≡◌, ℕ, true, false, List, [], ◌∷◌, 
 use Rattle.std.proofs.lemmas.Bool.{both_ways}
 use Rattle.std.proofs.lemmas.Grind.{common_steps}
 use Rattle.std.proofs.lemmas.List.{take-append-drop}
-use Rattle.http_wire.specs.Head.{RequestParts, closes}
-use Rattle.http_wire.specs.Message.{Arrival, Read, Refused, Ending, Rest, BeginsHead, BeginsRequest, IsRefused, SpellsRequest, awaits}
-use Rattle.http_wire.specs.Posting.{resource_of, post_request}
-use Rattle.http_wire.specs.Request.{Request as Message}
-use Rattle.http_wire.specs.declared.refusal.Refusal.{Refusal}
-use Rattle.http_wire.proofs.MoreBytes.{BeginsHead-more, BeginsRequest-more, IsRefused-more}
-use Rattle.http_wire.proofs.PostLaws.{post-spells, post_parts-silent, post_parts-closes, post_parts-key, post_parts-uncoded}
-use Rattle.http_wire.proofs.Unique.{BeginsHead-unique, BeginsRequest-unique, IsRefused-excludes}
+use Rattle.http_messages.specs.Head.{RequestParts, closes}
+use Rattle.http_messages.specs.Message.{Arrival, Read, Refused, Ending, Rest, BeginsHead, BeginsRequest, IsRefused, SpellsRequest, awaits}
+use Rattle.http_messages.specs.Posting.{resource_of, post_request}
+use Rattle.http_messages.specs.Request.{Request as Message}
+use Rattle.http_messages.specs.declared.refusal.Refusal.{Refusal}
+use Rattle.http_messages.proofs.MoreBytes.{BeginsHead-more, BeginsRequest-more, IsRefused-more}
+use Rattle.http_messages.proofs.PostLaws.{post-spells, post_parts-silent, post_parts-closes, post_parts-key, post_parts-uncoded}
+use Rattle.http_messages.proofs.Unique.{BeginsHead-unique, BeginsRequest-unique, IsRefused-excludes}
 use Rattle.filing_model.specs.Request.{Request}
 use Rattle.filing_model.specs.Outbox.{bytes_of, IsSendable}
 use Rattle.filing_model.specs.Serving.{BeginsArrivals}

@@ -1,7 +1,7 @@
 -- An entry remains over every run.
 use Rattle.std.proofs.Common.{◌≡◌, ◌≢◌, ℕ, true, false, List, [], ◌∷◌, Option, Some, None, refl, sym, ap, ◌∙◌, subst, ⊎_elim}
 use Rattle.std.proofs.lemmas.Bool.{cases_Bool}
-use Rattle.http_wire.specs.Reply.{ReplyParts}
+use Rattle.http_messages.specs.Reply.{ReplyParts}
 use Rattle.filing_model.specs.Outbox.{State, Open, Confirmed, Refused, Clashed, moved, Entry}
 use Rattle.filing_model.specs.Stopping.{Crash}
 use Rattle.filing_world.specs.World.{Outbox, World, Event, Put, Send, Stranger, Deliver, Hand, RestartServer, RestartOutbox, numbered, renewed}

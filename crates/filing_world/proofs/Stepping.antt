@@ -6,17 +6,17 @@ use Rattle.std.specs.List.{list_any}
 use Rattle.std.proofs.lemmas.Bool.{le-leb}
 use Rattle.std.proofs.lemmas.Bool.Decides.{nat_tests}
 use Rattle.std.proofs.lemmas.Slice.Eq.{bytes_eq-Decides}
-use Rattle.http_wire.specs.Head.{max_body_len}
+use Rattle.http_messages.specs.Head.{max_body_len}
 use Rattle.std.proofs.lemmas.Grind.{common_steps}
 use Rattle.std.proofs.lemmas.List.{take-append-drop}
 use Rattle.key_string.specs.Key.{IsKey}
-use Rattle.http_wire.specs.Message.{Arrival, Ending}
-use Rattle.http_wire.specs.Received.{max_reads}
-use Rattle.http_wire.specs.Reply.{ReplyParts}
-use Rattle.http_wire.specs.Request.{Request as Message}
-use Rattle.http_wire.specs.Response.{GivesReply, BeginsReply}
-use Rattle.http_wire.proofs.UniqueReply.{BeginsReply-more, BeginsReply-unique}
-use Rattle.http_wire.specs.Posting.{IsTarget}
+use Rattle.http_messages.specs.Message.{Arrival, Ending}
+use Rattle.http_messages.specs.Reads.{max_reads}
+use Rattle.http_messages.specs.Reply.{ReplyParts}
+use Rattle.http_messages.specs.Request.{Request as Message}
+use Rattle.http_messages.specs.Response.{GivesReply, BeginsReply}
+use Rattle.http_messages.proofs.UniqueReply.{BeginsReply-more, BeginsReply-unique}
+use Rattle.http_messages.specs.Posting.{IsTarget}
 use Rattle.filing_model.specs.declared.served.Mark.{Mark}
 use Rattle.filing_model.specs.declared.served.Mark.TheVariants.{Done, Unavailable, NotFiled}
 use Rattle.filing_model.specs.declared.served.Ended.{Ended}

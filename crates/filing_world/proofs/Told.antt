@@ -3,8 +3,8 @@ use Rattle.std.proofs.Common.{◌≡◌, ◌≢◌, ◌≤◌, true, false, List
 use Rattle.std.specs.Prelude.{bytes_eq}
 use Rattle.std.proofs.lemmas.Bool.{cases_Bool}
 use Rattle.std.proofs.lemmas.Slice.Eq.{bytes_eq-Decides}
-use Rattle.http_wire.specs.Reply.{render}
-use Rattle.http_wire.specs.Response.{IsReadable}
+use Rattle.http_messages.specs.Reply.{render}
+use Rattle.http_messages.specs.Response.{IsReadable}
 use Rattle.filing_model.specs.Request.{Request, same_key, same_content, has_key, firsts}
 use Rattle.filing_model.specs.Register.{filings, verdict, judged, kept_after, kept, register}
 use Rattle.filing_model.specs.Answer.{Answer, answer, as_repeat, kept_for}

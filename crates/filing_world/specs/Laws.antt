@@ -1,8 +1,8 @@
 -- What the laws over every step and every run say.
 use Rattle.std.specs.Prelude.{◌≡◌, ◌≢◌, ◌⊎◌, ◌↔◌, ◌<◌, ◌≤◌, ◌-◌, ℕ, List, Option, [], ◌∷◌, ◌++◌, length, take, min, max, true, Some, None}
 use Rattle.key_string.specs.Key.{IsKey}
-use Rattle.http_wire.specs.Message.{Arrival}
-use Rattle.http_wire.specs.Posting.{IsTarget}
+use Rattle.http_messages.specs.Message.{Arrival}
+use Rattle.http_messages.specs.Posting.{IsTarget}
 use Rattle.filing_model.specs.Request.{Request}
 use Rattle.filing_model.specs.Outbox.{Open, Entry, IsSendable, request_of, bytes_of}
 use Rattle.filing_model.specs.Stopping.{Crash, No, Before, After, ServesUntil}

@@ -1,7 +1,7 @@
 -- Worked schedules: a few events each, with one entry in each outbox.
 use Rattle.std.specs.Prelude.{◌≡◌, ◌≢◌, ℕ, ◌≤◌, true, false, List, [], ◌∷◌, length, map, codes, None}
 use Rattle.xbrl_report.specs.Findings.{findings}
-use Rattle.http_wire.specs.Reply.{render}
+use Rattle.http_messages.specs.Reply.{render}
 use Rattle.filing_model.specs.Request.{Request}
 use Rattle.filing_model.specs.Register.{Filing, register}
 use Rattle.filing_model.specs.Answer.{Answer}

@@ -2,14 +2,14 @@
 use Rattle.std.specs.Prelude.{◌≡◌, ℕ, ◌≤◌, ◌⊎◌, ◌&&◌, Bool, true, false, not, List, [], ◌∷◌, ◌++◌, length, take, Option, Some, None, nat_le, bytes_eq, if◌then◌else◌}
 use Rattle.std.specs.List.{list_any}
 use Rattle.key_string.specs.Key.{IsKey}
-use Rattle.http_wire.specs.Head.{max_body_len}
-use Rattle.http_wire.specs.Message.{Arrival}
-use Rattle.http_wire.specs.Received.{max_reads}
-use Rattle.http_wire.specs.Reply.{ReplyParts}
-use Rattle.http_wire.specs.Response.{GivesReply}
+use Rattle.http_messages.specs.Head.{max_body_len}
+use Rattle.http_messages.specs.Message.{Arrival}
+use Rattle.http_messages.specs.Reads.{max_reads}
+use Rattle.http_messages.specs.Reply.{ReplyParts}
+use Rattle.http_messages.specs.Response.{GivesReply}
 use Rattle.filing_model.specs.declared.served.Mark.{Mark}
 use Rattle.filing_model.specs.declared.served.Ended.{Ended}
-use Rattle.http_wire.specs.Posting.{IsTarget}
+use Rattle.http_messages.specs.Posting.{IsTarget}
 use Rattle.filing_model.specs.Outbox.{State, Open, moved, Entry, request_of, bytes_of}
 use Rattle.filing_model.specs.Stopping.{Crash, No, Before, After, ServesUntil}
 use Rattle.filing_model.specs.Text.{completed}

@@ -3,8 +3,8 @@
 //! reports in which nothing is found, and `all` is as many bytes as anything has.
 
 ghost use Rattle.std.specs.Prelude.{◌≡◌, ◌<◌, ℕ, Bool, List, [], ◌∷◌, ◌++◌, length, take, codes, slice_get, Some};
-ghost use Rattle.http_wire.specs.Reply.{ReplyParts, render};
-ghost use Rattle.http_wire.specs.Response.{IsReadable};
+ghost use Rattle.http_messages.specs.Reply.{ReplyParts, render};
+ghost use Rattle.http_messages.specs.Response.{IsReadable};
 ghost use Rattle.filing_model.specs.Prefix.{IsPrefixOf};
 ghost use Rattle.filing_model.specs.Request.{Request};
 ghost use Rattle.filing_model.specs.Register.{Filing, register};

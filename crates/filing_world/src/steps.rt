@@ -2,10 +2,10 @@
 //! contract that holds of a step of any world, reached or not.
 
 ghost use Rattle.std.specs.Prelude.{◌≡◌, ◌≢◌, ◌<◌, ◌≤◌, ℕ, List, Option, [], ◌∷◌, ◌++◌, length, take, Some};
-ghost use Rattle.http_wire.specs.Head.{max_body_len};
-ghost use Rattle.http_wire.specs.Received.{max_reads};
-ghost use Rattle.http_wire.specs.Reply.{ReplyParts};
-ghost use Rattle.http_wire.specs.Response.{GivesReply};
+ghost use Rattle.http_messages.specs.Head.{max_body_len};
+ghost use Rattle.http_messages.specs.Reads.{max_reads};
+ghost use Rattle.http_messages.specs.Reply.{ReplyParts};
+ghost use Rattle.http_messages.specs.Response.{GivesReply};
 ghost use Rattle.filing_model.specs.Outbox.{State, Open, Entry, moved};
 ghost use Rattle.filing_model.specs.Stopping.{Crash, Before};
 ghost use Rattle.filing_world.specs.World.{World, Outbox, Output, Sent, Put, Deliver, Hand, numbered};

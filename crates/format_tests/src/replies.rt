@@ -2,7 +2,7 @@ use http_wire::{Kind, Reply, append_reply, phrase};
 use std::test::Fail;
 
 #[test]
-#[tactic(auto, unfolding(http_wire::specs::Reply::phrase))]
+#[tactic(auto, unfolding(http_messages::specs::Reply::phrase))]
 fn bytes_of_replies(rt: HostRuntime) -> Result<(), Fail> {
     let mut content = Vec::new(rt.alloc());
     content.extend_from_slice(b"{\"number\":1,\"status\":\"registered\"}")?;

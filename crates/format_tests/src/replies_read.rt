@@ -102,7 +102,7 @@ fn readers_that_fail(rt: HostRuntime) {
 }
 
 #[test]
-#[tactic(auto, unfolding(http_wire::specs::Reply::phrase))]
+#[tactic(auto, unfolding(http_messages::specs::Reply::phrase))]
 fn what_is_written_is_read_again(rt: HostRuntime) -> Result<(), Fail> {
     let mut content = Vec::new(rt.alloc());
     content.resize(100_000, b'x')?;

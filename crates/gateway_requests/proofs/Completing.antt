@@ -3,16 +3,16 @@ use Rattle.std.proofs.Common.{◌≡◌, ◌≢◌, ℕ, ◌+◌, ◌<◌, ◌�
 use Rattle.std.specs.Prelude.{slice_range}
 use Rattle.std.proofs.lemmas.Grind.{common_steps}
 use Rattle.std.proofs.lemmas.Bool.{cases_Bool}
-use Rattle.http_wire.specs.declared.head.HeadFault.{HeadFault}
-use Rattle.http_wire.specs.declared.head.HeadFault.TheVariants.{Memory}
-use Rattle.http_wire.specs.declared.refusal.Refusal.TheVariants.{Head}
-use Rattle.http_wire.specs.Block.{EndsAt, IsBlockEnd, IsWholeBlock, skipped_len, from_block}
-use Rattle.http_wire.specs.Head.{RequestParts, IsHead, IsHeadFault, body_length, closes}
-use Rattle.http_wire.specs.Message.{Arrival, Read, Refused, Ending, BeginsRequest}
-use Rattle.http_wire.specs.Request.{Request as Message}
-use Rattle.http_wire.proofs.BlockLemmas.{EndsAt-within}
-use Rattle.http_wire.proofs.MoreBytes.{EndsAt-more, EndsAt-front, IsBlockEnd-within, skipped_len-more, from_block-more, block-more}
-use Rattle.http_wire.proofs.Unique.{BeginsHead-unique, BeginsRequest-unique, IsRefused-excludes}
+use Rattle.http_messages.specs.declared.head.HeadFault.{HeadFault}
+use Rattle.http_messages.specs.declared.head.HeadFault.TheVariants.{Memory}
+use Rattle.http_messages.specs.declared.refusal.Refusal.TheVariants.{Head}
+use Rattle.http_messages.specs.Block.{EndsAt, IsBlockEnd, IsWholeBlock, skipped_len, from_block}
+use Rattle.http_messages.specs.Head.{RequestParts, IsHead, IsHeadFault, body_length, closes}
+use Rattle.http_messages.specs.Message.{Arrival, Read, Refused, Ending, BeginsRequest}
+use Rattle.http_messages.specs.Request.{Request as Message}
+use Rattle.http_messages.proofs.BlockLemmas.{EndsAt-within}
+use Rattle.http_messages.proofs.MoreBytes.{EndsAt-more, EndsAt-front, IsBlockEnd-within, skipped_len-more, from_block-more, block-more}
+use Rattle.http_messages.proofs.Unique.{BeginsHead-unique, BeginsRequest-unique, IsRefused-excludes}
 use Rattle.filing_model.specs.declared.served.Mark.{Mark}
 use Rattle.filing_model.specs.Request.{Request}
 use Rattle.filing_model.specs.Serving.{BeginsArrivals}

@@ -12,8 +12,8 @@ use Rattle.std.proofs.lemmas.Fmt.{decimal_digit, decimal_nonempty, first_decimal
 use Rattle.std.proofs.lemmas.List.Sums.{list_all-from_AllPass}
 use Rattle.std.proofs.lemmas.Slice.Eq.{bytes_eq-Decides}
 use Rattle.std.proofs.lemmas.Str.Parse.{parse_digits}
-use Rattle.http_wire.proofs.DigitLemmas.{decimal_numerals}
-use Rattle.http_wire.proofs.ValueLemmas.{decimal-digits}
+use Rattle.http_messages.proofs.DigitLemmas.{decimal_numerals}
+use Rattle.http_messages.proofs.ValueLemmas.{decimal-digits}
 use Rattle.filing_model.specs.Text.{target_in}
 use Rattle.gateway_requests.specs.Path.{is_decimal}
 

@@ -5,8 +5,8 @@ use Rattle.key_string.specs.declared.fault.KeyFault.TheVariants.{NotString, Empt
 use Rattle.key_string.specs.Filer.{is_filer}
 use Rattle.key_string.specs.Key.{key_of_field}
 use Rattle.http_wire.specs.declared.inbox.Message.{Message as Lent}
-use Rattle.http_wire.specs.Request.{Request as Message}
-use Rattle.http_wire.specs.Posting.{IsTarget}
+use Rattle.http_messages.specs.Request.{Request as Message}
+use Rattle.http_messages.specs.Posting.{IsTarget}
 use Rattle.filing_model.specs.Reply.{word_reply}
 use Rattle.filing_model.specs.Text.{Route}
 use Rattle.filing_model.specs.Views.{the_request}

@@ -1,8 +1,8 @@
 //! The requests that a connection completed, read again from its bytes.
 
 ghost use Rattle.std.specs.Prelude.{◌≡◌, ◌≤◌, ◌++◌, ℕ, List, length, drop, None, IfOk, IfSome, OnOk};
-ghost use Rattle.http_wire.specs.Message.{Arrival, Ending, Read, BeginsRequest};
-ghost use Rattle.http_wire.specs.Request.{Request as Spelled};
+ghost use Rattle.http_messages.specs.Message.{Arrival, Ending, Read, BeginsRequest};
+ghost use Rattle.http_messages.specs.Request.{Request as Spelled};
 ghost use Rattle.filing_model.specs.Serving.{BeginsArrivals};
 ghost use Rattle.filing_model.specs.Text.{completed, completed_at};
 ghost use Rattle.gateway_requests.specs.Route.{view_message};

@@ -2,8 +2,8 @@
 
 ghost use Rattle.std.specs.Prelude.{◌≡◌, ◌∷◌, [], true, IfOk, MatchResult};
 ghost use Rattle.key_string.specs.Filer.{is_filer};
-ghost use Rattle.http_wire.specs.Head.{values_named};
-ghost use Rattle.http_wire.specs.Posting.{IsTarget};
+ghost use Rattle.http_messages.specs.Head.{values_named};
+ghost use Rattle.http_messages.specs.Posting.{IsTarget};
 ghost use Rattle.filing_model.specs.Text.{route, route_by_method, is_head, bare};
 ghost use Rattle.gateway_requests.specs.Route.{rejection_status, rejection_word, view_route, view_message, HasFiler, key_field, IsKeyOf, NoKeyOf, no_key};
 

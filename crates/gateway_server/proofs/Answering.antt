@@ -2,13 +2,13 @@
 use Rattle.std.proofs.Common.{◌≡◌, ℕ, Bool, true, List, [], ◌∷◌, ◌++◌, take, Option, Result, Ok, Err, refl, sym, ap, ◌∙◌, subst, IfOk}
 use Rattle.std.specs.declared.alloc.AllocError.{AllocError}
 use Rattle.std.specs.Io.KnownBytes.{Appends}
-use Rattle.http_wire.specs.declared.refusal.Refusal.{Refusal}
-use Rattle.http_wire.specs.declared.reply.Reply.{Reply}
-use Rattle.http_wire.specs.Head.{closes}
-use Rattle.http_wire.specs.Message.{Arrival, Read, Refused}
-use Rattle.http_wire.specs.Replies.{reply_parts}
-use Rattle.http_wire.specs.Reply.{ReplyParts, render}
-use Rattle.http_wire.specs.Request.{Request as Message}
+use Rattle.http_messages.specs.declared.refusal.Refusal.{Refusal}
+use Rattle.http_messages.specs.declared.reply.Reply.{Reply}
+use Rattle.http_messages.specs.Head.{closes}
+use Rattle.http_messages.specs.Message.{Arrival, Read, Refused}
+use Rattle.http_messages.specs.Replies.{reply_parts}
+use Rattle.http_messages.specs.Reply.{ReplyParts, render}
+use Rattle.http_messages.specs.Request.{Request as Message}
 use Rattle.filing_model.specs.declared.served.Mark.{Mark}
 use Rattle.filing_model.specs.declared.served.Mark.TheVariants.{Done, Unavailable, NotFiled}
 use Rattle.filing_model.specs.Request.{Request}

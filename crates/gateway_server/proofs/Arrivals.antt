@@ -3,9 +3,9 @@ use Rattle.std.proofs.Common.{◌≡◌, ℕ, ◌<◌, ◌≤◌, Bool, true, fa
 use Rattle.std.specs.Prelude.{if◌then◌else◌}
 use Rattle.std.proofs.lemmas.Grind.{common_steps}
 use Rattle.std.proofs.lemmas.Bool.{cases_lt}
-use Rattle.http_wire.specs.Head.{closes}
-use Rattle.http_wire.specs.Message.{Arrival, Read, Ending, BeginsRequest, Asks, interim, awaits}
-use Rattle.http_wire.specs.Request.{Request as Message}
+use Rattle.http_messages.specs.Head.{closes}
+use Rattle.http_messages.specs.Message.{Arrival, Read, Ending, BeginsRequest, Asks, interim, awaits}
+use Rattle.http_messages.specs.Request.{Request as Message}
 use Rattle.filing_model.specs.declared.served.Mark.{Mark}
 use Rattle.filing_model.specs.declared.served.Ended.TheVariants.{Closed}
 use Rattle.filing_model.specs.Prefix.{IsPrefixOf}

@@ -4,16 +4,16 @@ use Rattle.std.proofs.KnownBytes.{Appends-nil, Appends-trans, Consumes-nil, Cons
 use Rattle.std.proofs.lemmas.List.{length-append}
 use Rattle.std.specs.Io.KnownBytes.{Consumes, Appends, IsAtEnd}
 use Rattle.http_wire.specs.declared.inbox.Inbox.{Inbox}
-use Rattle.http_wire.specs.declared.refusal.ConnFault.{ConnFault}
-use Rattle.http_wire.specs.declared.refusal.ConnFault.TheVariants.{Write, ReadLimit, Memory}
-use Rattle.http_wire.specs.declared.refusal.ConnFault.TheVariants as fault
-use Rattle.http_wire.specs.declared.refusal.Refusal.{Refusal}
+use Rattle.http_messages.specs.declared.refusal.ConnFault.{ConnFault}
+use Rattle.http_messages.specs.declared.refusal.ConnFault.TheVariants.{Write, ReadLimit, Memory}
+use Rattle.http_messages.specs.declared.refusal.ConnFault.TheVariants as fault
+use Rattle.http_messages.specs.declared.refusal.Refusal.{Refusal}
 use Rattle.http_wire.specs.Calls.{interim_if, WritesAsked, WritesUpTo, IsFault}
-use Rattle.http_wire.specs.Head.{closes}
+use Rattle.http_messages.specs.Head.{closes}
 use Rattle.http_wire.specs.Inbox.{held, unread, lent_len, lent_awaits, got, ReadsOn, LendsFirst, IsNew, reads}
-use Rattle.http_wire.specs.Message.{Read, Refused, Rest, IsRest, IsRefused, interim}
-use Rattle.http_wire.specs.Received.{max_reads}
-use Rattle.http_wire.specs.Request.{Request as Message}
+use Rattle.http_messages.specs.Message.{Read, Refused, Rest, IsRest, IsRefused, interim}
+use Rattle.http_messages.specs.Reads.{max_reads}
+use Rattle.http_messages.specs.Request.{Request as Message}
 use Rattle.std.proofs.Math.Seq.{drop-nil}
 use Rattle.filing_model.specs.declared.served.Ended.TheVariants.{Closed, InputEnded, Fault}
 use Rattle.filing_model.specs.declared.served.Mark.{Mark}

@@ -1,8 +1,8 @@
 -- What could not be answered changes nothing.
 use Rattle.std.proofs.Common.{◌≡◌, ℕ, Bool, true, false, List, Option, refl, sym, subst, IfOk, Result}
 use Rattle.std.specs.declared.alloc.AllocError.{AllocError}
-use Rattle.http_wire.specs.declared.reply.Reply.{Reply}
-use Rattle.http_wire.specs.Replies.{reply_parts}
+use Rattle.http_messages.specs.declared.reply.Reply.{Reply}
+use Rattle.http_messages.specs.Replies.{reply_parts}
 use Rattle.filing_model.specs.declared.served.Mark.{Mark}
 use Rattle.filing_model.specs.declared.served.Mark.TheVariants.{Unavailable, NotFiled}
 use Rattle.filing_model.specs.Request.{Request}

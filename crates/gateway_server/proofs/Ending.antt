@@ -3,9 +3,9 @@ use Rattle.std.proofs.Common.{arith, ℕ, List, ◌++◌, Option}
 use Rattle.std.proofs.KnownBytes.{Consumes-trans}
 use Rattle.std.proofs.lemmas.List.{length-append}
 use Rattle.http_wire.specs.declared.inbox.Inbox.{Inbox}
-use Rattle.http_wire.specs.declared.refusal.ConnFault.{ConnFault}
-use Rattle.http_wire.specs.declared.refusal.ConnFault.TheVariants.{Write, ReadLimit, Memory}
-use Rattle.http_wire.specs.declared.refusal.ConnFault.TheVariants as fault
+use Rattle.http_messages.specs.declared.refusal.ConnFault.{ConnFault}
+use Rattle.http_messages.specs.declared.refusal.ConnFault.TheVariants.{Write, ReadLimit, Memory}
+use Rattle.http_messages.specs.declared.refusal.ConnFault.TheVariants as fault
 use Rattle.http_wire.specs.Calls.{IsFault}
 use Rattle.http_wire.specs.Inbox.{held, reads}
 use Rattle.filing_model.specs.declared.served.Ended.TheVariants.{Fault}

@@ -3,10 +3,10 @@ use Rattle.std.proofs.Common.{◌≡◌, ℕ, ◌≤◌, List, length, Some, sym
 use Rattle.std.proofs.lemmas.Grind.{common_steps}
 use Rattle.http_wire.proofs.NextArrivalLemmas.{body_length-bound}
 use Rattle.http_wire.specs.declared.inbox.Inbox.{Inbox}
-use Rattle.http_wire.specs.Head.{body_length, max_body_len}
+use Rattle.http_messages.specs.Head.{body_length, max_body_len}
 use Rattle.http_wire.specs.Inbox.{lent_request, LendsFirst}
-use Rattle.http_wire.specs.Message.{BeginsRequest}
-use Rattle.http_wire.specs.Request.{Request as Message}
+use Rattle.http_messages.specs.Message.{BeginsRequest}
+use Rattle.http_messages.specs.Request.{Request as Message}
 
 -- there is one
 pub lent_is : (inbox : Inbox) (l : LendsFirst inbox) (m : Message) → lent_request inbox ≡ Some m → l.request ≡ m

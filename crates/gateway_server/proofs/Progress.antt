@@ -3,10 +3,10 @@ use Rattle.std.proofs.Common.{◌≡◌, ℕ, Bool, true, false, List, [], ◌�
 use Rattle.std.specs.Prelude.{if◌then◌else◌}
 use Rattle.std.proofs.lemmas.Bool.{both_ways}
 use Rattle.std.proofs.lemmas.List.{map-append, drop-append-le}
-use Rattle.http_wire.specs.Head.{closes}
-use Rattle.http_wire.specs.Message.{Arrival, Read, Refused, Ending, Rest, BeginsRequest, IsRefused, IsRest, Asks, HasArrivals}
-use Rattle.http_wire.specs.Request.{Request as Message}
-use Rattle.http_wire.proofs.MoreBytes.{BeginsRequest-more}
+use Rattle.http_messages.specs.Head.{closes}
+use Rattle.http_messages.specs.Message.{Arrival, Read, Refused, Ending, Rest, BeginsRequest, IsRefused, IsRest, Asks, HasArrivals}
+use Rattle.http_messages.specs.Request.{Request as Message}
+use Rattle.http_messages.proofs.MoreBytes.{BeginsRequest-more}
 use Rattle.filing_model.specs.declared.served.Mark.{Mark}
 use Rattle.filing_model.specs.declared.served.Ended.TheVariants.{Closed, InputEnded}
 use Rattle.filing_model.specs.Prefix.{IsPrefixOf}

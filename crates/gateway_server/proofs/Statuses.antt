@@ -2,13 +2,13 @@
 use Rattle.std.proofs.Common.{◌≡◌, Bool, true, false, List, [], ◌∷◌, refl, sym, subst, ⊎_elim, Result, Ok, Err}
 use Rattle.std.specs.Prelude.{IsSome, IfOk, nat_eq}
 use Rattle.std.proofs.lemmas.Bool.{cases_Bool}
-use Rattle.http_wire.specs.declared.head.HeadFault.{HeadFault}
-use Rattle.http_wire.specs.declared.head.HeadFault.TheVariants.{Malformed, Host, Coding, Length, NoLength, TooLarge, Memory}
-use Rattle.http_wire.specs.declared.refusal.Refusal.{Refusal}
-use Rattle.http_wire.specs.declared.refusal.Refusal.TheVariants.{HeadTooLarge, Head}
-use Rattle.http_wire.specs.declared.reply.Reply.{Reply}
-use Rattle.http_wire.specs.Replies.{reply_parts}
-use Rattle.http_wire.specs.Reply.{ReplyParts, phrase}
+use Rattle.http_messages.specs.declared.head.HeadFault.{HeadFault}
+use Rattle.http_messages.specs.declared.head.HeadFault.TheVariants.{Malformed, Host, Coding, Length, NoLength, TooLarge, Memory}
+use Rattle.http_messages.specs.declared.refusal.Refusal.{Refusal}
+use Rattle.http_messages.specs.declared.refusal.Refusal.TheVariants.{HeadTooLarge, Head}
+use Rattle.http_messages.specs.declared.reply.Reply.{Reply}
+use Rattle.http_messages.specs.Replies.{reply_parts}
+use Rattle.http_messages.specs.Reply.{ReplyParts, phrase}
 use Rattle.xbrl_report.specs.CodeNumber.{number_of}
 use Rattle.xbrl_report.specs.Pair.{Pair}
 use Rattle.filing_model.specs.declared.served.Style.{Style}

@@ -4,8 +4,8 @@ use Rattle.std.proofs.lemmas.Bool.Decides.{nat_tests}
 use Rattle.std.proofs.lemmas.Grind.{common_steps}
 use Rattle.std.proofs.lemmas.List.{length-append, length-map}
 use Rattle.std.specs.Io.KnownBytes.{Consumes, Appends}
-use Rattle.http_wire.specs.Message.{Arrival, Read, Ending}
-use Rattle.http_wire.specs.Request.{Request as Message}
+use Rattle.http_messages.specs.Message.{Arrival, Read, Ending}
+use Rattle.http_messages.specs.Request.{Request as Message}
 use Rattle.filing_model.specs.declared.served.Ended.{Ended}
 use Rattle.filing_model.specs.declared.served.Mark.{Mark}
 use Rattle.filing_model.specs.Request.{Request}

@@ -1,10 +1,10 @@
 -- What serving some bytes did, up to its end or to a stop, where no read and no write failed, is what the model says of all of them.
 use Rattle.std.proofs.Common.{◌≡◌, ◌≢◌, ℕ, ◌-◌, ◌^◌, ◌<◌, ◌≤◌, List, [], ◌++◌, length, Option, Some, None, refl, sym, subst, inl, inr, ⊎_elim, arith}
 use Rattle.std.proofs.lemmas.Bool.Decides.{nat_tests}
-use Rattle.http_wire.specs.declared.refusal.ConnFault.TheVariants.{Read as ReadFault, Write, ReadLimit, Memory}
+use Rattle.http_messages.specs.declared.refusal.ConnFault.TheVariants.{Read as ReadFault, Write, ReadLimit, Memory}
 use Rattle.http_wire.specs.Device.{HasFailed}
-use Rattle.http_wire.specs.Message.{Arrival, Ending}
-use Rattle.http_wire.specs.Received.{max_reads}
+use Rattle.http_messages.specs.Message.{Arrival, Ending}
+use Rattle.http_messages.specs.Reads.{max_reads}
 use Rattle.filing_model.specs.declared.served.Ended.{Ended}
 use Rattle.filing_model.specs.declared.served.Ended.TheVariants.{Closed, InputEnded, Fault}
 use Rattle.filing_model.specs.declared.served.Mark.{Mark}

@@ -1,8 +1,8 @@
 -- What a message gets. No public clause cites this file.
 use Rattle.std.specs.Prelude.{◌≡◌, ℕ, Bool, List, [], IfOk, IsSome, if◌then◌else◌}
-use Rattle.http_wire.specs.Replies.{reply_parts}
-use Rattle.http_wire.specs.declared.reply.Kind.TheVariants.{Problem}
-use Rattle.http_wire.specs.Reply.{ReplyParts, phrase}
+use Rattle.http_messages.specs.Replies.{reply_parts}
+use Rattle.http_messages.specs.declared.reply.Kind.TheVariants.{Problem}
+use Rattle.http_messages.specs.Reply.{ReplyParts, phrase}
 use Rattle.filing_model.specs.declared.served.Mark.{Mark}
 use Rattle.filing_model.specs.declared.served.Mark.TheVariants.{Done, Unavailable, NotFiled}
 use Rattle.filing_model.specs.Reply.{word_reply, unavailable}

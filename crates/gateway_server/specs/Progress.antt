@@ -3,17 +3,17 @@ use Rattle.std.specs.Prelude.{◌≡◌, ℕ, ◌+◌, ◌≤◌, false, List, [
 use Rattle.std.specs.Io.KnownBytes.{Consumes, Appends, IsAtEnd}
 use Rattle.sqlite.specs.Store.{Ghosts}
 use Rattle.http_wire.specs.declared.inbox.Inbox.{Inbox}
-use Rattle.http_wire.specs.declared.refusal.ConnFault.{ConnFault}
-use Rattle.http_wire.specs.declared.refusal.ConnFault.TheVariants as fault
-use Rattle.http_wire.specs.declared.refusal.Refusal.{Refusal}
-use Rattle.http_wire.specs.Block.{IsUnended}
+use Rattle.http_messages.specs.declared.refusal.ConnFault.{ConnFault}
+use Rattle.http_messages.specs.declared.refusal.ConnFault.TheVariants as fault
+use Rattle.http_messages.specs.declared.refusal.Refusal.{Refusal}
+use Rattle.http_messages.specs.Block.{IsUnended}
 use Rattle.http_wire.specs.Calls.{HoldsArrival, interim_if}
 use Rattle.http_wire.specs.Device.{ReaderFailed, WriterFailed, NoneFailed}
 use Rattle.http_wire.specs.Inbox.{held, unread, reads, is_over, lent_awaits, LendsFirst}
-use Rattle.http_wire.specs.Head.{closes}
-use Rattle.http_wire.specs.Message.{Read, Ending, BeginsRequest, IsRefused}
-use Rattle.http_wire.specs.Received.{max_reads}
-use Rattle.http_wire.specs.Request.{Request as Message}
+use Rattle.http_messages.specs.Head.{closes}
+use Rattle.http_messages.specs.Message.{Read, Ending, BeginsRequest, IsRefused}
+use Rattle.http_messages.specs.Reads.{max_reads}
+use Rattle.http_messages.specs.Request.{Request as Message}
 use Rattle.filing_model.specs.declared.served.Ended.{Ended}
 use Rattle.filing_model.specs.declared.served.Ended.TheVariants.{InputEnded, Closed, Fault}
 use Rattle.filing_model.specs.declared.served.Mark.{Mark}

@@ -1,10 +1,10 @@
 //! One arrival answered: it is decided and marked, and then its reply is written.
 
 ghost use Rattle.std.specs.Prelude.{◌≡◌, ◌<◌, ◌≤◌, ◌+◌, ℕ, List, length, vec_len, vec_capacity, IfOk, IfErr, OnOk, MatchResult};
-ghost use Rattle.http_wire.specs.Head.{max_body_len};
-ghost use Rattle.http_wire.specs.Message.{Read as ReadArrival, Refused as RefusedArrival};
-ghost use Rattle.http_wire.specs.Replies.{reply_parts};
-ghost use Rattle.http_wire.specs.Reply.{render};
+ghost use Rattle.http_messages.specs.Head.{max_body_len};
+ghost use Rattle.http_messages.specs.Message.{Read as ReadArrival, Refused as RefusedArrival};
+ghost use Rattle.http_messages.specs.Replies.{reply_parts};
+ghost use Rattle.http_messages.specs.Reply.{render};
 ghost use Rattle.filing_model.specs.Request.{Request};
 ghost use Rattle.filing_model.specs.Text.{route, bare, is_head, refusal_reply, fault_reply};
 ghost use Rattle.intake_core.specs.Held.{limit_of, IsClean, IsTransition};

@@ -2,9 +2,9 @@
 
 ghost use Rattle.std.specs.Prelude.{◌≡◌, ◌≤◌, ℕ, List, length, map, true, None, IfOk};
 ghost use Rattle.key_string.specs.Filer.{is_filer};
-ghost use Rattle.http_wire.specs.Head.{max_body_len};
-ghost use Rattle.http_wire.specs.Posting.{IsTarget};
-ghost use Rattle.http_wire.specs.Replies.{reply_parts};
+ghost use Rattle.http_messages.specs.Head.{max_body_len};
+ghost use Rattle.http_messages.specs.Posting.{IsTarget};
+ghost use Rattle.http_messages.specs.Replies.{reply_parts};
 ghost use Rattle.filing_model.specs.Text.{ListFilings as AsksList, FileReport as AsksFiling, bare};
 ghost use Rattle.filing_model.specs.Listing.{listings};
 ghost use Rattle.filing_model.specs.Register.{Filing};

@@ -2,8 +2,8 @@
 
 ghost use Rattle.std.specs.Prelude.{◌≡◌, ◌≢◌, ◌+◌, ℕ, List, Option, Some, None, IfOk, IfSome, false, vec_len};
 ghost use Rattle.http_wire.specs.Inbox.{LendsFirst, is_over};
-ghost use Rattle.http_wire.specs.Replies.{reply_parts};
-ghost use Rattle.http_wire.specs.Reply.{render};
+ghost use Rattle.http_messages.specs.Replies.{reply_parts};
+ghost use Rattle.http_messages.specs.Reply.{render};
 ghost use Rattle.http_wire.specs.declared.inbox.Inbox.{Inbox};
 ghost use Rattle.filing_model.specs.Request.{Request};
 ghost use Rattle.filing_model.specs.Serving.{Keeping, keeping};

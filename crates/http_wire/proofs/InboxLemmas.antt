@@ -8,7 +8,7 @@ use Rattle.http_wire.specs.declared.inbox.Inbox.{Inbox}
 use Rattle.http_wire.specs.declared.inbox.Phase.{Phase}
 use Rattle.http_wire.specs.declared.inbox.Phase.TheVariants.{Open, Closed, Failed}
 use Rattle.http_wire.specs.declared.arrival.Parsed.{Parsed}
-use Rattle.http_wire.specs.Message.{BeginsRequest}
+use Rattle.http_messages.specs.Message.{BeginsRequest}
 use Rattle.http_wire.specs.Parsed.{parsed_end, parsed_request, IsParsed}
 use Rattle.http_wire.specs.Received.{Receives, ReceivesNothing}
 use Rattle.http_wire.specs.Calls.{HoldsArrival}

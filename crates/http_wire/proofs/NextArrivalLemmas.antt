@@ -3,21 +3,21 @@ use Rattle.std.proofs.Common.{◌≡◌, ℕ, ◌+◌, ◌<◌, ◌≤◌, Bool,
 use Rattle.std.specs.Prelude.{slice_range}
 use Rattle.std.specs.Io.KnownBytes.{Appends}
 use Rattle.std.proofs.lemmas.Bool.Decides.{nat_tests}
-use Rattle.http_wire.specs.Block.{IsUnended}
-use Rattle.http_wire.specs.Head.{RequestParts, framing_fault, body_length, max_body_len}
-use Rattle.http_wire.specs.Message.{BeginsHead, BeginsRequest, IsRest, Asks, awaits}
-use Rattle.http_wire.specs.Spans.{parts_at, IsHeadAt}
+use Rattle.http_messages.specs.Block.{IsUnended}
+use Rattle.http_messages.specs.Head.{RequestParts, framing_fault, body_length, max_body_len}
+use Rattle.http_messages.specs.Message.{BeginsHead, BeginsRequest, IsRest, Asks, awaits}
+use Rattle.http_messages.specs.Spans.{parts_at, IsHeadAt}
 use Rattle.http_wire.specs.Parsed.{parsed_end, parsed_request, IsParsed}
 use Rattle.http_wire.specs.Received.{held_bytes, read_count, Receives, IsReadFault}
 use Rattle.http_wire.specs.Calls.{HoldsArrival, interim_if, WritesUpTo, IsFault}
 use Rattle.http_wire.specs.NextArrival.{IsHeadOf, framing_awaits, IsSendFault}
 use Rattle.http_wire.specs.declared.arrival.Parsed.{Parsed}
 use Rattle.http_wire.specs.declared.received.Received.{Received}
-use Rattle.http_wire.specs.declared.refusal.Refusal.TheVariants.{HeadTooLarge, Head}
-use Rattle.http_wire.specs.declared.refusal.ConnFault.{ConnFault}
-use Rattle.http_wire.specs.declared.refusal.ConnFault.TheVariants.{Read, Write, ReadLimit, Memory}
-use Rattle.http_wire.proofs.MoreBytes.{slice_range-more, skipped_len-more, skipped_len-within, IsBlockEnd-within, BeginsHead-more}
-use Rattle.http_wire.proofs.Unique.{BeginsHead-unique, IsRefused-excludes}
+use Rattle.http_messages.specs.declared.refusal.Refusal.TheVariants.{HeadTooLarge, Head}
+use Rattle.http_messages.specs.declared.refusal.ConnFault.{ConnFault}
+use Rattle.http_messages.specs.declared.refusal.ConnFault.TheVariants.{Read, Write, ReadLimit, Memory}
+use Rattle.http_messages.proofs.MoreBytes.{slice_range-more, skipped_len-more, skipped_len-within, IsBlockEnd-within, BeginsHead-more}
+use Rattle.http_messages.proofs.Unique.{BeginsHead-unique, IsRefused-excludes}
 
 -- the parts of the head
 abbrev pub head_parts : List ℕ → Parsed → RequestParts

@@ -6,10 +6,11 @@ use Rattle.std.proofs.lemmas.Grind.{common_steps}
 use Rattle.std.proofs.lemmas.List.{drop_all}
 use Rattle.std.specs.Io.KnownBytes.{Consumes, Keeps}
 use Rattle.http_wire.specs.declared.received.Received.{Received}
-use Rattle.http_wire.specs.declared.refusal.ConnFault.{ConnFault}
-use Rattle.http_wire.specs.declared.refusal.ConnFault.TheVariants.{Read, Write, ReadLimit, Memory}
+use Rattle.http_messages.specs.declared.refusal.ConnFault.{ConnFault}
+use Rattle.http_messages.specs.declared.refusal.ConnFault.TheVariants.{Read, Write, ReadLimit, Memory}
 use Rattle.http_wire.specs.Fill.{IsFillFault}
-use Rattle.http_wire.specs.Received.{held_bytes, read_count, max_reads, Receives, ReceivesNothing, IsReadFault}
+use Rattle.http_wire.specs.Received.{held_bytes, read_count, Receives, ReceivesNothing, IsReadFault}
+use Rattle.http_messages.specs.Reads.{max_reads}
 
 -- what was added in two steps
 drop-twice : (x y z : List ℕ) → y ≡ x ++ drop (length x) y → z ≡ y ++ drop (length y) z → drop (length x) z ≡ drop (length x) y ++ drop (length y) z

@@ -7,16 +7,18 @@ use Rattle.std.proofs.Math.Seq.{take-append_seam}
 use Rattle.std.proofs.lemmas.Grind.{common_steps}
 use Rattle.std.proofs.lemmas.List.{append-nil}
 use Rattle.http_wire.specs.declared.received.Received.{Received}
-use Rattle.http_wire.specs.declared.refusal.ReplyFault.{ReplyFault}
-use Rattle.http_wire.specs.declared.refusal.ReplyFault.TheVariants.{Cut, Malformed, NoLength, TooLarge, Read, ReadLimit, Memory}
-use Rattle.http_wire.specs.declared.response.ResponseHead.{ResponseHead}
+use Rattle.http_messages.specs.declared.refusal.ReplyFault.{ReplyFault}
+use Rattle.http_messages.specs.declared.refusal.ReplyFault.TheVariants.{Cut, Malformed, NoLength, TooLarge, Read, ReadLimit, Memory}
+use Rattle.http_messages.specs.declared.response.ResponseHead.{ResponseHead}
 use Rattle.http_wire.specs.Received.{held_bytes, read_count}
-use Rattle.http_wire.specs.Reply.{ReplyParts}
-use Rattle.http_wire.specs.ReplyFaults.{content_length, HasGiven, IsReplyFailure}
-use Rattle.http_wire.specs.ReplyReading.{ShowsParts, Takes, TakesHead, IsHeadFailure, IsContentFailure}
-use Rattle.http_wire.specs.Response.{ResponseParts, BeginsResponseHead, BeginsInterims, BeginsReply, DeclaresContent, GivesReply, is_interim}
-use Rattle.http_wire.proofs.RefusedReply.{DeclaresContent-of, content_length-fault, IsLengthFault, IsCutReply-unended, IsCutReply-content}
-use Rattle.http_wire.proofs.UniqueReply.{interims-push, BeginsInterims-more, BeginsResponseHead-more, BeginsReply-front}
+use Rattle.http_messages.specs.Reply.{ReplyParts}
+use Rattle.http_messages.specs.ReplyFaults.{content_length}
+use Rattle.http_wire.specs.ReplyFaults.{HasGiven, IsReplyFailure}
+use Rattle.http_messages.specs.ResponseBlock.{ShowsParts}
+use Rattle.http_wire.specs.ReplyReading.{Takes, TakesHead, IsHeadFailure, IsContentFailure}
+use Rattle.http_messages.specs.Response.{ResponseParts, BeginsResponseHead, BeginsInterims, BeginsReply, DeclaresContent, GivesReply, is_interim}
+use Rattle.http_messages.proofs.RefusedReply.{DeclaresContent-of, content_length-fault, IsLengthFault, IsCutReply-unended, IsCutReply-content}
+use Rattle.http_messages.proofs.UniqueReply.{interims-push, BeginsInterims-more, BeginsResponseHead-more, BeginsReply-front}
 
 -- ---- what was given, after a step
 

@@ -6,16 +6,17 @@ use Rattle.std.proofs.lemmas.Grind.{common_steps}
 use Rattle.std.proofs.lemmas.List.{append-nil, take-append-drop}
 use Rattle.http_wire.specs.declared.received.Received.{Received}
 use Rattle.http_wire.specs.Received.{held_bytes, read_count, Receives, IsReadFault}
-use Rattle.http_wire.specs.declared.refusal.ConnFault.{ConnFault}
-use Rattle.http_wire.specs.declared.refusal.ConnFault.TheVariants.{Read, Write, ReadLimit, Memory}
-use Rattle.http_wire.specs.declared.response.ResponseHead.{ResponseHead}
-use Rattle.http_wire.specs.Block.{IsBlockEnd, from_block, skipped_len}
+use Rattle.http_messages.specs.declared.refusal.ConnFault.{ConnFault}
+use Rattle.http_messages.specs.declared.refusal.ConnFault.TheVariants.{Read, Write, ReadLimit, Memory}
+use Rattle.http_messages.specs.declared.response.ResponseHead.{ResponseHead}
+use Rattle.http_messages.specs.Block.{IsBlockEnd, from_block, skipped_len}
 use Rattle.http_wire.specs.Device.{HasFailed}
-use Rattle.http_wire.specs.ReplyFaults.{fault_of_read}
-use Rattle.http_wire.specs.ReplyReading.{Takes, TakesHead, IsResponseBlock, IsHeadFailure, IsContentFailure}
-use Rattle.http_wire.specs.Response.{ResponseParts, BeginsResponseHead}
-use Rattle.http_wire.proofs.BlockLemmas.{EndsAt-within}
-use Rattle.http_wire.proofs.MoreBytes.{IsBlockEnd-within}
+use Rattle.http_messages.specs.ReplyFaults.{fault_of_read}
+use Rattle.http_wire.specs.ReplyReading.{Takes, TakesHead, IsHeadFailure, IsContentFailure}
+use Rattle.http_messages.specs.ResponseBlock.{IsResponseBlock}
+use Rattle.http_messages.specs.Response.{ResponseParts, BeginsResponseHead}
+use Rattle.http_messages.proofs.BlockLemmas.{EndsAt-within}
+use Rattle.http_messages.proofs.MoreBytes.{IsBlockEnd-within}
 
 -- reads take nothing
 pub Takes-receives : (a b : Option (List ℕ)) (x y : Received) → Receives a b x y → Takes a b x y []

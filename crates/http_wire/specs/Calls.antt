@@ -1,14 +1,14 @@
 -- What a call at the bytes of a connection writes, and why it fails.
 use Rattle.std.specs.Prelude.{◌≡◌, ◌⊎◌, ℕ, ◌≤◌, Bool, true, List, [], length, take, Option, if◌then◌else◌}
 use Rattle.std.specs.Io.KnownBytes.{Appends}
-use Rattle.http_wire.specs.declared.refusal.ConnFault.{ConnFault}
-use Rattle.http_wire.specs.declared.refusal.ConnFault.TheVariants.{Read, Write, ReadLimit, Memory}
-use Rattle.http_wire.specs.declared.refusal.Refusal.{Refusal}
-use Rattle.http_wire.specs.Block.{HoldsBlock}
+use Rattle.http_messages.specs.declared.refusal.ConnFault.{ConnFault}
+use Rattle.http_messages.specs.declared.refusal.ConnFault.TheVariants.{Read, Write, ReadLimit, Memory}
+use Rattle.http_messages.specs.declared.refusal.Refusal.{Refusal}
+use Rattle.http_messages.specs.Block.{HoldsBlock}
 use Rattle.http_wire.specs.Device.{ReaderFailed, WriterFailed, NoneFailed}
-use Rattle.http_wire.specs.Message.{BeginsRequest, IsRefused, Asks, IsInterimFor, interim}
-use Rattle.http_wire.specs.Received.{max_reads}
-use Rattle.http_wire.specs.Request.{Request}
+use Rattle.http_messages.specs.Message.{BeginsRequest, IsRefused, Asks, IsInterimFor, interim}
+use Rattle.http_messages.specs.Reads.{max_reads}
+use Rattle.http_messages.specs.Request.{Request}
 
 -- the bytes begin with a request or a refusal
 abbrev pub HoldsArrival : List ℕ → Type 0

@@ -3,10 +3,10 @@ use Rattle.std.specs.Prelude.{◌≡◌, ◌||◌, ℕ, Bool, true, false, List,
 use Rattle.std.specs.Io.KnownBytes.{Appends}
 use Rattle.http_wire.specs.declared.conn.Conn.{Conn}
 use Rattle.http_wire.specs.declared.inbox.Inbox.{Inbox}
-use Rattle.http_wire.specs.declared.refusal.ConnFault.{ConnFault}
-use Rattle.http_wire.specs.declared.refusal.ConnFault.TheVariants.{Write}
+use Rattle.http_messages.specs.declared.refusal.ConnFault.{ConnFault}
+use Rattle.http_messages.specs.declared.refusal.ConnFault.TheVariants.{Write}
 use Rattle.http_wire.specs.Inbox.{is_over, is_failed, KeepsBytes}
-use Rattle.http_wire.specs.Reply.{ReplyParts, render}
+use Rattle.http_messages.specs.Reply.{ReplyParts, render}
 use Rattle.http_wire.specs.Write.{IsWriteFault}
 
 -- its reader

@@ -1,7 +1,7 @@
 -- Why a read gave nothing.
 use Rattle.std.specs.Prelude.{◌≡◌, ℕ}
-use Rattle.http_wire.specs.declared.refusal.ConnFault.{ConnFault}
-use Rattle.http_wire.specs.declared.refusal.ConnFault.TheVariants.{Read, Write, ReadLimit, Memory}
+use Rattle.http_messages.specs.declared.refusal.ConnFault.{ConnFault}
+use Rattle.http_messages.specs.declared.refusal.ConnFault.TheVariants.{Read, Write, ReadLimit, Memory}
 use Rattle.http_wire.specs.Device.{HasFailed}
 
 -- the reader failed, or memory ran out and it didn't: its failures before and after

@@ -5,14 +5,14 @@ use Rattle.std.specs.Io.KnownBytes.{Consumes, Appends, IsAtEnd}
 use Rattle.http_wire.specs.declared.inbox.Inbox.{Inbox}
 use Rattle.http_wire.specs.declared.inbox.Phase.{Phase}
 use Rattle.http_wire.specs.declared.inbox.Phase.TheVariants.{Open, Closed, Failed}
-use Rattle.http_wire.specs.declared.refusal.Next.{Next}
-use Rattle.http_wire.specs.declared.refusal.Next.TheVariants.{Message, Refuse, End}
+use Rattle.http_wire.specs.declared.inbox.Next.{Next}
+use Rattle.http_wire.specs.declared.inbox.Next.TheVariants.{Message, Refuse, End}
 use Rattle.http_wire.specs.Calls.{interim_if, WritesAsked}
-use Rattle.http_wire.specs.Head.{closes}
-use Rattle.http_wire.specs.Message.{BeginsRequest, IsRefused, IsRest, awaits}
+use Rattle.http_messages.specs.Head.{closes}
+use Rattle.http_messages.specs.Message.{BeginsRequest, IsRefused, IsRest, awaits}
 use Rattle.http_wire.specs.Parsed.{parsed_end, parsed_request}
 use Rattle.http_wire.specs.Received.{held_bytes, read_count}
-use Rattle.http_wire.specs.Request.{Request}
+use Rattle.http_messages.specs.Request.{Request}
 
 -- how many reads gave bytes
 abbrev pub reads : Inbox → ℕ

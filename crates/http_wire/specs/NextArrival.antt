@@ -1,18 +1,18 @@
 -- What stands first in the bytes that are held, and where.
 use Rattle.std.specs.Prelude.{◌≡◌, ◌&&◌, ◌≤◌, ℕ, Bool, true, List, [], length, take, Option, slice_range, nat_lt}
 use Rattle.std.specs.Io.KnownBytes.{Appends, IsAtEnd}
-use Rattle.http_wire.specs.declared.head.Framing.{Framing}
+use Rattle.http_messages.specs.declared.head.Framing.{Framing}
 use Rattle.http_wire.specs.declared.arrival.NextArrival.{NextArrival}
 use Rattle.http_wire.specs.declared.arrival.NextArrival.TheVariants.{Request, Refused, Rest}
 use Rattle.http_wire.specs.declared.arrival.Parsed.{Parsed}
-use Rattle.http_wire.specs.declared.refusal.ConnFault.{ConnFault}
-use Rattle.http_wire.specs.declared.refusal.ConnFault.TheVariants.{Read, Write, ReadLimit, Memory}
-use Rattle.http_wire.specs.Block.{skipped_len}
+use Rattle.http_messages.specs.declared.refusal.ConnFault.{ConnFault}
+use Rattle.http_messages.specs.declared.refusal.ConnFault.TheVariants.{Read, Write, ReadLimit, Memory}
+use Rattle.http_messages.specs.Block.{skipped_len}
 use Rattle.http_wire.specs.Calls.{interim_if, WritesAsked}
 use Rattle.http_wire.specs.Device.{HasFailed}
-use Rattle.http_wire.specs.Message.{BeginsHead, BeginsRequest, IsRefused, IsRest, awaits, interim}
+use Rattle.http_messages.specs.Message.{BeginsHead, BeginsRequest, IsRefused, IsRest, awaits, interim}
 use Rattle.http_wire.specs.Parsed.{parsed_end, parsed_request, IsParsed}
-use Rattle.http_wire.specs.Spans.{parts_at, IsHeadAt}
+use Rattle.http_messages.specs.Spans.{parts_at, IsHeadAt}
 
 -- a head begins the bytes
 pub record IsHeadOf (bytes : List ℕ) (p : Parsed) : Type 0 where

@@ -1,8 +1,8 @@
 -- A request in the bytes where it was found.
 use Rattle.std.specs.Prelude.{ℕ, ◌+◌, ◌≤◌, List, length, slice_range}
 use Rattle.http_wire.specs.declared.arrival.Parsed.{Parsed}
-use Rattle.http_wire.specs.Spans.{parts_at, IsHeadAt}
-use Rattle.http_wire.specs.Request.{Request}
+use Rattle.http_messages.specs.Spans.{parts_at, IsHeadAt}
+use Rattle.http_messages.specs.Request.{Request}
 
 -- where the request ends
 abbrev pub parsed_end : Parsed → ℕ

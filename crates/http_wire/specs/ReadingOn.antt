@@ -1,9 +1,9 @@
 -- What reading on to the next request or refusal of a connection does.
 use Rattle.std.specs.Prelude.{◌≡◌, ◌||◌, ◌≤◌, ℕ, true, List, length, Option, Result, Ok, IfOk, IfErr, OnOk, OnErr, is_err}
 use Rattle.http_wire.specs.declared.inbox.Inbox.{Inbox}
-use Rattle.http_wire.specs.declared.refusal.ConnFault.{ConnFault}
-use Rattle.http_wire.specs.declared.refusal.Next.{Next}
-use Rattle.http_wire.specs.declared.refusal.Next.TheVariants.{End}
+use Rattle.http_messages.specs.declared.refusal.ConnFault.{ConnFault}
+use Rattle.http_wire.specs.declared.inbox.Next.{Next}
+use Rattle.http_wire.specs.declared.inbox.Next.TheVariants.{End}
 use Rattle.http_wire.specs.Calls.{HoldsArrival, WritesUpTo, IsFault}
 use Rattle.http_wire.specs.Inbox.{held, unread, is_over, is_failed, ReadsOn, ReadsNothing, IsNext, WritesInterim}
 use Rattle.http_wire.specs.Inbox as inbox

@@ -2,24 +2,16 @@
 use Rattle.std.specs.Prelude.{◌≡◌, ℕ, ◌+◌, ◌<◌, ◌≤◌, List, [], ◌++◌, length, Option}
 use Rattle.std.specs.Io.KnownBytes.{Consumes, IsAtEnd}
 use Rattle.http_wire.specs.declared.received.Received.{Received}
-use Rattle.http_wire.specs.declared.refusal.ReplyFault.{ReplyFault}
-use Rattle.http_wire.specs.declared.refusal.ReplyFault.TheVariants.{Cut, Malformed, NoLength, TooLarge, Read, ReadLimit, Memory}
-use Rattle.http_wire.specs.declared.response.ResponseHead.{ResponseHead}
-use Rattle.http_wire.specs.Block.{IsUnended, IsTooLong}
+use Rattle.http_messages.specs.declared.refusal.ReplyFault.{ReplyFault}
+use Rattle.http_messages.specs.declared.refusal.ReplyFault.TheVariants.{Cut, Malformed, NoLength, TooLarge, Read, ReadLimit, Memory}
+use Rattle.http_messages.specs.declared.response.ResponseHead.{ResponseHead}
+use Rattle.http_messages.specs.Block.{IsUnended, IsTooLong}
 use Rattle.http_wire.specs.Device.{HasFailed}
-use Rattle.http_wire.specs.Received.{held_bytes, read_count, max_reads}
-use Rattle.http_wire.specs.ReplyFaults.{BeginsBadHead, content_length}
-use Rattle.http_wire.specs.Response.{ResponseParts, ReadsResponseHead, BeginsResponseHead, kind_of}
-
--- what a client needs of these parts
-pub record ShowsParts (head : ResponseHead) (parts : ResponseParts) : Type 0 where
-  pub status : head.status ≡ parts.status
-  pub kind : head.kind ≡ kind_of parts.fields
-  pub content_len : head.content_len ≡ content_length parts.fields
-
--- the block is the head of a response, of which this is shown
-abbrev pub IsResponseBlock : List ℕ → ResponseHead → Type 0
-IsResponseBlock block head = (parts : ResponseParts) × ReadsResponseHead block parts × ShowsParts head parts
+use Rattle.http_wire.specs.Received.{held_bytes, read_count}
+use Rattle.http_messages.specs.Reads.{max_reads}
+use Rattle.http_messages.specs.ReplyFaults.{BeginsBadHead}
+use Rattle.http_messages.specs.Response.{ResponseParts, BeginsResponseHead}
+use Rattle.http_messages.specs.ResponseBlock.{ShowsParts}
 
 -- These bytes were taken off the front of what was held and what the reader gave since.
 pub record Takes (before after : Option (List ℕ)) (old new : Received) (taken : List ℕ) : Type 0 where

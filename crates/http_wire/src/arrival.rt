@@ -2,18 +2,19 @@
 //! 2), and the interim response between a head and its body (RFC 9110, section 10.1.1).
 ghost use Rattle.std.specs.Prelude.{◌≡◌, ◌<◌, Err, IfOk, IfErr, OnOk, slice_range};
 ghost use Rattle.std.specs.Io.KnownBytes.{Appends};
-ghost use Rattle.http_wire.specs.Block.{IsBlockEnd, skipped_len};
+ghost use Rattle.http_messages.specs.Block.{IsBlockEnd, skipped_len};
 ghost use Rattle.http_wire.specs.Calls.{HoldsArrival, interim_if, IsFault, WritesUpTo};
 ghost use Rattle.http_wire.specs.NextArrival.{IsHeadOf, IsNextArrival, WritesFor, framing_awaits, IsSendFault};
-ghost use Rattle.http_wire.specs.Head.{IsHeadFault};
-ghost use Rattle.http_wire.specs.Received.{held_bytes, read_count, max_reads, Receives, ReceivesNothing};
+ghost use Rattle.http_messages.specs.Head.{IsHeadFault};
+ghost use Rattle.http_wire.specs.Received.{held_bytes, read_count, Receives, ReceivesNothing};
+ghost use Rattle.http_messages.specs.Reads.{max_reads};
 
-use crate::block::{Block, skipped_len};
 use crate::device::{Sink, Source};
-use crate::head::{Framing, HeadFault, HeadSpans, read_parts};
 use crate::received::Received;
-use crate::refusal::{ConnFault, Refusal};
 use crate::send::send;
+use http_messages::{
+    Block, ConnFault, Framing, HeadFault, HeadSpans, Refusal, read_parts, skipped_len,
+};
 use std::alloc::Global;
 
 /// `100 Continue` and an empty line (RFC 9110, section 15.2.1).

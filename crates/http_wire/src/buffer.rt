@@ -4,7 +4,7 @@ ghost use Rattle.std.specs.Io.KnownBytes.{Consumes, Keeps, IsAtEnd};
 ghost use Rattle.http_wire.specs.Fill.{IsFillFault};
 
 use crate::device::Source;
-use crate::refusal::ConnFault;
+use http_messages::ConnFault;
 use std::alloc::{AllocError, Global};
 
 /// The most bytes that are asked for at a time, and the room at first.

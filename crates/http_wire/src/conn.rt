@@ -2,14 +2,13 @@
 ghost use Rattle.std.specs.Prelude.{◌≡◌, IsSome, Some, IfOk};
 ghost use Rattle.http_wire.specs.Inbox.{lent_request, IsNew};
 ghost use Rattle.http_wire.specs.ReadingOn.{FindsNext};
-ghost use Rattle.http_wire.specs.Replies.{reply_parts};
-ghost use Rattle.http_wire.specs.Reply.{phrase};
+ghost use Rattle.http_messages.specs.Replies.{reply_parts};
+ghost use Rattle.http_messages.specs.Reply.{phrase};
 
 use crate::device::{Sink, Source};
-use crate::inbox::{Inbox, Message};
-use crate::refusal::{ConnFault, Next};
-use crate::reply::Reply;
+use crate::inbox::{Inbox, Message, Next};
 use crate::write::write_reply;
+use http_messages::{ConnFault, Reply};
 use std::alloc::{AllocError, Global};
 
 /// One connection: what its reader gives is read by `next` alone, and what its writer takes is

@@ -6,9 +6,8 @@ ghost use Rattle.http_wire.specs.Received.{held_bytes};
 
 use crate::arrival::{NextArrival, Parsed, find_arrival};
 use crate::device::{Sink, Source};
-use crate::head::{Head, HeldSpans};
 use crate::received::Received;
-use crate::refusal::{ConnFault, Next};
+use http_messages::{ConnFault, Head, HeldSpans, Refusal};
 use std::alloc::{AllocError, Global};
 
 /// How far a connection has come.
@@ -31,6 +30,17 @@ pub struct Inbox {
     lent: Option<Parsed>,
     phase: Phase,
     ghost parsed: { ForSome lent (IsParsed (held_bytes received)) },
+}
+
+/// What stands next on a connection.
+#[derive(Clone, Copy, Debug, PartialEq, Eq)]
+pub enum Next {
+    /// A whole request.
+    Message,
+    /// What no request can follow.
+    Refuse(Refusal),
+    /// Nothing: the input ended, or the connection was closed.
+    End,
 }
 
 /// A request in the bytes of an inbox, which can't go on as long as this is held.

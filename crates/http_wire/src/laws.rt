@@ -1,75 +1,18 @@
-//! What holds of every request and every reply as they are written. What may live here: functions that
-//! do nothing, each with a law about the definitions as its contract. The code that reads and writes
-//! messages has contracts by the same definitions.
+//! What holds of every reply as it is written and read again. What may live here: functions that do
+//! nothing, each with a law about the definitions as its contract. The code that reads a reply has
+//! contracts by the same definitions. The laws of bytes alone are those of `http_messages`.
 
-ghost use Rattle.std.specs.Prelude.{◌≡◌, ◌≤◌, ℕ, Bool, true, List, [], ◌++◌, length, take, Option, Some};
-ghost use Rattle.key_string.specs.Filer.{is_filer};
-ghost use Rattle.key_string.specs.Key.{IsKey};
-ghost use Rattle.http_wire.specs.Head.{max_body_len};
-ghost use Rattle.http_wire.specs.Message.{Arrival, Ending, HasArrivals, SpellsRequest};
-ghost use Rattle.http_wire.specs.Posting.{IsTarget, render_post, post_request, HoldsAlone};
-ghost use Rattle.http_wire.specs.Reply.{ReplyParts, render};
-ghost use Rattle.http_wire.specs.ReplyFaults.{HasGiven, IsRefusedReply, IsReplyFailure, IsOfReader};
-ghost use Rattle.http_wire.specs.Request.{Request};
-ghost use Rattle.http_wire.specs.Response.{BeginsReply, SpellsReply, GivesReply, IsReadable};
-ghost use Rattle.http_wire.specs.declared.refusal.ReplyFault.{ReplyFault};
+ghost use Rattle.std.specs.Prelude.{◌≡◌, ℕ, Bool, List, Option, Some};
+ghost use Rattle.http_messages.specs.Reply.{ReplyParts, render};
+ghost use Rattle.http_wire.specs.ReplyFaults.{HasGiven, IsReplyFailure, IsOfReader};
+ghost use Rattle.http_messages.specs.Response.{GivesReply, IsReadable};
+ghost use Rattle.http_messages.specs.declared.refusal.ReplyFault.{ReplyFault};
 
-/// Bytes have one list of arrivals, and one ending.
-pub fn bytes_have_one_list_of_arrivals()
-    ensures { (bytes : List ℕ) (arrivals others : List Arrival) (ending other : Ending) → HasArrivals bytes arrivals ending
-        → HasArrivals bytes others other → (others ≡ arrivals) × (other ≡ ending) }
-{}
-
-/// No spelling of a request is the beginning of another's, nor of its own with more behind it.
-pub fn request_is_no_front_of_another()
-    ensures { (bytes more : List ℕ) (request other : Request) → SpellsRequest bytes request
-        → SpellsRequest (bytes ++ more) other → (more ≡ []) × (other ≡ request) }
-{}
-
-/// What a filer writes is read as the request that it is made of: a POST to the filer's path, or to that
-/// of a filing, with the key and the report.
-pub fn post_is_read()
-    ensures { (filer : List ℕ) (target : Option ℕ) (key body : List ℕ) → is_filer filer ≡ true → IsTarget target
-        → IsKey key → length body ≤ max_body_len
-        → SpellsRequest (render_post filer target key body) (post_request filer target key body) }
-{}
-
-/// However it is cut, nothing else is read in it: what comes of a filer's request holds no arrival and
-/// asks for nothing, or it is the whole request, after which the connection closes.
-pub fn cut_post_is_nothing_or_whole()
-    ensures { (filer : List ℕ) (target : Option ℕ) (key body : List ℕ) → is_filer filer ≡ true → IsTarget target
-        → IsKey key → length body ≤ max_body_len → (n : ℕ) (arrivals : List Arrival) (ending : Ending)
-        → HasArrivals (take n (render_post filer target key body)) arrivals ending
-        → HoldsAlone (post_request filer target key body) arrivals ending }
-{}
-
-/// What the intake writes of a final reply with content is read as this reply.
-pub fn reply_is_read()
-    ensures { (reply : ReplyParts) (close : Bool) → IsReadable reply → SpellsReply (render reply close) reply }
-{}
-
-/// However it is cut, no other reply is read in it.
-pub fn cut_reply_is_no_other()
-    ensures { (reply other : ReplyParts) (close : Bool) (n : ℕ) → IsReadable reply
-        → SpellsReply (take n (render reply close)) other → other ≡ reply }
-{}
-
-/// No bytes begin with two replies, or with one of two lengths.
-pub fn bytes_begin_with_one_reply()
-    ensures { (bytes : List ℕ) (reply other : ReplyParts) (n m : ℕ) → BeginsReply bytes reply n
-        → BeginsReply bytes other m → (other ≡ reply) × (m ≡ n) }
-{}
-
-/// Bytes that give a reply are not refused as one, for any fault.
-pub fn given_reply_is_not_refused()
-    ensures { (bytes : List ℕ) (reply : ReplyParts) (fault : ReplyFault) → GivesReply bytes reply
-        → ¬ (IsRefusedReply bytes fault) }
-{}
-
-/// Where nothing is read, there is no reply.
-pub fn nothing_is_no_reply()
-    ensures { (reply : ReplyParts) → ¬ (SpellsReply [] reply) }
-{}
+pub use http_messages::laws::{
+    bytes_begin_with_one_reply, bytes_have_one_list_of_arrivals, cut_post_is_nothing_or_whole,
+    cut_reply_is_no_other, given_reply_is_not_refused, nothing_is_no_reply, post_is_read,
+    reply_is_read, request_is_no_front_of_another,
+};
 
 /// What is written of such a reply is read again: where a reader gives it, in whatever pieces, no other
 /// reply is read, and where none is read, the reader or the memory failed.

@@ -1,42 +1,27 @@
-//! HTTP/1.1 messages between a filer and the intake: heads, bodies and replies, over any reader
-//! and writer.
+//! HTTP/1.1 messages, read from a reader and written to a writer: the requests of a connection, and
+//! one reply. What may live here: what is read, held and written, in how many pieces, and why a call
+//! fails. Which bytes are a message, and how one is written, is known by `http_messages`.
 #![tactic(auto)]
 
 mod arrival;
-mod block;
 mod buffer;
-mod coding;
 mod conn;
 mod device;
-mod fields;
-mod framing;
-mod head;
 mod inbox;
 pub mod laws;
-mod lists;
-mod parts;
-mod posting;
 mod received;
-mod refusal;
-mod reply;
 mod reply_reader;
-mod response;
 mod send;
-mod split;
-mod target;
 mod write;
 
-pub use block::{Block, find_block};
-pub use coding::has_content_coding;
 pub use conn::Conn;
 pub use device::{Device, DeviceFailed, Sink, Source};
-pub use fields::FieldsNamed;
-pub use head::{Head, HeadFault, MAX_BODY_LEN, read_head};
-pub use inbox::{Inbox, Message};
-pub use posting::append_request;
+pub use http_messages::{
+    Block, ConnFault, FieldsNamed, Head, HeadFault, Kind, MAX_BODY_LEN, Refusal, Reply, ReplyFault,
+    append_reply, append_request, find_block, has_content_coding, phrase, read_head,
+    split_at_first,
+};
+pub use inbox::{Inbox, Message, Next};
 pub use received::MAX_READS;
-pub use refusal::{ConnFault, Next, Refusal, ReplyFault};
-pub use reply::{Kind, Reply, append_reply, phrase};
 pub use reply_reader::read_reply;
-pub use split::split_at_first;
 pub use write::{write_all, write_reply};

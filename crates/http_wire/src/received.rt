@@ -1,13 +1,12 @@
 //! The bytes of a connection that were read and not yet dropped, and the loops that read more.
 ghost use Rattle.std.specs.Prelude.{◌≡◌, ◌↔◌, ◌+◌, ◌<◌, ◌≤◌, ℕ, List, ◌++◌, [], length, drop, IsTrue, true, false, IfOk, IfErr, OnOk, OnErr, Ok};
 ghost use Rattle.std.specs.Io.KnownBytes.{IsAtEnd};
-ghost use Rattle.http_wire.specs.Block.{from_block, HasNoEndUpTo, IsBlock, IsUnended};
+ghost use Rattle.http_messages.specs.Block.{from_block, HasNoEndUpTo, IsBlock, IsUnended};
 ghost use Rattle.http_wire.specs.Buffer.{buffered};
 
-use crate::block::{Block, find_block_from, skipped_len};
 use crate::buffer::Buffer;
 use crate::device::Source;
-use crate::refusal::ConnFault;
+use http_messages::{Block, ConnFault, find_block_from, skipped_len};
 use std::alloc::{AllocError, Global};
 
 /// The most reads of one connection that give bytes. An own rule.

@@ -2,17 +2,14 @@
 //! with its content.
 ghost use Rattle.std.specs.Prelude.{◌≡◌, ◌<◌, ◌≤◌, length, IfOk, IfErr, OnOk};
 ghost use Rattle.http_wire.specs.Received.{held_bytes, read_count};
-ghost use Rattle.http_wire.specs.Replies.{reply_parts};
+ghost use Rattle.http_messages.specs.Replies.{reply_parts};
 ghost use Rattle.http_wire.specs.ReplyFaults.{HasGiven, IsReplyFailure};
 ghost use Rattle.http_wire.specs.ReplyReading.{Takes, TakesHead, IsHeadFailure, IsContentFailure};
-ghost use Rattle.http_wire.specs.Response.{GivesReply, is_interim};
+ghost use Rattle.http_messages.specs.Response.{GivesReply, is_interim};
 
-use crate::block::{Block, skipped_len};
 use crate::device::Source;
 use crate::received::Received;
-use crate::refusal::ReplyFault;
-use crate::reply::Reply;
-use crate::response::{ResponseHead, read_response};
+use http_messages::{Block, Reply, ReplyFault, ResponseHead, read_response, skipped_len};
 use std::alloc::Global;
 
 /// Reads one reply, after any interim responses (RFC 9110, section 15.2). The reader may go beyond its

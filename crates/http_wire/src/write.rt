@@ -2,14 +2,13 @@
 ghost use Rattle.std.specs.Prelude.{◌≡◌, ◌≤◌, take, length, IsSome, IfErr, OnOk};
 ghost use Rattle.std.specs.Io.KnownBytes.{Appends};
 ghost use Rattle.http_wire.specs.Device.{HasFailed};
-ghost use Rattle.http_wire.specs.Replies.{reply_parts};
-ghost use Rattle.http_wire.specs.Reply.{phrase, render};
+ghost use Rattle.http_messages.specs.Replies.{reply_parts};
+ghost use Rattle.http_messages.specs.Reply.{phrase, render};
 ghost use Rattle.http_wire.specs.Write.{IsWriteFault};
 
 use crate::device::Sink;
-use crate::refusal::ConnFault;
-use crate::reply::{Reply, reply_text};
 use crate::send::send;
+use http_messages::{ConnFault, Reply, reply_text};
 use std::alloc::Global;
 
 /// Writes the whole text, in as many writes as it takes. An `Err` has the number of bytes that were

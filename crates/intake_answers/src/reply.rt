@@ -2,7 +2,7 @@
 //! 9110, section 15, and refusals are problem details (RFC 9457).
 
 ghost use Rattle.std.specs.Prelude.{◌≡◌, false, map, IfOk};
-ghost use Rattle.http_wire.specs.Replies.{reply_parts};
+ghost use Rattle.http_messages.specs.Replies.{reply_parts};
 ghost use Rattle.serde_json.specs.View.{view};
 ghost use Rattle.serde_json.specs.Written.{compact_text, has_float};
 ghost use Rattle.filing_model.specs.declared.served.Style.{Style};
@@ -12,7 +12,7 @@ ghost use Rattle.filing_model.specs.Views.{view_answer, view_row};
 ghost use Rattle.intake_answers.specs.Answered.{told_style};
 
 use filing_model::{Answer, FilingRow, Style};
-use http_wire::{Kind, Reply};
+use http_messages::{Kind, Reply};
 use register_store::{problem_value, refusal_value, refused_status, refused_text, registered_text};
 use serde_json::{Value, json};
 use std::alloc::{AllocError, Global};

@@ -103,7 +103,7 @@ fn unavailable(alloc: Global, is_head: bool) -> Result<Vec<u8>, AllocError> {
 }
 
 /// Writes that there is no register, and closes the connection.
-#[tactic(auto, unfolding(http_wire::specs::Reply::phrase))]
+#[tactic(auto, unfolding(http_messages::specs::Reply::phrase))]
 fn write_unavailable<W: Sink>(alloc: Global, writer: &mut W, is_head: bool) -> Ended {
     let content = match unavailable(alloc, is_head) {
         Ok(content) => content,

@@ -2,8 +2,8 @@
 
 ghost use Rattle.std.specs.Prelude.{◌≡◌, ◌↔◌, ◌<◌, ◌≤◌, ◌^◌, ◌+◌, ◌++◌, ◌∷◌, ◌⊎◌, [], ℕ, List, length, map, true, false, Err, None, Some, IsTrue, IfOk, IfSome, OnOk, OnErr, ◌≢◌};
 ghost use Rattle.key_string.specs.Filer.{is_filer};
-ghost use Rattle.http_wire.specs.Head.{max_body_len};
-ghost use Rattle.http_wire.specs.Posting.{IsTarget};
+ghost use Rattle.http_messages.specs.Head.{max_body_len};
+ghost use Rattle.http_messages.specs.Posting.{IsTarget};
 ghost use Rattle.xbrl_report.specs.Judgement.{HasFacts};
 ghost use Rattle.filing_model.specs.Request.{Request, firsts, has_key};
 ghost use Rattle.filing_model.specs.Register.{is_free, kept, judged, register};

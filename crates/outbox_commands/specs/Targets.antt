@@ -1,7 +1,7 @@
 -- That a target is the number of a filing has one proof at most, so a struct may hold it as a fact.
 use Rattle.std.specs.Prelude.{ℕ, Option, Some, None}
 use Rattle.std.specs.Coded.{×_prop, Unit-prop, le_prop}
-use Rattle.http_wire.specs.Posting.{IsTarget}
+use Rattle.http_messages.specs.Posting.{IsTarget}
 
 pub IsTarget-prop : (target : Option ℕ) → IsProp (IsTarget target)
 IsTarget-prop None = Unit-prop

@@ -1,6 +1,6 @@
 //! The tasks of `outbox` and their values, as `clap` reads them.
 
-ghost use Rattle.http_wire.specs.Posting.{IsTarget};
+ghost use Rattle.http_messages.specs.Posting.{IsTarget};
 ghost use Rattle.outbox_commands.specs.Targets.{IsTarget-prop};
 
 use clap::{Arg, ArgAction, ArgMatches, Command, Error, value_parser};

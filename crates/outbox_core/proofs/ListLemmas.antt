@@ -3,8 +3,8 @@ use Rattle.std.proofs.Common.{◌≡◌, ◌≤◌, ℕ, List, length, find, Opt
 use Rattle.sqlite.specs.Tree.{Trees}
 use Rattle.sqlite.specs.State.{State as Shown}
 use Rattle.key_string.specs.Key.{IsKey}
-use Rattle.http_wire.specs.Head.{max_body_len}
-use Rattle.http_wire.specs.Posting.{IsTarget}
+use Rattle.http_messages.specs.Head.{max_body_len}
+use Rattle.http_messages.specs.Posting.{IsTarget}
 use Rattle.filing_model.specs.Outbox.{State, IsSendable, request_of}
 use Rattle.filing_model.proofs.Keeping.{all_push}
 use Rattle.outbox_opening.specs.Entries.{Contents, IsOutbox, FitsNumber, numbered}

@@ -1,9 +1,9 @@
 -- What the calls on an outbox promise. What is said of entries holds where the disk is clean as the call ends.
 use Rattle.std.specs.Prelude.{◌≡◌, ◌+◌, ◌<◌, ◌≤◌, ◌↔◌, ℕ, false, List, [], ◌∷◌, ◌++◌, length, find, Option, option_map, None, Some, Result, Err, IsTrue, IfOk, OnOk, IfSome, IsSome}
 use Rattle.sqlite.specs.Store.{Ghosts}
-use Rattle.http_wire.specs.Head.{max_body_len}
-use Rattle.http_wire.specs.Posting.{IsTarget}
-use Rattle.http_wire.specs.Reply.{ReplyParts}
+use Rattle.http_messages.specs.Head.{max_body_len}
+use Rattle.http_messages.specs.Posting.{IsTarget}
+use Rattle.http_messages.specs.Reply.{ReplyParts}
 use Rattle.filing_model.specs.Outbox.{Entry, moved}
 use Rattle.table_rows.specs.Standing.{CommitsNothing}
 use Rattle.outbox_core.specs.declared.entry.Entry.{Entry as Read}

@@ -1,8 +1,8 @@
 //! An entry, and how a row reads as one.
 
 ghost use Rattle.std.specs.Prelude.{◌≡◌, ◌≤◌, ◌↔◌, pos, length, map, IsTrue, IfOk, IfSome};
-ghost use Rattle.http_wire.specs.Head.{max_body_len};
-ghost use Rattle.http_wire.specs.Posting.{IsTarget};
+ghost use Rattle.http_messages.specs.Head.{max_body_len};
+ghost use Rattle.http_messages.specs.Posting.{IsTarget};
 ghost use Rattle.sqlite.specs.declared.types.Value.TheVariants.{Int};
 ghost use Rattle.sqlite.specs.Order.{column};
 ghost use Rattle.sqlite.specs.Values.{or_null};
@@ -11,7 +11,7 @@ ghost use Rattle.filing_model.specs.Views.{view_state};
 ghost use Rattle.outbox_core.specs.Reading.{view_pair, state_told};
 
 use filing_model::State;
-use http_wire::MAX_BODY_LEN;
+use http_messages::MAX_BODY_LEN;
 use key_string::{KeyFault, KeyText};
 use sqlite::Row;
 use std::alloc::Global;

@@ -2,8 +2,8 @@
 
 ghost use Rattle.std.specs.Prelude.{◌≡◌, ◌^◌, ◌≤◌, ◌↔◌, map, false, None, IsTrue, IfOk, true, Err};
 ghost use Rattle.key_string.specs.Filer.{is_filer};
-ghost use Rattle.http_wire.specs.Posting.{IsTarget};
-ghost use Rattle.http_wire.specs.Replies.{reply_parts};
+ghost use Rattle.http_messages.specs.Posting.{IsTarget};
+ghost use Rattle.http_messages.specs.Replies.{reply_parts};
 ghost use Rattle.outbox_opening.specs.Entries.{numbered};
 ghost use Rattle.outbox_core.specs.Entries.{found_at, first_open};
 ghost use Rattle.outbox_core.specs.Reading.{view_pair, id_and_state};
@@ -15,7 +15,7 @@ use crate::entries::{add_entry, entry_of, open_entry, states_of, take_entry};
 use crate::entry::Entry;
 use crate::fault::{PutFault, TakeFault};
 use filing_model::State;
-use http_wire::{MAX_BODY_LEN, Reply};
+use http_messages::{MAX_BODY_LEN, Reply};
 use key_string::KeyText;
 use outbox_opening::{FoundOutbox, OutboxFault, make_outbox, migrate_outbox, read_outbox};
 use sqlite::{Alter, Connection};

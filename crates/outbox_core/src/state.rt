@@ -3,13 +3,13 @@
 ghost use Rattle.std.specs.Prelude.{◌≡◌, ◌≢◌, ◌<◌, ◌^◌, Option, Some, IfOk};
 ghost use Rattle.serde_json.specs.View.{view};
 ghost use Rattle.xbrl_report.specs.Findings.{tree};
-ghost use Rattle.http_wire.specs.Replies.{reply_parts};
+ghost use Rattle.http_messages.specs.Replies.{reply_parts};
 ghost use Rattle.filing_model.specs.Outbox.{has_word, has_status, refuses, confirmed_by, state_by, state_told, moved};
 ghost use Rattle.outbox_opening.specs.Entries.{FitsNumber};
 ghost use Rattle.filing_model.specs.Views.{view_state};
 
 use filing_model::State;
-use http_wire::Reply;
+use http_messages::Reply;
 use serde_json::Value;
 use std::alloc::{AllocError, Global};
 

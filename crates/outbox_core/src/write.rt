@@ -3,7 +3,7 @@
 ghost use Rattle.std.specs.Prelude.{◌≡◌, ◌<◌, ◌^◌, false, OnOk, OnErr};
 ghost use Rattle.sqlite.specs.Held.{state};
 ghost use Rattle.sqlite.specs.State.{HasCleanDisk, Survives};
-ghost use Rattle.http_wire.specs.Posting.{IsTarget};
+ghost use Rattle.http_messages.specs.Posting.{IsTarget};
 ghost use Rattle.outbox_core.specs.Entries.{opened};
 ghost use Rattle.outbox_core.specs.Changes.{Adds, AddsInside, AddsTo, AddsNothing};
 ghost use Rattle.table_rows.specs.Standing.{CommitsNothing, StaysCommitted};

@@ -18,8 +18,8 @@ use Rattle.sqlite_keyed.proofs.ListLemmas.{all-map, all_weaker, filter-filter, n
 use Rattle.key_string.specs.Key.{IsKey}
 use Rattle.key_string.specs.Filer.{is_filer}
 use Rattle.key_string.proofs.Fields.{is_key-IsKey}
-use Rattle.http_wire.specs.Head.{max_body_len}
-use Rattle.http_wire.specs.Posting.{IsTarget}
+use Rattle.http_messages.specs.Head.{max_body_len}
+use Rattle.http_messages.specs.Posting.{IsTarget}
 use Rattle.filing_model.specs.Outbox.{Entry, State, Open, Confirmed, Refused, Clashed}
 use Rattle.table_rows.specs.Rows.{shown, TableHas}
 use Rattle.outbox_opening.specs.Schema.{meta_table, entry_table, target_table}

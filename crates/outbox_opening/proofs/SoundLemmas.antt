@@ -13,8 +13,8 @@ use Rattle.sqlite.proofs.Callers.{one_permutation, reads_as}
 use Rattle.sqlite_keyed.proofs.ListLemmas.{all_both, any_from_none, IsPermutation-filter}
 use Rattle.key_string.specs.Filer.{is_filer}
 use Rattle.key_string.proofs.Fields.{IsKey-is_key}
-use Rattle.http_wire.specs.Head.{max_body_len}
-use Rattle.http_wire.specs.Posting.{IsTarget}
+use Rattle.http_messages.specs.Head.{max_body_len}
+use Rattle.http_messages.specs.Posting.{IsTarget}
 use Rattle.filing_model.specs.Outbox.{Entry, State as Place, Open, Confirmed, Refused, Clashed, IsSendable, request_of}
 use Rattle.table_rows.specs.Causes.{cause_of}
 use Rattle.table_rows.specs.declared.cause.Cause.{Cause}

@@ -18,8 +18,8 @@ use Rattle.outbox_opening.specs.declared.fault.OutboxFault.{OutboxFault}
 use Rattle.outbox_opening.specs.declared.fault.OutboxFault.TheVariants as fault
 use Rattle.outbox_opening.specs.Entries.{FitsNumber}
 use Rattle.key_string.specs.Filer.{is_filer}
-use Rattle.http_wire.specs.Head.{max_body_len}
-use Rattle.http_wire.specs.Posting.{IsTarget}
+use Rattle.http_messages.specs.Head.{max_body_len}
+use Rattle.http_messages.specs.Posting.{IsTarget}
 
 abbrev pub is_int : ℕ → Value → Bool
 is_int n (Int k) = int_eq k (pos n)

@@ -7,8 +7,8 @@ use Rattle.sqlite.specs.Values.{or_null}
 use Rattle.sqlite.specs.Effect.{Database}
 use Rattle.key_string.specs.Filer.{is_filer}
 use Rattle.key_string.specs.Key.{IsKey}
-use Rattle.http_wire.specs.Head.{max_body_len}
-use Rattle.http_wire.specs.Posting.{IsTarget}
+use Rattle.http_messages.specs.Head.{max_body_len}
+use Rattle.http_messages.specs.Posting.{IsTarget}
 use Rattle.xbrl_report.specs.CodeNumber.{number_of as code_number}
 use Rattle.xbrl_report.specs.FactRecord.{FactRecord}
 use Rattle.xbrl_report.specs.Pair.{Pair}

@@ -8,7 +8,7 @@ ghost use Rattle.xbrl_report.specs.ReportParts.{facts as facts_of};
 ghost use Rattle.xbrl_report.specs.Judgement.{HasFacts};
 ghost use Rattle.filing_model.specs.Register.{Outcome, filings, judged, kept, register};
 ghost use Rattle.filing_model.specs.Request.{Request};
-ghost use Rattle.http_wire.specs.Posting.{IsTarget};
+ghost use Rattle.http_messages.specs.Posting.{IsTarget};
 ghost use Rattle.table_rows.specs.Rows.{counted_from};
 ghost use Rattle.register_rows.specs.Audit.{IsKeptAs, IsTold, is_number, with_number, view_other_tables, request_outcome};
 ghost use Rattle.register_rows.specs.Filed.{AreFiled};

@@ -4,7 +4,7 @@ ghost use Rattle.std.specs.Prelude.{◌≡◌, ◌↔◌, ◌<◌, ◌≤◌, �
 ghost use Rattle.sqlite.specs.declared.types.Value.TheVariants.{Int, Text, Blob};
 ghost use Rattle.sqlite.specs.Values.{or_null};
 ghost use Rattle.xbrl_report.specs.ReportParts.{facts as facts_of};
-ghost use Rattle.http_wire.specs.Posting.{IsTarget};
+ghost use Rattle.http_messages.specs.Posting.{IsTarget};
 ghost use Rattle.xbrl_report.specs.Judgement.{HasFacts};
 ghost use Rattle.filing_model.specs.Register.{Outcome, register};
 ghost use Rattle.filing_model.specs.Request.{Request, has_key};
@@ -20,7 +20,7 @@ use crate::columns::{bytes_at, text_at};
 use crate::damage::{OtherTables, first_unsound};
 use crate::filed::Filed;
 use crate::segments::{after_filing, after_items, target_of};
-use http_wire::MAX_BODY_LEN;
+use http_messages::MAX_BODY_LEN;
 use key_string::{is_key, read_filer};
 use sqlite::Row;
 use sqlite::types::ValueRef;

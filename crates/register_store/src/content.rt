@@ -12,7 +12,7 @@ ghost use Rattle.register_store.specs.Outcomes.{view_outcome};
 
 use crate::outcome::Outcome;
 use filing_model::Style;
-use http_wire::phrase;
+use http_messages::phrase;
 use itoa::Buffer;
 use serde_json::{Value, json};
 use std::alloc::{AllocError, Global};

@@ -3,7 +3,7 @@
 ghost use Rattle.std.specs.Prelude.{◌≡◌, ◌<◌, ◌^◌, ◌-◌, false, None, Some};
 ghost use Rattle.sqlite.specs.Held.{state};
 ghost use Rattle.key_string.specs.Key.{IsKey};
-ghost use Rattle.http_wire.specs.Posting.{IsTarget};
+ghost use Rattle.http_messages.specs.Posting.{IsTarget};
 ghost use Rattle.xbrl_report.specs.Judgement.{HasFacts};
 ghost use Rattle.xbrl_report.specs.ReportParts.{facts as facts_of};
 ghost use Rattle.filing_model.specs.Register.{Outcome};

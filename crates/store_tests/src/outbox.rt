@@ -2,7 +2,7 @@
 
 use crate::databases::{Fresh, ran};
 use crate::targets::first_if;
-use http_wire::{Kind, Reply};
+use http_messages::{Kind, Reply};
 use key_string::KeyText;
 use outbox_core::{Entry, Outbox, OutboxFault, PutFault, State, StoreFault, TakeFault};
 use sqlite::{Alter, Connection, MemStore};

@@ -1,6 +1,6 @@
 //! What a request or an entry of a test is to replace.
 
-ghost use Rattle.http_wire.specs.Posting.{IsTarget};
+ghost use Rattle.http_messages.specs.Posting.{IsTarget};
 
 /// Filing 1, or none.
 pub fn first_if(replaces: bool) -> Option<u64>

@@ -1,7 +1,7 @@
 -- Entries of which one got another state, as the world names them.
 use Rattle.std.proofs.Common.{◌≡◌, ◌≢◌, ℕ, ◌<◌, ◌≤◌, ◌-◌, zero, suc, Bool, true, false, ◌∷◌, ◌++◌, List, [], length, Option, Some, None, refl, sym, ap, ◌∙◌, arith, slice_get, slice_set, slice_index_or, subst, Result, Ok, Err, OnOk}
 use Rattle.std.proofs.lemmas.Option.{slice_get-get_or}
-use Rattle.http_wire.specs.Reply.{ReplyParts}
+use Rattle.http_messages.specs.Reply.{ReplyParts}
 use Rattle.filing_model.specs.Numbered.{changed_at}
 use Rattle.filing_model.specs.Outbox.{Entry, State}
 use Rattle.filing_model.specs.Stopping.{No, Before}

@@ -3,14 +3,14 @@
 ghost use Rattle.std.specs.Prelude.{◌≡◌, ◌≢◌, ◌↔◌, ℕ, map, true, false, Option, Some, None, IsSome, IfOk, IfSome, OnOk, Err};
 ghost use Rattle.key_string.specs.Key.{IsKey};
 ghost use Rattle.key_string.specs.Filer.{is_filer};
-ghost use Rattle.http_wire.specs.Reply.{ReplyParts};
+ghost use Rattle.http_messages.specs.Reply.{ReplyParts};
 ghost use Rattle.filing_model.specs.Outbox.{Entry as Item};
 ghost use Rattle.filing_model.specs.Stopping.{No};
 ghost use Rattle.filing_world.specs.World.{numbered, new_outbox};
 ghost use Rattle.filing_world.specs.Step.{with_entry, Hears, box_after};
 ghost use Rattle.filing_world.specs.Headline.{states_of};
 ghost use Rattle.sqlite.specs.Files.{over_files};
-ghost use Rattle.http_wire.specs.Posting.{IsTarget};
+ghost use Rattle.http_messages.specs.Posting.{IsTarget};
 ghost use Rattle.outbox_core.specs.OutboxParts.{HasEntries};
 ghost use Rattle.outbox_core.specs.Entries.{opened};
 ghost use Rattle.event_script.specs.Events.{view_crash};

@@ -1,7 +1,7 @@
 //! The intake's end: the process that it runs in, with the requests that it completed.
 
 ghost use Rattle.std.specs.Prelude.{◌≡◌, ◌≢◌, ◌≤◌, ◌^◌, ◌++◌, ◌↔◌, [], ℕ, List, true, false, Some, IsSome, IfOk, IfSome, OnOk, Err, length};
-ghost use Rattle.http_wire.specs.Message.{Arrival, Ending};
+ghost use Rattle.http_messages.specs.Message.{Arrival, Ending};
 ghost use Rattle.event_script.specs.Events.{view_crash};
 ghost use Rattle.filing_model.specs.Request.{Request, firsts};
 ghost use Rattle.filing_model.specs.Register.{register};

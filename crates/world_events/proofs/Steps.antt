@@ -2,8 +2,8 @@
 use Rattle.std.proofs.Common.{◌≡◌, ℕ, zero, suc, true, false, List, [], ◌∷◌, ◌++◌, Option, Some, None, Result, Ok, Err, refl, sym, ap, take, ◌∙◌, subst, ⊎_elim, slice_get, slice_set, slice_index_or, ◌<◌, ◌⊎◌, OnOk, length, arith}
 use Rattle.std.proofs.lemmas.Option.{slice_get_past, get_or_from_slice_get}
 use Rattle.key_string.specs.Key.{IsKey}
-use Rattle.http_wire.specs.Reply.{ReplyParts}
-use Rattle.http_wire.specs.Posting.{IsTarget}
+use Rattle.http_messages.specs.Reply.{ReplyParts}
+use Rattle.http_messages.specs.Posting.{IsTarget}
 use Rattle.filing_model.specs.Outbox.{Entry, request_of, bytes_of}
 use Rattle.filing_model.specs.Stopping.{Crash}
 use Rattle.filing_world.specs.World.{Outbox, Sent, Output, numbered, renewed}

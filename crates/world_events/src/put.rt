@@ -1,7 +1,7 @@
 //! A report is put into an outbox.
 
 ghost use Rattle.std.specs.Prelude.{◌≡◌, List, OnOk, Err};
-ghost use Rattle.http_wire.specs.Posting.{IsTarget};
+ghost use Rattle.http_messages.specs.Posting.{IsTarget};
 ghost use Rattle.filing_world.specs.World.{Sent as Item, Output as Left, Put};
 ghost use Rattle.filing_world.specs.Step.{Puts, CannotPlay};
 ghost use Rattle.outbox_core.specs.Entries.{opened};

@@ -7,7 +7,7 @@ ghost use Rattle.outbox_opening.specs.Audit.{is_int, is_absent, is_key_text, is_
 ghost use Rattle.outbox_opening.specs.Targets.{said_by};
 
 use crate::opening::targets::{Said, is_left_over, said_of};
-use http_wire::MAX_BODY_LEN;
+use http_messages::MAX_BODY_LEN;
 use key_string::{is_key, read_filer};
 use sqlite::Row;
 use sqlite::types::ValueRef;

@@ -2,7 +2,7 @@
 
 use crate::databases::ready;
 use crate::targets::first_if;
-use http_wire::Reply;
+use http_messages::Reply;
 use key_string::KeyText;
 use outbox_core::{
     Entry, Outbox, OutboxFault, PutFault, State, StoreFault, TakeFault, migrate_outbox,

@@ -2,7 +2,7 @@ use Rattle.std.proofs.Common.{◌≡◌, true, sym, rules}
 use Rattle.std.specs.List.{list_all}
 use Rattle.std.specs.Char.{is_ascii_digit}
 use Rattle.std.proofs.lemmas.Str.Parse.{parse_digits}
-use Rattle.http_wire.proofs.DigitLemmas.{decimal_numerals}
+use Rattle.http_messages.proofs.DigitLemmas.{decimal_numerals}
 use Rattle.event_script.proofs.Digits.{number_up_to-none}
 use Rattle.event_script.proofs.words.read_number_up_to.Goals as goal
 

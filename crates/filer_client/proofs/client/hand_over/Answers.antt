@@ -1,5 +1,5 @@
 use Rattle.std.proofs.lemmas.Result.{err_from_is_err_and}
-use Rattle.http_wire.specs.Replies.{reply_parts}
+use Rattle.http_messages.specs.Replies.{reply_parts}
 use Rattle.filer_client.proofs.Handing.{hands_over-moved, hands_over-refused}
 use Rattle.filer_client.proofs.client.hand_over.Goals as goal
 

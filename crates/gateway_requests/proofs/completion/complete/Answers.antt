@@ -1,5 +1,5 @@
 use Rattle.std.proofs.Common.{◌≡◌, ◌++◌, sym, subst, OnOk}
-use Rattle.http_wire.specs.Message.{Read}
+use Rattle.http_messages.specs.Message.{Read}
 use Rattle.filing_model.specs.declared.served.Mark.{Mark}
 use Rattle.filing_model.specs.Text.{completed_at}
 use Rattle.gateway_requests.specs.Route.{view_message}

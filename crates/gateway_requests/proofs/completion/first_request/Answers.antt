@@ -1,6 +1,6 @@
 use Rattle.std.proofs.Common.{rules, subst, refl, arith}
-use Rattle.http_wire.specs.Head.{IsHead, IsHeadFault}
-use Rattle.http_wire.proofs.MoreBytes.{IsBlockEnd-within}
+use Rattle.http_messages.specs.Head.{IsHead, IsHeadFault}
+use Rattle.http_messages.proofs.MoreBytes.{IsBlockEnd-within}
 use Rattle.gateway_requests.proofs.Completing.{first_block, none_short, begins_request, none_fault}
 use Rattle.gateway_requests.proofs.completion.first_request.Goals as goal
 

@@ -2,7 +2,7 @@ use Rattle.std.proofs.Common.{◌≡◌, ◌∙◌, Some, sym, ap, inl, inr, tru
 use Rattle.std.proofs.lemmas.Fmt.{IsAscii-from_digits}
 use Rattle.std.proofs.lemmas.Str.{IsUtf8-from_ascii}
 use Rattle.gateway_requests.specs.Path.{is_decimal}
-use Rattle.http_wire.proofs.DigitLemmas.{decimal_numerals}
+use Rattle.http_messages.proofs.DigitLemmas.{decimal_numerals}
 use Rattle.gateway_requests.proofs.Numbers.{all, number-read, number-above, number-none, value_is, large_is}
 use Rattle.gateway_requests.proofs.path.read_number.Goals as goal
 

@@ -1,5 +1,5 @@
 use Rattle.std.proofs.Common.{◌∷◌, sym, ap, ◌∙◌, inr}
-use Rattle.http_wire.specs.FieldsNamed.{values_left}
+use Rattle.http_messages.specs.FieldsNamed.{values_left}
 use Rattle.gateway_requests.proofs.route.only_key.Goals as goal
 
 pub returns-in-Some-next : goal.returns-in-Some-next

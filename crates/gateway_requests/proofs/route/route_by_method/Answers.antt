@@ -1,6 +1,6 @@
 use Rattle.std.proofs.Common.{◌≡◌, ℕ, List, Option, true, false, bytes_eq, codes, refl, sym, ap₂, ◌∙◌, ⊎_elim}
-use Rattle.http_wire.specs.Coding.{has_content_coding}
-use Rattle.http_wire.specs.Request.{Request as Message}
+use Rattle.http_messages.specs.Coding.{has_content_coding}
+use Rattle.http_messages.specs.Request.{Request as Message}
 use Rattle.filing_model.specs.Reply.{word_reply}
 use Rattle.filing_model.specs.Text.{Reject, route_by_method}
 use Rattle.gateway_requests.specs.Route.{view_message}

@@ -1,5 +1,5 @@
 use Rattle.std.proofs.Common.{◌≡◌, None, sym, ap, ◌∙◌, option_map}
-use Rattle.http_wire.specs.Request.{Request as Message}
+use Rattle.http_messages.specs.Request.{Request as Message}
 use Rattle.filing_model.specs.Text.{route, bare, is_head, resource_of_path, route_by_resource}
 use Rattle.gateway_requests.specs.Path.{view_path}
 use Rattle.gateway_requests.specs.Route.{view_message}

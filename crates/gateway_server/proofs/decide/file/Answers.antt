@@ -1,7 +1,7 @@
 use Rattle.std.proofs.Common.{◌≡◌, ◌++◌, ◌∷◌, [], take, true, false, refl, ap, subst, IfOk, arith, ⊎_elim, inl, inr}
 use Rattle.std.specs.declared.alloc.AllocError.{AllocError}
 use Rattle.std.proofs.lemmas.Bool.{cases_Bool}
-use Rattle.http_wire.specs.Replies.{reply_parts}
+use Rattle.http_messages.specs.Replies.{reply_parts}
 use Rattle.filing_model.specs.Answer.{Answer}
 use Rattle.filing_model.specs.Request.{Request, firsts, has_key}
 use Rattle.filing_model.specs.Reply.{reply_as, unavailable}

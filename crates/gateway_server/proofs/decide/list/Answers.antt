@@ -1,7 +1,7 @@
 use Rattle.std.proofs.Common.{◌≡◌, List, take, refl, ap, ◌∙◌, subst, IfOk}
 use Rattle.std.specs.Prelude.{map}
 use Rattle.std.specs.declared.alloc.AllocError.{AllocError}
-use Rattle.http_wire.specs.Replies.{reply_parts}
+use Rattle.http_messages.specs.Replies.{reply_parts}
 use Rattle.filing_model.specs.Listing.{Listing, listings}
 use Rattle.filing_model.specs.Register.{register}
 use Rattle.filing_model.specs.Reply.{list_reply, unavailable}

@@ -2,7 +2,7 @@ use Rattle.std.proofs.Common.{true≢false, refl, sym, ◌∙◌, inl, inr}
 use Rattle.std.specs.Io.KnownBytes.{IsAtEnd}
 use Rattle.http_wire.specs.Calls.{WritesAsked}
 use Rattle.http_wire.specs.Inbox.{held, reads}
-use Rattle.http_wire.specs.Message.{IsRest}
+use Rattle.http_messages.specs.Message.{IsRest}
 use Rattle.filing_model.specs.Serving.{keeping}
 use Rattle.intake_core.specs.Held.{limit_of, early_in}
 use Rattle.gateway_server.specs.Progress.{streams}

@@ -1,10 +1,10 @@
 use Rattle.std.proofs.Common.{refl, ◌≡◌, ◌+◌, ◌≤◌, ◌∙◌, length, ap, sym, subst, IfOk, Bool, vec_len, arith}
-use Rattle.http_wire.specs.Head.{closes, max_body_len}
+use Rattle.http_messages.specs.Head.{closes, max_body_len}
 use Rattle.http_wire.specs.Inbox.{held, lent_len}
-use Rattle.http_wire.specs.Message.{Read}
-use Rattle.http_wire.specs.Replies.{reply_parts}
-use Rattle.http_wire.specs.Reply.{render}
-use Rattle.http_wire.specs.Request.{Request as Message}
+use Rattle.http_messages.specs.Message.{Read}
+use Rattle.http_messages.specs.Replies.{reply_parts}
+use Rattle.http_messages.specs.Reply.{render}
+use Rattle.http_messages.specs.Request.{Request as Message}
 use Rattle.filing_model.specs.Serving.{keeping}
 use Rattle.filing_model.specs.Stopping.{ComeBefore}
 use Rattle.filing_model.specs.Text.{reply_text_with}

@@ -1,5 +1,5 @@
 use Rattle.std.proofs.Common.{true≢false, ◌+◌, ◌∙◌, subst}
-use Rattle.http_wire.specs.Message.{Refused}
+use Rattle.http_messages.specs.Message.{Refused}
 use Rattle.filing_model.specs.Text.{reply_text_with}
 use Rattle.gateway_server.specs.Stopping.{IsBefore, IsStoppedAfter, view_stop}
 use Rattle.gateway_server.proofs.Transitions.{refusal_before, refusal_unmarked, refusal_replied}

@@ -1,5 +1,5 @@
 use Rattle.filing_model.specs.declared.served.Ended.TheVariants.{Fault}
-use Rattle.http_wire.specs.declared.refusal.ConnFault.TheVariants.{Memory}
+use Rattle.http_messages.specs.declared.refusal.ConnFault.TheVariants.{Memory}
 use Rattle.std.proofs.Common.{Some, length, refl, sym, subst, rules}
 use Rattle.filing_model.specs.Serving.{keeping}
 use Rattle.filing_model.specs.Stopping.{ComeBefore}

@@ -2,10 +2,10 @@ use Rattle.std.proofs.Common.{[], false, Ok, refl, sym, ap, ◌∙◌, subst, in
 use Rattle.std.proofs.KnownBytes.{Appends-nil}
 use Rattle.std.proofs.lemmas.Result.{err_from_is_err_and}
 use Rattle.std.specs.Prelude.{slice_range, IfErr, OnOk, ◌≡◌}
-use Rattle.http_wire.specs.Block.{skipped_len}
+use Rattle.http_messages.specs.Block.{skipped_len}
 use Rattle.http_wire.specs.Calls.{HoldsArrival, WritesUpTo, IsFault}
-use Rattle.http_wire.specs.Head.{IsHeadFault}
-use Rattle.http_wire.specs.Message.{IsRest}
+use Rattle.http_messages.specs.Head.{IsHeadFault}
+use Rattle.http_messages.specs.Message.{IsRest}
 use Rattle.http_wire.specs.Received.{held_bytes, read_count}
 use Rattle.http_wire.proofs.NextArrivalLemmas.{Asks-unended, WritesUpTo-read, IsFault-read, HoldsArrival-ended}
 use Rattle.http_wire.proofs.ReceivedLemmas.{Receives-join, ReceivesNothing-join}

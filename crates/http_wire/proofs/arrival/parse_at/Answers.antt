@@ -1,6 +1,6 @@
 use Rattle.std.proofs.Common.{subst, rules}
 use Rattle.std.specs.Prelude.{slice_range}
-use Rattle.http_wire.specs.Head.{IsHeadFault}
+use Rattle.http_messages.specs.Head.{IsHeadFault}
 use Rattle.http_wire.proofs.arrival.parse_at.Goals as goal
 
 pub returns-in_err-spans-clause-fault : goal.returns-in_err-spans-clause-fault

@@ -1,8 +1,8 @@
 use Rattle.std.proofs.Common.{◌≡◌, ◌-◌, ◌≤◌, ◌++◌, length, subst, arith}
 use Rattle.std.proofs.lemmas.Grind.{common_steps}
-use Rattle.http_wire.specs.Block.{from_block, EndsAt, skipped_len}
-use Rattle.http_wire.proofs.BlockLemmas.{HasNoEndUpTo-zero}
-use Rattle.http_wire.proofs.MoreBytes.{from_block-more, EndsAt-front}
+use Rattle.http_messages.specs.Block.{from_block, EndsAt, skipped_len}
+use Rattle.http_messages.proofs.BlockLemmas.{HasNoEndUpTo-zero}
+use Rattle.http_messages.proofs.MoreBytes.{from_block-more, EndsAt-front}
 use Rattle.http_wire.proofs.received.searched_len.Goals as goal
 
 pub returns-then-bytes-lt4-clause-unended : goal.returns-then-bytes-lt4-clause-unended

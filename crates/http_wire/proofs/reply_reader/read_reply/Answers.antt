@@ -2,7 +2,7 @@ use Rattle.std.proofs.Common.{◌≡◌, false, sym, subst, rules}
 use Rattle.std.proofs.lemmas.Result.{err_from_is_err_and}
 use Rattle.http_wire.specs.ReplyFaults.{IsReplyFailure}
 use Rattle.http_wire.specs.ReplyReading.{IsHeadFailure, IsContentFailure}
-use Rattle.http_wire.specs.Response.{is_interim}
+use Rattle.http_messages.specs.Response.{is_interim}
 use Rattle.http_wire.proofs.ReplyLemmas.{HasSkipped-none, HasSkipped-head, head_failure, length_failure, content_failure, reply_given}
 use Rattle.http_wire.proofs.reply_reader.read_reply.Goals as goal
 

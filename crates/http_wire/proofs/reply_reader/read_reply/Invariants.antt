@@ -1,5 +1,6 @@
 use Rattle.std.proofs.Common.{◌≡◌, ◌+◌, ◌-◌, ◌*◌, length}
-use Rattle.http_wire.specs.Received.{held_bytes, read_count, max_reads}
+use Rattle.http_wire.specs.Received.{held_bytes, read_count}
+use Rattle.http_messages.specs.Reads.{max_reads}
 use Rattle.http_wire.proofs.ReplyLemmas.{HasSkipped}
 use Rattle.http_wire.proofs.reply_reader.read_reply.Given as goal
 

@@ -1,5 +1,6 @@
 use Rattle.std.proofs.Common.{◌≡◌, ◌-◌, ◌≤◌, length}
-use Rattle.http_wire.specs.Received.{read_count, max_reads}
+use Rattle.http_wire.specs.Received.{read_count}
+use Rattle.http_messages.specs.Reads.{max_reads}
 use Rattle.http_wire.specs.ReplyReading.{Takes}
 use Rattle.http_wire.proofs.reply_reader.take_content.Given as goal
 

@@ -1,9 +1,10 @@
 use Rattle.std.proofs.Common.{Ok, subst, sym, ap, ◌∙◌, arith}
 use Rattle.std.proofs.lemmas.Result.{err_from_is_err_and}
 use Rattle.std.specs.Prelude.{slice_range}
-use Rattle.http_wire.specs.Block.{skipped_len}
-use Rattle.http_wire.specs.ReplyFaults.{IsNoResponse}
-use Rattle.http_wire.specs.ReplyReading.{IsResponseBlock, IsHeadFailure}
+use Rattle.http_messages.specs.Block.{skipped_len}
+use Rattle.http_messages.specs.ReplyFaults.{IsNoResponse}
+use Rattle.http_messages.specs.ResponseBlock.{IsResponseBlock}
+use Rattle.http_wire.specs.ReplyReading.{IsHeadFailure}
 use Rattle.http_wire.proofs.TakeLemmas.{Takes-receives, TakesHead-found, head_failure-read, head-shorter}
 use Rattle.http_wire.proofs.reply_reader.take_head.Goals as goal
 

@@ -2,7 +2,7 @@ use Rattle.std.proofs.Common.{arith, sym}
 use Rattle.sqlite.specs.Held.{state}
 use Rattle.sqlite.specs.State.{HasCleanDisk}
 use Rattle.sqlite.proofs.StateLemmas.{survives_weaker, survives_then}
-use Rattle.http_wire.specs.Replies.{reply_parts}
+use Rattle.http_messages.specs.Replies.{reply_parts}
 use Rattle.table_rows.proofs.ResultLemmas.{if_ok}
 use Rattle.filing_model.specs.Outbox.{moved}
 use Rattle.outbox_opening.specs.Entries.{entry_at}

@@ -1,6 +1,6 @@
 use Rattle.std.proofs.Common.{◌≡◌, true, false, not, None, ap, sym, subst, ◌∙◌}
 use Rattle.std.specs.Prelude.{is_some}
-use Rattle.http_wire.specs.Posting.{IsTarget}
+use Rattle.http_messages.specs.Posting.{IsTarget}
 use Rattle.register_rows.proofs.DamageLemmas.{alone, same_target}
 use Rattle.register_rows.proofs.damage.target_at.Goals as goal
 use Rattle.register_rows.proofs.damage.target_at.Goals.{then-is_some-via-then-is_some, then-is_some-via-else-is_some+then-is_none, then-is_some-via-else-is_some+else-is_none+then-not-is_target}

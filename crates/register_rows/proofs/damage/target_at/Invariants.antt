@@ -1,5 +1,5 @@
 use Rattle.std.proofs.Common.{◌≡◌, take}
-use Rattle.http_wire.specs.Posting.{IsTarget}
+use Rattle.http_messages.specs.Posting.{IsTarget}
 use Rattle.register_rows.specs.Audit.{with_number}
 use Rattle.register_rows.specs.Register.{amends_rows_by}
 use Rattle.register_rows.proofs.damage.target_at.Given as goal

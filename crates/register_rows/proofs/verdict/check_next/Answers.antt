@@ -1,5 +1,5 @@
 use Rattle.std.proofs.Common.{◌≡◌, false, ap, sym, subst, ◌∙◌}
-use Rattle.http_wire.specs.Posting.{IsTarget}
+use Rattle.http_messages.specs.Posting.{IsTarget}
 use Rattle.filing_model.specs.Request.{has_key}
 use Rattle.register_rows.specs.Audit.{OtherRows, view_rows_left, with_target}
 use Rattle.register_rows.specs.Columns.{request_in}

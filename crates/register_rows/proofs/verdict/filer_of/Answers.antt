@@ -1,5 +1,5 @@
 use Rattle.std.proofs.Common.{◌≡◌, ◌≤◌, length, true, subst, ◌∙◌, arith}
-use Rattle.http_wire.specs.Head.{max_body_len}
+use Rattle.http_messages.specs.Head.{max_body_len}
 use Rattle.key_string.specs.Filer.{is_filer}
 use Rattle.key_string.specs.Key.{IsKey}
 use Rattle.register_rows.proofs.verdict.filer_of.Goals as goal

@@ -1,5 +1,5 @@
 use Rattle.std.proofs.Common.{◌≡◌, ◌++◌, ◌≤◌, List, length}
-use Rattle.http_wire.specs.Message.{Arrival, Ending}
+use Rattle.http_messages.specs.Message.{Arrival, Ending}
 use Rattle.filing_model.specs.Serving.{BeginsArrivals}
 use Rattle.filing_model.specs.Text.{completed}
 use Rattle.world_ends.proofs.server.append_completed.Given as goal

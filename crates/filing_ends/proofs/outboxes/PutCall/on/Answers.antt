@@ -1,5 +1,5 @@
 use Rattle.std.proofs.Common.{sym, length}
-use Rattle.http_wire.specs.Head.{max_body_len}
+use Rattle.http_messages.specs.Head.{max_body_len}
 use Rattle.filing_ends.proofs.Entries.{takes_new, takes_no_long, takes_no_used, short_enough}
 use Rattle.filing_ends.proofs.outboxes.PutCall.on.Goals as goal
 

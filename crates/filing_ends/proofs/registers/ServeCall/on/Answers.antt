@@ -1,5 +1,5 @@
 use Rattle.std.proofs.Common.{◌≢◌, ℕ, [], Some, refl, sym, ◌∙◌, subst, true≢false, arith}
-use Rattle.http_wire.specs.declared.refusal.ConnFault.TheVariants.{Write}
+use Rattle.http_messages.specs.declared.refusal.ConnFault.TheVariants.{Write}
 use Rattle.filing_model.specs.declared.served.Ended.TheVariants.{Fault}
 use Rattle.filing_model.specs.Request.{firsts}
 use Rattle.filing_model.specs.Serving.{keeping}

@@ -2,8 +2,8 @@ use Rattle.std.proofs.Common.{◌≡◌, ℕ, true, List, Option, Result, IfOk, 
 use Rattle.std.proofs.KnownBytes.{Appends-nil}
 use Rattle.std.proofs.lemmas.Bool.{false≢true}
 use Rattle.http_wire.specs.declared.inbox.Inbox.{Inbox}
-use Rattle.http_wire.specs.declared.refusal.ConnFault.{ConnFault}
-use Rattle.http_wire.specs.declared.refusal.Next.{Next}
+use Rattle.http_messages.specs.declared.refusal.ConnFault.{ConnFault}
+use Rattle.http_wire.specs.declared.inbox.Next.{Next}
 use Rattle.http_wire.specs.Calls.{HoldsArrival, WritesUpTo, IsFault}
 use Rattle.http_wire.specs.Inbox.{held, unread, reads, is_over, is_failed, ReadsNothing, IsNext, WritesInterim}
 use Rattle.http_wire.specs.ReadingOn.{FindsNext}

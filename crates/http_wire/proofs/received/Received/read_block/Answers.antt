@@ -1,10 +1,10 @@
 use Rattle.std.proofs.Common.{ℕ, List, ◌++◌, ◌⊎◌, length, drop, Ok, subst, subst₂, refl, sym, ap, ◌∙◌, inl, inr, rules}
 use Rattle.std.proofs.lemmas.Bool.{false≢true}
 use Rattle.std.proofs.lemmas.Result.{err_from_is_err_and}
-use Rattle.http_wire.specs.Block.{from_block, HasNoEndUpTo, IsBlock, IsUnended}
+use Rattle.http_messages.specs.Block.{from_block, HasNoEndUpTo, IsBlock, IsUnended}
 use Rattle.http_wire.specs.Received.{held_bytes, ReceivesNothing, IsReadFault}
 use Rattle.http_wire.specs.declared.received.Received.{Received}
-use Rattle.http_wire.proofs.BlockLemmas.{HasNoEndUpTo-zero}
+use Rattle.http_messages.proofs.BlockLemmas.{HasNoEndUpTo-zero}
 use Rattle.http_wire.proofs.ReceivedLemmas.{Receives-join, Receives-nil, no_answer, one_answer}
 use Rattle.http_wire.proofs.received.Received.read_block.Goals as goal
 

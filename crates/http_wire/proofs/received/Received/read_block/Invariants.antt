@@ -1,6 +1,7 @@
 use Rattle.std.proofs.Common.{◌≡◌, ◌-◌, ◌⊎◌}
-use Rattle.http_wire.specs.Block.{from_block, HasNoEndUpTo, IsUnended}
-use Rattle.http_wire.specs.Received.{held_bytes, read_count, max_reads, Receives, ReceivesNothing}
+use Rattle.http_messages.specs.Block.{from_block, HasNoEndUpTo, IsUnended}
+use Rattle.http_wire.specs.Received.{held_bytes, read_count, Receives, ReceivesNothing}
+use Rattle.http_messages.specs.Reads.{max_reads}
 use Rattle.http_wire.proofs.received.Received.read_block.Given as goal
 
 abbrev pub invariant-loop-block : goal.invariant-loop-block

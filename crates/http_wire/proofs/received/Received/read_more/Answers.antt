@@ -1,6 +1,7 @@
 use Rattle.std.proofs.Common.{◌<◌, Ok, refl, sym, ap, ◌∙◌, subst, arith}
 use Rattle.std.proofs.lemmas.Result.{err_from_is_err_and}
-use Rattle.http_wire.specs.Received.{IsReadFault, max_reads}
+use Rattle.http_wire.specs.Received.{IsReadFault}
+use Rattle.http_messages.specs.Reads.{max_reads}
 use Rattle.http_wire.proofs.ReceivedLemmas.{Receives-nil, Receives-kept, Receives-count, IsReadFault-fill, no_answer, no_more}
 use Rattle.http_wire.proofs.received.Received.read_more.Goals as goal
 

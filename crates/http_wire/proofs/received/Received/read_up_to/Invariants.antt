@@ -1,5 +1,6 @@
 use Rattle.std.proofs.Common.{◌≡◌, ◌-◌, ◌≤◌, length}
-use Rattle.http_wire.specs.Received.{held_bytes, read_count, max_reads, Receives, ReceivesNothing}
+use Rattle.http_wire.specs.Received.{held_bytes, read_count, Receives, ReceivesNothing}
+use Rattle.http_messages.specs.Reads.{max_reads}
 use Rattle.http_wire.proofs.received.Received.read_up_to.Given as goal
 
 abbrev pub invariant-loop-self : goal.invariant-loop-self

@@ -1,5 +1,5 @@
 use Rattle.std.proofs.Common.{◌≡◌, List, ◌++◌, ◌∙◌, sym, ap, subst, true, length, ◌≤◌}
-use Rattle.http_wire.specs.Message.{Arrival}
+use Rattle.http_messages.specs.Message.{Arrival}
 use Rattle.event_script.specs.Events.{view_crash}
 use Rattle.filing_model.specs.Request.{firsts}
 use Rattle.filing_model.specs.Stopping.{ServesUntil}

@@ -1,5 +1,0 @@
-use Rattle.http_wire.proofs.PostLaws.{post-alone}
-use Rattle.http_wire.proofs.laws.cut_post_is_nothing_or_whole.Goals as goal
-
-pub returns : goal.returns
-returns c = post-alone

@@ -1,5 +1,0 @@
-use Rattle.http_wire.proofs.ReplyRead.{reply-alone}
-use Rattle.http_wire.proofs.laws.cut_reply_is_no_other.Goals as goal
-
-pub returns : goal.returns
-returns c = reply-alone

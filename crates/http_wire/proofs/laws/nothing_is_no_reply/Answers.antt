@@ -1,5 +1,0 @@
-use Rattle.http_wire.proofs.UniqueReply.{SpellsReply-nothing}
-use Rattle.http_wire.proofs.laws.nothing_is_no_reply.Goals as goal
-
-pub returns : goal.returns
-returns c = SpellsReply-nothing
