@@ -5,7 +5,7 @@ use Rattle.std.proofs.Math.Seq.{take-suc, drop-cons}
 use Rattle.std.proofs.lemmas.List.{map-append}
 use Rattle.std.proofs.lemmas.Option.{slice_get_within, get_or_from_slice_get}
 use Rattle.std.proofs.lemmas.List.Elements.{filter_map-append}
-use Rattle.xbrl_report.proofs.Bools.{left_of, right_of}
+use Rattle.xbrl_values.proofs.Bools.{left_of, right_of}
 use Rattle.filing_world.specs.World.{Outbox, new_outbox}
 use Rattle.filing_world.specs.Headline.{states_of, states_from, number_in}
 use Rattle.filing_model.specs.Outbox.{State as Kept}

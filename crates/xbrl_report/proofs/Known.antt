@@ -1,9 +1,8 @@
 -- Why a dimension that is known to be right need not be judged again.
-use Rattle.std.proofs.Common.{◌≡◌, ◌∙◌, ℕ, List, [], ◌∷◌, ◌++◌, codes, Bool, true, false, Option, Some, None, refl, sym, ap, true≢false, string_bytes, MatchOption, IfSome}
+use Rattle.std.proofs.Common.{◌≡◌, ℕ, List, [], ◌∷◌, ◌++◌, codes, Bool, true, false, Option, Some, None, refl, sym, ap, true≢false, string_bytes, MatchOption, IfSome}
 use Rattle.std.specs.List.{flat_map}
 use Rattle.std.specs.Cmp.Lexicographic.{same_text}
 use Rattle.serde_json.specs.Data.{Data, Members, null, boolean, number, string, array, object}
-use Rattle.serde_json.specs.Find.{as_object}
 use Rattle.serde_json.specs.View.{view, members_view}
 use Rattle.serde_json.proofs.Views.{Entry}
 use Rattle.xbrl_report.specs.declared.code.Code.{Code}

@@ -1,9 +1,6 @@
-pub mod Escapes
 pub mod Fits
 pub mod Gathering
 pub mod Members
-pub mod Bools
-pub mod Places
 pub mod Parts
 pub mod Elements
 pub mod So
@@ -13,14 +10,12 @@ pub mod Ordered
 pub mod Pairs
 pub mod Trees
 pub mod Distinct
-pub mod Calendar
 pub mod Unique
 pub mod FindingLaws
 pub mod Judgements
 pub mod Adjacent
 pub mod Chars
 pub mod Indices
-pub mod Parentheses
 pub mod Measures
 pub mod Plain
 pub mod FactOrder

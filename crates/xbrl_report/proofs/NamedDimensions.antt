@@ -5,15 +5,16 @@ use Rattle.std.specs.List.{list_any}
 use Rattle.std.specs.Cmp.Lexicographic.{same_text}
 use Rattle.serde_json.specs.Data.{Data}
 use Rattle.serde_json.specs.Find.{as_str}
+use Rattle.xbrl_values.specs.Language.{is_language}
+use Rattle.xbrl_values.specs.Period.{is_period, is_backward, is_slash}
+use Rattle.xbrl_values.specs.QName.{is_qname, is_entity, local_of}
+use Rattle.xbrl_values.specs.Text.{same}
+use Rattle.xbrl_values.specs.Unit.{is_unit}
 use Rattle.xbrl_report.specs.declared.code.Code.TheVariants.{DimensionValue, Name, UnboundPrefix, NotTheFiler, Period, PeriodOrder, UnitForm, Language, UnknownDimension}
 use Rattle.xbrl_report.specs.Dimension.{has_colon, is_core, has_wrong_value, has_wrong_name, has_unbound_prefix, is_unbound_qname, is_unbound_entity, is_unbound_unit, is_not_the_filer, is_no_period, is_no_ascending_period, is_no_unit, is_no_language}
-use Rattle.xbrl_report.specs.Language.{is_language}
 use Rattle.xbrl_report.specs.Pair.{Pair, pair_at}
 use Rattle.xbrl_report.specs.Paths as path
-use Rattle.xbrl_report.specs.Period.{is_period, is_backward, is_slash}
-use Rattle.xbrl_report.specs.QName.{is_qname, is_entity, local_of}
-use Rattle.xbrl_report.specs.Tree.{is_text, is_null, same}
-use Rattle.xbrl_report.specs.Unit.{is_unit}
+use Rattle.xbrl_report.specs.Tree.{is_text, is_null}
 use Rattle.xbrl_report.specs.Walk.{pair_if, dimension_pairs}
 
 module _ (filer : List ℕ) (namespaces : Option Data) (id : List ℕ) (v : Data) where

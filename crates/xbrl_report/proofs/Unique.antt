@@ -12,6 +12,7 @@ use Rattle.std.proofs.lemmas.Cmp.{tied_itself}
 use Rattle.std.proofs.lemmas.List.Sums.{AllPass-from_list_all, list_all-from_AllPass}
 use Rattle.std.proofs.lemmas.List.Elements.{All-from_recursion, recursion_from_All}
 use Rattle.std.proofs.lemmas.Map.Made.{is_member-Decides, length-le_from_is_member}
+use Rattle.xbrl_values.proofs.Bools.{left_of, right_of}
 use Rattle.xbrl_report.specs.declared.code.Code.{Code}
 use Rattle.xbrl_report.specs.declared.code.Code.TheVariants.{NotJson, NotObject, DocumentInfo, DocumentType, Namespaces, NamespaceUri, Taxonomy, Facts, Fact, Value, Decimals, Dimensions, ConceptMissing, EntityMissing, DimensionValue, Name, UnboundPrefix, NotTheFiler, Period, PeriodOrder, UnitForm, Number, Language, UnknownDimension, TooMany, NotReplaceable}
 use Rattle.xbrl_report.specs.CodeNumber.{number_of}
@@ -19,7 +20,6 @@ use Rattle.xbrl_report.specs.Findings.{AreFindings, IsAllFindings, HasTooMany}
 use Rattle.xbrl_report.specs.InOrder.{put_pair, in_order}
 use Rattle.xbrl_report.specs.Pair.{Pair, pair_cmp, fits, IsAscending}
 use Rattle.xbrl_report.proofs.Members.{In, in_from_contains, contains_from_in}
-use Rattle.xbrl_report.proofs.Bools.{left_of, right_of}
 use Rattle.xbrl_report.proofs.Parts.{all_by, tied_pairs}
 use Rattle.xbrl_report.proofs.Pairs.{pair_cmp-total}
 

@@ -3,8 +3,9 @@ use Rattle.std.specs.Prelude.{◌≡◌, ℕ, List, [], ◌∷◌, Bool, Option,
 use Rattle.std.specs.List.{flat_map}
 use Rattle.serde_json.specs.Data.{Data, Members}
 use Rattle.serde_json.specs.Find.{as_object, as_str}
+use Rattle.xbrl_values.specs.Text.{same, text_passes}
 use Rattle.xbrl_report.specs.Pair.{Pair}
-use Rattle.xbrl_report.specs.Tree.{entries, same, text_passes}
+use Rattle.xbrl_report.specs.Tree.{entries}
 use Rattle.xbrl_report.specs.Walk.{dimension_pairs}
 
 -- in none of these entries is anything found, whatever the fact

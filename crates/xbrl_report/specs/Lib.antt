@@ -1,10 +1,8 @@
-pub mod Pointer
 pub mod Amendment
 pub mod CodeNumber
 pub mod Pair
 pub mod Paths
 pub mod Tree
-pub mod QName
 pub mod Dimension
 pub mod Finding
 pub mod InOrder
@@ -15,9 +13,4 @@ pub mod Known
 pub mod Gathers
 pub mod Judgement
 pub mod Ordered
-pub mod Period
-pub mod Moment
-pub mod Unit
-pub mod Number
-pub mod Language
 pub mod FactRecord

@@ -2,7 +2,8 @@
 //!
 //! `judge` reads a body and answers that it is a valid report, with its facts, or lists everything that is
 //! wrong with it: each place, as a JSON Pointer, with a code. `specs/Finding.antt` says what each code means.
-//! What may live here is what can be told of one report alone, with no taxonomy and no other report.
+//! What may live here: what can be told of one report alone, with no taxonomy and no other report. What a text of it says by
+//! itself is known by `xbrl_values`.
 #![tactic(auto)]
 
 mod code;
@@ -17,15 +18,9 @@ mod findings;
 mod found;
 mod judging;
 mod kind;
-mod language;
 pub mod laws;
-mod name;
-mod number;
-mod period;
-mod pointer;
 mod report;
 mod taken;
-mod unit;
 mod walk;
 
 pub use code::Code;
@@ -33,7 +28,5 @@ pub use fact::Fact;
 pub use finding::Finding;
 pub use findings::Findings;
 pub use judging::{Judged, judge, judge_amendment};
-pub use name::{split_entity, split_qname};
-pub use period::{Period, read_period};
 pub use report::Report;
-pub use unit::{Unit, read_unit};
+pub use xbrl_values::{Period, Unit, read_period, read_unit, split_entity, split_qname};

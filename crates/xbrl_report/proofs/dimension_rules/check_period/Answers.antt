@@ -1,5 +1,5 @@
 use Rattle.std.proofs.Common.{◌≡◌, false, append-nil, sym}
-use Rattle.xbrl_report.specs.Period.{is_backward}
+use Rattle.xbrl_values.specs.Period.{is_backward}
 use Rattle.xbrl_report.proofs.NamedDimensions.{forward-no_period, forward-one}
 use Rattle.xbrl_report.proofs.dimension_rules.check_period.Goals as goal
 

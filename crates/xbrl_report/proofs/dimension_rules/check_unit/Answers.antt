@@ -1,5 +1,6 @@
 use Rattle.std.proofs.Common.{append-nil, rules}
-use Rattle.xbrl_report.proofs.Measures.{measure-is_unit, unbound_measure}
+use Rattle.xbrl_values.proofs.Measures.{measure-is_unit}
+use Rattle.xbrl_report.proofs.Measures.{unbound_measure}
 use Rattle.xbrl_report.proofs.dimension_rules.check_unit.Goals as goal
 
 pub returns-in-Some : goal.returns-in-Some

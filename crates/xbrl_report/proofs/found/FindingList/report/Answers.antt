@@ -1,6 +1,6 @@
 use Rattle.std.proofs.Common.{arith, ◌≤◌, length, refl, map}
 use Rattle.std.proofs.lemmas.Grind.{common_steps}
-use Rattle.xbrl_report.specs.Pointer.{pointer}
+use Rattle.xbrl_values.specs.Pointer.{pointer}
 use Rattle.xbrl_report.proofs.Fits.{fits-push, fits-push_full, fits-push_long}
 use Rattle.xbrl_report.proofs.found.FindingList.report.Goals.{then-len-eq-MAX_FINDINGS-via-then-len-eq-MAX_FINDINGS, then-len-eq-MAX_FINDINGS-via-else-len-eq-MAX_FINDINGS+then-not-is_within}
 use Rattle.xbrl_report.proofs.found.FindingList.report.Goals as goal
