@@ -1,6 +1,13 @@
-//! The texts that the worked examples and the tests share, byte for byte: reports, and the replies to them. What may
-//! live here: texts that two crates name, each written out by hand. What they mean is not known here.
+//! The texts that the worked examples and the tests share, byte for byte: reports, and the replies to them; and streams that
+//! give and take them in small steps. What may live here: what two crates name, each text written out by hand. What the
+//! texts mean is not known here.
 #![tactic(auto)]
+
+mod parts;
+mod streams;
+
+pub use parts::{Text, bytes_of, front};
+pub use streams::{Giving, Taking};
 
 /// A valid report without facts, 84 bytes.
 pub const SMALLEST: &str =

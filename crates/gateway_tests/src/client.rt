@@ -1,9 +1,7 @@
 //! Exchanges of an outbox over streams in memory.
 
-use crate::examples::{Text, bytes_of, front};
 use crate::stores::Fresh;
-use crate::streams::{Giving, Taking};
-use example_texts::{REGISTERED, REGISTERED_CLOSED, REPORT};
+use example_texts::{Giving, REGISTERED, REGISTERED_CLOSED, REPORT, Taking, Text, bytes_of, front};
 use filer_client::{ExchangeFault, exchange, hand_over, request_bytes};
 use http_wire::{Device, ReplyFault};
 use key_string::KeyText;

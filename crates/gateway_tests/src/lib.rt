@@ -1,6 +1,6 @@
-//! Tests of what goes over tables and connections, through the public calls of the crates below. What may live
-//! here: tests alone. They stand together, since tests prove the crate that they stand in once more, and this one has
-//! nothing else.
+//! Tests of what goes between both ends, through the public calls of the crates below: the worked examples, and the exchanges
+//! of an outbox. What may live here: tests alone. They stand together, since tests prove the crate that they stand in once
+//! more, and this one has nothing else.
 #![tactic(auto)]
 
 #[cfg(test)]
@@ -8,12 +8,4 @@ mod client;
 #[cfg(test)]
 mod conformance;
 #[cfg(test)]
-mod examples;
-#[cfg(test)]
-mod intake;
-#[cfg(test)]
-mod server;
-#[cfg(test)]
 mod stores;
-#[cfg(test)]
-mod streams;

@@ -1,9 +1,10 @@
 //! Connections to an intake, as bytes that are given and bytes that are written.
 
-use crate::examples::{HEAD, Text, bytes_of};
+use crate::examples::HEAD;
 use crate::stores::Fresh;
-use crate::streams::Giving;
-use example_texts::{MALFORMED, NO_FILINGS, NOT_JSON, REGISTERED, REPORT, SMALLEST};
+use example_texts::{
+    Giving, MALFORMED, NO_FILINGS, NOT_JSON, REGISTERED, REPORT, SMALLEST, Text, bytes_of,
+};
 use gateway_server::{Ended, Served, serve};
 use http_wire::{ConnFault, Device};
 use intake_core::Intake;

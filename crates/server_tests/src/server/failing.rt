@@ -1,10 +1,9 @@
 //! Connections that fail in the middle.
 
 use super::LIMIT;
-use crate::examples::{HEAD, LIST, ONE_FILING, Text, bytes_of, front};
+use crate::examples::{HEAD, LIST, ONE_FILING};
 use crate::stores::Fresh;
-use crate::streams::{Giving, Taking};
-use example_texts::{REGISTERED, REPORT};
+use example_texts::{Giving, REGISTERED, REPORT, Taking, Text, bytes_of, front};
 use gateway_server::{Ended, serve};
 use http_wire::{ConnFault, Device};
 use intake_core::Intake;

@@ -1,9 +1,11 @@
 //! Requests, whole and cut off.
 
 use super::{Conversation, LIMIT, PIECES, hold, served};
-use crate::examples::{HEAD, LIST, bytes_of, front};
+use crate::examples::{HEAD, LIST};
 use crate::stores::Fresh;
-use example_texts::{MALFORMED, NO_FILINGS, REGISTERED, REGISTERED_CLOSED, REPORT, SMALLEST};
+use example_texts::{
+    MALFORMED, NO_FILINGS, REGISTERED, REGISTERED_CLOSED, REPORT, SMALLEST, bytes_of, front,
+};
 use gateway_server::Ended;
 use intake_core::Intake;
 use sqlite::{Alter, MemStore};

@@ -1,10 +1,10 @@
 //! Clients that wait for what they are due before they go on.
 
 use super::LIMIT;
-use crate::examples::{HEAD, SECOND_HEAD, SECOND_SMALL, SMALL, Text, bytes_of};
+use crate::examples::{HEAD, SECOND_HEAD, SECOND_SMALL, SMALL};
 use crate::stores::Fresh;
 use crate::streams::{Telling, Turn, Waiting};
-use example_texts::{NOT_JSON, REGISTERED, REGISTERED_SECOND, REPORT};
+use example_texts::{NOT_JSON, REGISTERED, REGISTERED_SECOND, REPORT, Text, bytes_of};
 use gateway_server::{Ended, serve};
 use http_wire::Device;
 use intake_core::Intake;

@@ -1,9 +1,9 @@
 //! Connections that are stopped before or after a request.
 
 use super::{LIMIT, served};
-use crate::examples::{HEAD, SECOND_HEAD, SECOND_SMALL, Text, bytes_of};
+use crate::examples::{HEAD, SECOND_HEAD, SECOND_SMALL};
 use crate::stores::Fresh;
-use example_texts::{REGISTERED, REGISTERED_SECOND, REPORT};
+use example_texts::{REGISTERED, REGISTERED_SECOND, REPORT, Text, bytes_of};
 use gateway_server::{Mark, Partly, Stop, completed, serve_until};
 use http_wire::Device;
 use intake_core::Intake;

@@ -1,26 +1,5 @@
 //! The bytes that several tests share: requests and replies.
 
-use std::alloc::{AllocError, Global};
-
-/// Texts one after another, each so many times.
-pub type Text = &'static [(&'static str, usize)];
-
-/// The bytes of these texts.
-pub fn bytes_of(alloc: Global, text: Text) -> Result<Vec<u8>, AllocError> {
-    let mut bytes = Vec::new(alloc);
-    for &(part, times) in text {
-        for _ in 0..times {
-            bytes.extend_from_slice(part.as_bytes())?;
-        }
-    }
-    Ok(bytes)
-}
-
-/// The first bytes, at most so many.
-pub fn front(bytes: &[u8], most: usize) -> &[u8] {
-    &bytes[..most.min(bytes.len())]
-}
-
 /// The head of the request that files the report of one fact under the key `k-1`, 93 bytes.
 pub const HEAD: &str =
     "POST /filings/ACME HTTP/1.1\r\nHost: localhost\r\nIdempotency-Key: \"k-1\"\r\nContent-Length: 393\r\n\r\n";
