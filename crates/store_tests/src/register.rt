@@ -10,7 +10,6 @@ use register_store::{KeptRow, Outcome, Store, StoreFault};
 use sqlite::{Alter, Connection};
 use std::alloc::Global;
 
-mod amendments;
 pub mod calls;
 mod damage;
 mod memory;

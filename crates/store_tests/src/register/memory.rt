@@ -2,14 +2,40 @@
 //! before, and the second answer is that of ample memory. Run it with each allocation refused too, one in a run.
 
 use super::calls::{
-    all_filings, conn_of, create, facts, filings, intake_over, open, requests, store_of,
+    all_filings, conn_of, create, facts, filings, intake_over, open, replaceable, requests,
+    store_of,
 };
-use super::{ONE, Request, holds, submit};
+use super::{Request, holds, submit};
 use crate::databases::Fresh;
+use example_texts::REPORT;
+use filing_model::FilingRow;
 use intake_core::{Intake, Unavailable};
 use register_store::{CreateFault, OpenFault, Store, StoreFault};
 use sqlite::{Alter, MemStore};
 use std::alloc::{AllocError, Global};
+
+/// A report, one that replaces it, and one that comes too late to replace it.
+static REQUESTS: [Request; 3] = [
+    ("k-1", false, REPORT, 1),
+    ("k-2", true, REPORT, 2),
+    ("k-3", true, REPORT, 0),
+];
+
+/// Their filings.
+static FILINGS: [FilingRow; 2] = [
+    FilingRow {
+        number: 1,
+        facts: 1,
+        replaces: None,
+        replaced_by: Some(2),
+    },
+    FilingRow {
+        number: 2,
+        facts: 1,
+        replaces: Some(1),
+        replaced_by: None,
+    },
+];
 
 /// What making a new register answers.
 fn created<S: Fresh>(alloc: Global) -> Result<Store<S>, CreateFault> {
@@ -53,7 +79,7 @@ fn submit_again<S: Alter>(
 
 /// A register that was asked for each request; `None` where one has another answer than its own, or is told to be a repeat, as one would be
 /// that was kept where memory was refused.
-pub fn kept<S: Fresh>(alloc: Global, requests: &[Request]) -> Option<Store<S>> {
+fn kept<S: Fresh>(alloc: Global, requests: &[Request]) -> Option<Store<S>> {
     let mut intake = intake_over(alloc, created_again(alloc).ok()?);
     for &request in requests {
         if submit_again(alloc, &mut intake, request) != Ok((request.3, false)) {
@@ -63,9 +89,9 @@ pub fn kept<S: Fresh>(alloc: Global, requests: &[Request]) -> Option<Store<S>> {
     Some(store_of(intake))
 }
 
-/// What an opening of a register with one request answers.
+/// What an opening of a register with the requests answers.
 fn opened<S: Fresh>(alloc: Global) -> Result<Store<S>, OpenFault> {
-    match kept(alloc, &ONE) {
+    match kept(alloc, &REQUESTS) {
         Some(store) => open(alloc, conn_of(store)),
         None => Err(OpenFault::NotOurs),
     }
@@ -87,28 +113,40 @@ fn fact_count<S: Alter>(store: &mut Store<S>) -> Result<usize, StoreFault> {
     }
 }
 
-/// Whether each list has one item.
-fn lists_one<S: Alter>(store: &mut Store<S>) -> Result<bool, StoreFault> {
+/// Whether each list has what was filed.
+fn lists_all<S: Alter>(store: &mut Store<S>) -> Result<bool, StoreFault> {
     Ok(
-        requests(store)?.len() == 1
-            && filings(store)?.len() == 1
-            && all_filings(store)?.len() == 1
+        requests(store)?.len() == REQUESTS.len()
+            && all_filings(store)?.len() == FILINGS.len()
             && fact_count(store)? == 1,
     )
 }
 
-fn lists_one_again<S: Alter>(store: &mut Store<S>) -> Result<bool, StoreFault> {
-    match lists_one(store) {
-        Err(StoreFault::Memory) => lists_one(store),
+/// Whether the register tells that the second filing replaces the first, and is itself free to be replaced.
+fn is_replaced<S: Alter>(store: &mut Store<S>) -> Result<bool, StoreFault> {
+    Ok(
+        filings(store)?.as_slice() == FILINGS.as_slice()
+            && !replaceable(store, 1)?
+            && replaceable(store, 2)?,
+    )
+}
+
+fn tells_all<S: Alter>(store: &mut Store<S>) -> Result<bool, StoreFault> {
+    Ok(lists_all(store)? && is_replaced(store)?)
+}
+
+fn tells_all_again<S: Alter>(store: &mut Store<S>) -> Result<bool, StoreFault> {
+    match tells_all(store) {
+        Err(StoreFault::Memory) => tells_all(store),
         answer => answer,
     }
 }
 
-/// Whether the register that is opened has the report.
+/// Whether the register that is opened has the reports.
 fn lives<S: Fresh>(alloc: Global) -> Option<bool> {
     let mut store: Store<S> = opened_again(alloc).ok()?;
-    let is_kept = holds_again(alloc, &mut store, &ONE) == Ok(true);
-    Some(is_kept && lists_one_again(&mut store) == Ok(true))
+    let is_kept = holds_again(alloc, &mut store, &REQUESTS) == Ok(true);
+    Some(is_kept && tells_all_again(&mut store) == Ok(true))
 }
 
 #[test]
