@@ -22,21 +22,11 @@ import tempfile
 import threading
 import time
 
+from trials import failures, hold, tell
+
 ROOT = pathlib.Path(__file__).resolve().parent.parent
 DEPLOY = ROOT / "deploy"
 SCRIPTS = ["register-new", "register-snapshot", "outbox-round"]
-failures = []
-
-
-def tell(what, fault=None):
-    """Says that something was tried, and what was wrong with it."""
-    print(f"{'failed' if fault else 'ok'}: {what}" + (f": {fault}" if fault else ""))
-    if fault:
-        failures.append(what)
-
-
-def hold(what, found, wanted):
-    tell(what, None if found == wanted else f"{found!r} in place of {wanted!r}")
 
 
 def find(program):
