@@ -1,7 +1,7 @@
 //! The vector of reports that replace filings.
 
 use crate::connection::{FIRST, answered};
-use crate::examples::{KEY_REUSED, report};
+use crate::examples::{KEY_REUSED, REPORT_OF_BETA};
 use crate::history::{History, Part};
 use crate::stop::Stop;
 use example_texts::{REGISTERED, REGISTERED_SECOND, REPORT};
@@ -33,15 +33,7 @@ pub(crate) fn amended(alloc: Global) -> Result<bool, Stop> {
 }
 
 fn replaced_once(alloc: Global) -> Result<bool, Stop> {
-    let body = report(
-        alloc,
-        "f1",
-        "100",
-        "lei:BETA",
-        "2024-12-31T00:00:00",
-        "iso4217:EUR",
-    )?;
-    let other = [Part::Filing("BETA/1", "k-1", &body)];
+    let other = [Part::Filing("BETA/1", "k-1", REPORT_OF_BETA)];
     let connections = [
         answered(&[FIRST], &[REGISTERED], &[Mark::Done]),
         answered(&[SECOND], &[REGISTERED_SECOND], &[Mark::Done]),

@@ -1,6 +1,6 @@
 //! Vectors of connections to an intake.
 
-use crate::examples::{CONTINUE, KEY_REUSED, LENGTH, REQUEST, repeated, report};
+use crate::examples::{CONTINUE, KEY_REUSED, LENGTH, REPORT_OF_BETA, REQUEST, repeated, report};
 use crate::history::{Connection, History, Part};
 use crate::stop::Stop;
 use example_texts::{
@@ -101,15 +101,7 @@ pub(crate) fn key_reused(alloc: Global) -> Result<bool, Stop> {
 
 /// Vector 4: the same key of two filers.
 pub(crate) fn two_filers(alloc: Global) -> Result<bool, Stop> {
-    let body = report(
-        alloc,
-        "f1",
-        "100",
-        "lei:BETA",
-        "2024-12-31T00:00:00",
-        "iso4217:EUR",
-    )?;
-    let given = [FIRST, Part::Filing("BETA", "k-1", &body)];
+    let given = [FIRST, Part::Filing("BETA", "k-1", REPORT_OF_BETA)];
     let told = answered(&given, &[REGISTERED, REGISTERED_SECOND], &[Mark::Done; 2]);
     History::of(&[told], 2, 2).holds(alloc)
 }

@@ -14,7 +14,7 @@ mod rows;
 mod stop;
 
 pub use connection::registered;
-pub use examples::{REQUEST, front, repeated};
+pub use examples::{REQUEST, repeated};
 pub use history::{Connection, Part};
 pub use rows::run;
 pub use stop::{Stop, refusal};

@@ -1,8 +1,8 @@
 //! The vector of replies that a filer reads.
 
-use crate::examples::{CONTINUE, front};
+use crate::examples::CONTINUE;
 use crate::stop::{Stop, refusal};
-use example_texts::REGISTERED;
+use example_texts::{REGISTERED, front};
 use http_wire::{Device, ReplyFault, read_reply};
 use std::alloc::Global;
 
@@ -22,8 +22,8 @@ fn whole_reply(alloc: Global) -> Result<bool, Stop> {
 
 fn faulty_replies(alloc: Global) -> Result<bool, Stop> {
     for (bytes, fault) in [
-        (front(REGISTERED, 109), ReplyFault::Cut),
-        (front("", 0), ReplyFault::Cut),
+        (front(REGISTERED.as_bytes(), 109), ReplyFault::Cut),
+        ("".as_bytes(), ReplyFault::Cut),
         (
             "HTTP/1.1 201 Created\r\nContent-Type: application/json\r\n\r\n{\"number\":1,\"status\":\"registered\"}".as_bytes(),
             ReplyFault::NoLength,

@@ -2,11 +2,14 @@
 
 use std::io::{self, Read, Write};
 
-/// Gives at most so many bytes a read. One call may fail, before which so many don't.
+/// Gives what it has in small steps.
 #[derive(Drop)]
 pub struct Giving<'a> {
+    /// What is left to give.
     pub rest: &'a [u8],
+    /// How many bytes a read gets at most.
     pub most: usize,
+    /// How many reads there are before the one that fails, if one does.
     pub fails: Option<usize>,
 }
 
@@ -20,11 +23,14 @@ impl Read for Giving<'_> {
     }
 }
 
-/// Takes at most so many bytes a write. One call may fail, before which so many don't.
+/// Takes what it gets in small steps.
 #[derive(Drop)]
 pub struct Taking<'a> {
+    /// What was taken.
     pub output: &'a mut Vec<u8>,
+    /// How many bytes of a write are taken at most.
     pub most: usize,
+    /// How many writes there are before the one that fails, if one does.
     pub fails: Option<usize>,
 }
 

@@ -3,8 +3,8 @@
 ghost use Rattle.std.specs.Prelude.{◌≡◌, false, None, IfOk};
 
 use crate::visits::{Visit, visits};
-use connection_rows::{Stop, front, refusal, repeated};
-use example_texts::{REGISTERED_CLOSED, REPORT, SMALLEST};
+use connection_rows::{Stop, refusal, repeated};
+use example_texts::{REGISTERED_CLOSED, REPORT, SMALLEST, front};
 use filer_client::{ExchangeFault, exchange};
 use http_wire::{Device, Kind, MAX_BODY_LEN, Reply, ReplyFault, append_request};
 use key_string::{KeyText, is_filer};
@@ -254,7 +254,7 @@ fn cut_exchange(alloc: Global) -> Result<bool, Stop> {
     let result = exchanged(
         alloc,
         &mut outbox,
-        front(REGISTERED_CLOSED, 20),
+        front(REGISTERED_CLOSED.as_bytes(), 20),
         &mut written,
     );
     Ok(fault_of(result)? == Some(ExchangeFault::Reply(ReplyFault::Cut)) && is_open(&mut outbox)?)
