@@ -1,5 +1,5 @@
 -- What is heard of bytes in memory, of which some were read.
-use Rattle.std.proofs.Common.{◌≡◌, ℕ, ◌≤◌, List, ◌++◌, length, take, drop, Option, Some, None, sym, ap, ◌∙◌, subst, inl, inr, arith, length-append, ⊎_elim}
+use Rattle.std.proofs.Common.{◌≡◌, ◌⊎◌, ℕ, ◌≤◌, List, ◌++◌, length, take, drop, Option, Some, None, sym, ap, ◌∙◌, subst, inl, inr, arith, length-append, ⊎_elim}
 use Rattle.std.proofs.lemmas.Grind.{common_steps}
 use Rattle.std.proofs.lemmas.List.{append-nil}
 use Rattle.http_messages.specs.declared.refusal.ReplyFault.{ReplyFault}
@@ -20,7 +20,8 @@ use Rattle.outbox_core.specs.declared.fault.TakeFault.TheVariants as take
 use Rattle.filer_client.specs.declared.fault.ExchangeFault.{ExchangeFault}
 use Rattle.filer_client.specs.declared.fault.ExchangeFault.TheVariants.{Write, Reply, Take}
 use Rattle.filer_client.specs.Exchange.{Hears as HearsReply, moved_at, IsFault}
-use Rattle.filing_ends.specs.declared.cause.Cause.TheVariants.{NoSuch}
+use Rattle.filing_ends.specs.declared.cause.Cause.{Cause}
+use Rattle.filing_ends.specs.declared.cause.Cause.TheVariants as cause
 use Rattle.filing_ends.specs.Outboxes.{cause_of_unheard}
 
 -- bytes that begin with a reply give it
@@ -85,15 +86,16 @@ moves_as_heard bytes old left entries number to same (reply, given, is) what her
 pub hears_none : (bytes old left : List ℕ) (fault : ExchangeFault) → old ≡ bytes → IsFault (Some old) (Some left) 0 0 0 0 fault → None ≡ cause_of_unheard fault → Hears bytes No None
 hears_none bytes old left fault same why none = unheard bytes left fault (subst (λ bs. IsFault (Some bs) (Some left) 0 0 0 0 fault) same why) (sym none)
 
-pub no_such_unheard : (fault : ExchangeFault) → Some NoSuch ≡ cause_of_unheard fault → ⊥
-no_such_unheard (Reply Cut) is = absurd (cc)
-no_such_unheard (Reply Malformed) is = absurd (cc)
-no_such_unheard (Reply NoLength) is = absurd (cc)
-no_such_unheard (Reply TooLarge) is = absurd (cc)
-no_such_unheard (Reply Read) is = absurd (cc)
-no_such_unheard (Reply ReadLimit) is = absurd (cc)
-no_such_unheard (Reply Memory) is = absurd (cc)
-no_such_unheard (Take take.NoEntry) is = absurd (cc)
-no_such_unheard (Take take.Memory) is = absurd (cc)
-no_such_unheard (Take take.Store) is = absurd (cc)
-no_such_unheard (Write sent) is = absurd (cc)
+-- What was not taken is told as want of memory or as a refusal.
+pub unheard_as : (fault : ExchangeFault) (why : Cause) → Some why ≡ cause_of_unheard fault → (why ≡ cause.Memory) ⊎ (why ≡ cause.Store)
+unheard_as (Reply Cut) why is = absurd (cc)
+unheard_as (Reply Malformed) why is = absurd (cc)
+unheard_as (Reply NoLength) why is = absurd (cc)
+unheard_as (Reply TooLarge) why is = absurd (cc)
+unheard_as (Reply Read) why is = absurd (cc)
+unheard_as (Reply ReadLimit) why is = absurd (cc)
+unheard_as (Reply Memory) why is = inl (cc)
+unheard_as (Take take.NoEntry) why is = inr (cc)
+unheard_as (Take take.Memory) why is = inl (cc)
+unheard_as (Take take.Store) why is = inr (cc)
+unheard_as (Write sent) why is = inr (cc)

@@ -61,6 +61,7 @@ impl<D: Honest> IntakeProcess<D> {
             × Keeps self.new limit (firsts (done ++ completed arrivals a.marks.items))) }
         ensures up { is_up self.new ≡ is_up self.old }
         ensures other { result ≢ Err Cause.NoSuch }
+        ensures reopen { result ≢ Err Cause.Reopen }
     {
         match self {
             IntakeProcess::Up(intake) => Ok(ask(alloc, intake, Serve { bytes, stop })?),

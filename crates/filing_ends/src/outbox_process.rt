@@ -109,6 +109,8 @@ impl<D: Honest> OutboxProcess<D> {
         ensures up { is_up self.new ≡ is_up self.old }
         ensures other { (filer : List ℕ) (entries : List Item) → Keeps self.old filer entries
             → result ≢ Err Cause.NoSuch }
+        ensures reopen { (filer : List ℕ) (entries : List Item) → Keeps self.old filer entries
+            → result ≢ Err Cause.Reopen }
     {
         match self {
             OutboxProcess::Up(outbox) => ask(alloc, outbox, Put { key, target, body }),
@@ -127,6 +129,8 @@ impl<D: Honest> OutboxProcess<D> {
         ensures up { is_up self.new ≡ is_up self.old }
         ensures no_such { (filer : List ℕ) (entries : List Item) → Keeps self.old filer entries
             → result ≡ Err Cause.NoSuch → numbered entries number ≡ None }
+        ensures reopen { (filer : List ℕ) (entries : List Item) → Keeps self.old filer entries
+            → result ≢ Err Cause.Reopen }
     {
         match self {
             OutboxProcess::Up(outbox) => ask(alloc, outbox, WriteRequest { number }),
@@ -147,6 +151,8 @@ impl<D: Honest> OutboxProcess<D> {
         ensures up { is_up self.new ≡ is_up self.old }
         ensures other { (filer : List ℕ) (entries : List Item) → Keeps self.old filer entries
             → result ≢ Err Cause.NoSuch }
+        ensures reopen { (filer : List ℕ) (entries : List Item) → Keeps self.old filer entries
+            → result ≢ Err Cause.Reopen }
     {
         match self {
             OutboxProcess::Up(outbox) => ask(alloc, outbox, HearReply { number, bytes }),

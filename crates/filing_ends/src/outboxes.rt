@@ -18,7 +18,7 @@ ghost use Rattle.outbox_core.specs.Entries.{opened};
 ghost use Rattle.outbox_core.specs.Files.{HoldOutbox};
 ghost use Rattle.outbox_opening.specs.Rows.{IsOutboxOf};
 ghost use Rattle.filing_ends.specs.Listed.{listed};
-ghost use Rattle.filing_ends.specs.declared.cause.Cause.TheVariants.{NoSuch};
+ghost use Rattle.filing_ends.specs.declared.cause.Cause.TheVariants.{NoSuch, Reopen};
 ghost use Rattle.filing_ends.specs.Outboxes.{up_with, after_answer, ComesWith, IsForFiler, IsRequest, cause_of_unheard, state_or, entries_after};
 
 use crate::bytes::Given;
@@ -179,7 +179,7 @@ impl Call for Put<'_> {
 
     ghost answers = { λ put box answer.
         IfOk answer (λ is_taken. is_taken ≡ takes box (opened put.key.now put.target put.body.now))
-        × (answer ≢ Err NoSuch) };
+        × (answer ≢ Err NoSuch) × (answer ≢ Err Reopen) };
 
     ghost leaves = { λ put entries answer.
         after_answer answer entries (λ is_taken.
@@ -209,7 +209,7 @@ impl Call for WriteRequest {
 
     ghost answers = { λ call box answer.
         IfOk answer (λ text. IsRequest box.filer box.entries call.number text.items)
-        × (answer ≡ Err NoSuch → numbered box.entries call.number ≡ None) };
+        × (answer ≡ Err NoSuch → numbered box.entries call.number ≡ None) × (answer ≢ Err Reopen) };
 
     ghost leaves = { λ _ entries _. entries };
 
@@ -251,7 +251,7 @@ impl Call for HearReply<'_> {
         (what : Item) → numbered box.entries call.number ≡ Some what
         → (heard : Option ReplyParts) × Hears call.bytes.now No heard
         × (state_or what.state to ≡ heard_by what.state heard))
-        × (answer ≢ Err NoSuch) };
+        × (answer ≢ Err NoSuch) × (answer ≢ Err Reopen) };
 
     ghost leaves = { λ call entries answer.
         after_answer answer entries (λ to. entries_after entries call.number to) };

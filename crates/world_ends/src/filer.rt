@@ -7,7 +7,7 @@ ghost use Rattle.http_messages.specs.Reply.{ReplyParts};
 ghost use Rattle.filing_model.specs.Outbox.{Entry as Item};
 ghost use Rattle.filing_model.specs.Stopping.{No};
 ghost use Rattle.filing_world.specs.World.{numbered, new_outbox};
-ghost use Rattle.filing_world.specs.Step.{with_entry, Hears, box_after};
+ghost use Rattle.filing_world.specs.Step.{is_no, with_entry, Hears, box_after};
 ghost use Rattle.filing_world.specs.Headline.{states_of};
 ghost use Rattle.sqlite.specs.Files.{over_files};
 ghost use Rattle.http_messages.specs.Posting.{IsTarget};
@@ -89,6 +89,7 @@ impl<D: Honest> Filer<D> {
         ensures put { OnOk result (self.new ≡ with_entry self.old (opened key.now target body.now)) }
         ensures key { OnOk result (IsKey key.now) }
         ensures other { result ≢ Err Cause.NoSuch }
+        ensures reopen { result ≢ Err Cause.Reopen }
     {
         let report = Report::open(self.alloc, key, target, body)?;
         self.entries.reserve(1)?;
@@ -106,6 +107,7 @@ impl<D: Honest> Filer<D> {
         ensures bytes { IfOk result (λ text. IsRequest self.old.filer self.old.entries entry text.items) }
         ensures same { OnOk result (self.new ≡ self.old) }
         ensures no_such { result ≡ Err Cause.NoSuch → numbered self.old.entries entry ≡ None }
+        ensures reopen { result ≢ Err Cause.Reopen }
     {
         self.process.request(self.alloc, entry)
     }
@@ -119,6 +121,7 @@ impl<D: Honest> Filer<D> {
             → (heard : Option ReplyParts) × Hears bytes.now (view_crash crash) heard
             × (self.new ≡ box_after self.old entry what heard (view_crash crash))) }
         ensures other { result ≢ Err Cause.NoSuch }
+        ensures reopen { result ≡ Err Cause.Reopen → is_no (view_crash crash) ≡ false }
     {
         match crash {
             Crash::No => self.hear(entry, bytes),
@@ -137,6 +140,7 @@ impl<D: Honest> Filer<D> {
             → (heard : Option ReplyParts) × Hears bytes.now No heard
             × (self.new ≡ box_after self.old entry what heard No)) }
         ensures other { result ≢ Err Cause.NoSuch }
+        ensures reopen { result ≢ Err Cause.Reopen }
     {
         if let Some(state) = self.process.hear(self.alloc, entry, bytes)? {
             set_state(&mut self.entries, entry, state);

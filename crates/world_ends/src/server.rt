@@ -90,6 +90,7 @@ fn after_delivery<D: Honest>(
         → IfOk result (λ it. Keeps it limit F) }
     ensures up { is_up process ≡ true → IfOk result (λ it. is_up it ≡ is_no (view_crash crash)) }
     ensures other { result ≢ Err Cause.NoSuch }
+    ensures reopen { result ≡ Err Cause.Reopen → is_no (view_crash crash) ≡ false }
 {
     match crash {
         Crash::No => Ok(process),
@@ -170,6 +171,7 @@ impl<D: Honest> Server<D> {
               up = is_no (view_crash crash);
             })) }
         ensures other { result ≢ Err Cause.NoSuch }
+        ensures reopen { result ≡ Err Cause.Reopen → is_no (view_crash crash) ≡ false }
     {
         let before = self.done.len();
         let mut process = mem::replace(&mut self.process, IntakeProcess::Gone);

@@ -1,11 +1,21 @@
 -- What playing one event does.
-use Rattle.std.specs.Prelude.{◌≡◌, ℕ, None, Some, Result, Err, IfErr, OnOk}
-use Rattle.filing_world.specs.World.{Event}
-use Rattle.filing_world.specs.Step.{Step, CannotPlay}
+use Rattle.std.specs.Prelude.{◌≡◌, ℕ, false, None, Some, Result, Err, IfErr, OnOk}
+use Rattle.filing_world.specs.World.{Event, Put, Send, Stranger, Deliver, Hand, RestartServer, RestartOutbox}
+use Rattle.filing_world.specs.Step.{is_no, Step, CannotPlay}
 use Rattle.filing_world.specs.Headline.{Holds}
 use Rattle.world_events.specs.declared.fault.Fault.{Fault}
-use Rattle.world_events.specs.declared.fault.Fault.TheVariants.{NoSuch}
+use Rattle.world_events.specs.declared.fault.Fault.TheVariants.{NoSuch, Reopen}
 use Rattle.world_events.specs.Played.{Played, next_number, Tells}
+
+-- an event that takes the database of an end away, or opens it again: the end stops, or is restarted
+abbrev pub Closes : Event → Type 0
+Closes (Put outbox key target body) = ⊥
+Closes (Send outbox entry) = ⊥
+Closes (Stranger bytes) = ⊥
+Closes (Deliver item given crash) = is_no crash ≡ false
+Closes (Hand output given crash) = is_no crash ≡ false
+Closes RestartServer = Unit {0}
+Closes (RestartOutbox outbox) = Unit {0}
 
 -- What `play` does with the next event.
 pub record Plays (old new : Played) (event : Event) (result : Result (Unit {0}) Fault) : Type 0 where
@@ -14,6 +24,8 @@ pub record Plays (old new : Played) (event : Event) (result : Result (Unit {0}) 
   pub holds : OnOk result (Holds new.world)
   -- NoSuch tells of an event that can't be played
   pub no_such : (n : ℕ) → result ≡ Err (NoSuch n) → old.fault ≡ None → CannotPlay old.world event
+  -- Reopen tells of an event that stops an end, or restarts it
+  pub reopen : (n : ℕ) → result ≡ Err (Reopen n) → old.fault ≡ None → Closes event
   -- events are counted as they come, and a fault tells the number of its own
   pub counts : old.fault ≡ None → new.events ≡ next_number old.events
   pub numbered : old.fault ≡ None → IfErr result (Tells new.events)

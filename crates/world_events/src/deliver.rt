@@ -1,9 +1,9 @@
 //! The first bytes of an item arrive at the intake.
 
-ghost use Rattle.std.specs.Prelude.{◌≡◌, List, OnOk, Err};
+ghost use Rattle.std.specs.Prelude.{◌≡◌, List, OnOk, Err, false};
 ghost use Rattle.event_script.specs.Events.{view_crash};
 ghost use Rattle.filing_world.specs.World.{Outbox, Deliver};
-ghost use Rattle.filing_world.specs.Step.{Delivers, CannotPlay};
+ghost use Rattle.filing_world.specs.Step.{is_no, Delivers, CannotPlay};
 ghost use Rattle.world_events.specs.Played.{world_of};
 
 use crate::element::{first, index_of};
@@ -25,6 +25,7 @@ pub(crate) fn deliver<D: Honest>(
         (world_of server.new sent.now outputs.new.items outboxes)) }
     ensures no_such { result ≡ Err Cause.NoSuch → (outboxes : List Outbox)
         → CannotPlay (world_of server.old sent.now outputs.old.items outboxes) (Deliver item bytes (view_crash crash)) }
+    ensures reopen { result ≡ Err Cause.Reopen → is_no (view_crash crash) ≡ false }
 {
     if !server.is_up() {
         return Err(Cause::NoSuch);

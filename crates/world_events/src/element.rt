@@ -1,6 +1,6 @@
 //! What has a number in a list, counted from 1.
 
-ghost use Rattle.std.specs.Prelude.{◌≡◌, ◌<◌, ◌⊎◌, suc, Some, None, IfSome, IfOk, Err, length, slice_get, take, true};
+ghost use Rattle.std.specs.Prelude.{◌≡◌, ◌≢◌, ◌<◌, ◌⊎◌, suc, Some, None, IfSome, IfOk, Err, length, slice_get, take, true};
 ghost use Rattle.filing_world.specs.World.{Outbox as Ours, Sent as Item, numbered};
 ghost use Rattle.filing_world.specs.Step.{IsAway};
 ghost use Rattle.world_events.specs.Played.{IsLent};
@@ -50,6 +50,7 @@ pub(crate) fn outbox_at<D: Honest>(
 pub(crate) fn sender_of(sent: &[Sent], item: u64) -> Result<(u64, u64), Cause>
     ensures some { IfOk result (λ from. (it : Item) × (numbered sent.now item ≡ Some it) × (it.from ≡ Some from)) }
     ensures stranger { result ≡ Err Cause.NoSuch → (it : Item) × (numbered sent.now item ≡ Some it) × (it.from ≡ None) }
+    ensures reopen { result ≢ Err Cause.Reopen }
 {
     let Some(at) = index_of(item, sent.len()) else {
         return Err(Cause::Store);

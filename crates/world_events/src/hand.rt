@@ -1,9 +1,9 @@
 //! The first bytes of an output arrive at the outbox whose entry's request it answers.
 
-ghost use Rattle.std.specs.Prelude.{◌≡◌, OnOk, Err};
+ghost use Rattle.std.specs.Prelude.{◌≡◌, OnOk, Err, false};
 ghost use Rattle.event_script.specs.Events.{view_crash};
 ghost use Rattle.filing_world.specs.World.{Hand};
-ghost use Rattle.filing_world.specs.Step.{Hands, CannotPlay};
+ghost use Rattle.filing_world.specs.Step.{is_no, Hands, CannotPlay};
 ghost use Rattle.filing_world.specs.Invariant.{AllOwn};
 ghost use Rattle.world_ends.specs.Served.{Served};
 ghost use Rattle.world_events.specs.Played.{world_of};
@@ -28,6 +28,7 @@ pub(crate) fn hand<D: Honest>(
         (world_of server sent.now outputs.now filers.new.items)) }
     ensures no_such { result ≡ Err Cause.NoSuch → (server : Served)
         → CannotPlay (world_of server sent.now outputs.now filers.old.items) (Hand output bytes (view_crash crash)) }
+    ensures reopen { result ≡ Err Cause.Reopen → is_no (view_crash crash) ≡ false }
 {
     let Some(at) = index_of(output, outputs.len()) else {
         return Err(Cause::NoSuch);

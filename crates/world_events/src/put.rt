@@ -1,6 +1,6 @@
 //! A report is put into an outbox.
 
-ghost use Rattle.std.specs.Prelude.{◌≡◌, List, OnOk, Err};
+ghost use Rattle.std.specs.Prelude.{◌≡◌, ◌≢◌, List, OnOk, Err};
 ghost use Rattle.http_messages.specs.Posting.{IsTarget};
 ghost use Rattle.filing_world.specs.World.{Sent as Item, Output as Left, Put};
 ghost use Rattle.filing_world.specs.Step.{Puts, CannotPlay};
@@ -26,6 +26,7 @@ pub(crate) fn put<D: Honest>(
         (world_of server sent outputs filers.new.items)) }
     ensures no_such { result ≡ Err Cause.NoSuch → (server : Served) (sent : List Item) (outputs : List Left)
         → CannotPlay (world_of server sent outputs filers.old.items) (Put outbox key.now target body.now) }
+    ensures reopen { result ≢ Err Cause.Reopen }
 {
     let Some(at) = up_at(filers.as_slice(), outbox) else {
         return Err(Cause::NoSuch);

@@ -1,6 +1,6 @@
 //! The request of an entry is sent, or someone else's bytes.
 
-ghost use Rattle.std.specs.Prelude.{◌≡◌, ◌∷◌, ◌++◌, [], List, OnOk, Err, None};
+ghost use Rattle.std.specs.Prelude.{◌≡◌, ◌≢◌, ◌∷◌, ◌++◌, [], List, OnOk, Err, None};
 ghost use Rattle.filing_world.specs.World.{Output as Left, Send};
 ghost use Rattle.filing_world.specs.Step.{Sends, CannotPlay};
 ghost use Rattle.world_ends.specs.Served.{Served};
@@ -23,6 +23,7 @@ pub(crate) fn send<D: Honest>(
         (world_of server sent.new.items outputs filers.new.items)) }
     ensures no_such { result ≡ Err Cause.NoSuch → (server : Served) (outputs : List Left)
         → CannotPlay (world_of server sent.old.items outputs filers.old.items) (Send outbox entry) }
+    ensures reopen { result ≢ Err Cause.Reopen }
 {
     let Some(at) = up_at(filers.as_slice(), outbox) else {
         return Err(Cause::NoSuch);

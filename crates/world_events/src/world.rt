@@ -12,7 +12,7 @@ ghost use Rattle.filing_world.specs.Headline.{AreFilers, start, states, confirme
 ghost use Rattle.sqlite.specs.Files.{over_files};
 ghost use Rattle.intake_core.specs.Held.{HoldsRequests as Lends};
 ghost use Rattle.world_events.specs.Played.{world_of, Tells, IsLent};
-ghost use Rattle.world_events.specs.Playing.{Plays};
+ghost use Rattle.world_events.specs.Playing.{Closes, Plays};
 ghost use Rattle.world_events.specs.Listed.{view_listed, are_up};
 
 use crate::deliver::deliver;
@@ -91,6 +91,7 @@ fn play_on<D: Honest>(
         (world_of server.new sent.new.items outputs.new.items filers.new.items)) }
     ensures no_such { result ≡ Err Cause.NoSuch
         → CannotPlay (world_of server.old sent.old.items outputs.old.items filers.old.items) (view_event event.now) }
+    ensures reopen { result ≡ Err Cause.Reopen → Closes (view_event event.now) }
 {
     match event {
         Event::Put {

@@ -41,3 +41,6 @@ returns-in_default-up_at-clause-no_such g c = λ e server.
     let item_is : c.from.inside.item ≡ from.item = ap (λ (o : Output). o.item) c.from.view_is in
     let item_here = subst (λ n. numbered c.args.sent.now n ≡ Some sender.0) item_is sender.1 in
     inr (from, sender.0, here, item_here, inr (c.in_ok-outbox.outbox, c.in_ok-outbox.entry, sender.2, subst (λ bs. IsAway bs c.in_ok-outbox.outbox) c.as_slice.ensures.value (c.in_default-up_at.ensures.none refl)))
+
+pub returns-clause-reopen : goal.returns-clause-reopen
+returns-clause-reopen g c = c.hand.ensures.reopen

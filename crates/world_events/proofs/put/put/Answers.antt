@@ -16,6 +16,9 @@ returns-clause-step g c =
 pub returns-clause-no_such : goal.returns-clause-no_such
 returns-clause-no_such g c = λ e. absurd (c.put.ensures.other e)
 
+pub returns-clause-reopen : goal.returns-clause-reopen
+returns-clause-reopen g c = c.put.ensures.reopen
+
 pub returns-in_default-clause-no_such : goal.returns-in_default-clause-no_such
 returns-in_default-clause-no_such g c = λ e server sent outputs.
     subst (λ bs. IsAway bs c.args.outbox) c.as_slice.ensures.value (c.in_default.ensures.none refl)

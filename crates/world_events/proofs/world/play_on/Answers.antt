@@ -81,3 +81,21 @@ returns-in-RestartOutbox-clause-no_such g c = λ e. rw c.in-RestartOutbox.is (c.
 
 pub returns-in-RestartServer-clause-no_such : goal.returns-in-RestartServer-clause-no_such
 returns-in-RestartServer-clause-no_such g c = λ e. absurd (c.restart.ensures.other e)
+
+pub returns-in-Put-clause-reopen : goal.returns-in-Put-clause-reopen
+returns-in-Put-clause-reopen g c = λ e. absurd (c.put.ensures.reopen e)
+
+pub returns-in-Send-clause-reopen : goal.returns-in-Send-clause-reopen
+returns-in-Send-clause-reopen g c = λ e. absurd (c.send.ensures.reopen e)
+
+pub returns-in-Deliver-clause-reopen : goal.returns-in-Deliver-clause-reopen
+returns-in-Deliver-clause-reopen g c = λ e. rw c.in-Deliver.is (c.deliver.ensures.reopen e)
+
+pub returns-in-Hand-clause-reopen : goal.returns-in-Hand-clause-reopen
+returns-in-Hand-clause-reopen g c = λ e. rw c.in-Hand.is (c.hand.ensures.reopen e)
+
+pub returns-in-RestartServer-clause-reopen : goal.returns-in-RestartServer-clause-reopen
+returns-in-RestartServer-clause-reopen g c = λ e. rw c.in-RestartServer.is tt
+
+pub returns-in-RestartOutbox-clause-reopen : goal.returns-in-RestartOutbox-clause-reopen
+returns-in-RestartOutbox-clause-reopen g c = λ e. rw c.in-RestartOutbox.is tt

@@ -15,3 +15,8 @@ pub returns-in-Up-clause-other : goal.returns-in-Up-clause-other
 returns-in-Up-clause-other g c = λ filer entries keeps.
     let up = rw c.in-Up.is at keeps in
     (c.ask.ensures.answer entries up.0).1
+
+pub returns-in-Up-clause-reopen : goal.returns-in-Up-clause-reopen
+returns-in-Up-clause-reopen g c = λ filer entries keeps.
+    let up = rw c.in-Up.is at keeps in
+    (c.ask.ensures.answer entries up.0).2

@@ -1,9 +1,8 @@
-use Rattle.std.proofs.Common.{◌≡◌, Some, None, refl, subst}
+use Rattle.std.proofs.Common.{◌≡◌, None, refl, ⊎_elim}
 use Rattle.filing_model.specs.Views.{view_state}
-use Rattle.filing_ends.specs.declared.cause.Cause.TheVariants.{NoSuch}
+use Rattle.filing_ends.specs.declared.cause.Cause.TheVariants.{Memory, Store}
 use Rattle.filing_ends.specs.Bytes.{bytes_left}
-use Rattle.filing_ends.specs.Outboxes.{cause_of_unheard}
-use Rattle.filing_ends.proofs.Hearing.{moves_as_heard, hears_none, no_such_unheard}
+use Rattle.filing_ends.proofs.Hearing.{moves_as_heard, hears_none, unheard_as}
 use Rattle.filing_ends.proofs.outboxes.HearReplyCall.on.Goals as goal
 
 pub returns-in-Ok-clause-answer : goal.returns-in-Ok-clause-answer
@@ -11,6 +10,7 @@ returns-in-Ok-clause-answer g c = λ entries has. (
   λ what here.
       let moved = c.in-Ok.ensures.moved (g.met.S.Faithful.faithful c.hand_over.new.outbox.conn) entries has in
       moves_as_heard c.args.self.bytes.now (bytes_left c.new-reader.result) (bytes_left c.hand_over.new.reader) entries c.args.self.number (view_state c.in-Ok.state) c.new-reader.ensures moved.0 what here,
+  λ e. cc e,
   λ e. cc e,
 )
 
@@ -23,12 +23,12 @@ returns-in-Some-clause-rows g c = λ entries has.
     c.in-Err.ensures.kept (g.met.S.Faithful.faithful c.hand_over.new.outbox.conn) entries has
 
 pub returns-in-Some-clause-answer : goal.returns-in-Some-clause-answer
-returns-in-Some-clause-answer g c = λ entries has. (
-  tt,
-  λ is.
-      let same : c.in-Some.cause ≡ NoSuch = cc is in
-      no_such_unheard c.in-Err.fault (subst (λ cause. Some cause ≡ cause_of_unheard c.in-Err.fault) same c.in-Some.ensures),
-)
+returns-in-Some-clause-answer g c = λ entries has.
+    let told = unheard_as c.in-Err.fault c.in-Some.cause c.in-Some.ensures in (
+      tt,
+      λ is. ⊎_elim (λ (memory : c.in-Some.cause ≡ Memory). cc) (λ (store : c.in-Some.cause ≡ Store). cc) told,
+      λ is. ⊎_elim (λ (memory : c.in-Some.cause ≡ Memory). cc) (λ (store : c.in-Some.cause ≡ Store). cc) told,
+    )
 
 pub returns-in-None-clause-answer : goal.returns-in-None-clause-answer
 returns-in-None-clause-answer g c = λ entries has. (
@@ -37,6 +37,7 @@ returns-in-None-clause-answer g c = λ entries has. (
     hears_none c.args.self.bytes.now (bytes_left c.new-reader.result) (bytes_left c.hand_over.new.reader) c.in-Err.fault c.new-reader.ensures c.in-Err.ensures.fault c.in-None.ensures,
     refl,
   ),
+  λ e. cc e,
   λ e. cc e,
 )
 
