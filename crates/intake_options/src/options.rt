@@ -1,5 +1,6 @@
 //! The tasks of `intake` and their values, as `clap` reads them.
 
+use clap::builder::ValueParser;
 use clap::{Arg, ArgAction, ArgMatches, Command, Error, value_parser};
 use command_line::{VERSION, database_option, filer_option, option, port_option};
 use std::alloc::{AllocError, Global};
@@ -58,111 +59,54 @@ pub enum Task<'a> {
     },
 }
 
-fn database<'a>(alloc: Global) -> Arg<'a> {
-    database_option(alloc, "The database file of the register")
+/// A flag, which is set where its name is given.
+fn flag<'a>(alloc: Global, name: &'a str, help: &'a str) -> Arg<'a> {
+    Arg::new(alloc, name)
+        .long(name)
+        .help(help)
+        .action(ArgAction::SetTrue)
+}
+
+/// A required option whose value is one of these numbers.
+fn number_option<'a>(
+    alloc: Global,
+    name: &'a str,
+    value: &'a str,
+    help: &'a str,
+    numbers: ValueParser<'a>,
+) -> Arg<'a> {
+    option(alloc, name, value, help).value_parser(numbers)
 }
 
 fn limit<'a>(alloc: Global) -> Arg<'a> {
-    option(
+    number_option(
         alloc,
         "limit",
         "N",
         "How many keys are kept at most, 0 to 4611686018427387904 [default: 1000000]",
+        value_parser!(u64),
     )
     .required(false)
-    .value_parser(value_parser!(u64))
-}
-
-fn run<'a>(alloc: Global) -> Result<Command<'a>, AllocError> {
-    Command::new(alloc, "run")
-        .about("Serves standard input as one connection, on a register in memory [the default]")
-        .after_help("Example: intake run < requests")
-        .arg(limit(alloc))
-}
-
-fn port<'a>(alloc: Global) -> Arg<'a> {
-    port_option(alloc, "The port of 127.0.0.1 to listen on, 1 to 65535")
 }
 
 fn connections<'a>(alloc: Global) -> Arg<'a> {
-    option(
+    number_option(
         alloc,
         "connections",
         "COUNT",
         "How many connections are served, one after the other, 1 to 4294967295",
+        value_parser!(u32).range(1..=MOST_CONNECTIONS),
     )
-    .value_parser(value_parser!(u32).range(1..=MOST_CONNECTIONS))
-}
-
-fn new<'a>(alloc: Global) -> Arg<'a> {
-    Arg::new(alloc, "new")
-        .long("new")
-        .help("Makes the register; the file is made where it is missing")
-        .action(ArgAction::SetTrue)
-}
-
-fn log<'a>(alloc: Global) -> Arg<'a> {
-    Arg::new(alloc, "log")
-        .long("log")
-        .help(
-            "Prints a line of JSON for each connection: its number, how it ended, filers, places, statuses",
-        )
-        .action(ArgAction::SetTrue)
-}
-
-fn serve<'a>(alloc: Global) -> Result<Command<'a>, AllocError> {
-    let options = vec![in alloc;
-        database(alloc),
-        port(alloc),
-        connections(alloc),
-        limit(alloc),
-        new(alloc),
-        log(alloc),
-    ]?;
-    Command::new(alloc, "serve")
-        .about("Serves connections of a port on the register of a file, and ends")
-        .after_help(
-            "Example: intake serve --db register.db --port 8080 --connections 4294967295 --new",
-        )
-        .args(options)
-}
-
-fn list<'a>(alloc: Global) -> Result<Command<'a>, AllocError> {
-    let options = vec![in alloc; database(alloc), filer_option(alloc)]?;
-    Command::new(alloc, "list")
-        .about("Prints the filings of a filer, as GET /filings/CODE answers")
-        .after_help("Example: intake list --db register.db --filer ACME")
-        .args(options)
 }
 
 fn number<'a>(alloc: Global) -> Arg<'a> {
-    option(alloc, "number", "N", "The number of the filing").value_parser(value_parser!(u64).range(
-        0..=i64::MAX,
-    ))
-}
-
-fn show<'a>(alloc: Global) -> Result<Command<'a>, AllocError> {
-    let options = vec![in alloc; database(alloc), number(alloc)]?;
-    Command::new(alloc, "show")
-        .about("Prints the facts of a filing, each as a line of JSON")
-        .after_help("Example: intake show --db register.db --number 1")
-        .args(options)
-}
-
-fn check<'a>(alloc: Global) -> Result<Command<'a>, AllocError> {
-    Command::new(alloc, "check")
-        .about("Holds each row of the register to the bodies that are kept, and says what it found")
-        .after_help("Example: intake check --db register.db")
-        .arg(database(alloc))
-}
-
-fn migrate<'a>(alloc: Global) -> Result<Command<'a>, AllocError> {
-    Command::new(alloc, "migrate")
-        .about(
-            "Makes a register of an earlier version one of this version; what was answered stays as it was",
-        )
-        .after_help("Example: intake migrate --db register.db")
-        .arg(database(alloc))
+    number_option(
+        alloc,
+        "number",
+        "N",
+        "The number of the filing",
+        value_parser!(u64).range(0..=i64::MAX),
+    )
 }
 
 fn files<'a>(alloc: Global) -> Arg<'a> {
@@ -172,67 +116,136 @@ fn files<'a>(alloc: Global) -> Arg<'a> {
         .num_args(1..)
 }
 
-fn lint<'a>(alloc: Global) -> Result<Command<'a>, AllocError> {
-    let arguments = vec![in alloc; filer_option(alloc), files(alloc)]?;
-    Command::new(alloc, "lint")
-        .about(
-            "Prints the findings of reports, a line each, as the register would judge them: 0 where there is none, and else 1",
-        )
-        .after_help("Example: intake lint --filer ACME report.json")
-        .args(arguments)
+/// What a task is given on the command line.
+#[derive(Clone, Copy)]
+enum Argument {
+    Database,
+    Port,
+    Connections,
+    Limit,
+    New,
+    Log,
+    Filer,
+    Number,
+    Files,
 }
 
-/// The words that ask for a task.
-#[derive(Clone, Copy)]
-enum Word {
-    Run,
-    Serve,
-    List,
-    Show,
-    Check,
-    Migrate,
-    Lint,
+fn argument_of<'a>(alloc: Global, argument: Argument) -> Arg<'a> {
+    match argument {
+        Argument::Database => database_option(alloc, "The database file of the register"),
+        Argument::Port => port_option(alloc, "The port of 127.0.0.1 to listen on, 1 to 65535"),
+        Argument::Connections => connections(alloc),
+        Argument::Limit => limit(alloc),
+        Argument::New => flag(
+            alloc,
+            "new",
+            "Makes the register; the file is made where it is missing",
+        ),
+        Argument::Log => flag(
+            alloc,
+            "log",
+            "Prints a line of JSON for each connection: its number, how it ended, filers, places, statuses",
+        ),
+        Argument::Filer => filer_option(alloc),
+        Argument::Number => number(alloc),
+        Argument::Files => files(alloc),
+    }
+}
+
+/// A word that asks for a task, with its help and what the task is given.
+struct Word {
+    name: &'static str,
+    about: &'static str,
+    example: &'static str,
+    arguments: &'static [Argument],
 }
 
 /// All of them, as the help has them.
 static WORDS: [Word; 7] = [
-    Word::Run,
-    Word::Serve,
-    Word::List,
-    Word::Show,
-    Word::Check,
-    Word::Migrate,
-    Word::Lint,
+    Word {
+        name: "run",
+        about: "Serves standard input as one connection, on a register in memory [the default]",
+        example: "Example: intake run < requests",
+        arguments: &[Argument::Limit],
+    },
+    Word {
+        name: "serve",
+        about: "Serves connections of a port on the register of a file, and ends",
+        example: "Example: intake serve --db register.db --port 8080 --connections 4294967295 --new",
+        arguments: &[
+            Argument::Database,
+            Argument::Port,
+            Argument::Connections,
+            Argument::Limit,
+            Argument::New,
+            Argument::Log,
+        ],
+    },
+    Word {
+        name: "list",
+        about: "Prints the filings of a filer, as GET /filings/CODE answers",
+        example: "Example: intake list --db register.db --filer ACME",
+        arguments: &[Argument::Database, Argument::Filer],
+    },
+    Word {
+        name: "show",
+        about: "Prints the facts of a filing, each as a line of JSON",
+        example: "Example: intake show --db register.db --number 1",
+        arguments: &[Argument::Database, Argument::Number],
+    },
+    Word {
+        name: "check",
+        about: "Holds each row of the register to the bodies that are kept, and says what it found",
+        example: "Example: intake check --db register.db",
+        arguments: &[Argument::Database],
+    },
+    Word {
+        name: "migrate",
+        about: "Makes a register of an earlier version one of this version; what was answered stays as it was",
+        example: "Example: intake migrate --db register.db",
+        arguments: &[Argument::Database],
+    },
+    Word {
+        name: "lint",
+        about: "Prints the findings of reports, a line each, as the register would judge them: 0 where there is none, and else 1",
+        example: "Example: intake lint --filer ACME report.json",
+        arguments: &[Argument::Filer, Argument::Files],
+    },
 ];
 
-fn command_of<'a>(alloc: Global, word: Word) -> Result<Command<'a>, AllocError> {
-    match word {
-        Word::Run => run(alloc),
-        Word::Serve => serve(alloc),
-        Word::List => list(alloc),
-        Word::Show => show(alloc),
-        Word::Check => check(alloc),
-        Word::Migrate => migrate(alloc),
-        Word::Lint => lint(alloc),
+fn arguments_of<'a>(alloc: Global, list: &[Argument]) -> Result<Vec<Arg<'a>>, AllocError> {
+    let mut arguments = Vec::new(alloc);
+    for &argument in list {
+        arguments.push(argument_of(alloc, argument))?;
     }
+    Ok(arguments)
+}
+
+fn command_of<'a>(alloc: Global, word: &Word) -> Result<Command<'a>, AllocError> {
+    let arguments = arguments_of(alloc, word.arguments)?;
+    Command::new(alloc, word.name)
+        .about(word.about)
+        .after_help(word.example)
+        .args(arguments)
 }
 
 fn tasks<'a>(alloc: Global) -> Result<Vec<Command<'a>>, AllocError> {
     let mut tasks = Vec::new(alloc);
-    for &word in &WORDS {
+    for word in &WORDS {
         tasks.push(command_of(alloc, word)?)?;
     }
     Ok(tasks)
 }
 
 fn command<'a>(alloc: Global) -> Result<Command<'a>, AllocError> {
+    let tasks = tasks(alloc)?;
     Command::new(alloc, "intake")
         .version(VERSION)
         .about("Answers filers' requests, and registers each valid report once")
         .after_help(
             "Exit status: 0 done; 1 not a register, a damaged one, one that is there already, or a report with findings;\n2 the command line; 3 memory, a file, the disk or the network failed; 4 no such filing",
         )
-        .subcommands(tasks(alloc)?)
+        .subcommands(tasks)
 }
 
 fn limit_of(values: &ArgMatches<'_>) -> u64 {
@@ -262,37 +275,51 @@ fn errand_of<'a>(name: &str, values: &ArgMatches<'a>) -> Option<Errand<'a>> {
     }
 }
 
-fn task_of<'a>(name: &str, values: &ArgMatches<'a>) -> Option<Task<'a>> {
-    let limit = limit_of(values);
-    if name == "run" {
-        return Some(Task::Run { limit });
-    }
-    let database = values.get_str("db")?;
-    if name == "serve" {
-        return Some(Task::Serve(Serving {
-            database,
-            port: values.get_one("port")?,
-            connections: values.get_one("connections")?,
-            limit,
-            new: values.get_flag("new"),
-            log: values.get_flag("log"),
-        }));
-    }
+fn serving_of<'a>(values: &ArgMatches<'a>) -> Option<Serving<'a>> {
+    Some(Serving {
+        database: values.get_str("db")?,
+        port: values.get_one("port")?,
+        connections: values.get_one("connections")?,
+        limit: limit_of(values),
+        new: values.get_flag("new"),
+        log: values.get_flag("log"),
+    })
+}
+
+fn visit_of<'a>(name: &str, values: &ArgMatches<'a>) -> Option<Task<'a>> {
     Some(Task::Visit {
-        database,
+        database: values.get_str("db")?,
         errand: errand_of(name, values)?,
     })
+}
+
+fn task_of<'a>(
+    alloc: Global,
+    name: &str,
+    values: &ArgMatches<'a>,
+) -> Result<Option<Task<'a>>, AllocError> {
+    match name {
+        "run" => Ok(Some(Task::Run {
+            limit: limit_of(values),
+        })),
+        "serve" => Ok(serving_of(values).map(Task::Serve)),
+        "lint" => lint_of(alloc, values),
+        _ => Ok(visit_of(name, values)),
+    }
+}
+
+fn asked<'a>(alloc: Global, matches: &ArgMatches<'a>) -> Result<Option<Task<'a>>, AllocError> {
+    match matches.subcommand() {
+        Some((name, values)) => task_of(alloc, name, values),
+        None => Ok(Some(Task::Run {
+            limit: DEFAULT_LIMIT,
+        })),
+    }
 }
 
 /// The task that these words spell, the program's name first; no other word stands for `run`. `None`
 /// is for a command that asks for nothing.
 pub fn read<'a>(alloc: Global, words: &'a [String]) -> Result<Option<Task<'a>>, Error> {
     let matches = command(alloc)?.try_get_matches_from(words)?;
-    Ok(match matches.subcommand() {
-        Some(("lint", values)) => lint_of(alloc, values)?,
-        Some((name, values)) => task_of(name, values),
-        None => Some(Task::Run {
-            limit: DEFAULT_LIMIT,
-        }),
-    })
+    Ok(asked(alloc, &matches)?)
 }
