@@ -5,7 +5,7 @@ ghost use Rattle.command_line.specs.declared.fault.CommandFault.TheVariants.{Not
 
 use crate::fault::CommandFault;
 use std::env;
-use std::io::ErrorKind;
+use std::io::{Error, ErrorKind};
 
 /// The words that the program was started with, its name first.
 pub fn words(rt: &HostRuntime) -> Result<Vec<String>, CommandFault<'static>>
@@ -13,7 +13,17 @@ pub fn words(rt: &HostRuntime) -> Result<Vec<String>, CommandFault<'static>>
 {
     match env::args(rt) {
         Ok(words) => Ok(words.collect(rt.alloc())?),
-        Err(error) if error.kind() == ErrorKind::InvalidData => Err(CommandFault::NotText),
-        Err(_) => Err(CommandFault::Memory),
+        Err(error) => Err(fault_of(&error)),
+    }
+}
+
+/// Why there are no words.
+fn fault_of(error: &Error) -> CommandFault<'static>
+    ensures { (result ≡ NotText) ⊎ (result ≡ Memory) }
+{
+    if error.kind() == ErrorKind::InvalidData {
+        CommandFault::NotText
+    } else {
+        CommandFault::Memory
     }
 }
