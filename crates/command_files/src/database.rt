@@ -187,9 +187,22 @@ pub fn on_database<'a, D: Disk + Drop, F: FileSystem<D>, W: Work>(
         Ok(conn) => conn,
         Err(fault) => return Err(CommandFault::Database { name, fault }),
     };
-    let (left, answer) = work.on(rt, conn);
+    let (left, answer) = done_on(rt, conn, work);
     let closed = close(rt, system, name, had_log, left);
     Ok(Visited { answer, closed })
+}
+
+/// Gives the database the clock of the system, and does this work on it.
+fn done_on<S: Alter + Drop, W: Work>(
+    rt: &HostRuntime,
+    mut conn: Connection<S>,
+    work: W,
+) -> (Left<S>, W::Answer)
+    requires autocommit { conn.in_transaction ≡ false }
+    requires unlimited { conn.step_limit ≡ None }
+{
+    conn.set_clock(rt);
+    work.on(rt, conn)
 }
 
 /// Closes what is left of a database.
@@ -318,10 +331,7 @@ fn connect<D: Disk + Drop>(
     ensures any_name { result ≢ Err DatabaseFault.Missing }
 {
     match Connection::open_files_with(rt.alloc(), files, options, true) {
-        Ok(mut conn) => {
-            conn.set_clock(rt);
-            Ok(conn)
-        }
+        Ok(conn) => Ok(conn),
         Err((error, _)) => Err(fault_of(error)),
     }
 }
