@@ -1,81 +1,67 @@
 //! Blocks, and the heads that are read in them.
 
-use http_wire::{Block, Head, find_block, read_head};
+use crate::rows::hold;
+use http_wire::{Head, find_block, read_head};
 use std::alloc::{AllocError, Global};
-use std::process::Abort;
 use std::str;
-use std::test::Fail;
 
-const BLOCKS: &[(&str, Block)] = &[
-    ("GET / HTTP/1.1\n\n", Block::More),
-    ("GET / HTTP/1.1\r\n\r\nGET", Block::End(18)),
-    ("\r\nGET / HTTP/1.1\r\n\r\n", Block::End(20)),
-    ("\r\n\r\n", Block::End(4)),
-    ("\r\n\r\r\n\r\n", Block::End(7)),
+/// What is found of a block at the start of a text.
+fn block(alloc: Global, text: &str) -> Result<String, AllocError> {
+    let block = find_block(text.as_bytes());
+    format!(in alloc; "{block:?}")
+}
+
+const BLOCKS: &[(&str, &str)] = &[
+    ("GET / HTTP/1.1\n\n", "More"),
+    ("GET / HTTP/1.1\r\n\r\nGET", "End(18)"),
+    ("\r\nGET / HTTP/1.1\r\n\r\n", "End(20)"),
+    ("\r\n\r\n", "End(4)"),
+    ("\r\n\r\r\n\r\n", "End(7)"),
 ];
 
 #[test]
 fn ends_of_blocks(rt: HostRuntime) {
-    for (text, block) in BLOCKS {
-        assert_eq!(rt; find_block(text.as_bytes()), *block);
-    }
+    hold(&rt, rt.alloc(), BLOCKS, block);
 }
 
-/// A text with so many letters between two parts.
-fn around_letters(
-    alloc: Global,
-    start: &str,
-    letters: usize,
-    end: &str,
-) -> Result<String, AllocError> {
-    let mut text = String::from_str(alloc, start)?;
-    for _ in 0..letters {
-        text.push('a')?;
-    }
-    text.push_str(end)?;
-    Ok(text)
+/// The same of a text of a line end, many letters and this end.
+fn long_block(alloc: Global, end: &str) -> Result<String, AllocError> {
+    let letters = "a".repeat(alloc, 16_380)?;
+    let text = format!(in alloc; "\r\n{letters}{end}")?;
+    block(alloc, &text)
 }
+
+const ENDS: &[(&str, &str)] = &[
+    ("\r\n\r\n", "End(16386)"),
+    ("\r\n\r", "More"),
+    ("\r\n\ra\n\r\n\r\n", "TooLong"),
+];
 
 #[test]
-fn long_blocks(rt: HostRuntime) -> Result<(), Fail> {
-    for (end, block) in [
-        ("\r\n\r\n", Block::End(16_386)),
-        ("\r\n\r", Block::More),
-        ("\r\n\ra\n\r\n\r\n", Block::TooLong),
-    ] {
-        let text = around_letters(rt.alloc(), "\r\n", 16_380, end)?;
-        assert_eq!(rt; find_block(text.as_bytes()), block);
-    }
-    Ok(())
+fn long_blocks(rt: HostRuntime) {
+    hold(&rt, rt.alloc(), ENDS, long_block);
 }
 
 /// A head's method, path and length of its body, and whether it closes or expects.
-fn shown(alloc: Global, head: &Head) -> Result<String, Fail> {
-    let method = str::from_utf8(head.method())?;
-    let path = str::from_utf8(head.path())?;
+fn shown(alloc: Global, head: &Head) -> Result<String, AllocError> {
+    let method = str::from_utf8(head.method()).unwrap_or("?");
+    let path = str::from_utf8(head.path()).unwrap_or("?");
     let length = head.body_length();
     let closes = if head.closes() { " closes" } else { "" };
     let expects = if head.expects() { " expects" } else { "" };
-    Ok(format!(in alloc; "{method} {path} {length}{closes}{expects}")?)
+    format!(in alloc; "{method} {path} {length}{closes}{expects}")
 }
 
 /// The head that a text is, or its fault.
-fn told(alloc: Global, text: &str) -> Result<String, Fail> {
+fn told(alloc: Global, text: &str) -> Result<String, AllocError> {
     match read_head(alloc, text.as_bytes()) {
         Ok(head) => shown(alloc, &head),
-        Err(fault) => Ok(format!(in alloc; "{fault:?}")?),
+        Err(fault) => format!(in alloc; "{fault:?}"),
     }
 }
 
-/// Asserts what each text is told as.
-fn hold(rt: &impl Abort, alloc: Global, rows: &[(&str, &str)]) -> Result<(), Fail> {
-    for (text, head) in rows {
-        assert_eq!(rt; told(alloc, text)?.as_str(), *head);
-    }
-    Ok(())
-}
-
-const FAULTS: &[(&str, &str)] = &[
+const HEADS: &[(&str, &str)] = &[
+    // Faults.
     ("\r\n\r\n", "Malformed"),
     ("GET / HTTP/1.1\nHost: h\r\n\r\n", "Malformed"),
     ("GET / HTTP/1.2\r\nHost: h\r\n\r\n", "Malformed"),
@@ -119,9 +105,7 @@ const FAULTS: &[(&str, &str)] = &[
         "Malformed",
     ),
     ("GET / HTTP/1.1\r\nHost: h\r\n", "Malformed"),
-];
-
-const PATHS: &[(&str, &str)] = &[
+    // Paths.
     ("GET http://a/x HTTP/1.1\r\nHost: b\r\n\r\n", "GET /x 0"),
     (
         "GET http://hypnotoad.org:1234?hail=all HTTP/1.1\r\nHost: h\r\n\r\n",
@@ -137,9 +121,7 @@ const PATHS: &[(&str, &str)] = &[
         "GET /../a/./b 0 closes",
     ),
     ("GET //a/b HTTP/1.0\r\n\r\n", "GET //a/b 0 closes"),
-];
-
-const WORDS: &[(&str, &str)] = &[
+    // Words of fields.
     (
         "GET / HTTP/1.1\r\nHost: h\r\nConnection: keep-alive, Close\r\n\r\n",
         "GET / 0 closes",
@@ -168,9 +150,7 @@ const WORDS: &[(&str, &str)] = &[
         "GET / HTTP/1.0\r\nExpect: 100-continue\r\n\r\n",
         "GET / 0 closes",
     ),
-];
-
-const OTHERS: &[(&str, &str)] = &[
+    // Others.
     (
         "\r\nGET /filings/ACME HTTP/1.1\r\nHOST:[::1]:80  \r\n\r\n",
         "GET /filings/ACME 0",
@@ -182,73 +162,83 @@ const OTHERS: &[(&str, &str)] = &[
 ];
 
 #[test]
-fn heads_and_their_faults(rt: HostRuntime) -> Result<(), Fail> {
-    for rows in [FAULTS, PATHS, WORDS, OTHERS] {
-        hold(&rt, rt.alloc(), rows)?;
-    }
-    Ok(())
+fn heads_and_their_faults(rt: HostRuntime) {
+    hold(&rt, rt.alloc(), HEADS, told);
 }
 
-/// What the longest head, and one that is a byte longer, are told as, with the CRLF before them and without.
-#[test]
-fn long_heads(rt: HostRuntime) -> Result<(), Fail> {
-    for (start, letters, head) in [
-        ("\r\n", 16_352, "GET / 0"),
-        ("", 16_352, "GET / 0"),
-        ("\r\n", 16_353, "Malformed"),
-        ("", 16_353, "Malformed"),
-    ] {
-        let start = format!(in rt.alloc(); "{start}GET / HTTP/1.1\r\nHost: h\r\nX: ")?;
-        let text = around_letters(rt.alloc(), &start, letters, "\r\n\r\n")?;
-        assert_eq!(rt; told(rt.alloc(), &text)?.as_str(), head);
-    }
-    Ok(())
+/// What a head is told as whose one line is so long, behind what stands before it.
+fn long_head(alloc: Global, (start, letters): (&str, usize)) -> Result<String, AllocError> {
+    let value = "a".repeat(alloc, letters)?;
+    let text = format!(in alloc; "{start}GET / HTTP/1.1\r\nHost: h\r\nX: {value}\r\n\r\n")?;
+    told(alloc, &text)
 }
 
-/// The values of the fields of this name, each with a bar behind it.
-fn values_named(alloc: Global, text: &str, name: &str) -> Result<String, Fail> {
-    let head = read_head(alloc, text.as_bytes())?;
-    let mut values = String::new(alloc);
-    for value in head.fields_named(name.as_bytes()) {
-        values.push_str(str::from_utf8(value)?)?;
-        values.push('|')?;
-    }
-    Ok(values)
-}
+/// The longest head, and one that is a byte longer, with the CRLF before them and without.
+const LONG_HEADS: &[((&str, usize), &str)] = &[
+    (("\r\n", 16_352), "GET / 0"),
+    (("", 16_352), "GET / 0"),
+    (("\r\n", 16_353), "Malformed"),
+    (("", 16_353), "Malformed"),
+];
 
 #[test]
-fn fields_of_a_name(rt: HostRuntime) -> Result<(), Fail> {
-    for (text, name, values) in [
-        (
-            "GET / HTTP/1.1\r\nHOST:[::1]:80  \r\n\r\n",
-            "host",
-            "[::1]:80|",
-        ),
+fn long_heads(rt: HostRuntime) {
+    hold(&rt, rt.alloc(), LONG_HEADS, long_head);
+}
+
+/// The values of the fields of this name, each with a bar behind it, or the fault of a head.
+fn values(alloc: Global, (text, name): (&str, &str)) -> Result<String, AllocError> {
+    match read_head(alloc, text.as_bytes()) {
+        Ok(head) => values_named(alloc, &head, name.as_bytes()),
+        Err(fault) => format!(in alloc; "{fault:?}"),
+    }
+}
+
+fn values_named(alloc: Global, head: &Head, name: &[u8]) -> Result<String, AllocError> {
+    let mut values = Vec::new(alloc);
+    for value in head.fields_named(name) {
+        values.extend_from_slice(value)?;
+        values.push(b'|')?;
+    }
+    String::from_utf8_lossy(alloc, &values)
+}
+
+const FIELDS: &[((&str, &str), &str)] = &[
+    (
+        ("GET / HTTP/1.1\r\nHOST:[::1]:80  \r\n\r\n", "host"),
+        "[::1]:80|",
+    ),
+    (
         (
             "GET / HTTP/1.1\r\nHost: h\r\nX-a: 1\r\nx-A: \t2 \r\n\r\n",
             "X-A",
-            "1|2|",
         ),
-    ] {
-        assert_eq!(rt; values_named(rt.alloc(), text, name)?.as_str(), values);
-    }
-    Ok(())
-}
-
-fn head_of_fields(alloc: Global, count: usize) -> Result<String, AllocError> {
-    let mut block = String::from_str(alloc, "GET / HTTP/1.0\r\n")?;
-    for _ in 0..count {
-        block.push_str("X: y\r\n")?;
-    }
-    block.push_str("\r\n")?;
-    Ok(block)
-}
+        "1|2|",
+    ),
+];
 
 #[test]
-fn many_fields(rt: HostRuntime) -> Result<(), Fail> {
-    let most = values_named(rt.alloc(), &head_of_fields(rt.alloc(), 64)?, "x")?;
-    assert_eq!(rt; most.len(), 2 * 64);
-    let more = told(rt.alloc(), &head_of_fields(rt.alloc(), 65)?)?;
-    assert_eq!(rt; more.as_str(), "Malformed");
-    Ok(())
+fn fields_of_a_name(rt: HostRuntime) {
+    hold(&rt, rt.alloc(), FIELDS, values);
+}
+
+/// What `values` says of so many fields of one name.
+fn many_values(alloc: Global, count: usize) -> Result<String, AllocError> {
+    let fields = "X: y\r\n".repeat(alloc, count)?;
+    let text = format!(in alloc; "GET / HTTP/1.0\r\n{fields}\r\n")?;
+    values(alloc, (&text, "x"))
+}
+
+/// The most fields, whose values are 64 times the same, and one more.
+const MANY_FIELDS: &[(usize, &str)] = &[
+    (
+        64,
+        "y|y|y|y|y|y|y|y|y|y|y|y|y|y|y|y|y|y|y|y|y|y|y|y|y|y|y|y|y|y|y|y|y|y|y|y|y|y|y|y|y|y|y|y|y|y|y|y|y|y|y|y|y|y|y|y|y|y|y|y|y|y|y|y|",
+    ),
+    (65, "Malformed"),
+];
+
+#[test]
+fn many_fields(rt: HostRuntime) {
+    hold(&rt, rt.alloc(), MANY_FIELDS, many_values);
 }

@@ -1,120 +1,153 @@
+//! Replies, as they are read.
+
+use crate::rows::hold;
 use crate::streams::{Pieces, in_pieces};
-use http_wire::{Device, Kind, Reply, ReplyFault, append_reply, read_reply};
-use std::alloc::Global;
+use http_wire::{Device, Kind, Reply, ReplyFault, Source, append_reply, read_reply};
+use std::alloc::{AllocError, Global};
+use std::str;
 use std::test::Fail;
 
-const REGISTERED: &str =
-    "HTTP/1.1 201 Created\r\nContent-Type: application/json\r\nContent-Length: 34\r\n\r\n{\"number\":1,\"status\":\"registered\"}";
+/// The status and the content of a reply.
+fn shown(alloc: Global, reply: &Reply) -> Result<String, AllocError> {
+    let status = reply.status;
+    let content = str::from_utf8(&reply.content).unwrap_or("?");
+    format!(in alloc; "{status} {content}")
+}
+
+/// The reply that is read, or why none is.
+fn told<R: Source>(alloc: Global, reader: &mut R) -> Result<String, AllocError> {
+    match read_reply(alloc, reader) {
+        Ok(reply) => shown(alloc, &reply),
+        Err(fault) => format!(in alloc; "{fault:?}"),
+    }
+}
+
+/// What is told of a text that comes at once.
+fn at_once(alloc: Global, text: &str) -> Result<String, AllocError> {
+    told(alloc, &mut in_pieces(text.as_bytes(), 4096))
+}
 
 const AFTER_INTERIM: &str =
     "HTTP/1.1 100 Continue\r\n\r\nHTTP/1.1 201 Created\r\nContent-Type: application/json\r\nContent-Length: 34\r\n\r\n{\"number\":1,\"status\":\"registered\"}";
 
-/// The status and the content that are read of the bytes, in pieces.
-fn read_in_pieces(alloc: Global, bytes: &[u8], piece: usize) -> Result<(u16, Vec<u8>), ReplyFault> {
-    let reply = read_reply(alloc, &mut in_pieces(bytes, piece))?;
-    Ok((reply.status, reply.content))
+/// What is told of a reply after an interim response, in pieces.
+fn after_interim(alloc: Global, piece: usize) -> Result<String, AllocError> {
+    told(alloc, &mut in_pieces(AFTER_INTERIM.as_bytes(), piece))
 }
 
-/// Why nothing is read of the bytes.
-fn fault_of(alloc: Global, bytes: &[u8]) -> Option<ReplyFault> {
-    read_in_pieces(alloc, bytes, 4096).err()
-}
+const PIECES: &[(usize, &str)] = &[
+    (1, "201 {\"number\":1,\"status\":\"registered\"}"),
+    (7, "201 {\"number\":1,\"status\":\"registered\"}"),
+    (4096, "201 {\"number\":1,\"status\":\"registered\"}"),
+];
 
 #[test]
-fn a_reply_after_an_interim_response(rt: HostRuntime) -> Result<(), Fail> {
-    assert_eq!(rt; AFTER_INTERIM.len(), 135);
-    for piece in [1, 7, 4096] {
-        let (status, content) = read_in_pieces(rt.alloc(), AFTER_INTERIM.as_bytes(), piece)?;
-        assert_eq!(rt; status, 201);
-        assert_eq!(rt;
-            content.as_slice(),
-            b"{\"number\":1,\"status\":\"registered\"}".as_slice()
-        );
-    }
-    Ok(())
+fn a_reply_after_an_interim_response(rt: HostRuntime) {
+    assert!(rt; AFTER_INTERIM.len() == 135);
+    hold(&rt, rt.alloc(), PIECES, after_interim);
 }
 
 #[test]
 fn cut_replies(rt: HostRuntime) {
-    let bytes = AFTER_INTERIM.as_bytes();
-    for len in 0..bytes.len() {
-        assert_eq!(rt; fault_of(rt.alloc(), &bytes[..len]), Some(ReplyFault::Cut));
+    for len in 0..AFTER_INTERIM.len() {
+        let bytes = &AFTER_INTERIM.as_bytes()[..len];
+        let fault = read_reply(rt.alloc(), &mut in_pieces(bytes, 4096)).err();
+        assert_eq!(rt; fault, Some(ReplyFault::Cut));
     }
 }
+
+const FAULTS: &[(&str, &str)] = &[
+    ("\r\n\r\n", "Malformed"),
+    (
+        "HTTP/1.1 201 Created\nContent-Length: 0\r\n\r\n",
+        "Malformed",
+    ),
+    ("HTTP/2 200 OK\r\n\r\n", "Malformed"),
+    (
+        "HTTP/1.1 201 Created\r\nTransfer-Encoding: chunked\r\nContent-Length: 8388609\r\n\r\n",
+        "Malformed",
+    ),
+    (
+        "HTTP/1.1 201 Created\r\nContent-Length: 2, 3\r\n\r\nab",
+        "Malformed",
+    ),
+    (
+        "HTTP/1.1 201 Created\r\nContent-Type: application/json\r\n\r\n{\"number\":1,\"status\":\"registered\"}",
+        "NoLength",
+    ),
+    ("HTTP/1.1 204 No Content\r\n\r\n", "NoLength"),
+    (
+        "HTTP/1.1 201 Created\r\nContent-Length: 8388609\r\n\r\n",
+        "TooLarge",
+    ),
+    (
+        "HTTP/1.1 103 Early Hints\r\nTransfer-Encoding: chunked\r\n\r\nHTTP/1.1 200 OK\r\n\r\n",
+        "NoLength",
+    ),
+];
 
 #[test]
 fn faults_of_replies(rt: HostRuntime) {
-    let cases: [(&[u8], ReplyFault); 9] = [
-        (b"\r\n\r\n", ReplyFault::Malformed),
-        (
-            b"HTTP/1.1 201 Created\nContent-Length: 0\r\n\r\n",
-            ReplyFault::Malformed,
-        ),
-        (b"HTTP/2 200 OK\r\n\r\n", ReplyFault::Malformed),
-        (
-            b"HTTP/1.1 201 Created\r\nTransfer-Encoding: chunked\r\nContent-Length: 8388609\r\n\r\n",
-            ReplyFault::Malformed,
-        ),
-        (
-            b"HTTP/1.1 201 Created\r\nContent-Length: 2, 3\r\n\r\nab",
-            ReplyFault::Malformed,
-        ),
-        (
-            b"HTTP/1.1 201 Created\r\nContent-Type: application/json\r\n\r\n{\"number\":1,\"status\":\"registered\"}",
-            ReplyFault::NoLength,
-        ),
-        (b"HTTP/1.1 204 No Content\r\n\r\n", ReplyFault::NoLength),
-        (
-            b"HTTP/1.1 201 Created\r\nContent-Length: 8388609\r\n\r\n",
-            ReplyFault::TooLarge,
-        ),
-        (
-            b"HTTP/1.1 103 Early Hints\r\nTransfer-Encoding: chunked\r\n\r\nHTTP/1.1 200 OK\r\n\r\n",
-            ReplyFault::NoLength,
-        ),
-    ];
-    for (bytes, fault) in cases {
-        assert_eq!(rt; fault_of(rt.alloc(), bytes), Some(fault));
-    }
+    hold(&rt, rt.alloc(), FAULTS, at_once);
+}
+
+/// What is told of so many letters.
+fn long_head(alloc: Global, letters: usize) -> Result<String, AllocError> {
+    at_once(alloc, &"a".repeat(alloc, letters)?)
 }
 
 #[test]
-fn long_heads(rt: HostRuntime) -> Result<(), Fail> {
-    let mut bytes = Vec::new(rt.alloc());
-    bytes.resize(16_384, b'a')?;
-    assert_eq!(rt; fault_of(rt.alloc(), &bytes), Some(ReplyFault::TooLarge));
-    assert_eq!(rt; fault_of(rt.alloc(), &bytes[1..]), Some(ReplyFault::Cut));
-    Ok(())
+fn long_heads(rt: HostRuntime) {
+    hold(
+        &rt,
+        rt.alloc(),
+        &[(16_384, "TooLarge"), (16_383, "Cut")],
+        long_head,
+    );
 }
+
+/// What is told of a reader that fails behind this text.
+fn failing_behind(alloc: Global, text: &str) -> Result<String, AllocError> {
+    let mut reader = Device::new(Pieces {
+        rest: text.as_bytes(),
+        piece: 10,
+        fails: true,
+    });
+    told(alloc, &mut reader)
+}
+
+/// Nothing of a reply, its first line, and its head with some of its content.
+const FAILING: &[(&str, &str)] = &[
+    ("", "Read"),
+    ("HTTP/1.1 201 Created", "Read"),
+    (
+        "HTTP/1.1 201 Created\r\nContent-Type: application/json\r\nContent-Length: 34\r\n\r\n{\"nu",
+        "Read",
+    ),
+];
 
 #[test]
 fn readers_that_fail(rt: HostRuntime) {
-    let bytes = REGISTERED.as_bytes();
-    for len in [0, 20, 80] {
-        let mut reader = Device::new(Pieces {
-            rest: &bytes[..len],
-            piece: 10,
-            fails: true,
-        });
-        let result = read_reply(rt.alloc(), &mut reader);
-        assert_eq!(rt; result.err(), Some(ReplyFault::Read));
-    }
+    hold(&rt, rt.alloc(), FAILING, failing_behind);
 }
 
-#[test]
+/// What is told of a reply with this content, as it is written.
 #[tactic(auto, unfolding(http_messages::specs::Reply::phrase))]
-fn what_is_written_is_read_again(rt: HostRuntime) -> Result<(), Fail> {
-    let mut content = Vec::new(rt.alloc());
-    content.resize(100_000, b'x')?;
+fn read_again(alloc: Global, content: Vec<u8>) -> Result<String, AllocError> {
     let reply = Reply {
         status: 405,
         content,
         kind: Kind::Problem,
     };
-    let mut bytes = Vec::new(rt.alloc());
-    append_reply(rt.alloc(), &reply, true, &mut bytes)?;
-    let (status, content) = read_in_pieces(rt.alloc(), &bytes, 20_000)?;
-    assert_eq!(rt; status, 405);
-    assert_eq!(rt; content, reply.content);
+    let mut bytes = Vec::new(alloc);
+    append_reply(alloc, &reply, true, &mut bytes)?;
+    told(alloc, &mut in_pieces(&bytes, 20_000))
+}
+
+#[test]
+fn what_is_written_is_read_again(rt: HostRuntime) -> Result<(), Fail> {
+    let content = "x".repeat(rt.alloc(), 100_000)?;
+    let text = format!(in rt.alloc(); "405 {content}")?;
+    assert!(rt; read_again(rt.alloc(), content.into_bytes())? == text);
     Ok(())
 }

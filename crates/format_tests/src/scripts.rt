@@ -1,22 +1,33 @@
 //! Which texts are scripts.
 
-use event_script::{ScriptFault, read_script};
-use std::alloc::Global;
-use std::test::Fail;
+use crate::rows::hold;
+use event_script::read_script;
+use std::alloc::{AllocError, Global};
+use std::process::Abort;
 
-/// Why a text is no script, if it is none.
-fn fault_of(alloc: Global, text: &str) -> Option<ScriptFault> {
-    read_script(alloc, text).err()
+/// Whether a text is a script, or why it is none.
+fn told(alloc: Global, text: &str) -> Result<String, AllocError> {
+    match read_script(alloc, text) {
+        Ok(_script) => String::from_str(alloc, "a script"),
+        Err(fault) => format!(in alloc; "{fault:?}"),
+    }
 }
 
-/// The same of a script of one outbox and this line.
-fn fault_of_line(alloc: Global, line: &str) -> Result<Option<ScriptFault>, Fail> {
-    let text = format!(in alloc; "outbox ACME\n{line}\n")?;
-    Ok(fault_of(alloc, &text))
+/// The same of a text of one outbox and this line.
+fn told_of_line(alloc: Global, line: &str) -> Result<String, AllocError> {
+    told(alloc, &format!(in alloc; "outbox ACME\n{line}\n")?)
 }
 
-/// Lines that no script has. They are in a static, since an array in a loop costs four times as much to prove.
-static UNREADABLE: [&str; 74] = [
+/// Asserts that this is told of each line.
+fn all_are(rt: &impl Abort, alloc: Global, lines: &[&str], text: &str) {
+    for line in lines {
+        let said = told_of_line(alloc, line).expect(rt, "no memory");
+        assert_eq!(rt; said.as_str(), text, "at {line}");
+    }
+}
+
+/// Lines that no script has.
+const UNREADABLE: &[&str] = &[
     "",
     " ",
     " send 1 1",
@@ -101,73 +112,70 @@ static UNREADABLE: [&str; 74] = [
 ];
 
 #[test]
-fn lines_that_say_nothing(rt: HostRuntime) -> Result<(), Fail> {
-    for &line in &UNREADABLE {
-        assert_eq!(rt;
-            fault_of_line(rt.alloc(), line)?,
-            Some(ScriptFault::Unreadable { line: 2 }),
-            "at {line}"
-        );
-    }
-    Ok(())
+fn lines_that_say_nothing(rt: HostRuntime) {
+    all_are(&rt, rt.alloc(), UNREADABLE, "Unreadable { line: 2 }");
 }
 
+const READABLE: &[&str] = &[
+    "outbox a.b_c-9",
+    "put 1 \"k-1\" ",
+    "put 1 \"a\\\"b\\\\c\" x y \"z\"",
+    "put 0 \"a b\" \\n\rx",
+    "amend 1 1 \"k-1\" ",
+    "amend 0 9223372036854775807 \"a b\" x y",
+    "send 0 9223372036854775807",
+    "stranger ",
+    "stranger  a\\r\\n\\\\ b",
+    "deliver 1 0",
+    "deliver 9223372036854775807 9223372036854775807 after 4294967295",
+    "deliver 1 all before 0",
+    "hand 1 0",
+    "hand 1 all before",
+    "hand 1 20 after",
+    "restart server",
+    "restart outbox 9223372036854775807",
+];
+
 #[test]
-fn lines_that_say_something(rt: HostRuntime) -> Result<(), Fail> {
-    for line in [
-        "outbox a.b_c-9",
-        "put 1 \"k-1\" ",
-        "put 1 \"a\\\"b\\\\c\" x y \"z\"",
-        "put 0 \"a b\" \\n\rx",
-        "amend 1 1 \"k-1\" ",
-        "amend 0 9223372036854775807 \"a b\" x y",
-        "send 0 9223372036854775807",
-        "stranger ",
-        "stranger  a\\r\\n\\\\ b",
-        "deliver 1 0",
-        "deliver 9223372036854775807 9223372036854775807 after 4294967295",
-        "deliver 1 all before 0",
-        "hand 1 0",
-        "hand 1 all before",
-        "hand 1 20 after",
-        "restart server",
-        "restart outbox 9223372036854775807",
-    ] {
-        assert_eq!(rt; fault_of_line(rt.alloc(), line)?, None, "at {line}");
-    }
-    Ok(())
+fn lines_that_say_something(rt: HostRuntime) {
+    all_are(&rt, rt.alloc(), READABLE, "a script");
 }
+
+const WRONG: &[(&str, &str)] = &[
+    ("", "Unreadable { line: 1 }"),
+    ("\n", "Unreadable { line: 1 }"),
+    ("outbox ACME", "Unreadable { line: 1 }"),
+    ("outbox ACME\r\n", "Unreadable { line: 1 }"),
+    ("outbox\n", "Unreadable { line: 1 }"),
+    ("outbox \n", "Unreadable { line: 1 }"),
+    ("outbox a b\n", "Unreadable { line: 1 }"),
+    ("outbox a/b\n", "Unreadable { line: 1 }"),
+    ("limit 5\n", "Unreadable { line: 2 }"),
+    ("limit 5", "Unreadable { line: 1 }"),
+    ("limit\noutbox ACME\n", "Unreadable { line: 1 }"),
+    ("limit 05\noutbox ACME\n", "Unreadable { line: 1 }"),
+    ("limit 5 5\noutbox ACME\n", "Unreadable { line: 1 }"),
+    (
+        "limit 4611686018427387905\noutbox ACME\n",
+        "Unreadable { line: 1 }",
+    ),
+    ("limit 5\nlimit 5\noutbox ACME\n", "Unreadable { line: 2 }"),
+    ("send 1 1\noutbox ACME\n", "Unreadable { line: 1 }"),
+    ("limit 5\nsend 1 1\n", "Unreadable { line: 2 }"),
+    (
+        "outbox ACME\noutbox BETA\nsend 1 1\noutbox ACME\n",
+        "Unreadable { line: 4 }",
+    ),
+    ("outbox ACME\nsend 1 1\nlimit 5\n", "Unreadable { line: 3 }"),
+    (
+        "outbox ACME\nsend 1 1\nsend 1\nsend\n",
+        "Unreadable { line: 3 }",
+    ),
+    ("outbox ACME\nsend 1 1", "Unreadable { line: 2 }"),
+    ("outbox ACME\nsend 1 1\n\n", "Unreadable { line: 3 }"),
+];
 
 #[test]
 fn the_first_wrong_line_is_told(rt: HostRuntime) {
-    for (text, line) in [
-        ("", 1),
-        ("\n", 1),
-        ("outbox ACME", 1),
-        ("outbox ACME\r\n", 1),
-        ("outbox\n", 1),
-        ("outbox \n", 1),
-        ("outbox a b\n", 1),
-        ("outbox a/b\n", 1),
-        ("limit 5\n", 2),
-        ("limit 5", 1),
-        ("limit\noutbox ACME\n", 1),
-        ("limit 05\noutbox ACME\n", 1),
-        ("limit 5 5\noutbox ACME\n", 1),
-        ("limit 4611686018427387905\noutbox ACME\n", 1),
-        ("limit 5\nlimit 5\noutbox ACME\n", 2),
-        ("send 1 1\noutbox ACME\n", 1),
-        ("limit 5\nsend 1 1\n", 2),
-        ("outbox ACME\noutbox BETA\nsend 1 1\noutbox ACME\n", 4),
-        ("outbox ACME\nsend 1 1\nlimit 5\n", 3),
-        ("outbox ACME\nsend 1 1\nsend 1\nsend\n", 3),
-        ("outbox ACME\nsend 1 1", 2),
-        ("outbox ACME\nsend 1 1\n\n", 3),
-    ] {
-        assert_eq!(rt;
-            fault_of(rt.alloc(), text),
-            Some(ScriptFault::Unreadable { line }),
-            "at {text}"
-        );
-    }
+    hold(&rt, rt.alloc(), WRONG, told);
 }

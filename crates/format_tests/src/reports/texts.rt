@@ -1,47 +1,34 @@
 //! Units, names and periods, as they are written.
 
-use std::alloc::Global;
-use std::process::Abort;
-use std::test::Fail;
+use crate::rows::hold;
+use std::alloc::{AllocError, Global};
 use xbrl_report::{read_period, read_unit, split_entity, split_qname};
 
-/// Asserts that the unit of a text is the product of the first texts over that of the others.
-fn is_unit(
-    rt: &impl Abort,
-    alloc: Global,
-    text: &str,
-    over: &[&str],
-    under: &[&str],
-) -> Result<(), Fail> {
-    let unit = read_unit(alloc, text)?.ok_or("it is no unit")?;
-    assert!(rt; unit.over.as_slice() == over && unit.under.as_slice() == under);
-    Ok(())
+/// The measures of which a unit is the product, and those that it is divided by.
+fn unit_of(alloc: Global, text: &str) -> Result<String, AllocError> {
+    match read_unit(alloc, text)? {
+        None => String::from_str(alloc, "no unit"),
+        Some(unit) => format!(in alloc; "{:?} over {:?}", unit.over, unit.under),
+    }
 }
 
-const NO_UNITS: &[&str] = &[
-    "a:x*b:y/c:z",
-    "a:x/b:y/c:z",
-    "a",
-    "",
-    "(a:x)/",
-    "(a:x",
-    "a:x)*(b:y",
+const UNITS: &[(&str, &str)] = &[
+    ("a:x", r#"["a:x"] over []"#),
+    ("a:x*b:y", r#"["a:x", "b:y"] over []"#),
+    ("(a:x)", r#"["a:x"] over []"#),
+    ("(a:x*b:y)/c:z", r#"["a:x", "b:y"] over ["c:z"]"#),
+    ("a:x*b:y/c:z", "no unit"),
+    ("a:x/b:y/c:z", "no unit"),
+    ("a", "no unit"),
+    ("", "no unit"),
+    ("(a:x)/", "no unit"),
+    ("(a:x", "no unit"),
+    ("a:x)*(b:y", "no unit"),
 ];
 
 #[test]
-fn units(rt: HostRuntime) -> Result<(), Fail> {
-    is_unit(&rt, rt.alloc(), "a:x", &["a:x"], &[])?;
-    is_unit(&rt, rt.alloc(), "a:x*b:y", &["a:x", "b:y"], &[])?;
-    is_unit(&rt, rt.alloc(), "(a:x)", &["a:x"], &[])?;
-    is_unit(&rt, rt.alloc(), "(a:x*b:y)/c:z", &["a:x", "b:y"], &["c:z"])
-}
-
-#[test]
-fn texts_of_no_unit(rt: HostRuntime) -> Result<(), Fail> {
-    for text in NO_UNITS {
-        assert!(rt; read_unit(rt.alloc(), text)?.is_none(), "{text}");
-    }
-    Ok(())
+fn units(rt: HostRuntime) {
+    hold(&rt, rt.alloc(), UNITS, unit_of);
 }
 
 #[test]
