@@ -72,18 +72,27 @@ impl<'a, O: Write> Work for Visit<'a, '_, O> {
         rt: &HostRuntime,
         conn: Connection<S>,
     ) -> (Left<S>, Result<(), Fault<'a>>) {
+        match outbox_of(rt.alloc(), self.name, conn, &self.errand) {
+            Ok(outbox) => self.done_on(rt, outbox),
+            Err(fault) => (left_by(&fault), Err(fault)),
+        }
+    }
+}
+
+impl<'a, O: Write> Visit<'a, '_, O> {
+    /// Does the errand to this outbox.
+    fn done_on<S: Alter + Drop>(
+        self,
+        rt: &HostRuntime,
+        mut outbox: Outbox<S>,
+    ) -> (Left<S>, Result<(), Fault<'a>>) {
         let Visit {
             name,
             errand,
             output,
         } = self;
-        match outbox_of(rt.alloc(), name, conn, &errand) {
-            Ok(mut outbox) => {
-                let done = done(rt, name, &mut outbox, errand, output);
-                (Left::Open(outbox.into_conn()), done)
-            }
-            Err(fault) => (left_by(&fault), Err(fault)),
-        }
+        let done = done(rt, name, &mut outbox, errand, output);
+        (Left::Open(outbox.into_conn()), done)
     }
 }
 
@@ -367,6 +376,25 @@ fn send_next<'a, S: Alter + Drop, O: Write>(
     }
 }
 
+/// Sends those of these entries that are open, and shows their states, up to the first fault.
+fn send_each<'a, S: Alter + Drop, O: Write>(
+    rt: &HostRuntime,
+    name: &'a str,
+    port: u16,
+    outbox: &mut Outbox<S>,
+    states: &[(u64, State)],
+    output: &mut O,
+) -> Result<(), Fault<'a>> {
+    let mut none = true;
+    for &(id, state) in states {
+        if state == State::Open {
+            none = false;
+            send_open(rt, name, port, outbox, id, output)?;
+        }
+    }
+    if none { show_none(output) } else { Ok(()) }
+}
+
 /// Sends each open entry once, by id, and shows its state, up to the first fault.
 fn send_all<'a, S: Alter + Drop, O: Write>(
     rt: &HostRuntime,
@@ -376,14 +404,7 @@ fn send_all<'a, S: Alter + Drop, O: Write>(
     output: &mut O,
 ) -> Result<(), Fault<'a>> {
     let states = states_of(outbox, name)?;
-    let mut none = true;
-    for &(id, state) in &states {
-        if state == State::Open {
-            none = false;
-            send_open(rt, name, port, outbox, id, output)?;
-        }
-    }
-    if none { show_none(output) } else { Ok(()) }
+    send_each(rt, name, port, outbox, states.as_slice(), output)
 }
 
 /// Sends these entries, and shows their states.
@@ -411,6 +432,15 @@ fn lines(alloc: Global, states: &[(u64, State)]) -> Result<String, AllocError> {
     Ok(text)
 }
 
+fn show_lines<'a, O: Write>(
+    alloc: Global,
+    states: &[(u64, State)],
+    output: &mut O,
+) -> Result<(), Fault<'a>> {
+    let text = lines(alloc, states)?;
+    Ok(show(output, text.as_bytes())?)
+}
+
 /// Prints the line of each entry.
 fn show_states<'a, S: Alter + Drop, O: Write>(
     alloc: Global,
@@ -419,8 +449,7 @@ fn show_states<'a, S: Alter + Drop, O: Write>(
     output: &mut O,
 ) -> Result<(), Fault<'a>> {
     let states = states_of(outbox, name)?;
-    let text = lines(alloc, states.as_slice())?;
-    Ok(show(output, text.as_bytes())?)
+    show_lines(alloc, states.as_slice(), output)
 }
 
 /// Prints the line of an entry with its length, what it is to replace, and its key.

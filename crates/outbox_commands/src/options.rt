@@ -3,6 +3,7 @@
 ghost use Rattle.http_messages.specs.Posting.{IsTarget};
 ghost use Rattle.outbox_commands.specs.Targets.{IsTarget-prop};
 
+use clap::builder::ValueParser;
 use clap::{Arg, ArgAction, ArgMatches, Command, Error, value_parser};
 use command_line::{VERSION, database_option, filer_option, option, port_option};
 use std::alloc::{AllocError, Global};
@@ -64,16 +65,17 @@ pub enum Which {
     All,
 }
 
-fn database<'a>(alloc: Global) -> Arg<'a> {
-    database_option(alloc, "The database file of the outbox")
-}
-
-fn init<'a>(alloc: Global) -> Result<Command<'a>, AllocError> {
-    let options = vec![in alloc; database(alloc), filer_option(alloc)]?;
-    Command::new(alloc, "init")
-        .about("Makes an outbox without entries; the file is made where it is missing")
-        .after_help("Example: outbox init --db outbox.db --filer ACME")
-        .args(options)
+/// An option that may be missing, whose value is one of these numbers.
+fn number_option<'a>(
+    alloc: Global,
+    name: &'a str,
+    value: &'a str,
+    help: &'a str,
+    numbers: ValueParser<'a>,
+) -> Arg<'a> {
+    option(alloc, name, value, help)
+        .required(false)
+        .value_parser(numbers)
 }
 
 fn body<'a>(alloc: Global) -> Arg<'a> {
@@ -96,22 +98,13 @@ fn key<'a>(alloc: Global) -> Arg<'a> {
 }
 
 fn amend<'a>(alloc: Global) -> Arg<'a> {
-    option(
+    number_option(
         alloc,
         "amend",
         "N",
         "The number of the filing that the report replaces [default: it replaces none]",
+        value_parser!(u64).range(1..=i64::MAX),
     )
-    .required(false)
-    .value_parser(value_parser!(u64).range(1..=i64::MAX))
-}
-
-fn put<'a>(alloc: Global) -> Result<Command<'a>, AllocError> {
-    let options = vec![in alloc; database(alloc), body(alloc), key(alloc), amend(alloc)]?;
-    Command::new(alloc, "put")
-        .about("Puts a report in as an open entry, and prints the entry's id")
-        .after_help("Example: outbox put --db outbox.db --body report.json")
-        .args(options)
 }
 
 fn port<'a>(alloc: Global) -> Arg<'a> {
@@ -122,9 +115,8 @@ fn port<'a>(alloc: Global) -> Arg<'a> {
 }
 
 fn entry<'a>(alloc: Global, help: &'a str) -> Arg<'a> {
-    option(alloc, "entry", "ID", help)
-        .required(false)
-        .value_parser(value_parser!(u64).range(0..=i64::MAX))
+    let numbers = value_parser!(u64).range(0..=i64::MAX);
+    number_option(alloc, "entry", "ID", help, numbers)
 }
 
 fn all<'a>(alloc: Global) -> Result<Arg<'a>, AllocError> {
@@ -135,92 +127,120 @@ fn all<'a>(alloc: Global) -> Result<Arg<'a>, AllocError> {
         .conflicts_with("entry")
 }
 
-fn send<'a>(alloc: Global) -> Result<Command<'a>, AllocError> {
-    let options = vec![in alloc;
-        database(alloc),
-        port(alloc),
-        entry(
-            alloc,
-            "The entry's id [default: the open entry with the least id]"
-        ),
-        all(alloc)?,
-    ]?;
-    Command::new(alloc, "send")
-        .about("Sends an open entry once, and prints its state after the reply")
-        .after_help("Example: outbox send --db outbox.db --port 8080 --all")
-        .args(options)
-}
-
-fn status<'a>(alloc: Global) -> Result<Command<'a>, AllocError> {
-    Command::new(alloc, "status")
-        .about("Prints a line for each entry: open, confirmed with its number, refused or clashed")
-        .after_help("Example: outbox status --db outbox.db")
-        .arg(database(alloc))
-}
-
-fn show<'a>(alloc: Global) -> Result<Command<'a>, AllocError> {
-    let options = vec![in alloc;
-        database(alloc),
-        entry(alloc, "The entry's id [default: each entry]"),
-    ]?;
-    Command::new(alloc, "show")
-        .about(
-            "Prints a line for each entry, or for one: its state, the length of its report, which filing it is to replace, and its key",
-        )
-        .after_help("Example: outbox show --db outbox.db --entry 1")
-        .args(options)
-}
-
-fn migrate<'a>(alloc: Global) -> Result<Command<'a>, AllocError> {
-    Command::new(alloc, "migrate")
-        .about(
-            "Makes an outbox of an earlier version one of this version; its entries stay as they were",
-        )
-        .after_help("Example: outbox migrate --db outbox.db")
-        .arg(database(alloc))
-}
-
-/// The words that ask for a task.
+/// What a task is given on the command line.
 #[derive(Clone, Copy)]
-enum Word {
-    Init,
-    Put,
-    Send,
-    Status,
-    Show,
-    Migrate,
+enum Argument {
+    Database,
+    Filer,
+    Body,
+    Key,
+    Amend,
+    Port,
+    /// The id of an entry, with this help.
+    Entry(&'static str),
+    All,
+}
+
+fn argument_of<'a>(alloc: Global, argument: Argument) -> Result<Arg<'a>, AllocError> {
+    Ok(match argument {
+        Argument::Database => database_option(alloc, "The database file of the outbox"),
+        Argument::Filer => filer_option(alloc),
+        Argument::Body => body(alloc),
+        Argument::Key => key(alloc),
+        Argument::Amend => amend(alloc),
+        Argument::Port => port(alloc),
+        Argument::Entry(help) => entry(alloc, help),
+        Argument::All => all(alloc)?,
+    })
+}
+
+/// A word that asks for a task, with its help and what the task is given.
+struct Word {
+    name: &'static str,
+    about: &'static str,
+    example: &'static str,
+    arguments: &'static [Argument],
 }
 
 /// All of them, as the help has them.
 static WORDS: [Word; 6] = [
-    Word::Init,
-    Word::Put,
-    Word::Send,
-    Word::Status,
-    Word::Show,
-    Word::Migrate,
+    Word {
+        name: "init",
+        about: "Makes an outbox without entries; the file is made where it is missing",
+        example: "Example: outbox init --db outbox.db --filer ACME",
+        arguments: &[Argument::Database, Argument::Filer],
+    },
+    Word {
+        name: "put",
+        about: "Puts a report in as an open entry, and prints the entry's id",
+        example: "Example: outbox put --db outbox.db --body report.json",
+        arguments: &[
+            Argument::Database,
+            Argument::Body,
+            Argument::Key,
+            Argument::Amend,
+        ],
+    },
+    Word {
+        name: "send",
+        about: "Sends an open entry once, and prints its state after the reply",
+        example: "Example: outbox send --db outbox.db --port 8080 --all",
+        arguments: &[
+            Argument::Database,
+            Argument::Port,
+            Argument::Entry("The entry's id [default: the open entry with the least id]"),
+            Argument::All,
+        ],
+    },
+    Word {
+        name: "status",
+        about: "Prints a line for each entry: open, confirmed with its number, refused or clashed",
+        example: "Example: outbox status --db outbox.db",
+        arguments: &[Argument::Database],
+    },
+    Word {
+        name: "show",
+        about: "Prints a line for each entry, or for one: its state, the length of its report, which filing it is to replace, and its key",
+        example: "Example: outbox show --db outbox.db --entry 1",
+        arguments: &[
+            Argument::Database,
+            Argument::Entry("The entry's id [default: each entry]"),
+        ],
+    },
+    Word {
+        name: "migrate",
+        about: "Makes an outbox of an earlier version one of this version; its entries stay as they were",
+        example: "Example: outbox migrate --db outbox.db",
+        arguments: &[Argument::Database],
+    },
 ];
 
-fn command_of<'a>(alloc: Global, word: Word) -> Result<Command<'a>, AllocError> {
-    match word {
-        Word::Init => init(alloc),
-        Word::Put => put(alloc),
-        Word::Send => send(alloc),
-        Word::Status => status(alloc),
-        Word::Show => show(alloc),
-        Word::Migrate => migrate(alloc),
+fn arguments_of<'a>(alloc: Global, list: &[Argument]) -> Result<Vec<Arg<'a>>, AllocError> {
+    let mut arguments = Vec::new(alloc);
+    for &argument in list {
+        arguments.push(argument_of(alloc, argument)?)?;
     }
+    Ok(arguments)
+}
+
+fn command_of<'a>(alloc: Global, word: &Word) -> Result<Command<'a>, AllocError> {
+    let arguments = arguments_of(alloc, word.arguments)?;
+    Command::new(alloc, word.name)
+        .about(word.about)
+        .after_help(word.example)
+        .args(arguments)
 }
 
 fn tasks<'a>(alloc: Global) -> Result<Vec<Command<'a>>, AllocError> {
     let mut tasks = Vec::new(alloc);
-    for &word in &WORDS {
+    for word in &WORDS {
         tasks.push(command_of(alloc, word)?)?;
     }
     Ok(tasks)
 }
 
 fn command<'a>(alloc: Global) -> Result<Command<'a>, AllocError> {
+    let tasks = tasks(alloc)?;
     Command::new(alloc, "outbox")
         .version(VERSION)
         .about("Keeps the reports that a filer is to send, and sends them")
@@ -228,7 +248,7 @@ fn command<'a>(alloc: Global) -> Result<Command<'a>, AllocError> {
             "Exit status: 0 done; 1 not an outbox, a damaged one, or one that is there already;\n2 the command line, a key that is used or a report that is too large;\n3 memory, a file, the disk or the network failed; 4 no such entry",
         )
         .subcommand_required(true)
-        .subcommands(tasks(alloc)?)
+        .subcommands(tasks)
 }
 
 fn which_of(values: &ArgMatches<'_>) -> Which {
@@ -277,12 +297,14 @@ fn task_of<'a>(name: &str, values: &ArgMatches<'a>) -> Option<Task<'a>> {
     }
 }
 
+fn asked<'a>(matches: &ArgMatches<'a>) -> Option<Task<'a>> {
+    let (name, values) = matches.subcommand()?;
+    task_of(name, values)
+}
+
 /// The task that these words spell, the program's name first. `None` is for a command that asks for
 /// nothing.
 pub fn read<'a>(alloc: Global, words: &'a [String]) -> Result<Option<Task<'a>>, Error> {
     let matches = command(alloc)?.try_get_matches_from(words)?;
-    Ok(match matches.subcommand() {
-        Some((name, values)) => task_of(name, values),
-        None => None,
-    })
+    Ok(asked(&matches))
 }
