@@ -113,6 +113,11 @@ pub fn left_by<S: Alter>(fault: &Fault<'_>) -> Left<S> {
     }
 }
 
+/// What is left of a database that gave no register, and why it gave none.
+pub fn refused<'a, S: Alter, T>(fault: Fault<'a>) -> (Left<S>, Result<T, Fault<'a>>) {
+    (left_by(&fault), Err(fault))
+}
+
 /// The content of the reply that lists these filings, as a line.
 fn list_line(alloc: Global, rows: &[FilingRow]) -> Result<Vec<u8>, AllocError> {
     let mut text = list_reply(alloc, rows)?.content;
@@ -142,7 +147,7 @@ fn list<'a, S: Alter + Drop, O: Write>(
 {
     let register = match open(alloc, name, conn) {
         Ok(register) => register,
-        Err(fault) => return (left_by(&fault), Err(fault)),
+        Err(fault) => return refused(fault),
     };
     let mut intake = Intake::new(alloc, register, DEFAULT_LIMIT);
     let shown = match calls::list(&mut intake, filer) {
@@ -184,7 +189,7 @@ fn show_filing<'a, S: Alter + Drop, O: Write>(
 {
     let mut register = match open(alloc, name, conn) {
         Ok(register) => register,
-        Err(fault) => return (left_by(&fault), Err(fault)),
+        Err(fault) => return refused(fault),
     };
     let shown = match calls::facts(&mut register, number) {
         Ok(Some(facts)) => show_facts(alloc, facts.as_slice(), output),
@@ -222,10 +227,7 @@ fn check<'a, S: Alter + Drop, O: Write>(
             let shown = show_sound(rt.alloc(), counts, output);
             (Left::Open(conn), shown)
         }
-        Err(fault) => {
-            let fault = Fault::Open { name, fault };
-            (left_by(&fault), Err(fault))
-        }
+        Err(fault) => refused(Fault::Open { name, fault }),
     }
 }
 
@@ -248,9 +250,6 @@ fn migrate<'a, S: Alter + Drop, O: Write>(
             let shown = show_migrated(output);
             (Left::Open(register.into_conn()), shown)
         }
-        Err(fault) => {
-            let fault = Fault::NotMigrated { name, fault };
-            (left_by(&fault), Err(fault))
-        }
+        Err(fault) => refused(Fault::NotMigrated { name, fault }),
     }
 }

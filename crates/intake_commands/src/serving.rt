@@ -7,7 +7,7 @@ use crate::fault::Fault;
 use crate::limit::Limit;
 use crate::log::{ConnectionLine, Noted, Statuses};
 use crate::note::Note;
-use crate::register::{create, left_by, open, tell_close};
+use crate::register::{create, left_by, open, refused, tell_close};
 use command_files::{Cache, FileSystem, Left, Opening, Work, on_database};
 use command_line::show;
 use gateway_server::{Ended, Served};
@@ -106,15 +106,27 @@ impl<'a> Port<'a> {
         let mut reader = Noted::new(alloc, Device::new(stream));
         let mut writer = Statuses::new(alloc, Device::new(stream));
         let served = answers.serve(alloc, &mut reader, &mut writer)?;
-        let completed = calls::completed(alloc, reader.bytes(), &served.marks)?;
+        self.log(alloc, &served, reader.bytes(), writer.statuses(), output)?;
+        Ok(served.ended)
+    }
+
+    /// Prints the line of the connection that was taken last, of which these bytes and statuses were noted.
+    fn log<O: Write>(
+        &self,
+        alloc: Global,
+        served: &Served,
+        bytes: &[u8],
+        statuses: &[u16],
+        output: &mut O,
+    ) -> Result<(), Fault<'a>> {
+        let completed = calls::completed(alloc, bytes, &served.marks)?;
         let line = ConnectionLine {
             connection: self.taken,
-            served: &served,
+            served,
             completed: &completed,
-            statuses: writer.statuses(),
+            statuses,
         };
-        show_line(alloc, &line, output)?;
-        Ok(served.ended)
+        show_line(alloc, &line, output)
     }
 
     /// Serves a connection, and says how it ended.
@@ -324,7 +336,7 @@ impl<'a, O: Write, E: Write> Work for Begun<'a, '_, O, E> {
         } = self;
         let register = match register_of(rt.alloc(), serving, conn) {
             Ok(register) => register,
-            Err(fault) => return (left_by(&fault), Err(fault)),
+            Err(fault) => return refused(fault),
         };
         let ready = ready(rt, serving.port, &register, start);
         let mut intake = Intake::new(rt.alloc(), register, limit.keys);

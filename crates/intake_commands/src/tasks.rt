@@ -14,7 +14,7 @@ use key_string::is_filer;
 use sqlite_disk::Disk;
 use std::alloc::{AllocError, Global};
 use std::io::{IsTerminal, Read, Write};
-use xbrl_report::Finding;
+use xbrl_report::{Finding, Findings};
 
 /// The status where something was found in a report.
 const FOUND: u8 = 1;
@@ -94,6 +94,26 @@ fn finding_lines(alloc: Global, name: &str, findings: &[Finding]) -> Result<Stri
     Ok(text)
 }
 
+/// The findings of the report in the file of this name; none where it is valid.
+fn findings_of<'a>(
+    rt: &HostRuntime,
+    code: &str,
+    name: &'a str,
+) -> Result<Option<Findings>, Fault<'a>> {
+    let body = report(rt, name)?;
+    Ok(calls::findings(rt.alloc(), code, body.as_slice())?)
+}
+
+fn show_findings<'a, O: Write>(
+    alloc: Global,
+    name: &str,
+    findings: &[Finding],
+    output: &mut O,
+) -> Result<(), Fault<'a>> {
+    let text = finding_lines(alloc, name, findings)?;
+    Ok(show(output, text.as_bytes())?)
+}
+
 /// Prints a line for each finding of a report. Whether there is one.
 fn lint_file<'a, O: Write>(
     rt: &HostRuntime,
@@ -101,11 +121,9 @@ fn lint_file<'a, O: Write>(
     name: &'a str,
     output: &mut O,
 ) -> Result<bool, Fault<'a>> {
-    let body = report(rt, name)?;
-    match calls::findings(rt.alloc(), code, body.as_slice())? {
+    match findings_of(rt, code, name)? {
         Some(findings) => {
-            let text = finding_lines(rt.alloc(), name, findings.list())?;
-            show(output, text.as_bytes())?;
+            show_findings(rt.alloc(), name, findings.list(), output)?;
             Ok(true)
         }
         None => Ok(false),
@@ -129,6 +147,12 @@ fn lint<'a, O: Write>(
     Ok(status)
 }
 
+/// The status of a task that is done, where nothing is to be found.
+fn done<'a>(performed: Result<(), Fault<'a>>) -> Result<u8, Fault<'a>> {
+    performed?;
+    Ok(DONE)
+}
+
 /// Performs a task, and answers the status.
 fn perform_task<'a, D: Disk + Drop, F: FileSystem<D>, R: Read, O: Write, E: Write>(
     rt: &HostRuntime,
@@ -139,14 +163,13 @@ fn perform_task<'a, D: Disk + Drop, F: FileSystem<D>, R: Read, O: Write, E: Writ
     errors: &mut E,
 ) -> Result<u8, Fault<'a>> {
     match task {
-        Task::Run { limit } => run(rt.alloc(), *limit, input, output)?,
-        Task::Serve(serving) => serve_file(rt, system, *serving, output, errors)?,
-        Task::Visit { database, errand } => {
-            perform_errand(rt, system, database, *errand, output, errors)?
-        }
-        Task::Lint { filer, files } => return lint(rt, filer, files, output),
+        Task::Run { limit } => done(run(rt.alloc(), *limit, input, output)),
+        Task::Serve(serving) => done(serve_file(rt, system, *serving, output, errors)),
+        Task::Visit { database, errand } => done(perform_errand(
+            rt, system, database, *errand, output, errors,
+        )),
+        Task::Lint { filer, files } => lint(rt, filer, files, output),
     }
-    Ok(DONE)
 }
 
 /// Performs what these words ask for, and answers the status.
