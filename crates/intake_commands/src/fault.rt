@@ -10,6 +10,64 @@ use std::io;
 use std::io::Write;
 use thiserror::Error;
 
+/// What went wrong in a visit to the register of a file.
+#[derive(Clone, Copy, Debug, Error)]
+pub enum VisitFault {
+    #[error("{0}")]
+    Create(CreateFault),
+    #[error("{0}{hint}", hint = hint(*.0))]
+    Open(OpenFault),
+    #[error("{0}")]
+    NotMigrated(OpenFault),
+    #[error("{0}")]
+    Store(StoreFault),
+    #[error("{0} when it was closed; what was answered is kept, in the log beside it")]
+    NotClosed(StoreFault),
+    #[error("{0}")]
+    List(Unavailable),
+    #[error("there is no filing {number}")]
+    NoFiling { number: u64 },
+}
+
+/// What can be done where a database is no register of this version.
+fn hint(fault: OpenFault) -> &'static str {
+    match fault {
+        OpenFault::NotOurs => " of this version (intake migrate takes one of an earlier version)",
+        _ => "",
+    }
+}
+
+impl VisitFault {
+    /// Why a task was not done that visited the register of the file with this name.
+    pub fn at(self, name: &str) -> Fault<'_> {
+        Fault::Register { name, fault: self }
+    }
+
+    /// The status that the program ends with: 1 for a database that is no sound register or cannot
+    /// become one, 3 for a fault of memory or the disk, 4 where a filing is missing.
+    pub fn status(self) -> u8 {
+        match self {
+            VisitFault::Create(CreateFault::Taken) => 1,
+            VisitFault::Open(OpenFault::NotOurs | OpenFault::Damaged { .. }) => 1,
+            VisitFault::NotMigrated(OpenFault::NotOurs | OpenFault::Damaged { .. }) => 1,
+            VisitFault::NoFiling { .. } => 4,
+            _ => 3,
+        }
+    }
+
+    /// What it says of the register, where it says something.
+    pub fn verdict(self) -> Option<Verdict> {
+        match self {
+            VisitFault::Open(fault) | VisitFault::NotMigrated(fault) => match fault {
+                OpenFault::NotOurs => Some(Verdict::NotOurs),
+                OpenFault::Damaged { row } => Some(Verdict::Damaged(row)),
+                OpenFault::Memory | OpenFault::Disk => None,
+            },
+            _ => None,
+        }
+    }
+}
+
 /// Why a task was not done. Its text is one line.
 #[derive(Debug, Drop, Error)]
 pub enum Fault<'a> {
@@ -20,35 +78,15 @@ pub enum Fault<'a> {
     #[error("{0}")]
     InMemory(CreateFault),
     #[error("{name}: {fault}")]
-    Create { name: &'a str, fault: CreateFault },
-    #[error("{name}: {fault}{}", hint(*fault))]
-    Open { name: &'a str, fault: OpenFault },
-    #[error("{name}: {fault}")]
-    NotMigrated { name: &'a str, fault: OpenFault },
-    #[error("{name}: {fault}")]
-    Store { name: &'a str, fault: StoreFault },
-    #[error("{name}: {fault} when it was closed; what was answered is kept, in the log beside it")]
-    NotClosed { name: &'a str, fault: StoreFault },
+    Register { name: &'a str, fault: VisitFault },
     #[error("{0}")]
     Report(#[from] ReportFault<'a>),
-    #[error("{name}: {fault}")]
-    List { name: &'a str, fault: Unavailable },
-    #[error("{name}: there is no filing {number}")]
-    NoFiling { name: &'a str, number: u64 },
     #[error("{0}")]
     Connection(ConnFault),
     #[error("connection {connection}: {fault}")]
     Served { connection: u32, fault: ConnFault },
     #[error("127.0.0.1:{port}: {error}")]
     Network { port: u16, error: io::Error },
-}
-
-/// What can be done where a database is no register of this version.
-fn hint(fault: OpenFault) -> &'static str {
-    match fault {
-        OpenFault::NotOurs => " of this version (intake migrate takes one of an earlier version)",
-        _ => "",
-    }
 }
 
 impl From<AllocError> for Fault<'_> {
@@ -65,32 +103,19 @@ impl Fault<'_> {
         match self {
             Fault::Command(fault) => fault.status(),
             Fault::Report(fault) => fault.status(),
-            Fault::Create {
-                fault: CreateFault::Taken,
-                ..
-            } => 1,
-            Fault::Open {
-                fault: OpenFault::NotOurs | OpenFault::Damaged { .. },
-                ..
-            } => 1,
-            Fault::NotMigrated {
-                fault: OpenFault::NotOurs | OpenFault::Damaged { .. },
-                ..
-            } => 1,
+            Fault::Register { fault, .. } => fault.status(),
             Fault::Limit => 2,
-            Fault::NoFiling { .. } => 4,
-            _ => 3,
+            Fault::InMemory(_)
+            | Fault::Connection(_)
+            | Fault::Served { .. }
+            | Fault::Network { .. } => 3,
         }
     }
 
     /// What the fault says of the register, where it says something.
     pub fn verdict(&self) -> Option<Verdict> {
         match self {
-            Fault::Open { fault, .. } | Fault::NotMigrated { fault, .. } => match fault {
-                OpenFault::NotOurs => Some(Verdict::NotOurs),
-                OpenFault::Damaged { row } => Some(Verdict::Damaged(*row)),
-                OpenFault::Memory | OpenFault::Disk => None,
-            },
+            Fault::Register { fault, .. } => fault.verdict(),
             Fault::Command(
                 CommandFault::Database {
                     fault: DatabaseFault::Missing | DatabaseFault::NotADatabase,

@@ -3,7 +3,7 @@
 ghost use Rattle.std.specs.Prelude.{◌≡◌, None, false};
 
 use crate::calls;
-use crate::fault::Fault;
+use crate::fault::{Fault, VisitFault};
 use crate::progress::Progress;
 use command_files::{Cache, FileSystem, Left, Opening, Verdict, Work, on_database};
 use command_line::show;
@@ -70,52 +70,43 @@ pub fn run_errand<'a, D: Disk + Drop, F: FileSystem<D>, O: Write, E: Write>(
 /// Says where the files of a register are not closed. What was answered is kept then, in the log beside the file.
 pub fn tell_close<E: Write>(closed: Result<(), Error>, name: &str, errors: &mut E) {
     if let Err(error) = closed {
-        let fault = error.into();
-        Fault::NotClosed { name, fault }.tell(errors);
+        VisitFault::NotClosed(error.into()).at(name).tell(errors);
     }
 }
 
 /// Makes the tables of a register.
-pub fn create<'a, S: Alter + Drop>(
-    alloc: Global,
-    name: &'a str,
-    conn: Connection<S>,
-) -> Result<Store<S>, Fault<'a>>
+pub fn create<S: Alter + Drop>(alloc: Global, conn: Connection<S>) -> Result<Store<S>, VisitFault>
     requires autocommit { conn.in_transaction ≡ false }
     requires unlimited { conn.step_limit ≡ None }
 {
     match calls::create(alloc, conn) {
         Ok(register) => Ok(register),
-        Err(fault) => Err(Fault::Create { name, fault }),
+        Err(fault) => Err(VisitFault::Create(fault)),
     }
 }
 
 /// The register of a database that is there.
-pub fn open<'a, S: Alter + Drop>(
-    alloc: Global,
-    name: &'a str,
-    conn: Connection<S>,
-) -> Result<Store<S>, Fault<'a>>
+pub fn open<S: Alter + Drop>(alloc: Global, conn: Connection<S>) -> Result<Store<S>, VisitFault>
     requires autocommit { conn.in_transaction ≡ false }
     requires unlimited { conn.step_limit ≡ None }
 {
     match calls::open(alloc, conn) {
         Ok(register) => Ok(register),
-        Err(fault) => Err(Fault::Open { name, fault }),
+        Err(fault) => Err(VisitFault::Open(fault)),
     }
 }
 
 /// What is left of a database that gave no register.
-pub fn left_by<S: Alter>(fault: &Fault<'_>) -> Left<S> {
+pub fn left_by<S: Alter>(fault: VisitFault) -> Left<S> {
     match fault.verdict() {
         Some(Verdict::NotOurs) => Left::NotOurs,
         Some(Verdict::Damaged(_)) | None => Left::GivenUp,
     }
 }
 
-/// What is left of a database that gave no register, and why it gave none.
-pub fn refused<'a, S: Alter, T>(fault: Fault<'a>) -> (Left<S>, Result<T, Fault<'a>>) {
-    (left_by(&fault), Err(fault))
+/// What is left of the database in the file with this name, which gave no register, and why it gave none.
+pub fn refused<S: Alter, T>(name: &str, fault: VisitFault) -> (Left<S>, Result<T, Fault<'_>>) {
+    (left_by(fault), Err(fault.at(name)))
 }
 
 /// The content of the reply that lists these filings, as a line.
@@ -145,14 +136,14 @@ fn list<'a, S: Alter + Drop, O: Write>(
     requires autocommit { conn.in_transaction ≡ false }
     requires unlimited { conn.step_limit ≡ None }
 {
-    let register = match open(alloc, name, conn) {
+    let register = match open(alloc, conn) {
         Ok(register) => register,
-        Err(fault) => return refused(fault),
+        Err(fault) => return refused(name, fault),
     };
     let mut intake = Intake::new(alloc, register, DEFAULT_LIMIT);
     let shown = match calls::list(&mut intake, filer) {
         Ok(rows) => show_rows(alloc, rows.as_slice(), output),
-        Err(fault) => Err(Fault::List { name, fault }),
+        Err(fault) => Err(VisitFault::List(fault).at(name)),
     };
     (Left::Open(intake.into_store().into_conn()), shown)
 }
@@ -187,14 +178,14 @@ fn show_filing<'a, S: Alter + Drop, O: Write>(
     requires autocommit { conn.in_transaction ≡ false }
     requires unlimited { conn.step_limit ≡ None }
 {
-    let mut register = match open(alloc, name, conn) {
+    let mut register = match open(alloc, conn) {
         Ok(register) => register,
-        Err(fault) => return refused(fault),
+        Err(fault) => return refused(name, fault),
     };
     let shown = match calls::facts(&mut register, number) {
         Ok(Some(facts)) => show_facts(alloc, facts.as_slice(), output),
-        Ok(None) => Err(Fault::NoFiling { name, number }),
-        Err(fault) => Err(Fault::Store { name, fault }),
+        Ok(None) => Err(VisitFault::NoFiling { number }.at(name)),
+        Err(fault) => Err(VisitFault::Store(fault).at(name)),
     };
     (Left::Open(register.into_conn()), shown)
 }
@@ -227,7 +218,7 @@ fn check<'a, S: Alter + Drop, O: Write>(
             let shown = show_sound(rt.alloc(), counts, output);
             (Left::Open(conn), shown)
         }
-        Err(fault) => refused(Fault::Open { name, fault }),
+        Err(fault) => refused(name, VisitFault::Open(fault)),
     }
 }
 
@@ -250,6 +241,6 @@ fn migrate<'a, S: Alter + Drop, O: Write>(
             let shown = show_migrated(output);
             (Left::Open(register.into_conn()), shown)
         }
-        Err(fault) => refused(Fault::NotMigrated { name, fault }),
+        Err(fault) => refused(name, VisitFault::NotMigrated(fault)),
     }
 }

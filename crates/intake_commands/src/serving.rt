@@ -3,7 +3,7 @@
 ghost use Rattle.std.specs.Prelude.{◌≡◌, None, false};
 
 use crate::calls;
-use crate::fault::Fault;
+use crate::fault::{Fault, VisitFault};
 use crate::limit::Limit;
 use crate::log::{ConnectionLine, Noted, Statuses};
 use crate::note::Note;
@@ -336,7 +336,7 @@ impl<'a, O: Write, E: Write> Work for Begun<'a, '_, O, E> {
         } = self;
         let register = match register_of(rt.alloc(), serving, conn) {
             Ok(register) => register,
-            Err(fault) => return refused(fault),
+            Err(fault) => return refused(serving.database, fault),
         };
         let ready = ready(rt, serving.port, &register, start);
         let mut intake = Intake::new(rt.alloc(), register, limit.keys);
@@ -346,18 +346,18 @@ impl<'a, O: Write, E: Write> Work for Begun<'a, '_, O, E> {
 }
 
 /// The register made or opened.
-fn register_of<'a, S: Alter + Drop>(
+fn register_of<S: Alter + Drop>(
     alloc: Global,
-    serving: Serving<'a>,
+    serving: Serving<'_>,
     conn: Connection<S>,
-) -> Result<Store<S>, Fault<'a>>
+) -> Result<Store<S>, VisitFault>
     requires autocommit { conn.in_transaction ≡ false }
     requires unlimited { conn.step_limit ≡ None }
 {
     if serving.new {
-        create(alloc, serving.database, conn)
+        create(alloc, conn)
     } else {
-        open(alloc, serving.database, conn)
+        open(alloc, conn)
     }
 }
 
@@ -417,9 +417,9 @@ impl<'a, O: Write, E: Write> Work for Resumed<'a, '_, O, E> {
             output,
             errors,
         } = self;
-        let register = match open(rt.alloc(), port.serving.database, conn) {
+        let register = match open(rt.alloc(), conn) {
             Ok(register) => register,
-            Err(fault) => return (left_by(&fault), Ok(())),
+            Err(fault) => return (left_by(fault), Ok(())),
         };
         Note::OpenAgain.tell(errors);
         let mut intake = Intake::new(rt.alloc(), register, port.limit.keys);

@@ -3,7 +3,7 @@
 ghost use Rattle.std.specs.Prelude.{◌≡◌, None, false};
 
 use crate::calls;
-use crate::fault::Fault;
+use crate::fault::{Fault, VisitFault};
 use crate::line::{EntryLine, LongLine};
 use crate::options::{Target, Which};
 use command_files::{Cache, FileSystem, Left, Opening, Verdict, Work, on_database};
@@ -72,9 +72,9 @@ impl<'a, O: Write> Work for Visit<'a, '_, O> {
         rt: &HostRuntime,
         conn: Connection<S>,
     ) -> (Left<S>, Result<(), Fault<'a>>) {
-        match outbox_of(rt.alloc(), self.name, conn, &self.errand) {
+        match outbox_of(rt.alloc(), conn, &self.errand) {
             Ok(outbox) => self.done_on(rt, outbox),
-            Err(fault) => (left_by(&fault), Err(fault)),
+            Err(fault) => (left_by(fault), Err(fault.at(self.name))),
         }
     }
 }
@@ -120,76 +120,65 @@ pub fn run_errand<'a, D: Disk + Drop, F: FileSystem<D>, O: Write, E: Write>(
 /// Says where the files of an outbox are not closed. What was told stays then, in the log beside the file.
 fn tell_close<E: Write>(closed: Result<(), Error>, name: &str, errors: &mut E) {
     if let Err(error) = closed {
-        let fault = error.into();
-        Fault::NotClosed { name, fault }.tell(errors);
+        VisitFault::NotClosed(error.into()).at(name).tell(errors);
     }
 }
 
 /// The outbox for an errand: made, migrated, or opened.
-fn outbox_of<'a, S: Alter + Drop>(
+fn outbox_of<S: Alter + Drop>(
     alloc: Global,
-    name: &'a str,
     conn: Connection<S>,
     errand: &Errand<'_>,
-) -> Result<Outbox<S>, Fault<'a>>
+) -> Result<Outbox<S>, VisitFault>
     requires autocommit { conn.in_transaction ≡ false }
     requires unlimited { conn.step_limit ≡ None }
 {
     match errand {
-        Errand::Init { filer } => create(alloc, name, conn, filer),
-        Errand::Migrate => migrate(alloc, name, conn),
-        _ => open(alloc, name, conn),
+        Errand::Init { filer } => create(alloc, conn, filer),
+        Errand::Migrate => migrate(alloc, conn),
+        _ => open(alloc, conn),
     }
 }
 
 /// Makes the tables of an outbox of this filer.
-fn create<'a, S: Alter + Drop>(
+fn create<S: Alter + Drop>(
     alloc: Global,
-    name: &'a str,
     conn: Connection<S>,
     filer: &str,
-) -> Result<Outbox<S>, Fault<'a>>
+) -> Result<Outbox<S>, VisitFault>
     requires autocommit { conn.in_transaction ≡ false }
     requires unlimited { conn.step_limit ≡ None }
 {
     match calls::create(alloc, conn, filer) {
         Ok(outbox) => Ok(outbox),
-        Err(fault) => Err(Fault::Outbox { name, fault }),
+        Err(fault) => Err(VisitFault::NotMade(fault)),
     }
 }
 
 /// Makes the outbox, which is one of an earlier version, one of this version.
-fn migrate<'a, S: Alter + Drop>(
-    alloc: Global,
-    name: &'a str,
-    conn: Connection<S>,
-) -> Result<Outbox<S>, Fault<'a>>
+fn migrate<S: Alter + Drop>(alloc: Global, conn: Connection<S>) -> Result<Outbox<S>, VisitFault>
     requires autocommit { conn.in_transaction ≡ false }
     requires unlimited { conn.step_limit ≡ None }
 {
     match calls::migrate(alloc, conn) {
         Ok(outbox) => Ok(outbox),
-        Err(fault) => Err(Fault::Outbox { name, fault }),
+        Err(fault) => Err(VisitFault::NotMade(fault)),
     }
 }
 
 /// The outbox of a database that is there.
-fn open<'a, S: Alter + Drop>(
-    alloc: Global,
-    name: &'a str,
-    conn: Connection<S>,
-) -> Result<Outbox<S>, Fault<'a>>
+fn open<S: Alter + Drop>(alloc: Global, conn: Connection<S>) -> Result<Outbox<S>, VisitFault>
     requires autocommit { conn.in_transaction ≡ false }
     requires unlimited { conn.step_limit ≡ None }
 {
     match calls::open(alloc, conn) {
         Ok(outbox) => Ok(outbox),
-        Err(fault) => Err(Fault::Open { name, fault }),
+        Err(fault) => Err(VisitFault::Open(fault)),
     }
 }
 
 /// What is left of a database that gave no outbox.
-fn left_by<S: Alter>(fault: &Fault<'_>) -> Left<S> {
+fn left_by<S: Alter>(fault: VisitFault) -> Left<S> {
     match fault.verdict() {
         Some(Verdict::NotOurs) => Left::NotOurs,
         Some(Verdict::Damaged(_)) | None => Left::GivenUp,
@@ -239,7 +228,7 @@ fn show_id<'a, O: Write>(
     let text = format!(in rt.alloc(); "entry {id}\n")?;
     match show(output, text.as_bytes()) {
         Ok(()) => Ok(()),
-        Err(_) => Err(Fault::NotTold { name, id }),
+        Err(_) => Err(VisitFault::NotTold { id }.at(name)),
     }
 }
 
@@ -255,7 +244,7 @@ fn put<'a, S: Alter + Drop, O: Write>(
 ) -> Result<(), Fault<'a>> {
     match calls::put(outbox, key, target, body) {
         Ok(id) => show_id(rt, name, id, output),
-        Err(fault) => Err(Fault::Put { name, fault }),
+        Err(fault) => Err(VisitFault::Put(fault).at(name)),
     }
 }
 
@@ -267,8 +256,8 @@ fn entry_of<'a, S: Alter + Drop>(
 ) -> Result<Entry, Fault<'a>> {
     match calls::entry(outbox, id) {
         Ok(Some(entry)) => Ok(entry),
-        Ok(None) => Err(Fault::NoEntry { name, id }),
-        Err(fault) => Err(Fault::Store { name, fault }),
+        Ok(None) => Err(VisitFault::NoEntry { id }.at(name)),
+        Err(fault) => Err(VisitFault::Store(fault).at(name)),
     }
 }
 
@@ -279,7 +268,7 @@ fn next_open<'a, S: Alter + Drop>(
 ) -> Result<Option<Entry>, Fault<'a>> {
     match calls::next_open(outbox) {
         Ok(entry) => Ok(entry),
-        Err(fault) => Err(Fault::Store { name, fault }),
+        Err(fault) => Err(VisitFault::Store(fault).at(name)),
     }
 }
 
@@ -290,7 +279,7 @@ fn states_of<'a, S: Alter + Drop>(
 ) -> Result<Vec<(u64, State)>, Fault<'a>> {
     match calls::states(outbox) {
         Ok(states) => Ok(states),
-        Err(fault) => Err(Fault::Store { name, fault }),
+        Err(fault) => Err(VisitFault::Store(fault).at(name)),
     }
 }
 
@@ -307,7 +296,7 @@ fn exchange_on<'a, S: Alter + Drop>(
     let mut writer = Device::new(&stream);
     match calls::exchange(rt.alloc(), &mut reader, &mut writer, outbox, id) {
         Ok(state) => Ok(state),
-        Err(ExchangeFault::Take(fault)) => Err(Fault::Take { name, fault }),
+        Err(ExchangeFault::Take(fault)) => Err(VisitFault::Take(fault).at(name)),
         Err(fault) => Err(Fault::Exchange { port, fault }),
     }
 }

@@ -10,6 +10,71 @@ use std::io;
 use std::io::Write;
 use thiserror::Error;
 
+/// What went wrong in a visit to the outbox of a file.
+#[derive(Clone, Copy, Debug, Error)]
+pub enum VisitFault {
+    /// It was not made, or not made one of this version.
+    #[error("{0}")]
+    NotMade(OutboxFault),
+    #[error("{0}{hint}", hint = hint(*.0))]
+    Open(OutboxFault),
+    #[error("{0}")]
+    Put(PutFault),
+    #[error("{0}")]
+    Store(StoreFault),
+    #[error("{0} when it was closed; what was told stays, in the log beside it")]
+    NotClosed(StoreFault),
+    #[error("entry {id} was put in, but the output cannot be written")]
+    NotTold { id: u64 },
+    #[error("there is no entry {id}")]
+    NoEntry { id: u64 },
+    #[error("{0}")]
+    Take(TakeFault),
+}
+
+/// What can be done where a database is no outbox of this version.
+fn hint(fault: OutboxFault) -> &'static str {
+    match fault {
+        OutboxFault::NotOurs => " of this version (outbox migrate takes one of an earlier version)",
+        _ => "",
+    }
+}
+
+impl VisitFault {
+    /// Why a task was not done that visited the outbox of the file with this name.
+    pub fn at(self, name: &str) -> Fault<'_> {
+        Fault::Outbox { name, fault: self }
+    }
+
+    /// The status that the program ends with: 1 for a database that is no outbox or cannot become
+    /// one, 2 for a filer, a key or a body that it does not take, 3 for a fault of memory or the
+    /// disk, 4 where an entry is missing.
+    pub fn status(self) -> u8 {
+        match self {
+            VisitFault::NotMade(
+                OutboxFault::Taken | OutboxFault::NotOurs | OutboxFault::Damaged { .. },
+            ) => 1,
+            VisitFault::Open(OutboxFault::NotOurs | OutboxFault::Damaged { .. }) => 1,
+            VisitFault::NotMade(OutboxFault::BadFiler) => 2,
+            VisitFault::Put(PutFault::TooLarge | PutFault::KeyUsed { .. }) => 2,
+            VisitFault::NoEntry { .. } => 4,
+            _ => 3,
+        }
+    }
+
+    /// What it says of the outbox, where it says something.
+    pub fn verdict(self) -> Option<Verdict> {
+        match self {
+            VisitFault::NotMade(fault) | VisitFault::Open(fault) => match fault {
+                OutboxFault::NotOurs => Some(Verdict::NotOurs),
+                OutboxFault::Damaged { row } => Some(Verdict::Damaged(row)),
+                _ => None,
+            },
+            _ => None,
+        }
+    }
+}
+
 /// Why a task was not done. Its text is one line.
 #[derive(Debug, Drop, Error)]
 pub enum Fault<'a> {
@@ -20,35 +85,13 @@ pub enum Fault<'a> {
     #[error("{0}")]
     Report(#[from] ReportFault<'a>),
     #[error("{name}: {fault}")]
-    Outbox { name: &'a str, fault: OutboxFault },
-    #[error("{name}: {fault}{}", hint(*fault))]
-    Open { name: &'a str, fault: OutboxFault },
-    #[error("{name}: {fault}")]
-    Put { name: &'a str, fault: PutFault },
-    #[error("{name}: {fault}")]
-    Store { name: &'a str, fault: StoreFault },
-    #[error("{name}: {fault} when it was closed; what was told stays, in the log beside it")]
-    NotClosed { name: &'a str, fault: StoreFault },
-    #[error("{name}: entry {id} was put in, but the output cannot be written")]
-    NotTold { name: &'a str, id: u64 },
-    #[error("{name}: there is no entry {id}")]
-    NoEntry { name: &'a str, id: u64 },
-    #[error("{name}: {fault}")]
-    Take { name: &'a str, fault: TakeFault },
+    Outbox { name: &'a str, fault: VisitFault },
     #[error("127.0.0.1:{port}: {error}")]
     Connect { port: u16, error: io::Error },
     #[error("127.0.0.1:{port}: {fault}")]
     Exchange { port: u16, fault: ExchangeFault },
     #[error("no random key: {0}")]
     Random(io::Error),
-}
-
-/// What can be done where a database is no outbox of this version.
-fn hint(fault: OutboxFault) -> &'static str {
-    match fault {
-        OutboxFault::NotOurs => " of this version (outbox migrate takes one of an earlier version)",
-        _ => "",
-    }
 }
 
 impl From<AllocError> for Fault<'_> {
@@ -65,37 +108,17 @@ impl Fault<'_> {
         match self {
             Fault::Command(fault) => fault.status(),
             Fault::Report(fault) => fault.status(),
-            Fault::Outbox {
-                fault: OutboxFault::Taken | OutboxFault::NotOurs | OutboxFault::Damaged { .. },
-                ..
-            } => 1,
-            Fault::Open {
-                fault: OutboxFault::NotOurs | OutboxFault::Damaged { .. },
-                ..
-            } => 1,
+            Fault::Outbox { fault, .. } => fault.status(),
             Fault::Key(KeyFault::Memory) => 3,
             Fault::Key(_) => 2,
-            Fault::Outbox {
-                fault: OutboxFault::BadFiler,
-                ..
-            } => 2,
-            Fault::Put {
-                fault: PutFault::TooLarge | PutFault::KeyUsed { .. },
-                ..
-            } => 2,
-            Fault::NoEntry { .. } => 4,
-            _ => 3,
+            Fault::Connect { .. } | Fault::Exchange { .. } | Fault::Random(_) => 3,
         }
     }
 
     /// What the fault says of the outbox, where it says something.
     pub fn verdict(&self) -> Option<Verdict> {
         match self {
-            Fault::Outbox { fault, .. } | Fault::Open { fault, .. } => match fault {
-                OutboxFault::NotOurs => Some(Verdict::NotOurs),
-                OutboxFault::Damaged { row } => Some(Verdict::Damaged(*row)),
-                _ => None,
-            },
+            Fault::Outbox { fault, .. } => fault.verdict(),
             Fault::Command(
                 CommandFault::Database {
                     fault: DatabaseFault::Missing | DatabaseFault::NotADatabase,
