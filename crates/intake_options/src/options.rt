@@ -2,7 +2,9 @@
 
 use clap::builder::ValueParser;
 use clap::{Arg, ArgAction, ArgMatches, Command, Error, value_parser};
-use command_line::{VERSION, database_option, filer_option, option, port_option};
+use command_line::{
+    ToArg, VERSION, Word, database_option, filer_option, option, port_option, tasks,
+};
 use std::alloc::{AllocError, Global};
 
 /// How many keys are kept at most, where the command line does not say.
@@ -130,38 +132,32 @@ enum Argument {
     Files,
 }
 
-fn argument_of<'a>(alloc: Global, argument: Argument) -> Arg<'a> {
-    match argument {
-        Argument::Database => database_option(alloc, "The database file of the register"),
-        Argument::Port => port_option(alloc, "The port of 127.0.0.1 to listen on, 1 to 65535"),
-        Argument::Connections => connections(alloc),
-        Argument::Limit => limit(alloc),
-        Argument::New => flag(
-            alloc,
-            "new",
-            "Makes the register; the file is made where it is missing",
-        ),
-        Argument::Log => flag(
-            alloc,
-            "log",
-            "Prints a line of JSON for each connection: its number, how it ended, filers, places, statuses",
-        ),
-        Argument::Filer => filer_option(alloc),
-        Argument::Number => number(alloc),
-        Argument::Files => files(alloc),
+impl ToArg for Argument {
+    fn to_arg<'a>(self, alloc: Global) -> Result<Arg<'a>, AllocError> {
+        Ok(match self {
+            Argument::Database => database_option(alloc, "The database file of the register"),
+            Argument::Port => port_option(alloc, "The port of 127.0.0.1 to listen on, 1 to 65535"),
+            Argument::Connections => connections(alloc),
+            Argument::Limit => limit(alloc),
+            Argument::New => flag(
+                alloc,
+                "new",
+                "Makes the register; the file is made where it is missing",
+            ),
+            Argument::Log => flag(
+                alloc,
+                "log",
+                "Prints a line of JSON for each connection: its number, how it ended, filers, places, statuses",
+            ),
+            Argument::Filer => filer_option(alloc),
+            Argument::Number => number(alloc),
+            Argument::Files => files(alloc),
+        })
     }
 }
 
-/// A word that asks for a task, with its help and what the task is given.
-struct Word {
-    name: &'static str,
-    about: &'static str,
-    example: &'static str,
-    arguments: &'static [Argument],
-}
-
-/// All of them, as the help has them.
-static WORDS: [Word; 7] = [
+/// The words that ask for tasks, as the help has them.
+static WORDS: [Word<Argument>; 7] = [
     Word {
         name: "run",
         about: "Serves standard input as one connection, on a register in memory [the default]",
@@ -213,32 +209,8 @@ static WORDS: [Word; 7] = [
     },
 ];
 
-fn arguments_of<'a>(alloc: Global, list: &[Argument]) -> Result<Vec<Arg<'a>>, AllocError> {
-    let mut arguments = Vec::new(alloc);
-    for &argument in list {
-        arguments.push(argument_of(alloc, argument))?;
-    }
-    Ok(arguments)
-}
-
-fn command_of<'a>(alloc: Global, word: &Word) -> Result<Command<'a>, AllocError> {
-    let arguments = arguments_of(alloc, word.arguments)?;
-    Command::new(alloc, word.name)
-        .about(word.about)
-        .after_help(word.example)
-        .args(arguments)
-}
-
-fn tasks<'a>(alloc: Global) -> Result<Vec<Command<'a>>, AllocError> {
-    let mut tasks = Vec::new(alloc);
-    for word in &WORDS {
-        tasks.push(command_of(alloc, word)?)?;
-    }
-    Ok(tasks)
-}
-
 fn command<'a>(alloc: Global) -> Result<Command<'a>, AllocError> {
-    let tasks = tasks(alloc)?;
+    let tasks = tasks(alloc, &WORDS)?;
     Command::new(alloc, "intake")
         .version(VERSION)
         .about("Answers filers' requests, and registers each valid report once")

@@ -5,7 +5,9 @@ ghost use Rattle.outbox_commands.specs.Targets.{IsTarget-prop};
 
 use clap::builder::ValueParser;
 use clap::{Arg, ArgAction, ArgMatches, Command, Error, value_parser};
-use command_line::{VERSION, database_option, filer_option, option, port_option};
+use command_line::{
+    ToArg, VERSION, Word, database_option, filer_option, option, port_option, tasks,
+};
 use std::alloc::{AllocError, Global};
 
 /// The greatest number that a filing may have.
@@ -141,29 +143,23 @@ enum Argument {
     All,
 }
 
-fn argument_of<'a>(alloc: Global, argument: Argument) -> Result<Arg<'a>, AllocError> {
-    Ok(match argument {
-        Argument::Database => database_option(alloc, "The database file of the outbox"),
-        Argument::Filer => filer_option(alloc),
-        Argument::Body => body(alloc),
-        Argument::Key => key(alloc),
-        Argument::Amend => amend(alloc),
-        Argument::Port => port(alloc),
-        Argument::Entry(help) => entry(alloc, help),
-        Argument::All => all(alloc)?,
-    })
+impl ToArg for Argument {
+    fn to_arg<'a>(self, alloc: Global) -> Result<Arg<'a>, AllocError> {
+        Ok(match self {
+            Argument::Database => database_option(alloc, "The database file of the outbox"),
+            Argument::Filer => filer_option(alloc),
+            Argument::Body => body(alloc),
+            Argument::Key => key(alloc),
+            Argument::Amend => amend(alloc),
+            Argument::Port => port(alloc),
+            Argument::Entry(help) => entry(alloc, help),
+            Argument::All => all(alloc)?,
+        })
+    }
 }
 
-/// A word that asks for a task, with its help and what the task is given.
-struct Word {
-    name: &'static str,
-    about: &'static str,
-    example: &'static str,
-    arguments: &'static [Argument],
-}
-
-/// All of them, as the help has them.
-static WORDS: [Word; 6] = [
+/// The words that ask for tasks, as the help has them.
+static WORDS: [Word<Argument>; 6] = [
     Word {
         name: "init",
         about: "Makes an outbox without entries; the file is made where it is missing",
@@ -215,32 +211,8 @@ static WORDS: [Word; 6] = [
     },
 ];
 
-fn arguments_of<'a>(alloc: Global, list: &[Argument]) -> Result<Vec<Arg<'a>>, AllocError> {
-    let mut arguments = Vec::new(alloc);
-    for &argument in list {
-        arguments.push(argument_of(alloc, argument)?)?;
-    }
-    Ok(arguments)
-}
-
-fn command_of<'a>(alloc: Global, word: &Word) -> Result<Command<'a>, AllocError> {
-    let arguments = arguments_of(alloc, word.arguments)?;
-    Command::new(alloc, word.name)
-        .about(word.about)
-        .after_help(word.example)
-        .args(arguments)
-}
-
-fn tasks<'a>(alloc: Global) -> Result<Vec<Command<'a>>, AllocError> {
-    let mut tasks = Vec::new(alloc);
-    for word in &WORDS {
-        tasks.push(command_of(alloc, word)?)?;
-    }
-    Ok(tasks)
-}
-
 fn command<'a>(alloc: Global) -> Result<Command<'a>, AllocError> {
-    let tasks = tasks(alloc)?;
+    let tasks = tasks(alloc, &WORDS)?;
     Command::new(alloc, "outbox")
         .version(VERSION)
         .about("Keeps the reports that a filer is to send, and sends them")
