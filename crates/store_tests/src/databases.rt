@@ -4,8 +4,7 @@ ghost use Rattle.std.specs.Prelude.{◌≡◌, false, None, IfSome};
 
 use sqlite::{Alter, Connection, FileStore, MemStore, Options};
 use sqlite_disk::{Crash, Disk, Files, Fuse, Memory};
-use std::alloc::{AllocError, Global};
-use std::test::Fail;
+use std::alloc::Global;
 
 /// More calls than the runs below make of a disk.
 pub const ENOUGH: u64 = 1000;
@@ -13,13 +12,13 @@ pub const ENOUGH: u64 = 1000;
 /// A store that a new database may have. What is done with databases is generic over it, and a test names the store once: to
 /// call at a concrete store what is generic costs more to prove than the call itself.
 pub trait Fresh: Alter + Drop {
-    /// A new database.
-    fn fresh(alloc: Global) -> Result<Connection<Self>, AllocError>;
+    /// A new database, or `None` where memory is refused.
+    fn fresh(alloc: Global) -> Option<Connection<Self>>;
 }
 
 impl Fresh for MemStore {
-    fn fresh(alloc: Global) -> Result<Connection<MemStore>, AllocError> {
-        Connection::open_in_memory(alloc)
+    fn fresh(alloc: Global) -> Option<Connection<MemStore>> {
+        Connection::open_in_memory(alloc).ok()
     }
 }
 
@@ -52,16 +51,18 @@ pub fn crashed<D: Crash>(files: Files<D>) -> Files<D> {
     files
 }
 
-/// A file of the same bytes.
-fn copy(alloc: Global, file: &Memory) -> Result<Memory, Fail> {
+/// A file of the same bytes; `None` where memory is refused.
+fn copy(alloc: Global, file: &Memory) -> Option<Memory> {
     let mut copy = Memory::new(alloc);
-    copy.write_at(0, file.bytes())?;
-    Ok(copy)
+    match copy.write_at(0, file.bytes()) {
+        Ok(()) => Some(copy),
+        Err(_) => None,
+    }
 }
 
-/// What is in these files, on disks that do not stop.
-pub fn copies(alloc: Global, files: &Files<Fuse<Memory>>) -> Result<Files<Memory>, Fail> {
-    Ok(Files {
+/// What is in these files, on disks that do not stop; `None` where memory is refused.
+pub fn copies(alloc: Global, files: &Files<Fuse<Memory>>) -> Option<Files<Memory>> {
+    Some(Files {
         log: copy(alloc, files.log.inner())?,
         db: copy(alloc, files.db.inner())?,
     })

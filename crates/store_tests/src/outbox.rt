@@ -8,22 +8,22 @@ use outbox_core::{Entry, Outbox, OutboxFault, PutFault, State, StoreFault, TakeF
 use sqlite::{Alter, Connection, MemStore};
 use std::alloc::Global;
 
-pub mod calls;
+mod calls;
 mod memory;
-pub mod migration;
-pub mod stops;
+mod migration;
+mod stops;
 
 const BODY: &[u8] = b"{\"facts\":{}}";
 
 /// An entry as it is expected: its key, whether it is to replace filing 1, its body and its state.
-pub type Expected = (&'static str, bool, &'static [u8], State);
+type Expected = (&'static str, bool, &'static [u8], State);
 
 /// One entry, which is open.
 static ONE: [Expected; 1] = [("k-1", false, BODY, State::Open)];
 
 /// A call that changes an outbox.
 #[derive(Clone, Copy)]
-pub enum Call {
+enum Call {
     /// A report is put in under this key, which is to replace filing 1 or none.
     Put(&'static str, bool, &'static [u8]),
     /// A reply with this status and content is taken for the entry of this id.
@@ -42,7 +42,7 @@ fn put<S: Alter>(
         return Err(PutFault::Memory);
     };
     match body.to_vec(alloc) {
-        Ok(body) => calls::put(outbox, key, replaces, body),
+        Ok(body) => outbox.put(key, first_if(replaces), body),
         Err(_) => Err(PutFault::Memory),
     }
 }
@@ -58,16 +58,12 @@ fn take<S: Alter>(
     let Ok(content) = content.to_vec(alloc) else {
         return Err(TakeFault::Memory);
     };
-    let kind = Kind::Json;
-    calls::take(
-        outbox,
-        id,
-        &Reply {
-            status,
-            content,
-            kind,
-        },
-    )
+    let reply = Reply {
+        status,
+        content,
+        kind: Kind::Json,
+    };
+    outbox.take(id, &reply)
 }
 
 /// Whether a report is put in.
@@ -109,29 +105,25 @@ fn is_entry(entry: &Entry, (key, replaces, body, state): Expected) -> bool {
         && entry.state == state
 }
 
-/// Whether an entry was found, and is this one.
-fn is_found(
-    entry: Result<Option<Entry>, StoreFault>,
+/// Whether the entry of this id is there, and is this one.
+fn has_entry<S: Alter>(
+    outbox: &mut Outbox<S>,
+    id: u64,
     expected: Expected,
 ) -> Result<bool, StoreFault> {
-    match entry {
-        Ok(Some(entry)) => Ok(is_entry(&entry, expected)),
-        Ok(None) => Ok(false),
-        Err(fault) => Err(fault),
+    match outbox.entry(id)? {
+        Some(entry) => Ok(is_entry(&entry, expected)),
+        None => Ok(false),
     }
 }
 
 /// Whether the outbox has these entries and no others.
 fn holds<S: Alter>(outbox: &mut Outbox<S>, expected: &[Expected]) -> Result<bool, StoreFault> {
-    if calls::states(outbox)?.len() != expected.len() {
-        return Ok(false);
-    }
+    let mut has_all = calls::entry_count(outbox)? == expected.len();
     for at in 0..expected.len() {
-        if !is_found(calls::entry(outbox, at as u64 + 1), expected[at])? {
-            return Ok(false);
-        }
+        has_all = has_all && has_entry(outbox, at as u64 + 1, expected[at])?;
     }
-    Ok(true)
+    Ok(has_all)
 }
 
 /// The outbox, and whether it has these entries and no others; `None` where it is not opened.
@@ -141,23 +133,20 @@ fn found<S: Alter + Drop>(
     expected: &[Expected],
 ) -> Option<(Connection<S>, bool)> {
     let mut outbox = calls::open(alloc, conn).ok()?;
-    let holds = holds(&mut outbox, expected) == Ok(true);
-    Some((calls::conn_of(outbox), holds))
+    let holds = matches!(holds(&mut outbox, expected), Ok(true));
+    Some((outbox.into_conn(), holds))
 }
 
-/// An outbox on this database, with one entry, which is open.
-fn with_entry<S: Alter + Drop>(alloc: Global, conn: Connection<S>) -> Option<Outbox<S>> {
+/// A new outbox with one entry, which is open.
+fn with_entry<S: Alter + Drop>(alloc: Global, conn: Connection<S>) -> Option<Connection<S>> {
     let mut outbox = calls::create(alloc, conn).ok()?;
-    match put(alloc, &mut outbox, "k-1", false, BODY) {
-        Ok(_) => Some(outbox),
-        Err(_) => None,
-    }
+    put(alloc, &mut outbox, "k-1", false, BODY).ok()?;
+    Some(outbox.into_conn())
 }
 
 /// An outbox with one entry, after a statement on its tables.
 fn changed<S: Fresh>(alloc: Global, sql: &str) -> Option<Connection<S>> {
-    let outbox = with_entry(alloc, S::fresh(alloc).ok()?)?;
-    ran(calls::conn_of(outbox), sql)
+    ran(with_entry(alloc, S::fresh(alloc)?)?, sql)
 }
 
 /// How an opening is refused then, if it is; `None` where the statement is refused.

@@ -1,7 +1,7 @@
 //! Registers, from outside.
 
 use crate::targets::first_if;
-use calls::{create, intake_over, kept_count, look_up, store_of};
+use calls::{create, intake_over};
 use example_texts::REPORT;
 use filing_model::Answer;
 use intake_core::{Intake, Unavailable};
@@ -10,14 +10,14 @@ use register_store::{KeptRow, Outcome, Store, StoreFault};
 use sqlite::{Alter, Connection};
 use std::alloc::Global;
 
-pub mod calls;
+mod calls;
 mod damage;
 mod memory;
-pub mod migration;
-pub mod stops;
+mod migration;
+mod stops;
 
 /// A request of ACME: its key, whether it is to replace filing 1, its body, and the number of its filing, 0 where it is refused.
-pub type Request = (&'static str, bool, &'static str, u64);
+type Request = (&'static str, bool, &'static str, u64);
 
 /// A request that is registered.
 static ONE: [Request; 1] = [("k-1", false, REPORT, 1)];
@@ -58,26 +58,26 @@ fn is_request(row: &KeptRow, (_, replaces, body, number): Request) -> bool {
         && number_of(&row.outcome) == number
 }
 
-/// Whether a row was found, and is the request.
-fn is_found(
-    row: Result<Option<KeptRow>, StoreFault>,
+/// Whether the request is kept under a key of ACME, with its answer.
+fn is_kept<S: Alter>(
+    store: &mut Store<S>,
+    key: &KeyText,
     request: Request,
 ) -> Result<bool, StoreFault> {
-    match row {
-        Ok(Some(row)) => Ok(is_request(&row, request)),
-        Ok(None) => Ok(false),
-        Err(fault) => Err(fault),
+    match store.find("ACME", key)? {
+        Some(row) => Ok(is_request(&row, request)),
+        None => Ok(false),
     }
 }
 
-/// Whether the request is kept, with its answer.
+/// The same under its own key.
 fn has_request<S: Alter>(
     alloc: Global,
     store: &mut Store<S>,
     request: Request,
 ) -> Result<bool, StoreFault> {
     match KeyText::new(alloc, request.0) {
-        Ok(key) => is_found(look_up(store, &key), request),
+        Ok(key) => is_kept(store, &key, request),
         Err(_) => Err(StoreFault::Memory),
     }
 }
@@ -88,37 +88,32 @@ fn holds<S: Alter>(
     store: &mut Store<S>,
     requests: &[Request],
 ) -> Result<bool, StoreFault> {
-    if kept_count(store)? != requests.len() as u64 {
-        return Ok(false);
-    }
+    let mut has_all = store.kept_count()? == requests.len() as u64;
     for &request in requests {
-        if !has_request(alloc, store, request)? {
-            return Ok(false);
-        }
+        has_all = has_all && has_request(alloc, store, request)?;
     }
-    Ok(true)
+    Ok(has_all)
 }
 
-/// Whether an intake answers each request.
-fn are_answered<S: Alter>(alloc: Global, intake: &mut Intake<S>, requests: &[Request]) -> bool {
+/// Asks an intake for each request, until one gets no answer.
+fn submit_all<S: Alter>(
+    alloc: Global,
+    intake: &mut Intake<S>,
+    requests: &[Request],
+) -> Result<(), Unavailable> {
     for &request in requests {
-        if submit(alloc, intake, request).is_err() {
-            return false;
-        }
+        submit(alloc, intake, request)?;
     }
-    true
+    Ok(())
 }
 
-/// A new register with these requests.
+/// A new register with these requests; `None` where one gets no answer.
 fn made<S: Alter + Drop>(
     alloc: Global,
     conn: Connection<S>,
     requests: &[Request],
-) -> Option<Store<S>> {
+) -> Option<Connection<S>> {
     let mut intake = intake_over(alloc, create(alloc, conn).ok()?);
-    if are_answered(alloc, &mut intake, requests) {
-        Some(store_of(intake))
-    } else {
-        None
-    }
+    submit_all(alloc, &mut intake, requests).ok()?;
+    Some(intake.into_store().into_conn())
 }

@@ -2,30 +2,35 @@
 //! opened again from what the disk left.
 
 use crate::databases::{ENOUGH, connect, copies, crashed, fused, lasting, new_files};
-use crate::outbox::stops::Change;
-use crate::register::Request;
-use crate::register::migration::Form;
-use crate::{outbox, register};
 use sqlite::{Alter, Connection, FileStore};
 use sqlite_disk::{Disk, Files, Fuse, Memory};
 use std::alloc::Global;
-use std::test::Fail;
+use std::process::Abort;
 use table_rows::StoreFault;
 
 // What needs no disk by name is generic over the store. The rest is generic over the disk, and calls one function of the first, since
 // each such call costs much to prove.
 
-/// What is tried on a disk that stops.
-#[derive(Clone, Copy)]
-pub enum Trial {
-    /// A register of one report is asked to keep another request.
-    Request(Request),
-    /// A register of this form is migrated.
-    Register(Form),
-    /// An outbox with one open entry is changed.
-    Change(Change),
-    /// An outbox of form 1 is migrated.
-    Outbox,
+/// A change of a database that is tried on a disk that stops.
+pub trait Trial {
+    /// The database with what it has before the change; `None` where something is refused.
+    fn make<S: Alter + Drop>(&self, alloc: Global, conn: Connection<S>) -> Option<Connection<S>>;
+
+    /// The database after the change, and whether that was answered; `None` where it is not opened.
+    fn change<S: Alter + Drop>(
+        &self,
+        alloc: Global,
+        conn: Connection<S>,
+    ) -> Option<(Connection<S>, bool)>;
+
+    /// The database, and whether it has the rows of before or of after the change, and those of after where that was answered; `None`
+    /// where it is not opened.
+    fn look<S: Alter + Drop>(
+        &self,
+        alloc: Global,
+        conn: Connection<S>,
+        answered: bool,
+    ) -> Option<(Connection<S>, bool)>;
 }
 
 /// What is done with the database of a trial, from its opening to its close.
@@ -40,68 +45,46 @@ enum Step {
 }
 
 /// Which file of a disk stops, the log or else the database, and whether a crash loses then what was not synced.
-#[derive(Clone, Copy)]
 struct Stop {
     stops_log: bool,
     crashes: bool,
 }
 
-/// The database of a trial with what it has before the change.
-fn made<S: Alter + Drop>(
-    alloc: Global,
-    conn: Connection<S>,
-    trial: Trial,
-) -> Option<Connection<S>> {
-    match trial {
-        Trial::Request(_) => register::stops::with_one(alloc, conn),
-        Trial::Register(form) => register::migration::with_form(conn, form),
-        Trial::Change(_) => outbox::stops::with_one(alloc, conn),
-        Trial::Outbox => outbox::migration::with_earlier(conn),
-    }
-}
-
-/// The database after the change, and whether that was answered; `None` where it is not opened.
-fn changed<S: Alter + Drop>(
-    alloc: Global,
-    conn: Connection<S>,
-    trial: Trial,
-) -> Option<(Connection<S>, bool)> {
-    match trial {
-        Trial::Request(request) => register::stops::asked(alloc, conn, request),
-        Trial::Register(_) => register::calls::tried(alloc, conn),
-        Trial::Change(change) => outbox::stops::changed(alloc, conn, change),
-        Trial::Outbox => outbox::calls::tried(alloc, conn),
-    }
-}
-
-/// The database, and whether it has the rows of before or of after the change, and those of after where that was answered; `None` where
-/// it is not opened.
-fn looked_at<S: Alter + Drop>(
-    alloc: Global,
-    conn: Connection<S>,
-    trial: Trial,
-    answered: bool,
-) -> Option<(Connection<S>, bool)> {
-    match trial {
-        Trial::Request(request) => register::stops::looked_at(alloc, conn, request, answered),
-        Trial::Register(form) => register::migration::looked_at(alloc, conn, form, answered),
-        Trial::Change(change) => outbox::stops::looked_at(alloc, conn, change, answered),
-        Trial::Outbox => outbox::migration::looked_at(alloc, conn, answered),
-    }
+/// What comes of a trial.
+#[derive(Clone, Copy, Debug, PartialEq)]
+enum End {
+    /// The change was answered, and the database has the rows of after it.
+    Answered,
+    /// The change was not answered, and the database has the rows of before or of after it.
+    Stopped,
+    /// The database was not opened for the change.
+    NotOpened,
+    /// What the database has before the change was not made.
+    NotMade,
+    /// The change was not answered, and the close did not tell that the disk stopped.
+    NotTold,
+    /// The database was not opened after the change.
+    Lost,
+    /// It has other rows, or was not closed then.
+    OtherRows,
+    /// The change was answered before any stop came in it.
+    NeverStopped,
+    /// The change is never answered.
+    NeverAnswered,
 }
 
 /// The database after a step, and what that comes to: whether a change was answered, or what a look finds is right. `None` where the
 /// database is not opened.
-fn done<S: Alter + Drop>(
+fn done<T: Trial, S: Alter + Drop>(
     alloc: Global,
     conn: Connection<S>,
-    trial: Trial,
+    trial: &T,
     step: Step,
 ) -> Option<(Connection<S>, bool)> {
     match step {
-        Step::Make => Some((made(alloc, conn, trial)?, true)),
-        Step::Change => changed(alloc, conn, trial),
-        Step::Look(answered) => looked_at(alloc, conn, trial, answered),
+        Step::Make => Some((trial.make(alloc, conn)?, true)),
+        Step::Change => trial.change(alloc, conn),
+        Step::Look(answered) => trial.look(alloc, conn, answered),
     }
 }
 
@@ -113,100 +96,106 @@ fn close<D: Disk + Drop>(conn: Connection<FileStore<D>>) -> (Files<D>, Option<St
     }
 }
 
-/// Whether a close answers what it has to: after a change that the disk stopped it tells that.
-fn is_told(step: Step, is_so: bool, fault: Option<StoreFault>) -> bool {
-    match step {
-        Step::Make | Step::Look(_) => fault.is_none(),
-        Step::Change => is_so || fault == Some(StoreFault::Store),
-    }
-}
-
-/// The files of the database after a step.
-fn closed<D: Disk + Drop>(
-    conn: Connection<FileStore<D>>,
-    step: Step,
-    is_so: bool,
-) -> Result<Files<D>, Fail> {
-    let (files, fault) = close(conn);
-    if is_told(step, is_so, fault) {
-        Ok(files)
-    } else {
-        Err(Fail::from("the stop is not told"))
-    }
-}
-
-/// What `done` comes to in these files, which it gives back; `None` where the database is not opened.
-fn done_in<D: Disk + Drop>(
+/// The files of the database after a step, what `done` comes to in them, and why the close was refused, if it was; `None` where the
+/// database is not opened.
+fn done_in<T: Trial, D: Disk + Drop>(
     alloc: Global,
     files: Files<D>,
-    trial: Trial,
+    trial: &T,
     step: Step,
-) -> Result<Option<(Files<D>, bool)>, Fail> {
-    let Some(conn) = connect(alloc, files) else {
-        return Ok(None);
-    };
-    match done(alloc, conn, trial, step) {
-        None => Ok(None),
-        Some((conn, is_so)) => Ok(Some((closed(conn, step, is_so)?, is_so))),
-    }
+) -> Option<(Files<D>, bool, Option<StoreFault>)> {
+    let (conn, is_so) = done(alloc, connect(alloc, files)?, trial, step)?;
+    let (files, fault) = close(conn);
+    Some((files, is_so, fault))
 }
 
-/// The files with what is there before the change, on a disk of which one stops after so many calls.
-fn stopping(
+/// The files with what is there before the change, on a disk of which one stops after so many calls; `None` where they are not made.
+fn stopping<T: Trial>(
     alloc: Global,
-    trial: Trial,
-    stop: Stop,
+    trial: &T,
+    stop: &Stop,
     calls: u64,
-) -> Result<Files<Fuse<Memory>>, Fail> {
+) -> Option<Files<Fuse<Memory>>> {
     let files = lasting(new_files(alloc));
-    let (files, _) = done_in(alloc, files, trial, Step::Make)?.ok_or("no database")?;
+    let (files, _, fault) = done_in(alloc, files, trial, Step::Make)?;
+    if fault.is_some() {
+        return None;
+    }
     let files = copies(alloc, &files)?;
     if stop.stops_log {
-        Ok(fused(files, calls, u64::MAX))
+        Some(fused(files, calls, u64::MAX))
     } else {
-        Ok(fused(files, u64::MAX, calls))
+        Some(fused(files, u64::MAX, calls))
     }
 }
 
-/// The files as they are opened again, on a disk that does not stop.
-fn left(
+/// The files as they are opened again, on a disk that does not stop; `None` where memory is refused.
+fn left(alloc: Global, files: Files<Fuse<Memory>>, stop: &Stop) -> Option<Files<Fuse<Memory>>> {
+    if stop.crashes {
+        Some(crashed(files))
+    } else {
+        Some(lasting(copies(alloc, &files)?))
+    }
+}
+
+/// Whether these files, which a change left that was answered or not, have the rows that they may have, and are closed; `None` where the
+/// database is not opened.
+fn is_left<T: Trial>(
     alloc: Global,
     files: Files<Fuse<Memory>>,
-    stop: Stop,
-) -> Result<Files<Fuse<Memory>>, Fail> {
-    if stop.crashes {
-        Ok(crashed(files))
-    } else {
-        Ok(lasting(copies(alloc, &files)?))
-    }
-}
-
-/// Whether the change is answered on such a disk, where it leaves what it may; `None` where the database is not opened.
-fn answered_at(alloc: Global, trial: Trial, stop: Stop, calls: u64) -> Result<Option<bool>, Fail> {
-    let files = stopping(alloc, trial, stop, calls)?;
-    let Some((files, answered)) = done_in(alloc, files, trial, Step::Change)? else {
-        return Ok(None);
-    };
+    trial: &T,
+    stop: &Stop,
+    answered: bool,
+) -> Option<bool> {
     let files = left(alloc, files, stop)?;
-    match done_in(alloc, files, trial, Step::Look(answered))? {
-        Some((_, true)) => Ok(Some(answered)),
-        Some((_, false)) => Err(Fail::from("the rows are neither of before nor of after")),
-        None => Err(Fail::from("no database after a stop")),
+    let (_, is_so, fault) = done_in(alloc, files, trial, Step::Look(answered))?;
+    Some(is_so && fault.is_none())
+}
+
+/// What comes of a change that was answered or not, and left these files.
+fn end_after<T: Trial>(
+    alloc: Global,
+    files: Files<Fuse<Memory>>,
+    trial: &T,
+    stop: &Stop,
+    answered: bool,
+) -> End {
+    match is_left(alloc, files, trial, stop, answered) {
+        Some(true) if answered => End::Answered,
+        Some(true) => End::Stopped,
+        Some(false) => End::OtherRows,
+        None => End::Lost,
     }
 }
 
-/// Stops the file after 0, 1, 2, .. calls, until the change is answered; whether a stop came in it before, or, of the database file,
+/// What comes of the change where the file stops after so many calls.
+fn end_at<T: Trial>(alloc: Global, trial: &T, stop: &Stop, calls: u64) -> End {
+    let Some(files) = stopping(alloc, trial, stop, calls) else {
+        return End::NotMade;
+    };
+    let Some((files, answered, fault)) = done_in(alloc, files, trial, Step::Change) else {
+        return End::NotOpened;
+    };
+    if answered || fault == Some(StoreFault::Store) {
+        end_after(alloc, files, trial, stop, answered)
+    } else {
+        End::NotTold
+    }
+}
+
+/// Stops the file after 0, 1, 2, .. calls, until the change is answered: a stop is to come before, in the change or, of the database file,
 /// in the opening.
-fn is_stopped(alloc: Global, trial: Trial, stop: Stop) -> Result<bool, Fail> {
+fn end_of<T: Trial>(alloc: Global, trial: &T, stop: &Stop) -> End {
     let mut is_stopped = false;
     for calls in 0..ENOUGH {
-        match answered_at(alloc, trial, stop, calls)? {
-            None => is_stopped = is_stopped || !stop.stops_log,
-            Some(false) => is_stopped = true,
-            Some(true) => return Ok(is_stopped),
+        match end_at(alloc, trial, stop, calls) {
+            End::NotOpened => is_stopped = is_stopped || !stop.stops_log,
+            End::Stopped => is_stopped = true,
+            End::Answered if !is_stopped => return End::NeverStopped,
+            end => return end,
         }
     }
-    Err(Fail::from("it never ends without a stop"))
+    End::NeverAnswered
 }
 
 /// Each file, and with a crash and without.
@@ -229,12 +218,9 @@ static STOPS: [Stop; 4] = [
     },
 ];
 
-/// Stops each file of the trial; whether a stop came each time.
-pub fn are_stopped(alloc: Global, trial: Trial) -> Result<bool, Fail> {
-    for &stop in &STOPS {
-        if !is_stopped(alloc, trial, stop)? {
-            return Ok(false);
-        }
+/// Asserts that a change is answered, where each file stopped at each call before, and left what it may.
+pub fn hold<T: Trial>(rt: &impl Abort, alloc: Global, trial: &T) {
+    for stop in &STOPS {
+        assert_eq!(rt; end_of(alloc, trial, stop), End::Answered);
     }
-    Ok(true)
 }

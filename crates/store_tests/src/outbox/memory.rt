@@ -1,13 +1,13 @@
 //! The life of an entry, where each call is made again that was refused because memory ran out: the entries are those of
 //! before, and the second answer is that of ample memory. Run it with each allocation refused too, one in a run.
 
-use super::{BODY, Call, Expected, calls, holds, is_made};
+use super::calls::{create, next_id};
+use super::{BODY, Call, Expected, holds, is_made};
 use crate::databases::Fresh;
 use key_string::KeyText;
 use outbox_core::{Outbox, OutboxFault, State, StoreFault, key_of};
 use sqlite::{Alter, MemStore};
 use std::alloc::{AllocError, Global};
-use std::test::Fail;
 use uuid::Uuid;
 
 /// What an outbox holds: its entries, and the id of the next open one, 0 where none is open.
@@ -20,50 +20,65 @@ const OPEN: Held = (&[("k-1", false, BODY, State::Open)], 1);
 const CONFIRMED: Held = (&[("k-1", false, BODY, State::Confirmed(1))], 0);
 
 /// A call, whether it is made, and what the outbox holds before and after it.
-type Move = (Call, bool, Held, Held);
+struct Move {
+    call: Call,
+    made: bool,
+    before: Held,
+    after: Held,
+}
 
 static LIFE: [Move; 6] = [
-    (Call::Put("k-1", false, BODY), true, NONE, OPEN),
-    (Call::Put("k-1", false, b"{}"), false, OPEN, OPEN),
-    (
-        Call::Reply(
+    Move {
+        call: Call::Put("k-1", false, BODY),
+        made: true,
+        before: NONE,
+        after: OPEN,
+    },
+    Move {
+        call: Call::Put("k-1", false, b"{}"),
+        made: false,
+        before: OPEN,
+        after: OPEN,
+    },
+    Move {
+        call: Call::Reply(
             1,
             503,
             b"{\"reason\":\"unavailable\",\"status\":503,\"title\":\"Service Unavailable\",\"type\":\"about:blank\"}",
         ),
-        true,
-        OPEN,
-        OPEN,
-    ),
-    (
-        Call::Reply(1, 201, b"{\"number\":1,\"status\":\"registered\"}"),
-        true,
-        OPEN,
-        CONFIRMED,
-    ),
-    (
-        Call::Reply(
+        made: true,
+        before: OPEN,
+        after: OPEN,
+    },
+    Move {
+        call: Call::Reply(1, 201, b"{\"number\":1,\"status\":\"registered\"}"),
+        made: true,
+        before: OPEN,
+        after: CONFIRMED,
+    },
+    Move {
+        call: Call::Reply(
             1,
             422,
             b"{\"reason\":\"key-reused\",\"status\":422,\"title\":\"Unprocessable Content\",\"type\":\"about:blank\"}",
         ),
-        true,
-        CONFIRMED,
-        CONFIRMED,
-    ),
-    (
-        Call::Reply(2, 201, b"{\"number\":1,\"status\":\"registered\"}"),
-        false,
-        CONFIRMED,
-        CONFIRMED,
-    ),
+        made: true,
+        before: CONFIRMED,
+        after: CONFIRMED,
+    },
+    Move {
+        call: Call::Reply(2, 201, b"{\"number\":1,\"status\":\"registered\"}"),
+        made: false,
+        before: CONFIRMED,
+        after: CONFIRMED,
+    },
 ];
 
 /// What making a new outbox answers.
 fn created<S: Fresh>(alloc: Global) -> Result<Outbox<S>, OutboxFault> {
     match S::fresh(alloc) {
-        Ok(conn) => calls::create(alloc, conn),
-        Err(AllocError) => Err(OutboxFault::Memory),
+        Some(conn) => create(alloc, conn),
+        None => Err(OutboxFault::Memory),
     }
 }
 
@@ -72,14 +87,6 @@ fn created_again<S: Fresh>(alloc: Global) -> Result<Outbox<S>, OutboxFault> {
     match created(alloc) {
         Err(OutboxFault::Memory) => created(alloc),
         answer => answer,
-    }
-}
-
-/// The id of the next open entry, or 0.
-fn next_id<S: Alter>(outbox: &mut Outbox<S>) -> Result<u64, StoreFault> {
-    match calls::next_open(outbox)? {
-        Some(entry) => Ok(entry.id),
-        None => Ok(0),
     }
 }
 
@@ -99,12 +106,11 @@ pub fn has_again<S: Alter>(outbox: &mut Outbox<S>, held: Held) -> Result<bool, S
 fn is_made_again<S: Alter>(
     alloc: Global,
     outbox: &mut Outbox<S>,
-    call: Call,
-    before: Held,
+    row: &Move,
 ) -> Result<bool, StoreFault> {
-    let answer = is_made(alloc, outbox, call);
-    if answer == Err(StoreFault::Memory) && has(outbox, before)? {
-        is_made(alloc, outbox, call)
+    let answer = is_made(alloc, outbox, row.call);
+    if matches!(answer, Err(StoreFault::Memory)) && has(outbox, row.before)? {
+        is_made(alloc, outbox, row.call)
     } else {
         answer
     }
@@ -112,8 +118,8 @@ fn is_made_again<S: Alter>(
 
 /// Whether a call does what it is to do.
 fn moves<S: Alter>(alloc: Global, outbox: &mut Outbox<S>, row: &Move) -> bool {
-    let (call, made, before, after) = *row;
-    is_made_again(alloc, outbox, call, before) == Ok(made) && has_again(outbox, after) == Ok(true)
+    is_made_again(alloc, outbox, row) == Ok(row.made)
+        && matches!(has_again(outbox, row.after), Ok(true))
 }
 
 /// Whether an entry is put, looked up, moved and settled.
@@ -127,6 +133,7 @@ fn lives<S: Fresh>(alloc: Global) -> Option<bool> {
     Some(true)
 }
 
+/// The key of the nil UUID.
 fn nil_key(alloc: Global) -> Result<KeyText, AllocError> {
     match key_of(alloc, Uuid::nil()) {
         Err(AllocError) => key_of(alloc, Uuid::nil()),
@@ -135,9 +142,8 @@ fn nil_key(alloc: Global) -> Result<KeyText, AllocError> {
 }
 
 #[test]
-fn refused_memory_changes_nothing(rt: HostRuntime) -> Result<(), Fail> {
+fn refused_memory_changes_nothing(rt: HostRuntime) {
     assert_eq!(rt; lives::<MemStore>(rt.alloc()), Some(true));
-    let key = nil_key(rt.alloc())?;
-    assert!(rt; key.as_str() == "00000000-0000-0000-0000-000000000000");
-    Ok(())
+    let key = nil_key(rt.alloc()).expect(&rt, "no memory");
+    assert_eq!(rt; key.as_str(), "00000000-0000-0000-0000-000000000000");
 }

@@ -1,14 +1,13 @@
 //! Outboxes of an earlier version: what a migration makes of them, which it refuses, and what a stop in it leaves.
 
-use super::calls::{conn_of, migrate, migrated};
+use super::calls::{migrate, migrated};
 use super::memory::has_again;
 use super::{BODY, Expected, found, put};
 use crate::databases::{Fresh, ran};
-use crate::stops::{Trial, are_stopped};
+use crate::stops::{Trial, hold};
 use outbox_core::{Outbox, OutboxFault, State};
 use sqlite::{Alter, Connection, MemStore};
 use std::alloc::Global;
-use std::test::Fail;
 
 /// The tables of an outbox of form 1, with an entry that was confirmed and one that is open.
 const TABLES: &str =
@@ -90,16 +89,14 @@ static CASES: [Case; 12] = [
 
 /// An outbox of form 1 in a new database; `None` where something is refused.
 fn earlier<S: Fresh>(alloc: Global) -> Option<Connection<S>> {
-    ran(S::fresh(alloc).ok()?, TABLES)
+    ran(S::fresh(alloc)?, TABLES)
 }
 
 /// The outbox after its migration and a new entry, which is to replace a filing; `None` where either is refused.
 fn continued<S: Alter + Drop>(alloc: Global, conn: Connection<S>) -> Option<Connection<S>> {
     let mut outbox = migrate(alloc, conn).ok()?;
-    match put(alloc, &mut outbox, "k-3", true, BODY) {
-        Ok(_) => Some(conn_of(outbox)),
-        Err(_) => None,
-    }
+    put(alloc, &mut outbox, "k-3", true, BODY).ok()?;
+    Some(outbox.into_conn())
 }
 
 /// The database after a migration that is refused as the case says, and what undoes its statement.
@@ -152,7 +149,7 @@ fn migrated_again<S: Fresh>(alloc: Global) -> Result<Outbox<S>, OutboxFault> {
 /// Whether a migration that is made again where memory was refused gives the outbox.
 fn survives_refusals<S: Fresh>(alloc: Global) -> Option<bool> {
     let mut outbox: Outbox<S> = migrated_again(alloc).ok()?;
-    Some(has_again(&mut outbox, (&THREE[..2], 2)) == Ok(true))
+    Some(matches!(has_again(&mut outbox, (&THREE[..2], 2)), Ok(true)))
 }
 
 /// Run it with each allocation refused too, one in a run.
@@ -161,26 +158,40 @@ fn refused_memory_changes_nothing(rt: HostRuntime) {
     assert_eq!(rt; survives_refusals::<MemStore>(rt.alloc()), Some(true));
 }
 
-/// An outbox of form 1, in a database.
-pub fn with_earlier<S: Alter + Drop>(conn: Connection<S>) -> Option<Connection<S>> {
-    ran(conn, TABLES)
-}
+/// An outbox of form 1, which is migrated.
+#[derive(Clone, Copy)]
+struct FirstForm;
 
-/// The outbox, and whether it is that of before, which is migrated then, or the new one, which it has to be where that was answered; `None`
-/// where it is not opened.
-pub fn looked_at<S: Alter + Drop>(
-    alloc: Global,
-    conn: Connection<S>,
-    answered: bool,
-) -> Option<(Connection<S>, bool)> {
-    let (conn, fault) = migrated(alloc, conn)?;
-    let (conn, has) = found(alloc, conn, &THREE[..2])?;
-    let is_old_or_new = fault == Some(OutboxFault::NotOurs) || !answered && fault.is_none();
-    Some((conn, has && is_old_or_new))
+impl Trial for FirstForm {
+    fn make<S: Alter + Drop>(&self, _alloc: Global, conn: Connection<S>) -> Option<Connection<S>> {
+        ran(conn, TABLES)
+    }
+
+    fn change<S: Alter + Drop>(
+        &self,
+        alloc: Global,
+        conn: Connection<S>,
+    ) -> Option<(Connection<S>, bool)> {
+        let (conn, fault) = migrated(alloc, conn)?;
+        Some((conn, fault.is_none()))
+    }
+
+    /// An outbox of before is migrated then. One whose migration was answered has to be the new one.
+    fn look<S: Alter + Drop>(
+        &self,
+        alloc: Global,
+        conn: Connection<S>,
+        answered: bool,
+    ) -> Option<(Connection<S>, bool)> {
+        let (conn, fault) = migrated(alloc, conn)?;
+        let (conn, has) = found(alloc, conn, &THREE[..2])?;
+        let is_old_or_new = matches!(fault, Some(OutboxFault::NotOurs))
+            || !answered && fault.is_none();
+        Some((conn, has && is_old_or_new))
+    }
 }
 
 #[test]
-fn a_stop_leaves_the_outbox_of_before_or_after(rt: HostRuntime) -> Result<(), Fail> {
-    assert!(rt; are_stopped(rt.alloc(), Trial::Outbox)?);
-    Ok(())
+fn a_stop_leaves_the_outbox_of_before_or_after(rt: HostRuntime) {
+    hold(&rt, rt.alloc(), &FirstForm);
 }

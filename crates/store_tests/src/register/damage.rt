@@ -1,6 +1,6 @@
 //! Openings of databases that are no registers, or damaged ones.
 
-use super::calls::{conn_of, open};
+use super::calls::open;
 use super::{Request, made};
 use crate::databases::{Fresh, ran};
 use example_texts::{REPORT, SMALLEST};
@@ -199,8 +199,7 @@ static GROUPS: [(&[Request], &[Case]); 4] = [
 
 /// A register with these requests, after statements on its tables.
 fn changed<S: Fresh>(alloc: Global, requests: &[Request], sql: &str) -> Option<Connection<S>> {
-    let store = made(alloc, S::fresh(alloc).ok()?, requests)?;
-    ran(conn_of(store), sql)
+    ran(made(alloc, S::fresh(alloc)?, requests)?, sql)
 }
 
 /// How an opening is refused then, if it is; `None` where a statement is refused.

@@ -2,8 +2,7 @@
 //! before, and the second answer is that of ample memory. Run it with each allocation refused too, one in a run.
 
 use super::calls::{
-    all_filings, conn_of, create, facts, filings, intake_over, open, replaceable, requests,
-    store_of,
+    create, fact_count, filing_count, has_filings, intake_over, open, replaceable, request_count,
 };
 use super::{Request, holds, submit};
 use crate::databases::Fresh;
@@ -12,7 +11,7 @@ use filing_model::FilingRow;
 use intake_core::{Intake, Unavailable};
 use register_store::{CreateFault, OpenFault, Store, StoreFault};
 use sqlite::{Alter, MemStore};
-use std::alloc::{AllocError, Global};
+use std::alloc::Global;
 
 /// A report, one that replaces it, and one that comes too late to replace it.
 static REQUESTS: [Request; 3] = [
@@ -40,8 +39,8 @@ static FILINGS: [FilingRow; 2] = [
 /// What making a new register answers.
 fn created<S: Fresh>(alloc: Global) -> Result<Store<S>, CreateFault> {
     match S::fresh(alloc) {
-        Ok(conn) => create(alloc, conn),
-        Err(AllocError) => Err(CreateFault::Memory),
+        Some(conn) => create(alloc, conn),
+        None => Err(CreateFault::Memory),
     }
 }
 
@@ -86,13 +85,13 @@ fn kept<S: Fresh>(alloc: Global, requests: &[Request]) -> Option<Store<S>> {
             return None;
         }
     }
-    Some(store_of(intake))
+    Some(intake.into_store())
 }
 
 /// What an opening of a register with the requests answers.
 fn opened<S: Fresh>(alloc: Global) -> Result<Store<S>, OpenFault> {
     match kept(alloc, &REQUESTS) {
-        Some(store) => open(alloc, conn_of(store)),
+        Some(store) => open(alloc, store.into_conn()),
         None => Err(OpenFault::NotOurs),
     }
 }
@@ -105,30 +104,18 @@ fn opened_again<S: Fresh>(alloc: Global) -> Result<Store<S>, OpenFault> {
     }
 }
 
-/// How many facts the first filing has, 0 where there is no filing.
-fn fact_count<S: Alter>(store: &mut Store<S>) -> Result<usize, StoreFault> {
-    match facts(store, 1)? {
-        Some(list) => Ok(list.len()),
-        None => Ok(0),
-    }
-}
-
 /// Whether each list has what was filed.
 fn lists_all<S: Alter>(store: &mut Store<S>) -> Result<bool, StoreFault> {
     Ok(
-        requests(store)?.len() == REQUESTS.len()
-            && all_filings(store)?.len() == FILINGS.len()
-            && fact_count(store)? == 1,
+        request_count(store)? == REQUESTS.len()
+            && filing_count(store)? == FILINGS.len()
+            && fact_count(store, 1)? == 1,
     )
 }
 
 /// Whether the register tells that the second filing replaces the first, and is itself free to be replaced.
 fn is_replaced<S: Alter>(store: &mut Store<S>) -> Result<bool, StoreFault> {
-    Ok(
-        filings(store)?.as_slice() == FILINGS.as_slice()
-            && !replaceable(store, 1)?
-            && replaceable(store, 2)?,
-    )
+    Ok(has_filings(store, &FILINGS)? && !replaceable(store, 1)? && replaceable(store, 2)?)
 }
 
 fn tells_all<S: Alter>(store: &mut Store<S>) -> Result<bool, StoreFault> {
@@ -145,8 +132,8 @@ fn tells_all_again<S: Alter>(store: &mut Store<S>) -> Result<bool, StoreFault> {
 /// Whether the register that is opened has the reports.
 fn lives<S: Fresh>(alloc: Global) -> Option<bool> {
     let mut store: Store<S> = opened_again(alloc).ok()?;
-    let is_kept = holds_again(alloc, &mut store, &REQUESTS) == Ok(true);
-    Some(is_kept && tells_all_again(&mut store) == Ok(true))
+    let is_kept = matches!(holds_again(alloc, &mut store, &REQUESTS), Ok(true));
+    Some(is_kept && matches!(tells_all_again(&mut store), Ok(true)))
 }
 
 #[test]

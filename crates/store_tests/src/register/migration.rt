@@ -1,32 +1,39 @@
 //! Registers of earlier versions: what a migration makes of them, which it refuses, and what a stop in it leaves.
 
-use super::calls::{conn_of, early_count, intake_over, migrate, migrated, open, store_of};
+use super::calls::{intake_over, migrate, migrated, open};
 use super::memory::holds_again;
 use super::{Request, holds, submit};
 use crate::databases::{Fresh, ran};
-use crate::stops::{Trial, are_stopped};
+use crate::stops::{Trial, hold};
 use example_texts::SMALLEST;
 use register_store::{OpenFault, Store, StoreFault};
 use sqlite::{Alter, Connection, MemStore};
 use std::alloc::Global;
-use std::test::Fail;
 
-/// The statements of a form, and how many of its two requests are of before.
-pub type Form = (&'static str, u64);
+/// An earlier form of a register, which is migrated.
+struct Form {
+    /// What the tables have beside those of every form.
+    sql: &'static str,
+    /// How many of its two requests are of before.
+    early: u64,
+}
 
 /// The tables of every form, with the smallest report and a refused empty body, which is no JSON text.
 const TABLES: &str =
     "CREATE TABLE intake_meta (id INTEGER PRIMARY KEY, kind TEXT NOT NULL, form INTEGER NOT NULL) STRICT; CREATE TABLE kept (seq INTEGER PRIMARY KEY, filer TEXT NOT NULL, idem TEXT NOT NULL, body BLOB NOT NULL, number INTEGER, UNIQUE (filer, idem)) STRICT; CREATE TABLE finding (seq INTEGER NOT NULL, pos INTEGER NOT NULL, code INTEGER NOT NULL, place BLOB NOT NULL, PRIMARY KEY (seq, pos)) STRICT; CREATE TABLE filing (number INTEGER PRIMARY KEY, seq INTEGER NOT NULL UNIQUE) STRICT; CREATE TABLE fact (number INTEGER NOT NULL, pos INTEGER NOT NULL, id BLOB NOT NULL, concept BLOB NOT NULL, dimensions BLOB NOT NULL, value BLOB, decimals INTEGER, PRIMARY KEY (number, pos)) STRICT; INSERT INTO kept VALUES (1, 'ACME', 'k-1', x'7b22646f63756d656e74496e666f223a7b22646f63756d656e7454797065223a2268747470733a2f2f7862726c2e6f72672f323032312f7862726c2d6a736f6e222c227461786f6e6f6d79223a5b2274225d7d7d', 1); INSERT INTO filing VALUES (1, 1); INSERT INTO kept VALUES (2, 'ACME', 'k-2', x'', NULL); INSERT INTO finding VALUES (2, 1, 1, x'')";
 
-const SECOND: Form = ("INSERT INTO intake_meta VALUES (1, 'register', 2)", 2);
+const SECOND: &Form = &Form {
+    sql: "INSERT INTO intake_meta VALUES (1, 'register', 2)",
+    early: 2,
+};
 
-const THIRD: Form = (
-    "CREATE TABLE migrated (id INTEGER PRIMARY KEY, last INTEGER NOT NULL) STRICT; INSERT INTO migrated VALUES (1, 1); INSERT INTO intake_meta VALUES (1, 'register', 3)",
-    1,
-);
+const THIRD: &Form = &Form {
+    sql: "CREATE TABLE migrated (id INTEGER PRIMARY KEY, last INTEGER NOT NULL) STRICT; INSERT INTO migrated VALUES (1, 1); INSERT INTO intake_meta VALUES (1, 'register', 3)",
+    early: 1,
+};
 
 /// A form, a statement on its tables, why a migration is refused then, and a statement that undoes the first.
-type Case = (Form, &'static str, OpenFault, &'static str);
+type Case = (&'static Form, &'static str, OpenFault, &'static str);
 
 /// Another form, a name in use, and damage, which is told before a name is.
 static CASES: [Case; 13] = [
@@ -118,42 +125,42 @@ static THREE: [Request; 3] = [
 ];
 
 /// The statements of a form in a database; `None` where one is refused.
-pub fn with_form<S: Alter + Drop>(conn: Connection<S>, form: Form) -> Option<Connection<S>> {
-    ran(ran(conn, TABLES)?, form.0)
+fn with_form<S: Alter + Drop>(conn: Connection<S>, form: &Form) -> Option<Connection<S>> {
+    ran(ran(conn, TABLES)?, form.sql)
 }
 
 /// A register of the form in a new database.
-fn earlier<S: Fresh>(alloc: Global, form: Form) -> Option<Connection<S>> {
-    with_form(S::fresh(alloc).ok()?, form)
+fn earlier<S: Fresh>(alloc: Global, form: &Form) -> Option<Connection<S>> {
+    with_form(S::fresh(alloc)?, form)
 }
 
 /// Whether the register has these requests, as many of them of before as the form says.
 fn has<S: Alter>(
     alloc: Global,
     store: &mut Store<S>,
-    form: Form,
+    form: &Form,
     requests: &[Request],
 ) -> Result<bool, StoreFault> {
-    Ok(early_count(store)? == form.1 && holds(alloc, store, requests)?)
+    Ok(store.early_count()? == form.early && holds(alloc, store, requests)?)
 }
 
 /// The register, and whether it has these requests, as many of them of before as the form says; `None` where it is not opened.
 fn found<S: Alter + Drop>(
     alloc: Global,
     conn: Connection<S>,
-    form: Form,
+    form: &Form,
     requests: &[Request],
 ) -> Option<(Connection<S>, bool)> {
     let mut store = open(alloc, conn).ok()?;
-    let has = has(alloc, &mut store, form, requests) == Ok(true);
-    Some((conn_of(store), has))
+    let has = matches!(has(alloc, &mut store, form, requests), Ok(true));
+    Some((store.into_conn(), has))
 }
 
 /// The register after its migration and a new request, which is refused; `None` where either has another answer.
 fn continued<S: Alter + Drop>(alloc: Global, conn: Connection<S>) -> Option<Connection<S>> {
     let mut intake = intake_over(alloc, migrate(alloc, conn).ok()?);
     match submit(alloc, &mut intake, THREE[2]) {
-        Ok((0, false)) => Some(conn_of(store_of(intake))),
+        Ok((0, false)) => Some(intake.into_store().into_conn()),
         _ => None,
     }
 }
@@ -190,7 +197,7 @@ fn earlier_registers_are_taken_along_and_others_are_left(rt: HostRuntime) {
 }
 
 /// What a migration of a new register of the form answers.
-fn migrated_new<S: Fresh>(alloc: Global, form: Form) -> Result<Store<S>, OpenFault> {
+fn migrated_new<S: Fresh>(alloc: Global, form: &Form) -> Result<Store<S>, OpenFault> {
     match earlier(alloc, form) {
         Some(conn) => migrate(alloc, conn),
         None => Err(OpenFault::Memory),
@@ -198,7 +205,7 @@ fn migrated_new<S: Fresh>(alloc: Global, form: Form) -> Result<Store<S>, OpenFau
 }
 
 /// The register, migrated. A refusal gives the database up, so another one is made then.
-fn migrated_again<S: Fresh>(alloc: Global, form: Form) -> Result<Store<S>, OpenFault> {
+fn migrated_again<S: Fresh>(alloc: Global, form: &Form) -> Result<Store<S>, OpenFault> {
     match migrated_new(alloc, form) {
         Err(OpenFault::Memory) => migrated_new(alloc, form),
         answer => answer,
@@ -206,10 +213,10 @@ fn migrated_again<S: Fresh>(alloc: Global, form: Form) -> Result<Store<S>, OpenF
 }
 
 /// Whether a migration that is made again where memory was refused gives the register.
-fn survives_refusals<S: Fresh>(alloc: Global, form: Form) -> Option<bool> {
+fn survives_refusals<S: Fresh>(alloc: Global, form: &Form) -> Option<bool> {
     let mut store: Store<S> = migrated_again(alloc, form).ok()?;
-    let is_kept = holds_again(alloc, &mut store, &THREE[..2]) == Ok(true);
-    Some(is_kept && early_count(&store) == Ok(form.1))
+    let is_kept = matches!(holds_again(alloc, &mut store, &THREE[..2]), Ok(true));
+    Some(is_kept && store.early_count() == Ok(form.early))
 }
 
 #[test]
@@ -220,24 +227,38 @@ fn refused_memory_changes_nothing(rt: HostRuntime) {
     );
 }
 
-/// The register, and whether it is that of before, which is migrated then, or the new one, which it has to be where that was answered;
-/// `None` where it is not opened.
-pub fn looked_at<S: Alter + Drop>(
-    alloc: Global,
-    conn: Connection<S>,
-    form: Form,
-    answered: bool,
-) -> Option<(Connection<S>, bool)> {
-    let (conn, fault) = migrated(alloc, conn)?;
-    let (conn, has) = found(alloc, conn, form, &THREE[..2])?;
-    let is_old_or_new = fault == Some(OpenFault::NotOurs) || !answered && fault.is_none();
-    Some((conn, has && is_old_or_new))
+impl Trial for Form {
+    fn make<S: Alter + Drop>(&self, _alloc: Global, conn: Connection<S>) -> Option<Connection<S>> {
+        with_form(conn, self)
+    }
+
+    fn change<S: Alter + Drop>(
+        &self,
+        alloc: Global,
+        conn: Connection<S>,
+    ) -> Option<(Connection<S>, bool)> {
+        let (conn, fault) = migrated(alloc, conn)?;
+        Some((conn, fault.is_none()))
+    }
+
+    /// A register of before is migrated then. One whose migration was answered has to be the new one.
+    fn look<S: Alter + Drop>(
+        &self,
+        alloc: Global,
+        conn: Connection<S>,
+        answered: bool,
+    ) -> Option<(Connection<S>, bool)> {
+        let (conn, fault) = migrated(alloc, conn)?;
+        let (conn, has) = found(alloc, conn, self, &THREE[..2])?;
+        let is_old_or_new = matches!(fault, Some(OpenFault::NotOurs))
+            || !answered && fault.is_none();
+        Some((conn, has && is_old_or_new))
+    }
 }
 
 #[test]
-fn a_stop_leaves_the_register_of_before_or_after(rt: HostRuntime) -> Result<(), Fail> {
+fn a_stop_leaves_the_register_of_before_or_after(rt: HostRuntime) {
     for form in [SECOND, THIRD] {
-        assert!(rt; are_stopped(rt.alloc(), Trial::Register(form))?);
+        hold(&rt, rt.alloc(), form);
     }
-    Ok(())
 }
