@@ -1,5 +1,6 @@
 //! The codes of findings.
-ghost use Rattle.std.specs.Prelude.{◌≡◌, pos, Some, IfSome};
+ghost use Rattle.std.specs.Prelude.{◌≡◌, ◌↔◌, ℤ, pos, Some, IfSome, IsNone};
+ghost use Rattle.std.specs.Option.{IfNone};
 
 /// Why a report is refused at a place. Each variant's meaning is a line of `specs/Finding.antt`, of
 /// `specs/Dimension.antt` for what is wrong with a dimension, or of `specs/Amendment.antt`.
@@ -109,6 +110,42 @@ impl Code {
             24 => Some(Code::UnknownDimension),
             25 => Some(Code::TooMany),
             26 => Some(Code::NotReplaceable),
+            _ => None,
+        }
+    }
+
+    /// The code of that word, if there is one.
+    pub fn of_text(text: &str) -> Option<Code>
+        ensures value { IfSome result (λ code. text.now ≡ text_of code) }
+        ensures complete { (code : Code) → text.now ≡ text_of code → result ≡ Some code }
+    {
+        match text {
+            "not-json" => Some(Code::NotJson),
+            "not-object" => Some(Code::NotObject),
+            "document-info" => Some(Code::DocumentInfo),
+            "document-type" => Some(Code::DocumentType),
+            "namespaces" => Some(Code::Namespaces),
+            "namespace-uri" => Some(Code::NamespaceUri),
+            "taxonomy" => Some(Code::Taxonomy),
+            "facts" => Some(Code::Facts),
+            "fact" => Some(Code::Fact),
+            "value" => Some(Code::Value),
+            "decimals" => Some(Code::Decimals),
+            "dimensions" => Some(Code::Dimensions),
+            "concept-missing" => Some(Code::ConceptMissing),
+            "entity-missing" => Some(Code::EntityMissing),
+            "dimension-value" => Some(Code::DimensionValue),
+            "name" => Some(Code::Name),
+            "unbound-prefix" => Some(Code::UnboundPrefix),
+            "not-the-filer" => Some(Code::NotTheFiler),
+            "period" => Some(Code::Period),
+            "period-order" => Some(Code::PeriodOrder),
+            "unit" => Some(Code::UnitForm),
+            "number" => Some(Code::Number),
+            "language" => Some(Code::Language),
+            "unknown-dimension" => Some(Code::UnknownDimension),
+            "too-many" => Some(Code::TooMany),
+            "not-replaceable" => Some(Code::NotReplaceable),
             _ => None,
         }
     }
