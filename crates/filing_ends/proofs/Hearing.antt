@@ -63,7 +63,7 @@ none_read bytes left Malformed why none = refused_none bytes left Malformed why.
 none_read bytes left NoLength why none = refused_none bytes left NoLength why.1
 none_read bytes left TooLarge why none = refused_none bytes left TooLarge why.1
 none_read bytes left Read failed none = absurd (never_failed failed)
-none_read bytes left ReadLimit (fine, (given, all, many)) none = let size = ap length all ∙ length-append given left in inr (omega (arith, size, many))
+none_read bytes left ReadLimit (fine, (given, all, (many, cut))) none = let size = ap length all ∙ length-append given left in inr (omega (arith, size, many))
 none_read bytes left Memory why none = absurd (cc)
 
 unheard : (bytes left : List ℕ) (fault : ExchangeFault) → IsFault (Some bytes) (Some left) 0 0 0 0 fault → cause_of_unheard fault ≡ None → Hears bytes No None

@@ -144,10 +144,15 @@ fn read_again(alloc: Global, content: Vec<u8>) -> Result<String, AllocError> {
     told(alloc, &mut in_pieces(&bytes, 20_000))
 }
 
+/// A usual length, and one of more bytes than a connection is read times.
+const LENGTHS: &[usize] = &[100_000, 5_000_000];
+
 #[test]
 fn what_is_written_is_read_again(rt: HostRuntime) -> Result<(), Fail> {
-    let content = "x".repeat(rt.alloc(), 100_000)?;
-    let text = format!(in rt.alloc(); "405 {content}")?;
-    assert!(rt; read_again(rt.alloc(), content.into_bytes())? == text);
+    for len in LENGTHS {
+        let content = "x".repeat(rt.alloc(), *len)?;
+        let text = format!(in rt.alloc(); "405 {content}")?;
+        assert!(rt; read_again(rt.alloc(), content.into_bytes())? == text);
+    }
     Ok(())
 }

@@ -1,5 +1,5 @@
 -- How a reply is read out of what the reader gave.
-use Rattle.std.proofs.Common.{◌≡◌, ℕ, ◌+◌, ◌-◌, ◌≤◌, true, false, List, [], ◌++◌, length, take, drop, Option, Ok, Err, sym, ap, ◌∙◌, subst, inl, inr, arith, append_assoc, length-append}
+use Rattle.std.proofs.Common.{◌≡◌, ℕ, ◌+◌, ◌-◌, ◌<◌, ◌≤◌, true, false, List, [], ◌++◌, length, take, drop, Option, Ok, Err, sym, ap, ◌∙◌, subst, inl, inr, arith, append_assoc, length-append}
 use Rattle.std.proofs.KnownBytes.{Consumes-nil, Consumes-trans}
 use Rattle.std.specs.Prelude.{slice_range}
 use Rattle.std.specs.Io.KnownBytes.{Consumes}
@@ -12,7 +12,8 @@ use Rattle.http_messages.specs.declared.refusal.ReplyFault.TheVariants.{Cut, Mal
 use Rattle.http_messages.specs.declared.response.ResponseHead.{ResponseHead}
 use Rattle.http_wire.specs.Received.{held_bytes, read_count}
 use Rattle.http_messages.specs.Reply.{ReplyParts}
-use Rattle.http_messages.specs.ReplyFaults.{content_length}
+use Rattle.http_messages.specs.Block.{IsUnended}
+use Rattle.http_messages.specs.ReplyFaults.{content_length, IsCutReply}
 use Rattle.http_wire.specs.ReplyFaults.{HasGiven, IsReplyFailure}
 use Rattle.http_messages.specs.ResponseBlock.{ShowsParts}
 use Rattle.http_wire.specs.ReplyReading.{Takes, TakesHead, IsHeadFailure, IsContentFailure}
@@ -132,11 +133,15 @@ HasSkipped-head first mid after old new head s t is =
 skipped_arrival : (first after : Option (List ℕ)) (r : Received) (s : HasSkipped first after r) → drop (length s.taken) (s.taken ++ held_bytes r) ≡ held_bytes r
 skipped_arrival first after r s = drop-own s.taken (held_bytes r)
 
+-- as long as the head has no end, what was given is cut
+cut_head : (first after : Option (List ℕ)) (r : Received) (s : HasSkipped first after r) → IsUnended (held_bytes r) → IsCutReply (s.taken ++ held_bytes r)
+cut_head first after r s unended = IsCutReply-unended _ (length s.taken) s.interims (rw (skipped_arrival first after r s) unended)
+
 -- no head was read
 pub head_failure : (first mid after : Option (List ℕ)) (a b : ℕ) (old new : Received) (fault : ReplyFault) → HasSkipped first mid old → IsHeadFailure mid after a b old new fault → IsReplyFailure first after a b fault
 head_failure first mid after a b old new Cut s f =
     let m = HasSkipped-more first mid after old new s f.1 in
-    (f.0, f.3, (m.taken ++ held_bytes new, m.given, IsCutReply-unended _ (length m.taken) m.interims (rw (skipped_arrival first after new m) f.2)))
+    (f.0, f.3, (m.taken ++ held_bytes new, m.given, cut_head first after new m f.2))
 head_failure first mid after a b old new Malformed s f =
     let m = HasSkipped-more first mid after old new s f.1 in
     (f.0, (m.taken ++ held_bytes new, m.given, (length m.taken, m.interims, inl (rw (skipped_arrival first after new m) f.2))))
@@ -147,7 +152,7 @@ head_failure first mid after a b old new TooLarge s f =
 head_failure first mid after a b old new Read s f = f
 head_failure first mid after a b old new ReadLimit s f =
     let m = HasSkipped-more first mid after old new s f.1 in
-    (f.0, (m.taken ++ held_bytes new, m.given, omega (arith, m.count, f.2)))
+    (f.0, (m.taken ++ held_bytes new, m.given, (omega (arith, m.count, f.3), cut_head first after new m f.2)))
 head_failure first mid after a b old new Memory s f = f.0
 
 module _ (first mid after : Option (List ℕ)) (old new : Received) (head : ResponseHead) (s : HasSkipped first mid old) (t : TakesHead mid after old new head) (final : is_interim head.status ≡ false) where
@@ -197,20 +202,25 @@ module _ (first mid after : Option (List ℕ)) (old new : Received) (head : Resp
     unfolding all-bytes
     sizes text = simp length-append
 
+    -- as long as some of it is missing, what was given is cut
+    cut-content : (part : List ℕ) → Takes after later new last part → held_bytes last ≡ [] → length part < len → IsCutReply (all-bytes part)
+    cut-content part t2 empty short =
+        let none : length (held_bytes last) ≡ 0 = ap length empty in
+        IsCutReply-content (all-bytes part) (length here.front) (after-interims part t2) here.parts (length here.block) len (after-begins part t2) here-final own-length (omega (arith, sizes part, none, short))
+
     -- its content wasn't read
     pub content_failure : (a b : ℕ) (fault : ReplyFault) → IsContentFailure after later a b new last len fault → IsReplyFailure first later a b fault
     unfolding all-bytes
     content_failure a b Cut f =
         let part = f.1.0 in
-        let empty : length (held_bytes last) ≡ 0 = ap length f.1.2 in
-        (f.0, f.2, (all-bytes part, (after-head part f.1.1).given, IsCutReply-content (all-bytes part) (length here.front) (after-interims part f.1.1) here.parts (length here.block) len (after-begins part f.1.1) here-final own-length (omega (arith, sizes part, empty, f.1.3))))
+        (f.0, f.2, (all-bytes part, (after-head part f.1.1).given, cut-content part f.1.1 f.1.2 f.1.3))
     content_failure a b Malformed f = absurd f
     content_failure a b NoLength f = absurd f
     content_failure a b TooLarge f = absurd f
     content_failure a b Read f = f
     content_failure a b ReadLimit f =
         let part = f.1.0 in
-        (f.0, (all-bytes part, (after-head part f.1.1).given, omega (arith, (after-head part f.1.1).count, f.2)))
+        (f.0, (all-bytes part, (after-head part f.1.1).given, (omega (arith, (after-head part f.1.1).count, f.2), cut-content part f.1.1 f.1.2 f.1.3)))
     content_failure a b Memory f = f
 
     begins-reply : (content : List ℕ) → Takes after later new last content → length content ≡ len

@@ -9,7 +9,7 @@ use Rattle.http_wire.specs.Received.{held_bytes, read_count, Receives, IsReadFau
 use Rattle.http_messages.specs.declared.refusal.ConnFault.{ConnFault}
 use Rattle.http_messages.specs.declared.refusal.ConnFault.TheVariants.{Read, Write, ReadLimit, Memory}
 use Rattle.http_messages.specs.declared.response.ResponseHead.{ResponseHead}
-use Rattle.http_messages.specs.Block.{IsBlockEnd, from_block, skipped_len}
+use Rattle.http_messages.specs.Block.{IsBlockEnd, IsUnended, from_block, skipped_len}
 use Rattle.http_wire.specs.Device.{HasFailed}
 use Rattle.http_messages.specs.ReplyFaults.{fault_of_read}
 use Rattle.http_wire.specs.ReplyReading.{Takes, TakesHead, IsHeadFailure, IsContentFailure}
@@ -115,11 +115,11 @@ content_failure a b p q r s old new part len Memory takes empty short same f las
 -- ---- why a read gave no head
 
 -- a read that failed
-pub head_failure-read : (a b : Option (List ℕ)) (p q : ℕ) (old new : Received) (fault : ConnFault) → Receives a b old new → IsReadFault p q new fault → IsHeadFailure a b p q old new (fault_of_read fault)
-head_failure-read a b p q old new Read reads f = f
-head_failure-read a b p q old new (Write sent) reads f = absurd f
-head_failure-read a b p q old new ReadLimit reads f = (f.0, Takes-receives a b old new reads, f.1)
-head_failure-read a b p q old new Memory reads f = f
+pub head_failure-read : (a b : Option (List ℕ)) (p q : ℕ) (old new : Received) (fault : ConnFault) → Receives a b old new → IsUnended (held_bytes new) → IsReadFault p q new fault → IsHeadFailure a b p q old new (fault_of_read fault)
+head_failure-read a b p q old new Read reads unended f = f
+head_failure-read a b p q old new (Write sent) reads unended f = absurd f
+head_failure-read a b p q old new ReadLimit reads unended f = (f.0, Takes-receives a b old new reads, unended, f.1)
+head_failure-read a b p q old new Memory reads unended f = f
 
 -- a head that is taken after reads that gave nothing leaves less
 pub head-shorter : (a b : Option (List ℕ)) (old mid new : Received) (n : ℕ) → Receives a b old mid → IsBlockEnd (held_bytes mid) n

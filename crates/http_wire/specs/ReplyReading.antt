@@ -35,7 +35,7 @@ IsHeadFailure before after failures failures' old new Malformed = (failures' ≡
 IsHeadFailure before after failures failures' old new NoLength = ⊥
 IsHeadFailure before after failures failures' old new TooLarge = (failures' ≡ failures) × Takes before after old new [] × IsTooLong (held_bytes new)
 IsHeadFailure before after failures failures' old new Read = HasFailed failures failures'
-IsHeadFailure before after failures failures' old new ReadLimit = (failures' ≡ failures) × Takes before after old new [] × (read_count new ≡ max_reads)
+IsHeadFailure before after failures failures' old new ReadLimit = (failures' ≡ failures) × Takes before after old new [] × IsUnended (held_bytes new) × (read_count new ≡ max_reads)
 IsHeadFailure before after failures failures' old new Memory = (failures' ≡ failures) × (read_count new < max_reads)
 
 -- less than the content was taken

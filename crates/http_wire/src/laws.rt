@@ -14,13 +14,14 @@ pub use http_messages::laws::{
     reply_is_read, request_is_no_front_of_another,
 };
 
-/// What is written of such a reply is read again: where a reader gives it, in whatever pieces, no other
-/// reply is read, and where none is read, the reader or the memory failed.
+/// What is written of such a reply is read again: if a reader gives it, in whatever pieces, no other
+/// reply is read, and if none is read, the reader or the memory failed, or so many reads gave less than
+/// all of it.
 pub fn written_reply_is_read_again()
     ensures same { (reply : ReplyParts) (close : Bool) (after : Option (List ℕ)) → IsReadable reply
         → (other : ReplyParts) → HasGiven (Some (render reply close)) after (λ bytes. GivesReply bytes other)
         → other ≡ reply }
     ensures fault { (reply : ReplyParts) (close : Bool) (after : Option (List ℕ)) → IsReadable reply
         → (old new : ℕ) (fault : ReplyFault) → IsReplyFailure (Some (render reply close)) after old new fault
-        → IsOfReader fault }
+        → IsOfReader (render reply close) after fault }
 {}

@@ -10,7 +10,7 @@ use Rattle.http_wire.proofs.reply_reader.take_head.Goals as goal
 
 pub returns-in_err-end : goal.returns-in_err-end
 returns-in_err-end g c =
-    let told = head_failure-read _ _ _ _ c.args.received.now c.read_block.new.self c.in_err-end.field-0.0 c.read_block.ensures.reads c.in_err-end.ensures.fault in
+    let told = head_failure-read _ _ _ _ c.args.received.now c.read_block.new.self c.in_err-end.field-0.0 c.read_block.ensures.reads c.in_err-end.ensures.unended c.in_err-end.ensures.fault in
     let gives = err_from_is_err_and c.from_residual.result c.from_residual.ensures.1 in
     record {
       head = rw gives.1 tt;
