@@ -30,7 +30,7 @@ WritesUpTo before after bytes (Write sent) = Asks bytes true × (sent ≤ length
 WritesUpTo before after bytes ReadLimit = WritesAsked before after bytes
 WritesUpTo before after bytes Memory = WritesAsked before after bytes ⊎ Appends before after []
 
--- Why a call failed, by the failures of the reader and of the writer before and after, the reads that gave bytes, and the bytes that are
+-- Why a call failed, by the failures of the reader and of the writer before and after, the reads that are counted, and the bytes that are
 -- held: a read that was wanted failed, or a write did; or neither failed, and all reads were made that may give bytes where one more was
 -- wanted, or there was no memory. Where no read may give bytes any more, memory is wanted for the head of a block that is held.
 abbrev pub IsFault : ℕ → ℕ → ℕ → ℕ → ℕ → List ℕ → ConnFault → Type 0

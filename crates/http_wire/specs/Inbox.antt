@@ -14,7 +14,7 @@ use Rattle.http_wire.specs.Parsed.{parsed_end, parsed_request}
 use Rattle.http_wire.specs.Received.{held_bytes, read_count}
 use Rattle.http_messages.specs.Request.{Request}
 
--- how many reads gave bytes
+-- how many reads are counted, each of which gave a byte at least
 abbrev pub reads : Inbox → ℕ
 reads i = read_count i.received
 

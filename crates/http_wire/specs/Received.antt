@@ -12,7 +12,7 @@ use Rattle.http_messages.specs.Reads.{max_reads}
 abbrev pub held_bytes : Received → List ℕ
 held_bytes r = buffered r.bytes
 
--- how many reads gave bytes
+-- how many reads are counted, each of which gave a byte at least
 abbrev pub read_count : Received → ℕ
 read_count r = r.reads
 

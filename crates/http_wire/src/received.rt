@@ -9,7 +9,8 @@ use crate::device::Source;
 use http_messages::{Block, ConnFault, find_block_from, skipped_len};
 use std::alloc::{AllocError, Global};
 
-/// The most reads of one connection that give bytes. An own rule.
+/// The most reads of one connection that give bytes. An own rule. Contracts say it by bytes, at least
+/// one for each read that is counted, since a reader names its bytes and not its reads.
 pub const MAX_READS: u32 = 4_194_304;
 
 /// The length of the longest request: a skipped CRLF, 16,384 bytes of a block and 1,048,576 of a
