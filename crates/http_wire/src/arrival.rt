@@ -11,7 +11,7 @@ ghost use Rattle.http_messages.specs.Reads.{max_reads};
 
 use crate::device::{Sink, Source};
 use crate::received::Received;
-use crate::send::send;
+use crate::write::write_all;
 use http_messages::{
     Block, ConnFault, Framing, HeadFault, HeadSpans, Refusal, read_parts, skipped_len,
 };
@@ -125,7 +125,7 @@ fn send_interim<W: Sink>(writer: &mut W, framing: Framing) -> Result<(), ConnFau
         (W.write_failures writer.new) (framing_awaits framing)) }
 {
     if framing.expects && framing.body_len > 0 {
-        send(writer, INTERIM).map_err(|sent| ConnFault::Write { sent })?;
+        write_all(writer, INTERIM).map_err(|sent| ConnFault::Write { sent })?;
     }
     Ok(())
 }

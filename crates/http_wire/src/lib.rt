@@ -11,7 +11,6 @@ mod inbox;
 pub mod laws;
 mod received;
 mod reply_reader;
-mod send;
 mod write;
 
 pub use conn::Conn;

@@ -7,7 +7,6 @@ ghost use Rattle.http_messages.specs.Reply.{phrase, render};
 ghost use Rattle.http_wire.specs.Write.{IsWriteFault};
 
 use crate::device::Sink;
-use crate::send::send;
 use http_messages::{ConnFault, Reply, reply_text};
 use std::alloc::Global;
 
@@ -20,7 +19,14 @@ pub fn write_all<W: Sink>(writer: &mut W, text: &[u8]) -> Result<(), usize>
     ensures fine { OnOk result (W.write_failures writer.new ≡ W.write_failures writer.old) }
     ensures failed { IfErr result (λ _. HasFailed (W.write_failures writer.old) (W.write_failures writer.new)) }
 {
-    send(writer, text)
+    let mut sent = 0;
+    while sent < text.len() {
+        match writer.write(&text[sent..]) {
+            Ok(count) => sent += count,
+            Err(_) => return Err(sent),
+        }
+    }
+    Ok(())
 }
 
 /// Writes the bytes of a reply. Where there is no memory for them, nothing is written.
@@ -39,5 +45,5 @@ pub fn write_reply<W: Sink>(
         (W.write_failures writer.new) (render (reply_parts reply.now) close)) }
 {
     let text = reply_text(alloc, reply, close)?;
-    send(writer, &text).map_err(|sent| ConnFault::Write { sent })
+    write_all(writer, &text).map_err(|sent| ConnFault::Write { sent })
 }
