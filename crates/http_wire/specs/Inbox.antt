@@ -11,7 +11,7 @@ use Rattle.http_wire.specs.Calls.{interim_if, WritesAsked}
 use Rattle.http_messages.specs.Head.{closes}
 use Rattle.http_messages.specs.Message.{BeginsRequest, IsRefused, IsRest, awaits}
 use Rattle.http_wire.specs.Parsed.{parsed_end, parsed_request}
-use Rattle.http_wire.specs.Received.{held_bytes, read_count}
+use Rattle.http_wire.specs.Received.{held_bytes, held_memory, read_count}
 use Rattle.http_messages.specs.Request.{Request}
 
 -- how many reads are counted, each of which gave a byte at least
@@ -21,6 +21,10 @@ reads i = read_count i.received
 -- the bytes that were read and not yet dropped
 abbrev pub held : Inbox → List ℕ
 held i = held_bytes i.received
+
+-- for how many of them it has taken memory
+abbrev pub memory : Inbox → ℕ
+memory i = held_memory i.received
 
 -- how many of them belong to the request that is lent
 abbrev pub lent_len : Inbox → ℕ
@@ -54,9 +58,10 @@ is_over i = not (is_open i.phase) || option_map_or (λ p. p.framing.closes) i.le
 abbrev pub is_failed : Inbox → Bool
 is_failed i = has_failed i.phase
 
--- nothing was read
+-- nothing was read, and there is memory for a first read
 pub record IsNew (i : Inbox) : Type 0 where
   pub count : reads i ≡ 0
+  pub memory_is : memory i ≡ 16384
   pub empty : held i ≡ []
   pub more : is_over i ≡ false
   pub none : lent_request i ≡ None

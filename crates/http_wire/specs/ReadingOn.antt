@@ -5,7 +5,7 @@ use Rattle.http_messages.specs.declared.refusal.ConnFault.{ConnFault}
 use Rattle.http_wire.specs.declared.inbox.Next.{Next}
 use Rattle.http_wire.specs.declared.inbox.Next.TheVariants.{End}
 use Rattle.http_wire.specs.Calls.{HoldsArrival, WritesUpTo, IsFault}
-use Rattle.http_wire.specs.Inbox.{held, unread, is_over, is_failed, ReadsOn, ReadsNothing, IsNext, WritesInterim}
+use Rattle.http_wire.specs.Inbox.{held, memory, unread, is_over, is_failed, ReadsOn, ReadsNothing, IsNext, WritesInterim}
 use Rattle.http_wire.specs.Inbox as inbox
 
 -- What `next` does with a reader, a writer and the inbox between them, and what it answers. First comes what contracts see of the two,
@@ -15,8 +15,10 @@ pub record FindsNext {R W : Type 0} (left : R → Option (List ℕ)) (read_failu
   pub reads : ReadsOn (left reader) (left reader') old new
   -- nothing is read where a request or a refusal is there already
   pub lazy : HoldsArrival (unread old) → ReadsNothing reader reader' old new
-  -- no more is held than the longest head and the longest body take, with the CRLF before them that is skipped
+  -- no more is held than the longest head and the longest body take, with the CRLF before them that is skipped, and there is no more
+  -- memory for it
   pub bound : length (held new) ≤ 1064962
+  pub memory : memory new ≤ 1064962
   -- the answer is what stands next in it
   pub arrival : IfOk result (IsNext (left reader') old new)
   -- where nothing arrives any more, nothing is read or written

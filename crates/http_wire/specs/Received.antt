@@ -4,13 +4,17 @@ use Rattle.std.specs.Io.KnownBytes.{Consumes}
 use Rattle.http_wire.specs.declared.received.Received.{Received}
 use Rattle.http_messages.specs.declared.refusal.ConnFault.{ConnFault}
 use Rattle.http_messages.specs.declared.refusal.ConnFault.TheVariants.{Read, Write, ReadLimit, Memory}
-use Rattle.http_wire.specs.Buffer.{buffered}
+use Rattle.http_wire.specs.Buffer.{buffered, buffer_memory}
 use Rattle.http_wire.specs.Device.{HasFailed}
 use Rattle.http_messages.specs.Reads.{max_reads}
 
 -- the bytes that are held
 abbrev pub held_bytes : Received → List ℕ
 held_bytes r = buffered r.bytes
+
+-- how many bytes there is memory for
+abbrev pub held_memory : Received → ℕ
+held_memory r = buffer_memory r.bytes
 
 -- how many reads are counted, each of which gave a byte at least
 abbrev pub read_count : Received → ℕ

@@ -1,5 +1,5 @@
 //! The bytes that were read from a reader and not yet consumed, and the room for the next read.
-ghost use Rattle.std.specs.Prelude.{◌≡◌, ◌+◌, ◌<◌, ◌≤◌, [], ◌++◌, length, take, drop, slice_range, vec_len, IfOk, IfErr, OnOk, OnErr, Ok};
+ghost use Rattle.std.specs.Prelude.{◌≡◌, ◌+◌, ◌<◌, ◌≤◌, [], ◌++◌, length, take, drop, slice_range, vec_len, vec_capacity, IfOk, IfErr, OnOk, OnErr, Ok};
 ghost use Rattle.std.specs.Io.KnownBytes.{Consumes, Keeps, IsAtEnd};
 ghost use Rattle.http_wire.specs.Fill.{IsFillFault};
 
@@ -7,8 +7,12 @@ use crate::device::Source;
 use http_messages::ConnFault;
 use std::alloc::{AllocError, Global};
 
-/// The most bytes that are asked for at a time, and the room at first.
+/// The most bytes that are asked for at a time, and those that there is memory for at first.
 const CHUNK: usize = 16_384;
+
+/// The most bytes that are held, and that there is memory for: the length of the longest request, a
+/// skipped CRLF, 16,384 bytes of a block and 1,048,576 of a body.
+pub(crate) const MAX_HELD: usize = 1_064_962;
 
 /// The bytes from `start` to `end`, and room after them. The room keeps its length from read to
 /// read, so that each byte of it is zeroed once; bytes are moved only by the read that follows their
@@ -20,14 +24,16 @@ pub(crate) struct Buffer {
     end: usize,
     ghost ordered: { start ≤ end },
     ghost within: { end ≤ vec_len room },
+    ghost bounded: { vec_capacity room ≤ 1064962 },
 }
 
 impl Buffer {
-    ghost use Rattle.http_wire.specs.Buffer.{buffered};
+    ghost use Rattle.http_wire.specs.Buffer.{buffered, buffer_memory};
 
     /// A buffer of nothing, with memory for a first read.
     pub(crate) fn new(alloc: Global) -> Result<Buffer, AllocError>
-        ensures { IfOk result (λ b. buffered b ≡ []) }
+        ensures bytes { IfOk result (λ b. buffered b ≡ []) }
+        ensures memory { IfOk result (λ b. buffer_memory b ≡ CHUNK) }
     {
         Ok(Buffer {
             room: Vec::with_capacity(alloc, CHUNK)?,
@@ -63,18 +69,14 @@ impl Buffer {
         self.start += count;
     }
 
-    /// Makes one read, and appends what it gave, up to `most` bytes in all. The answer is the count
+    /// Makes one read, and appends what it gave, up to the most bytes in all. The answer is the count
     /// of these bytes, which is 0 only at the end of the input. An `Err` leaves the bytes as they
     /// were.
-    pub(crate) fn fill<R: Source>(
-        &mut self,
-        reader: &mut R,
-        most: usize,
-    ) -> Result<usize, ConnFault>
-        requires { length (buffered self.old) < most }
+    pub(crate) fn fill<R: Source>(&mut self, reader: &mut R) -> Result<usize, ConnFault>
+        requires { length (buffered self.old) < MAX_HELD }
         ensures kept { buffered self.new ≡ buffered self.old ++ drop (length (buffered self.old)) (buffered self.new) }
         ensures count { IfOk result (λ count. length (buffered self.new) ≡ length (buffered self.old) + count) }
-        ensures bound { length (buffered self.new) ≤ most }
+        ensures bound { length (buffered self.new) ≤ MAX_HELD }
         ensures given { OnOk result
             (Consumes (R.left reader.old) (R.left reader.new) (drop (length (buffered self.old)) (buffered self.new))) }
         ensures end { result ≡ Ok 0 → IsAtEnd (R.left reader.new) }
@@ -84,7 +86,7 @@ impl Buffer {
         ensures fault { IfErr result (IsFillFault (R.read_failures reader.old) (R.read_failures reader.new)) }
     {
         self.move_to_front();
-        let room_end = self.end + CHUNK.min(most - self.end);
+        let room_end = self.end + CHUNK.min(MAX_HELD - self.end);
         self.make_room(room_end).map_err(|_| ConnFault::Memory)?;
         let count = read_into(reader, &mut self.room, self.end, room_end)?;
         self.end += count;
@@ -106,15 +108,43 @@ impl Buffer {
 
     /// Makes the room at least this long.
     fn make_room(&mut self, len: usize) -> Result<(), AllocError>
+        requires { len ≤ MAX_HELD }
         ensures bytes { buffered self.new ≡ buffered self.old }
         ensures start { self.new.start ≡ self.old.start }
         ensures end { self.new.end ≡ self.old.end }
         ensures room { OnOk result (len ≤ vec_len self.new.room) }
     {
-        if self.room.len() < len {
-            self.room.resize(len, 0)?;
-        }
+        reserve(&mut self.room, len)?;
+        lengthen(&mut self.room, len);
         Ok(())
+    }
+}
+
+/// Makes memory for so many bytes: the double of what there is, within the most.
+fn reserve(room: &mut Vec<u8>, len: usize) -> Result<(), AllocError>
+    requires len { len ≤ MAX_HELD }
+    requires memory { vec_capacity room.old ≤ MAX_HELD }
+    ensures items { room.new.items ≡ room.old.items }
+    ensures enough { OnOk result (len ≤ vec_capacity room.new) }
+    ensures bound { vec_capacity room.new ≤ MAX_HELD }
+{
+    let capacity = room.capacity();
+    if capacity < len {
+        let doubled = (2 * capacity).clamp(len, MAX_HELD);
+        room.reserve_exact(doubled - room.len())?;
+    }
+    Ok(())
+}
+
+/// Makes the room at least this long, by zeros at its end, in the memory that it has.
+fn lengthen(room: &mut Vec<u8>, len: usize)
+    requires { len ≤ vec_capacity room.old }
+    ensures front { take (vec_len room.old) room.new.items ≡ room.old.items }
+    ensures len { len ≤ vec_len room.new }
+    ensures memory { vec_capacity room.new ≡ vec_capacity room.old }
+{
+    while room.len() < len {
+        room.push_reserved(0);
     }
 }
 
@@ -128,6 +158,7 @@ fn read_into<R: Source>(
     requires some { start < end }
     requires within { end ≤ vec_len room.old }
     ensures len { vec_len room.new ≡ vec_len room.old }
+    ensures memory { vec_capacity room.new ≡ vec_capacity room.old }
     ensures front { take start room.new.items ≡ take start room.old.items }
     ensures bound { IfOk result (λ count. start + count ≤ end) }
     ensures given { IfOk result (λ count.

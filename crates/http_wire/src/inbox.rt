@@ -54,8 +54,8 @@ impl Inbox {
     ghost use Rattle.http_wire.specs.Inbox.{held, unread, lent_request, is_over, is_failed, reads, IsNew, KeepsBytes};
     ghost use Rattle.http_wire.specs.ReadingOn.{FindsNext};
 
-    /// An inbox for a connection of which nothing was read. It takes 16,384 bytes of memory at once,
-    /// and later as much as the longest request needs.
+    /// An inbox for a connection of which nothing was read. It takes memory for 16,384 bytes at once,
+    /// and later for as many as the longest request needs, 1,064,962 at most.
     pub fn new(alloc: Global) -> Result<Inbox, AllocError>
         ensures { IfOk result IsNew }
     {

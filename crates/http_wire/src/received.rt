@@ -4,7 +4,7 @@ ghost use Rattle.std.specs.Io.KnownBytes.{IsAtEnd};
 ghost use Rattle.http_messages.specs.Block.{from_block, HasNoEndUpTo, IsBlock, IsUnended};
 ghost use Rattle.http_wire.specs.Buffer.{buffered};
 
-use crate::buffer::Buffer;
+use crate::buffer::{Buffer, MAX_HELD};
 use crate::device::Source;
 use http_messages::{Block, ConnFault, find_block_from, skipped_len};
 use std::alloc::{AllocError, Global};
@@ -12,10 +12,6 @@ use std::alloc::{AllocError, Global};
 /// The most reads of one connection that give bytes. An own rule. Contracts say it by bytes, at least
 /// one for each read that is counted, since a reader names its bytes and not its reads.
 pub const MAX_READS: u32 = 4_194_304;
-
-/// The length of the longest request: a skipped CRLF, 16,384 bytes of a block and 1,048,576 of a
-/// body.
-pub(crate) const MAX_HELD: usize = 1_064_962;
 
 /// The bytes, and how many reads gave some.
 #[derive(Drop)]
@@ -27,11 +23,12 @@ pub(crate) struct Received {
 }
 
 impl Received {
-    ghost use Rattle.http_wire.specs.Received.{held_bytes, read_count, Receives, ReceivesNothing, IsReadFault};
+    ghost use Rattle.http_wire.specs.Received.{held_bytes, held_memory, read_count, Receives, ReceivesNothing, IsReadFault};
 
     /// Nothing yet.
     pub(crate) fn new(alloc: Global) -> Result<Received, AllocError>
-        ensures { IfOk result (λ r. (held_bytes r ≡ []) × (read_count r ≡ 0)) }
+        ensures bytes { IfOk result (λ r. (held_bytes r ≡ []) × (read_count r ≡ 0)) }
+        ensures memory { IfOk result (λ r. held_memory r ≡ 16384) }
     {
         Ok(Received {
             bytes: Buffer::new(alloc)?,
@@ -122,7 +119,7 @@ impl Received {
         if self.reads == MAX_READS {
             return Err(ConnFault::ReadLimit);
         }
-        let count = self.bytes.fill(reader, MAX_HELD)?;
+        let count = self.bytes.fill(reader)?;
         if count == 0 {
             return Ok(false);
         }
