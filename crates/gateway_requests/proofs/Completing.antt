@@ -1,21 +1,20 @@
 -- The requests that marked arrivals completed, found one after another.
-use Rattle.std.proofs.Common.{◌≡◌, ◌≢◌, ℕ, ◌+◌, ◌<◌, ◌≤◌, true, false, List, [], ◌∷◌, ◌++◌, length, take, drop, ◌-◌, refl, sym, ap, ◌∙◌, subst, append_assoc, arith, ⊎_elim}
+use Rattle.std.proofs.Common.{◌≡◌, ◌≢◌, ℕ, ◌+◌, ◌<◌, ◌≤◌, true, false, List, [], ◌∷◌, ◌++◌, length, take, drop, ◌-◌, refl, sym, ap, ◌∙◌, subst, append_assoc, arith}
 use Rattle.std.specs.Prelude.{slice_range}
 use Rattle.std.proofs.lemmas.Grind.{common_steps}
-use Rattle.std.proofs.lemmas.Bool.{cases_Bool}
 use Rattle.http_messages.specs.declared.head.HeadFault.{HeadFault}
 use Rattle.http_messages.specs.declared.head.HeadFault.TheVariants.{Memory}
 use Rattle.http_messages.specs.declared.refusal.Refusal.TheVariants.{Head}
 use Rattle.http_messages.specs.Block.{EndsAt, IsBlockEnd, IsWholeBlock, skipped_len, from_block}
 use Rattle.http_messages.specs.Head.{RequestParts, IsHead, IsHeadFault, body_length, closes}
-use Rattle.http_messages.specs.Message.{Arrival, Read, Refused, Ending, BeginsRequest}
+use Rattle.http_messages.specs.Message.{Arrival, Read, Refused, Ending, BeginsRequest, ArrivalsThen, NoneFollows}
 use Rattle.http_messages.specs.Request.{Request as Message}
 use Rattle.http_messages.proofs.BlockLemmas.{EndsAt-within}
 use Rattle.http_messages.proofs.MoreBytes.{EndsAt-more, EndsAt-front, IsBlockEnd-within, skipped_len-more, from_block-more, block-more}
 use Rattle.http_messages.proofs.Unique.{BeginsHead-unique, BeginsRequest-unique, IsRefused-excludes}
 use Rattle.filing_model.specs.declared.served.Mark.{Mark}
 use Rattle.filing_model.specs.Request.{Request}
-use Rattle.filing_model.specs.Serving.{BeginsArrivals}
+use Rattle.filing_model.specs.Serving.{AnyFollows}
 use Rattle.filing_model.specs.Text.{completed, completed_at}
 use Rattle.filing_model.proofs.Lists.{append_nil}
 
@@ -76,12 +75,39 @@ module _ (bytes : List ℕ) (end : ℕ) (block : IsBlockEnd bytes end) where
 
 -- ---- one after another
 
+-- what may follow the arrivals, and that there are enough of them for the marks
+pub record IsCovered (Follows : List ℕ → Ending → Type 0) (Covers : List Mark → List Arrival → Type 0) : Type 0 where
+  pub none : (rest : List ℕ) (ending : Ending) (mark : Mark) (marks : List Mark) → Follows rest ending → Covers (mark ∷ marks) [] → (m : Message) (n : ℕ) → ¬ (BeginsRequest rest m n)
+  pub next : (mark : Mark) (marks : List Mark) (arrival : Arrival) (arrivals : List Arrival) → Covers (mark ∷ marks) (arrival ∷ arrivals) → Covers marks arrivals
+
+-- there are as many
+abbrev pub IsFew : List Mark → List Arrival → Type 0
+IsFew marks arrivals = length marks ≤ length arrivals
+
+-- there may be more
+abbrev pub AnyMarks : List Mark → List Arrival → Type 0
+AnyMarks marks arrivals = Unit {0}
+
+-- of the first arrivals
+pub first-covered : IsCovered AnyFollows IsFew
+first-covered = record {
+  none = λ rest ending mark marks follows few m n begins. omega (arith, few);
+  next = λ mark marks arrival arrivals few. omega (arith, few);
+}
+
+-- of all arrivals
+pub all-covered : IsCovered NoneFollows AnyMarks
+all-covered = record {
+  none = λ rest ending mark marks follows any m n begins. follows.1.none m n begins;
+  next = λ mark marks arrival arrivals any. tt;
+}
+
 -- of the requests that were completed these are found, and the other marks are those of the arrivals that the rest begins with
-pub record IsAhead (rest : List ℕ) (marks : List Mark) (all list : List Request) : Type 0 where
+pub record IsAhead (Follows : List ℕ → Ending → Type 0) (Covers : List Mark → List Arrival → Type 0) (rest : List ℕ) (marks : List Mark) (all list : List Request) : Type 0 where
   pub arrivals : List Arrival
   pub ending : Ending
-  pub begins : BeginsArrivals rest arrivals ending
-  pub few : length marks ≤ length arrivals
+  pub begins : ArrivalsThen Follows rest arrivals ending
+  pub covers : Covers marks arrivals
   pub same : all ≡ list ++ completed arrivals marks
 
 no_marks : (arrivals : List Arrival) → completed arrivals [] ≡ []
@@ -89,52 +115,65 @@ unfolding completed
 no_marks [] = refl
 no_marks (arrival ∷ arrivals) = refl
 
--- no marks are left
-pub ahead_none : (rest : List ℕ) (all list : List Request) → IsAhead rest [] all list → list ≡ all
-ahead_none rest all list a = sym (a.same ∙ ap (λ more. list ++ more) (no_marks a.arrivals) ∙ append_nil list)
+no_arrivals : (marks : List Mark) → completed [] marks ≡ []
+unfolding completed
+no_arrivals marks = refl
 
-module _ (rest : List ℕ) (mark : Mark) (marks : List Mark) (all list : List Request) where
-  -- the rest begins with no message
-  pub ahead_over : IsAhead rest (mark ∷ marks) all list → ((m : Message) (n : ℕ) → ¬ (BeginsRequest rest m n)) → list ≡ all
-  unfolding completed
-  ahead_over a none = by_arrivals a.arrivals a.ending a.begins a.few a.same
-    where
-      by_arrivals : (arrivals : List Arrival) (ending : Ending) → BeginsArrivals rest arrivals ending → length (mark ∷ marks) ≤ length arrivals → all ≡ list ++ completed arrivals (mark ∷ marks) → list ≡ all
-      by_arrivals [] ending begins few same = absurd (omega (arith, few))
-      by_arrivals (Read m ∷ arrivals) ending begins few same = absurd (none m begins.0 begins.1)
-      by_arrivals (Refused refusal ∷ arrivals) ending begins few same = sym (same ∙ ap (λ ps. list ++ completed ps marks) begins.1 ∙ append_nil list)
+module _ (Follows : List ℕ → Ending → Type 0) (Covers : List Mark → List Arrival → Type 0) (covered : IsCovered Follows Covers) (rest : List ℕ) where
+  -- no marks are left
+  pub ahead_none : (all list : List Request) → IsAhead Follows Covers rest [] all list → list ≡ all
+  ahead_none all list a = sym (a.same ∙ ap (λ more. list ++ more) (no_marks a.arrivals) ∙ append_nil list)
 
-  -- it begins with this message
-  pub ahead_more : IsAhead rest (mark ∷ marks) all list → (m : Message) (n : ℕ) → BeginsRequest rest m n → IsAhead (drop n rest) marks all (list ++ completed_at (Read m) mark)
-  unfolding completed
-  ahead_more a m n here = by_arrivals a.arrivals a.ending a.begins a.few a.same
-    where
-      by_arrivals : (arrivals : List Arrival) (ending : Ending) → BeginsArrivals rest arrivals ending → length (mark ∷ marks) ≤ length arrivals → all ≡ list ++ completed arrivals (mark ∷ marks) → IsAhead (drop n rest) marks all (list ++ completed_at (Read m) mark)
-      by_arrivals [] ending begins few same = absurd (omega (arith, few))
-      by_arrivals (Refused refusal ∷ arrivals) ending begins few same = absurd (IsRefused-excludes rest m.head here.head_len refusal here.head begins.0)
-      by_arrivals (Read other ∷ arrivals) ending (k, there, closed, open') few same =
-          let one = BeginsRequest-unique rest other m k n there here in
-          let step : all ≡ (list ++ completed_at (Read m) mark) ++ completed arrivals marks =
-          same ∙ ap (λ (o : Message). list ++ (completed_at (Read o) mark ++ completed arrivals marks)) one.0 ∙ sym (append_assoc list (completed_at (Read m) mark) (completed arrivals marks)) in
-          let fewer : length marks ≤ length arrivals = omega (arith, few) in
-          ⊎_elim
-          (λ (yes : closes other.head ≡ true).
-          let last = (closed yes).0 in
-          record {
-            arrivals = [];
-            ending = Ending.Closed;
-            begins = tt;
-            few = subst (λ (ps : List Arrival). length marks ≤ length ps) last fewer;
-            same = step ∙ ap (λ (ps : List Arrival). (list ++ completed_at (Read m) mark) ++ completed ps marks) last;
-          })
-          (λ (no' : closes other.head ≡ false). record {
-            arrivals = arrivals;
-            ending = ending;
-            begins = subst (λ (j : ℕ). BeginsArrivals (drop j rest) arrivals ending) one.1 (open' no');
-            few = fewer;
-            same = step;
-          })
-          (cases_Bool (closes other.head))
+  module _ (mark : Mark) (marks : List Mark) (all list : List Request) where
+    -- the rest begins with no message
+    pub ahead_over : IsAhead Follows Covers rest (mark ∷ marks) all list → ((m : Message) (n : ℕ) → ¬ (BeginsRequest rest m n)) → list ≡ all
+    unfolding completed
+    ahead_over a none = by_arrivals a.arrivals a.ending a.begins a.same
+      where
+        by_arrivals : (arrivals : List Arrival) (ending : Ending) → ArrivalsThen Follows rest arrivals ending → all ≡ list ++ completed arrivals (mark ∷ marks) → list ≡ all
+        by_arrivals [] ending begins same = sym (same ∙ append_nil list)
+        by_arrivals (Read m ∷ arrivals) ending begins same = absurd (none m begins.0 begins.1)
+        by_arrivals (Refused refusal ∷ arrivals) ending begins same = sym (same ∙ ap (λ ps. list ++ completed ps marks) begins.1 ∙ append_nil list)
+
+    -- what a message completes at which the rest begins, and those after it
+    record Step (m : Message) (n : ℕ) : Type 0 where
+      arrivals : List Arrival
+      ending : Ending
+      closed : closes m.head ≡ true → arrivals ≡ []
+      open' : closes m.head ≡ false → ArrivalsThen Follows (drop n rest) arrivals ending
+      covers : Covers marks arrivals
+      same : all ≡ (list ++ completed_at (Read m) mark) ++ completed arrivals marks
+
+    step : IsAhead Follows Covers rest (mark ∷ marks) all list → (m : Message) (n : ℕ) → BeginsRequest rest m n → Step m n
+    unfolding completed
+    step a m n here = by_arrivals a.arrivals a.ending a.begins a.covers a.same
+      where
+        by_arrivals : (arrivals : List Arrival) (ending : Ending) → ArrivalsThen Follows rest arrivals ending → Covers (mark ∷ marks) arrivals → all ≡ list ++ completed arrivals (mark ∷ marks) → Step m n
+        by_arrivals [] ending begins covers same = absurd (covered.none rest ending mark marks begins covers m n here)
+        by_arrivals (Refused refusal ∷ arrivals) ending begins covers same = absurd (IsRefused-excludes rest m.head here.head_len refusal here.head begins.0)
+        by_arrivals (Read other ∷ arrivals) ending (k, there, closed, open') covers same =
+            let one = BeginsRequest-unique rest other m k n there here in
+            record {
+              arrivals = arrivals;
+              ending = ending;
+              closed = λ closing. (closed (ap (λ (o : Message). closes o.head) one.0 ∙ closing)).0;
+              open' = λ staying. subst (λ (j : ℕ). ArrivalsThen Follows (drop j rest) arrivals ending) one.1 (open' (ap (λ (o : Message). closes o.head) one.0 ∙ staying));
+              covers = covered.next mark marks (Read other) arrivals covers;
+              same = same ∙ ap (λ (o : Message). list ++ (completed_at (Read o) mark ++ completed arrivals marks)) one.0 ∙ sym (append_assoc list (completed_at (Read m) mark) (completed arrivals marks));
+            }
+
+    -- it begins with a message that closes
+    pub ahead_closed : IsAhead Follows Covers rest (mark ∷ marks) all list → (m : Message) (n : ℕ) → BeginsRequest rest m n → closes m.head ≡ true → list ++ completed_at (Read m) mark ≡ all
+    ahead_closed a m n here closing =
+        let s = step a m n here in
+        let found : List Request = list ++ completed_at (Read m) mark in
+        sym (s.same ∙ ap (λ (ps : List Arrival). found ++ completed ps marks) (s.closed closing) ∙ ap (λ more. found ++ more) (no_arrivals marks) ∙ append_nil found)
+
+    -- it begins with another one
+    pub ahead_more : IsAhead Follows Covers rest (mark ∷ marks) all list → (m : Message) (n : ℕ) → BeginsRequest rest m n → closes m.head ≡ false → IsAhead Follows Covers (drop n rest) marks all (list ++ completed_at (Read m) mark)
+    ahead_more a m n here staying =
+        let s = step a m n here in
+        record { arrivals = s.arrivals; ending = s.ending; begins = s.open' staying; covers = s.covers; same = s.same }
 
 -- no marks are left behind the last
 pub drop_all : (marks : List Mark) (at : ℕ) → length marks ≤ at → drop at marks ≡ []

@@ -1,7 +1,7 @@
 //! The requests that a connection completed, read again from its bytes.
 
 ghost use Rattle.std.specs.Prelude.{◌≡◌, ◌≤◌, ◌++◌, ℕ, List, length, drop, None, IfOk, IfSome, OnOk};
-ghost use Rattle.http_messages.specs.Message.{Arrival, Ending, Read, BeginsRequest};
+ghost use Rattle.http_messages.specs.Message.{Arrival, Ending, Read, BeginsRequest, HasArrivals};
 ghost use Rattle.http_messages.specs.Request.{Request as Spelled};
 ghost use Rattle.filing_model.specs.Serving.{BeginsArrivals};
 ghost use Rattle.filing_model.specs.Text.{completed, completed_at};
@@ -15,11 +15,14 @@ use std::alloc::{AllocError, Global};
 
 /// The requests that a connection of these bytes completed, in order: those of its filed requests
 /// that are marked Done. The marks are those of the first requests, and of what was refused in the
-/// place of one. The bytes are all that were given to the connection, or the first of them.
+/// place of one; nothing is completed by a mark beyond the last of these. The bytes are all that were
+/// given to the connection, or the first of them.
 pub fn completed(alloc: Global, bytes: &[u8], marks: &[Mark]) -> Result<Vec<Completed>, AllocError>
-    ensures { IfOk result (λ list.
-        (arrivals : List Arrival) (ending : Ending) → BeginsArrivals bytes.now arrivals ending
-        → length marks.now ≤ length arrivals → list.items ≡ completed arrivals marks.now) }
+    ensures all { IfOk result (λ list. (arrivals : List Arrival) (ending : Ending)
+        → HasArrivals bytes.now arrivals ending → list.items ≡ completed arrivals marks.now) }
+    ensures first { IfOk result (λ list. (arrivals : List Arrival) (ending : Ending)
+        → BeginsArrivals bytes.now arrivals ending → length marks.now ≤ length arrivals
+        → list.items ≡ completed arrivals marks.now) }
 {
     let mut list = Vec::new(alloc);
     let mut rest = bytes;
@@ -27,6 +30,9 @@ pub fn completed(alloc: Global, bytes: &[u8], marks: &[Mark]) -> Result<Vec<Comp
         match first_request(alloc, rest)? {
             Some((message, len)) => {
                 complete(alloc, *mark, &message, &mut list)?;
+                if message.head.closes() {
+                    return Ok(list);
+                }
                 rest = after(rest, len);
             }
             None => return Ok(list),
