@@ -1,5 +1,6 @@
 -- What the calls of a store do.
 use Rattle.std.specs.Prelude.{◌≡◌, ◌↔◌, ◌+◌, ◌++◌, ◌∷◌, [], ℕ, List, take, option_map, Option, Result, Err, IsTrue, IfOk, IfErr, IfSome, OnOk, OnErr}
+use Rattle.std.specs.Result.{result_map_both}
 use Rattle.sqlite.specs.Store.{Ghosts}
 use Rattle.sqlite.specs.Held.{Held, state}
 use Rattle.sqlite.specs.State.{IsUnchanged, Survives}
@@ -20,7 +21,7 @@ use Rattle.register_store.specs.declared.outcome.NewRow.{NewRow}
 use Rattle.register_store.specs.declared.outcome.Outcome.{Outcome}
 use Rattle.register_opening.specs.Earlier.{IsAlone, IsEarlierOf, ForEarlier}
 use Rattle.register_store.specs.Outcomes.{view_outcome, kept_as}
-use Rattle.register_opening.specs.Refusals.{GivesUpMaking, GivesUpMigrating, GivesUpOpening}
+use Rattle.register_opening.specs.Refusals.{GivesBackMaking, GivesBackMigrating, GivesBackOpening, GivesUpMaking, GivesUpMigrating, GivesUpOpening}
 use Rattle.register_rows.specs.Schema.{is_taken, IsDeclared}
 use Rattle.register_store.specs.Store.{StoreParts, shows, ForNew, ForRequests, HandsOut, HasRequests, IsDurableAs, SurvivesAs}
 use Rattle.register_opening.specs.Registers.{ForRows, IsRegisterOf, LeavesRegister}
@@ -34,7 +35,7 @@ pub record CreatesStore {S : Type 0} (g : Ghosts S) (conn : Held S) (result : Re
   pub counts : IfOk result (λ store. (store.kept ≡ 0) × (store.filings ≡ 0) × (store.early ≡ 0))
   -- Taken comes where one of the names is in use, and always there.
   pub taken : (result ≡ Err Taken) ↔ IsTrue (is_taken (state g conn).now.schema)
-  -- Of the connection as it was given up; `make_register` says the same of one that is kept.
+  -- Of some last state of the connection, which is given up: `create_or_back` says it of the one that comes back.
   pub refused : IfErr result (GivesUpMaking g conn)
   -- A crash leaves what one before the call could leave, or the empty register, and after the call that alone.
   pub crash : IfOk result (λ store. Survives (state g conn) (shows g store) (λ trees. (state g conn).now.schema ≡ no_schema → LeavesRegister 0 [] trees))
@@ -47,7 +48,7 @@ pub record OpensStore {S : Type 0} (g : Ghosts S) (conn : Held S) (result : Resu
       → (F : List Request) × IsRegisterOf store.early F (state g conn).now × HasRequests g store F)
   pub only : HandsOut g result (λ store. ForRows g conn (λ early F. (store.early ≡ early) × HasRequests g store F))
   pub same : HandsOut g result (λ store. IsUnchanged (state g conn) (shows g store))
-  -- Of the connection as it was given up; `read_register` says the same of one that is kept.
+  -- Of some last state of the connection, which is given up: `open_or_back` says it of the one that comes back.
   pub refused : IfErr result (GivesUpOpening g conn)
   -- A crash leaves what it could leave before, and after the call these requests alone.
   pub crash : IfOk result (λ store. CommitsNothing (state g conn) (shows g store))
@@ -60,11 +61,32 @@ pub record MigratesStore {S : Type 0} (g : Ghosts S) (conn : Held S) (result : R
   pub migrated : HandsOut g result (λ store. (form : Earlier) → IsAlone form (state g conn).now.schema
       → (F : List Request) × IsEarlierOf form store.early F (state g conn).now × HasRequests g store F)
   pub only : HandsOut g result (λ store. ForEarlier g conn (λ _ early F. (store.early ≡ early) × HasRequests g store F))
-  -- Of the connection as it was given up; `migrate_register` says the same of one that is kept.
+  -- Of some last state of the connection, which is given up: `migrate_or_back` says it of the one that comes back.
   pub refused : IfErr result (GivesUpMigrating g conn)
   -- A crash leaves what it could leave before, or the migrated rows, and after the call these alone.
   pub crash : IfOk result (λ store. Survives (state g conn) (shows g store) (λ trees. ForEarlier g conn (λ _ early F. LeavesRegister early F trees)))
   pub durable : HandsOut g result (λ store. ForEarlier g conn (λ _. IsDurableAs g store))
+
+-- ---- a store is handed out, or the connection comes back
+
+-- the store, or the fault without the connection that comes back beside it
+abbrev pub without_conn : {T E C : Type 0} → Result T (E × C) → Result T E
+without_conn = result_map_both (λ store. store) (λ refusal. refusal.0)
+
+-- What `create_or_back` does: what `create` does, and of the connection that comes back it says what was left of the database.
+pub record CreatesOrGivesBack {S : Type 0} (g : Ghosts S) (conn : Held S) (result : Result (StoreParts S) (CreateFault × Held S)) : Type 0 where
+  pub outcome : CreatesStore g conn (without_conn result)
+  pub back : IfErr result (λ refusal. GivesBackMaking g conn refusal.0 refusal.1)
+
+-- What `open_or_back` does, in the same way.
+pub record OpensOrGivesBack {S : Type 0} (g : Ghosts S) (conn : Held S) (result : Result (StoreParts S) (OpenFault × Held S)) : Type 0 where
+  pub outcome : OpensStore g conn (without_conn result)
+  pub back : IfErr result (λ refusal. GivesBackOpening g conn refusal.0 refusal.1)
+
+-- What `migrate_or_back` does, in the same way.
+pub record MigratesOrGivesBack {S : Type 0} (g : Ghosts S) (conn : Held S) (result : Result (StoreParts S) (OpenFault × Held S)) : Type 0 where
+  pub outcome : MigratesStore g conn (without_conn result)
+  pub back : IfErr result (λ refusal. GivesBackMigrating g conn refusal.0 refusal.1)
 
 -- ---- a store is asked
 

@@ -5,7 +5,8 @@ ghost use Rattle.key_string.specs.Filer.{is_filer};
 ghost use Rattle.http_messages.specs.Head.{max_body_len};
 ghost use Rattle.http_messages.specs.Posting.{IsTarget};
 ghost use Rattle.xbrl_report.specs.Judgement.{HasFacts};
-ghost use Rattle.register_store.specs.Calls.{AddsRequest, CreatesStore, FindsRow, MigratesStore, OpensStore};
+ghost use Rattle.register_store.specs.Calls.{AddsRequest, CreatesOrGivesBack, CreatesStore, FindsRow};
+ghost use Rattle.register_store.specs.Calls.{MigratesOrGivesBack, MigratesStore, OpensOrGivesBack, OpensStore};
 
 pub(crate) mod files;
 
@@ -24,6 +25,9 @@ use table_rows::StoreFault;
 /// The register of a connection: the first request of each filer and key with its outcome, for good.
 ///
 /// What a clause says of rows holds where the disk is clean as the call ends: where it gave back what was written.
+///
+/// A register's file is its own: if the database had a table before the register was made in it, no clause says what the rows
+/// stand for.
 pub struct Store<S: Alter> {
     pub(crate) alloc: Global,
     pub(crate) conn: Connection<S>,
@@ -56,13 +60,18 @@ impl<S: Alter + Drop> Drop for Store<S> {
     }
 }
 
-impl<S: Alter + Drop> Store<S> {
-    /// Makes the tables of a register that has no request, in one transaction. A refusal gives the connection up, and
-    /// leaves the database as it was. What is said of rows holds where the database had no table before.
-    pub fn create(alloc: Global, mut conn: Connection<S>) -> Result<Store<S>, CreateFault>
+impl<S: Alter> Store<S> {
+    /// Makes the tables of a register that has no request, in one transaction. A refusal leaves the database as it was, and gives
+    /// the connection back, which may be used again.
+    ///
+    /// A register's file is its own: if the database had a table before, no clause says what the rows stand for.
+    pub fn create_or_back(
+        alloc: Global,
+        mut conn: Connection<S>,
+    ) -> Result<Store<S>, (CreateFault, Connection<S>)>
         requires autocommit { conn.in_transaction ≡ false }
         requires unlimited { conn.step_limit ≡ None }
-        ensures { CreatesStore S.Store conn result }
+        ensures { CreatesOrGivesBack S.Store conn result }
     {
         match make_register(&mut conn) {
             Ok(()) => Ok(Store {
@@ -72,18 +81,19 @@ impl<S: Alter + Drop> Store<S> {
                 filings: 0,
                 early: 0,
             }),
-            Err(fault) => Err(fault),
+            Err(fault) => Err((fault, conn)),
         }
     }
-}
 
-impl<S: Alter + Drop> Store<S> {
-    /// Opens the register that the database holds. A refusal gives the connection up. Nothing is written, whatever the
-    /// answer is. How the tables are declared is not tested.
-    pub fn open(alloc: Global, conn: Connection<S>) -> Result<Store<S>, OpenFault>
+    /// Opens the register that the database holds. Nothing is written, whatever the answer is, and a refusal gives the connection
+    /// back, which may be used again. How the tables are declared is not tested.
+    pub fn open_or_back(
+        alloc: Global,
+        conn: Connection<S>,
+    ) -> Result<Store<S>, (OpenFault, Connection<S>)>
         requires autocommit { conn.in_transaction ≡ false }
         requires unlimited { conn.step_limit ≡ None }
-        ensures { OpensStore S.Store conn result }
+        ensures { OpensOrGivesBack S.Store conn result }
     {
         let mut conn = conn;
         match read_register(alloc, &mut conn, &mut Unwatched) {
@@ -100,7 +110,79 @@ impl<S: Alter + Drop> Store<S> {
                 filings,
                 early,
             }),
-            Err(fault) => Err(fault),
+            Err(fault) => {
+                prove!(conn.is_autocommit());
+                Err((fault, conn))
+            }
+        }
+    }
+
+    /// Brings the register that the database holds from an earlier form into the present one, in one transaction, and opens
+    /// it. A refusal leaves the rows as they were, and gives the connection back, which may be used again. What is said of the
+    /// new rows holds where the database has no other tables.
+    pub fn migrate_or_back(
+        alloc: Global,
+        conn: Connection<S>,
+    ) -> Result<Store<S>, (OpenFault, Connection<S>)>
+        requires autocommit { conn.in_transaction ≡ false }
+        requires unlimited { conn.step_limit ≡ None }
+        ensures { MigratesOrGivesBack S.Store conn result }
+    {
+        let mut conn = conn;
+        match migrate_register(alloc, &mut conn) {
+            Ok(
+                Counts {
+                    kept,
+                    filings,
+                    early,
+                },
+            ) => Ok(Store {
+                alloc,
+                conn,
+                kept,
+                filings,
+                early,
+            }),
+            Err(fault) => Err((fault, conn)),
+        }
+    }
+}
+
+impl<S: Alter + Drop> Store<S> {
+    /// As `create_or_back`, but a refusal gives the connection up. A register's file is its own: if the database had a table
+    /// before, no clause says what the rows stand for.
+    pub fn create(alloc: Global, conn: Connection<S>) -> Result<Store<S>, CreateFault>
+        requires autocommit { conn.in_transaction ≡ false }
+        requires unlimited { conn.step_limit ≡ None }
+        ensures { CreatesStore S.Store conn result }
+    {
+        match Store::create_or_back(alloc, conn) {
+            Ok(store) => Ok(store),
+            Err((fault, _conn)) => Err(fault),
+        }
+    }
+
+    /// As `open_or_back`, but a refusal gives the connection up.
+    pub fn open(alloc: Global, conn: Connection<S>) -> Result<Store<S>, OpenFault>
+        requires autocommit { conn.in_transaction ≡ false }
+        requires unlimited { conn.step_limit ≡ None }
+        ensures { OpensStore S.Store conn result }
+    {
+        match Store::open_or_back(alloc, conn) {
+            Ok(store) => Ok(store),
+            Err((fault, _conn)) => Err(fault),
+        }
+    }
+
+    /// As `migrate_or_back`, but a refusal gives the connection up.
+    pub fn migrate(alloc: Global, conn: Connection<S>) -> Result<Store<S>, OpenFault>
+        requires autocommit { conn.in_transaction ≡ false }
+        requires unlimited { conn.step_limit ≡ None }
+        ensures { MigratesStore S.Store conn result }
+    {
+        match Store::migrate_or_back(alloc, conn) {
+            Ok(store) => Ok(store),
+            Err((fault, _conn)) => Err(fault),
         }
     }
 }
@@ -169,34 +251,5 @@ impl<S: Alter> Store<S> {
             early: _,
         } = self;
         conn
-    }
-}
-
-impl<S: Alter + Drop> Store<S> {
-    /// Brings the register that the database holds from an earlier form into the present one, in one transaction, and opens
-    /// it. A refusal gives the connection up, and leaves the rows as they were. What is said of the new rows holds where the
-    /// database has no other tables.
-    pub fn migrate(alloc: Global, conn: Connection<S>) -> Result<Store<S>, OpenFault>
-        requires autocommit { conn.in_transaction ≡ false }
-        requires unlimited { conn.step_limit ≡ None }
-        ensures { MigratesStore S.Store conn result }
-    {
-        let mut conn = conn;
-        match migrate_register(alloc, &mut conn) {
-            Ok(
-                Counts {
-                    kept,
-                    filings,
-                    early,
-                },
-            ) => Ok(Store {
-                alloc,
-                conn,
-                kept,
-                filings,
-                early,
-            }),
-            Err(fault) => Err(fault),
-        }
     }
 }
