@@ -15,4 +15,8 @@ pub mod Sizes
 pub mod Finals
 pub mod Posted
 pub mod Replacing
+mod Numbering
+mod Owning
+mod Listed
+mod StopAtZero
 pub mod Serving

@@ -23,9 +23,9 @@ ghost use Rattle.filing_model.specs.Outbox.{Open, Confirmed, Clashed, moved};
 ghost use Rattle.filing_model.specs.Style.{style_of};
 ghost use Rattle.filing_model.specs.Reply.{reply_as, unavailable};
 ghost use Rattle.filing_model.specs.Serving.{keeping, Serves};
-ghost use Rattle.filing_model.specs.Stopping.{Crash, No, IsEndOf, IsEndOrStopOf, ServesUntil, StopsOrServes};
+ghost use Rattle.filing_model.specs.Stopping.{Crash, No, Before, After, IsEndOf, IsEndOrStopOf, ServesUntil, StopsOrServes};
 ghost use Rattle.filing_model.specs.Text.{MarkFits, completed, reply_with, reply_text_with};
-ghost use Rattle.filing_model.specs.Laws.{IsAnswered, IsRegisterOf, RepeatChangesNothing, RegisterGrows, RepeatGetsTheFirst, StaysRegistered};
+ghost use Rattle.filing_model.specs.Laws.{IsAnswered, IsRegisterOf, ListsTheFilers, RepeatChangesNothing, RegisterGrows, ReplaceTheirOwn, RepeatGetsTheFirst, StaysRegistered, StopAlike};
 
 /// The register is the valid ones among the first request of each filer and key, numbered 1, 2, ..
 /// in the order in which they came, without a gap.
@@ -48,6 +48,19 @@ pub fn register_grows()
 /// A filing is replaced at most once: no two filings of the register replace one number.
 pub fn replaced_at_most_once()
     ensures { (requests : List Request) (n : ℕ) → length (filter (is_amendment_of n) (register requests)) ≤ 1 }
+{}
+
+/// A filing is replaced by its own filer alone, and later: what a filing of the register replaces is one before it,
+/// of the same filer.
+pub fn replaced_by_its_filer()
+    ensures { (requests : List Request) → ReplaceTheirOwn (register requests) }
+{}
+
+/// A filer's list has the filer's filings under their numbers, each of them once, and nothing else; if one filing is
+/// asked for, it has that one, if it is the filer's.
+pub fn a_list_has_the_filers_filings()
+    ensures { (requests : List Request) (filer : List ℕ) (asked : Option ℕ)
+        → ListsTheFilers filer asked (register requests) }
 {}
 
 /// The first answer stands: whatever comes between and after, the same request gets the same status
@@ -110,6 +123,12 @@ pub fn serves_until_as_the_model_says()
         → StopsOrServes (keeping limit [] before after) read crash marks ended out
         → (arrivals : List Arrival) × ServesUntil limit done (read ++ more) crash arrivals marks ended out
         × (after ≡ firsts (done ++ completed arrivals marks)) }
+{}
+
+/// A stop at arrival 0 is a stop at the first one, before it is decided or after.
+pub fn a_stop_at_0_is_one_at_1()
+    ensures before { StopAlike (Before 0) (Before 1) }
+    ensures after { StopAlike (After 0) (After 1) }
 {}
 
 /// Where a connection ended by itself, neither by a fault nor by a stop, each of its arrivals has its
