@@ -1,10 +1,11 @@
 //! Reading bytes up to a length.
 
-ghost use Rattle.std.specs.Prelude.{◌≡◌, ◌++◌, ◌+◌, ◌<◌, ◌≤◌, ℕ, List, drop, length, slice_range, vec_len, IfOk, IfErr, OnOk, Ok, Err};
+ghost use Rattle.std.specs.Prelude.{◌≡◌, ◌++◌, ◌+◌, ◌<◌, ◌≤◌, drop, slice_range, vec_len, IfOk, IfErr, OnOk, Ok};
 ghost use Rattle.std.specs.Io.KnownBytes.{Consumes, IsAtEnd};
 ghost use Rattle.http_wire.specs.Device.{HasFailed};
 ghost use Rattle.http_messages.specs.Reads.{max_reads};
 ghost use Rattle.command_line.specs.declared.bytes.ReadFault.TheVariants.{Read, ReadLimit, Memory};
+ghost use Rattle.command_line.specs.Reading.{GivesBytes, IsReadFailure, IsNoRead};
 
 use http_wire::{MAX_READS, Source};
 use std::alloc::{AllocError, Global};
@@ -57,7 +58,7 @@ impl From<AllocError> for ReadFault {
 }
 
 /// The bytes of a reader up to its end, or the first `most` of them. At most 4,194,304 reads are made,
-/// each of one byte at least, so `ReadLimit` comes only after as many bytes, and with fewer than `most`.
+/// each of one byte at least. `ReadLimit` comes only after as many, and with fewer than `most` bytes.
 pub fn read_up_to<R: Source>(
     alloc: Global,
     reader: &mut R,
@@ -67,10 +68,7 @@ pub fn read_up_to<R: Source>(
     ensures bound { IfOk result (λ bytes. vec_len bytes ≤ most) }
     ensures whole { IfOk result (λ bytes. vec_len bytes < most → IsAtEnd (R.left reader.new)) }
     ensures fine { OnOk result (R.read_failures reader.new ≡ R.read_failures reader.old) }
-    ensures failed { result ≡ Err Read → HasFailed (R.read_failures reader.old) (R.read_failures reader.new) }
-    ensures limited { result ≡ Err ReadLimit
-        → (bytes : List ℕ) × Consumes (R.left reader.old) (R.left reader.new) bytes × (MAX_READS ≤ length bytes)
-        × (length bytes < most) }
+    ensures fault { IfErr result (IsReadFailure R.left R.read_failures most reader.old reader.new) }
 {
     let mut bytes = Vec::new(alloc);
     let mut room = room(alloc)?;
@@ -85,7 +83,7 @@ pub fn read_up_to<R: Source>(
 
 /// Room for one read.
 fn room(alloc: Global) -> Result<Vec<u8>, AllocError>
-    ensures { IfOk result (λ room. 0 < vec_len room) }
+    ensures { IfOk result (λ room. vec_len room ≡ CHUNK) }
 {
     let mut room = Vec::new(alloc);
     room.resize(CHUNK, 0)?;
@@ -93,8 +91,8 @@ fn room(alloc: Global) -> Result<Vec<u8>, AllocError>
 }
 
 /// Makes one read, counts it, and appends what it gave, up to `most` bytes in all. The answer is the
-/// count of these bytes, which is 0 only at the end of the input. Where the most reads are made
-/// already, `ReadLimit` comes, and only there, and nothing is read.
+/// count of these bytes, which is 0 only at the end of the input. If the most reads are made already,
+/// `ReadLimit` comes, and only then, and nothing is read.
 fn read_more<R: Source>(
     reader: &mut R,
     reads: &mut Reads,
@@ -102,7 +100,7 @@ fn read_more<R: Source>(
     bytes: &mut Vec<u8>,
     most: usize,
 ) -> Result<usize, ReadFault>
-    requires room { 0 < vec_len room.old }
+    requires room { vec_len room.old ≡ CHUNK }
     requires less { vec_len bytes.old < most }
     ensures room { vec_len room.new ≡ vec_len room.old }
     ensures bound { vec_len bytes.new ≤ most }
@@ -111,11 +109,10 @@ fn read_more<R: Source>(
     ensures given { OnOk result
         (Consumes (R.left reader.old) (R.left reader.new) (drop (vec_len bytes.old) bytes.new.items)) }
     ensures end { result ≡ Ok 0 → IsAtEnd (R.left reader.new) }
+    ensures some { IfOk result (λ count. 1 ≤ count → GivesBytes R.left R.read_failures reader.old reader.new) }
     ensures fine { OnOk result (R.read_failures reader.new ≡ R.read_failures reader.old) }
-    ensures failed { result ≡ Err Read → HasFailed (R.read_failures reader.old) (R.read_failures reader.new) }
     ensures made { OnOk result (reads.new.made ≡ reads.old.made + 1) }
-    ensures limited { result ≡ Err ReadLimit
-        → (reads.old.made ≡ MAX_READS) × (reader.new ≡ reader.old) × (bytes.new ≡ bytes.old) }
+    ensures fault { IfErr result (IsNoRead R.read_failures reads.old.made reader.old reader.new) }
 {
     reads.count()?;
     let wanted = room.len().min(most - bytes.len());

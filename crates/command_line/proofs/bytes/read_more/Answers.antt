@@ -1,10 +1,11 @@
-use Rattle.std.proofs.Common.{◌≡◌, ◌++◌, ℕ, List, drop, length, slice_range, sym, ap, ◌∙◌, subst, refl, arith}
+use Rattle.std.proofs.Common.{◌≡◌, ◌++◌, ℕ, List, drop, length, slice_range, Result, Err, IfErr, sym, ap, ◌∙◌, subst, refl, arith}
 use Rattle.std.proofs.lemmas.Grind.{common_steps}
 use Rattle.std.proofs.lemmas.List.{drop_at}
 use Rattle.std.proofs.lemmas.Result.{err_from_is_err_and}
 use Rattle.std.specs.Io.KnownBytes.{Consumes}
-use Rattle.http_wire.proofs.ReceivedLemmas.{no_answer, one_error}
-use Rattle.command_line.specs.declared.bytes.ReadFault.TheVariants.{the_data, Read, ReadLimit, Memory}
+use Rattle.http_wire.proofs.ReceivedLemmas.{no_answer}
+use Rattle.command_line.specs.declared.bytes.ReadFault.TheVariants.{the_data}
+use Rattle.command_line.specs.Reading.{IsNoRead}
 use Rattle.command_line.proofs.bytes.read_more.Goals as goal
 
 -- what was read stands after what was there
@@ -15,14 +16,9 @@ added old new more len size is = ap (drop len) is ∙ drop_at old more len (sym 
 kept : (old new : List ℕ) (len : ℕ) → len ≡ length old → new ≡ old → new ≡ old ++ drop len new
 kept old new len size same = rw (same, size) (grind (arith, common_steps))
 
-not_limit : {fault : the_data} → fault ≡ Read → fault ≡ ReadLimit → ⊥
-not_limit read limit = grind (arith, read, limit)
-
-no_limit : {fault : the_data} → fault ≡ Memory → fault ≡ ReadLimit → ⊥
-no_limit memory limit = grind (arith, memory, limit)
-
-not_read : {fault : the_data} → fault ≡ Memory → fault ≡ Read → ⊥
-not_read memory read = grind (arith, memory, read)
+-- what holds of the error that a call answered holds of the one that is handed on
+told : {T : Type 0} {r : Result T the_data} {x y : the_data} (P : the_data → Type 0) → r ≡ Err x → x ≡ y → P y → IfErr r P
+told P failed same holds = rw failed (subst P (sym same) holds)
 
 pub returns-in_err-count : goal.returns-in_err-count
 returns-in_err-count g c =
@@ -36,9 +32,9 @@ returns-in_err-count g c =
       given = rw gives.1 tt;
       end = λ ended. absurd (no_answer gives.1 ended);
       fine = rw gives.1 tt;
-      failed = λ failed. absurd (not_limit (one_error gives.1 failed) (gives.2 ∙ limit.0));
+      some = rw gives.1 tt;
       made = rw gives.1 tt;
-      limited = λ _. (limit.1, refl, refl);
+      fault = told (IsNoRead g.R.Source.read_failures c.args.reads.now.made c.args.reader.now c.args.reader.now) gives.1 (gives.2 ∙ limit.0) (limit.1, refl);
     }
 
 pub returns-in_err-count-2 : goal.returns-in_err-count-2
@@ -53,9 +49,9 @@ returns-in_err-count-2 g c =
       given = rw gives.1 tt;
       end = λ ended. absurd (no_answer gives.1 ended);
       fine = rw gives.1 tt;
-      failed = λ _. fault.1;
+      some = rw gives.1 tt;
       made = rw gives.1 tt;
-      limited = λ limited. absurd (not_limit (gives.2 ∙ fault.0) (one_error gives.1 limited));
+      fault = told (IsNoRead g.R.Source.read_failures c.args.reads.now.made c.args.reader.now c.read_into.new.reader) gives.1 (gives.2 ∙ fault.0) fault.1;
     }
 
 pub returns-in_err-extend_from_slice : goal.returns-in_err-extend_from_slice
@@ -70,9 +66,9 @@ returns-in_err-extend_from_slice g c =
       given = rw gives.1 tt;
       end = λ ended. absurd (no_answer gives.1 ended);
       fine = rw gives.1 tt;
-      failed = λ failed. absurd (not_read gives.2 (one_error gives.1 failed));
+      some = rw gives.1 tt;
       made = rw gives.1 tt;
-      limited = λ limited. absurd (no_limit gives.2 (one_error gives.1 limited));
+      fault = told (IsNoRead g.R.Source.read_failures c.args.reads.now.made c.args.reader.now c.read_into.new.reader) gives.1 gives.2 c.in_ok-count-2.ensures.fine;
     }
 
 pub returns-clause-kept : goal.returns-clause-kept

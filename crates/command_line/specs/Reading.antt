@@ -1,0 +1,43 @@
+-- What reading up to a length does, and why it fails. Own rules, over those of a reader. First comes what contracts see of it: the bytes
+-- that it has left, and how many of its reads have failed.
+use Rattle.std.specs.Prelude.{◌≡◌, ℕ, zero, suc, ◌<◌, ◌≤◌, List, length, Option}
+use Rattle.std.specs.Io.KnownBytes.{Consumes}
+use Rattle.http_messages.specs.Reads.{max_reads}
+use Rattle.http_wire.specs.Device.{HasFailed}
+use Rattle.command_line.specs.declared.bytes.ReadFault.{ReadFault}
+use Rattle.command_line.specs.declared.bytes.ReadFault.TheVariants.{Read, ReadLimit, Memory}
+
+-- a read that did not fail gave one byte at least, and no more than is asked for at a time
+pub record GivesBytes {R : Type 0} (left : R → Option (List ℕ)) (failures : R → ℕ) (before after : R) : Type 0 where
+  pub bytes : List ℕ
+  pub given : Consumes (left before) (left after) bytes
+  pub some : 1 ≤ length bytes
+  pub few : length bytes ≤ 16384
+  pub fine : failures after ≡ failures before
+
+-- so many such reads, one after another, and none besides
+unfoldable pub ReadsGive : {R : Type 0} → (R → Option (List ℕ)) → (R → ℕ) → ℕ → R → R → Type 0
+ReadsGive left failures zero before after = after ≡ before
+ReadsGive {R} left failures (suc count) before after =
+    (between : R) × ReadsGive left failures count before between × GivesBytes left failures between after
+
+-- all reads were made, and what they gave is less than what is wanted
+pub record IsReadTooOften {R : Type 0} (left : R → Option (List ℕ)) (failures : R → ℕ) (wanted : ℕ) (before after : R) : Type 0 where
+  pub reads : ReadsGive left failures max_reads before after
+  pub fine : failures after ≡ failures before
+  pub bytes : List ℕ
+  pub given : Consumes (left before) (left after) bytes
+  pub many : max_reads ≤ length bytes
+  pub fewer : length bytes < wanted
+
+-- why not all that is wanted was read: a read failed; or none did, and all reads were made, or there was no memory
+abbrev pub IsReadFailure : {R : Type 0} → (R → Option (List ℕ)) → (R → ℕ) → ℕ → R → R → ReadFault → Type 0
+IsReadFailure left failures wanted before after Read = HasFailed (failures before) (failures after)
+IsReadFailure left failures wanted before after ReadLimit = IsReadTooOften left failures wanted before after
+IsReadFailure left failures wanted before after Memory = failures after ≡ failures before
+
+-- why one more read gave nothing; where so many were made that it may not be made, it is not
+abbrev pub IsNoRead : {R : Type 0} → (R → ℕ) → ℕ → R → R → ReadFault → Type 0
+IsNoRead failures made before after Read = HasFailed (failures before) (failures after)
+IsNoRead failures made before after ReadLimit = (made ≡ max_reads) × (after ≡ before)
+IsNoRead failures made before after Memory = failures after ≡ failures before
