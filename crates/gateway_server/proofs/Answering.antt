@@ -1,7 +1,9 @@
 -- An arrival that is decided, marked and answered.
-use Rattle.std.proofs.Common.{◌≡◌, ℕ, Bool, true, List, [], ◌∷◌, ◌++◌, take, Option, Result, Ok, Err, refl, sym, ap, ◌∙◌, subst, IfOk}
+use Rattle.std.proofs.Common.{◌≡◌, ℕ, ◌≤◌, Bool, true, List, [], ◌∷◌, ◌++◌, length, take, Option, Result, Ok, Err, refl, sym, ap, ◌∙◌, subst, IfOk, IfErr, OnOk}
 use Rattle.std.specs.declared.alloc.AllocError.{AllocError}
 use Rattle.std.specs.Io.KnownBytes.{Appends}
+use Rattle.http_messages.specs.declared.refusal.ConnFault.{ConnFault}
+use Rattle.http_messages.specs.declared.refusal.ConnFault.TheVariants.{Read as ReadFault, Write, ReadLimit, Memory}
 use Rattle.http_messages.specs.declared.refusal.Refusal.{Refusal}
 use Rattle.http_messages.specs.declared.reply.Reply.{Reply}
 use Rattle.http_messages.specs.Head.{closes}
@@ -13,7 +15,8 @@ use Rattle.filing_model.specs.declared.served.Mark.{Mark}
 use Rattle.filing_model.specs.declared.served.Mark.TheVariants.{Done, Unavailable, NotFiled}
 use Rattle.filing_model.specs.Request.{Request}
 use Rattle.filing_model.specs.Text.{Route, route, reply_text_with, refusal_reply}
-use Rattle.gateway_server.specs.Answered.{IsMarked, IsDecided}
+use Rattle.http_wire.specs.Write.{IsWriteFault}
+use Rattle.gateway_server.specs.Answered.{IsMarked, IsDecided, WritesPart, WritesText}
 use Rattle.gateway_server.specs.declared.decide.Decided.{Decided}
 use Rattle.gateway_server.specs.Decided.{Decides, marked_reply}
 
@@ -52,11 +55,18 @@ pub record IsAnswered (limit : ℕ) (early before after : List Request) (arrival
   pub marked : IsMarked limit before after arrival old new
   pub written : Appends from to (reply_text_with early before arrival marked.mark)
 
--- a part of it was
-pub record IsPartly (limit : ℕ) (early before after : List Request) (arrival : Arrival) (old new : List Mark) (from to : Option (List ℕ)) : Type 0 where
+-- a part of it was, before a fault
+pub record IsPartly (limit : ℕ) (early before after : List Request) (arrival : Arrival) (old new : List Mark) (from to : Option (List ℕ)) (fault : ConnFault) : Type 0 where
   pub marked : IsMarked limit before after arrival old new
-  pub sent : ℕ
-  pub written : Appends from to (take sent (reply_text_with early before arrival marked.mark))
+  pub written : WritesPart from to (reply_text_with early before arrival marked.mark) fault
+
+-- what `write_reply` says of the text is what is wanted of it
+pub WritesText-reply : (from to : Option (List ℕ)) (w w' : ℕ) (text own : List ℕ) (r : Result (Unit {0}) ConnFault) → own ≡ text → OnOk r (Appends from to own) → IfErr r (IsWriteFault from to w w' own) → WritesText from to text r
+WritesText-reply from to w w' text own (Ok done) same ok err = subst (Appends from to) same ok
+WritesText-reply from to w w' text own (Err ReadFault) same ok err = absurd err
+WritesText-reply from to w w' text own (Err (Write sent)) same ok err = subst (λ t. (sent ≤ length t) × Appends from to (take sent t)) same (err.1, err.2)
+WritesText-reply from to w w' text own (Err ReadLimit) same ok err = absurd err
+WritesText-reply from to w w' text own (Err Memory) same ok err = err.1
 
 -- nothing was marked, kept or written
 pub record IsUntouched (before after : List Request) (old new : List Mark) (from to : Option (List ℕ)) : Type 0 where

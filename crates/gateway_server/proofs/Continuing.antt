@@ -1,5 +1,5 @@
 -- A connection that goes on by one arrival, or ends.
-use Rattle.std.proofs.Common.{arith, ◌≡◌, ◌≢◌, ℕ, ◌≤◌, Bool, true, false, List, [], ◌++◌, take, drop, length, Option, refl, sym, ap, ◌∙◌, subst, append_assoc, inl, inr, ◌⊎◌}
+use Rattle.std.proofs.Common.{arith, ◌≡◌, ◌≢◌, ℕ, ◌≤◌, Bool, true, false, List, [], ◌∷◌, ◌++◌, take, drop, length, Option, refl, sym, ap, ◌∙◌, subst, append_assoc, inl, inr}
 use Rattle.std.proofs.KnownBytes.{Appends-nil, Appends-trans, Consumes-nil, Consumes-trans}
 use Rattle.std.proofs.lemmas.List.{length-append}
 use Rattle.std.specs.Io.KnownBytes.{Consumes, Appends, IsAtEnd}
@@ -11,7 +11,7 @@ use Rattle.http_messages.specs.declared.refusal.Refusal.{Refusal}
 use Rattle.http_wire.specs.Calls.{interim_if, WritesAsked, WritesUpTo, IsFault}
 use Rattle.http_messages.specs.Head.{closes}
 use Rattle.http_wire.specs.Inbox.{held, unread, lent_len, lent_awaits, got, ReadsOn, LendsFirst, IsNew, reads}
-use Rattle.http_messages.specs.Message.{Read, Refused, Rest, IsRest, IsRefused, interim}
+use Rattle.http_messages.specs.Message.{Read, Refused, Rest, Asks, IsRest, IsRefused, interim}
 use Rattle.http_messages.specs.Reads.{max_reads}
 use Rattle.http_messages.specs.Request.{Request as Message}
 use Rattle.std.proofs.Math.Seq.{drop-nil}
@@ -21,8 +21,8 @@ use Rattle.filing_model.specs.Request.{Request}
 use Rattle.filing_model.specs.Serving.{Keeping, keeping, IsServed, IsCutShort}
 use Rattle.filing_model.specs.Text.{interim_of, reply_text_with, next_interim}
 use Rattle.filing_model.proofs.Lists.{append_nil}
-use Rattle.gateway_server.specs.Answered.{IsReplyFault}
-use Rattle.gateway_server.specs.Progress.{Streams, streams, HasServed, GoesOn, HasMessage, HasRefusal, ServesConnection}
+use Rattle.gateway_server.specs.Answered.{IsMarked}
+use Rattle.gateway_server.specs.Progress.{Streams, streams, HasServed, FailsWithin, GoesOn, HasMessage, HasRefusal, ServesConnection}
 use Rattle.gateway_server.proofs.Answering.{IsAnswered, IsPartly, IsUntouched}
 use Rattle.gateway_server.proofs.Progress.{HasServed-none, HasServed-more, HasServed-end}
 use Rattle.gateway_server.proofs.Arrivals.{served_last, served_push, served_part, served_read, served_asked, served_nothing, served_rest}
@@ -35,13 +35,6 @@ is_limit r r' w w' count bytes fault.Read why e = absurd (cc)
 is_limit r r' w w' count bytes (Write sent) why e = absurd (cc)
 is_limit r r' w w' count bytes ReadLimit why e = why.1
 is_limit r r' w w' count bytes Memory why e = absurd (cc)
-
--- no reply fails by it
-pub is_no_limit : (w w' : ℕ) (f : ConnFault) → IsReplyFault w w' f → f ≢ ReadLimit
-is_no_limit w w' fault.Read why e = why
-is_no_limit w w' (Write sent) why e = absurd (cc)
-is_no_limit w w' ReadLimit why e = why
-is_no_limit w w' Memory why e = absurd (cc)
 
 -- ---- what was read
 
@@ -79,6 +72,7 @@ module _ (requests : Keeping) (first from to : Streams) (old new : Inbox) (marks
     serves = subst (λ (t : List ℕ). IsServed requests read_since marks InputEnded (h.sent ++ t)) (by_asks asks ∙ sym e) (HasServed-end requests read_since (held new) marks h.sent served_held asks rest asked);
     at_end = λ _. ended;
     limited = λ e. absurd (cc);
+    failed = λ n e. absurd (cc);
   }
     where
       by_asks : (b : Bool) → next_interim [] (Rest b) ≡ interim_if b
@@ -89,19 +83,40 @@ module _ (requests : Keeping) (first from to : Streams) (old new : Inbox) (marks
   abbrev Limited : ConnFault → Type 0
   Limited f = f ≡ ReadLimit → max_reads ≤ length read_since
 
-  cut : (text : List ℕ) (f : ConnFault) → Limited f → Appends from.written to.written text → IsCutShort requests read_since marks (h.sent ++ text) → ServesConnection requests first to marks (Fault f)
-  cut text f limited w c = record { got = read_since; sent = h.sent ++ text; read = consumed; wrote = wrote_more text w; serves = c; at_end = λ e. absurd (cc); limited = λ e. limited (cc) }
+  -- what was written is so much of a text as the fault says
+  abbrev Told : ConnFault → List ℕ → Type 0
+  Told f text = (n : ℕ) → f ≡ Write n → FailsWithin requests read_since marks (h.sent ++ text) n
 
-  cut_asked : (f : ConnFault) → Limited f → WritesAsked from.written to.written (held new) → ServesConnection requests first to marks (Fault f)
-  cut_asked f limited (text, (asks, asked, e), w) = cut text f limited w (subst (λ (t : List ℕ). IsCutShort requests read_since marks (h.sent ++ t)) (sym e) (served_asked requests read_since (held new) marks h.sent served_held asks asked))
+  cut : (text : List ℕ) (f : ConnFault) → Limited f → Told f text → Appends from.written to.written text → IsCutShort requests read_since marks (h.sent ++ text) → ServesConnection requests first to marks (Fault f)
+  cut text f limited told w c = record { got = read_since; sent = h.sent ++ text; read = consumed; wrote = wrote_more text w; serves = c; at_end = λ e. absurd (cc); limited = λ e. limited (cc); failed = λ n e. told n (cc) }
+
+  cut_asked : (f : ConnFault) → Limited f → ((n : ℕ) → f ≢ Write n) → WritesAsked from.written to.written (held new) → ServesConnection requests first to marks (Fault f)
+  cut_asked f limited other (text, (asks, asked, e), w) = cut text f limited (λ n is. absurd (other n is)) w (subst (λ (t : List ℕ). IsCutShort requests read_since marks (h.sent ++ t)) (sym e) (served_asked requests read_since (held new) marks h.sent served_held asks asked))
+
+  -- the interim response was cut
+  cut_interim : (sent : ℕ) → Asks (held new) true → sent ≤ length interim → FailsWithin requests read_since marks (h.sent ++ take sent interim) sent
+  cut_interim sent asked within = record {
+    rest = held new;
+    done = marks;
+    before = h.sent;
+    now = requests.after;
+    served = served_held;
+    more = [];
+    lead = [];
+    text = interim;
+    next = (asked, refl, refl);
+    marked = sym (append_nil marks);
+    within = within;
+    written = refl;
+  }
 
   -- a fault came
   pub Serves-fault : (f : ConnFault) → (f ≡ ReadLimit → reads new ≡ max_reads) → WritesUpTo from.written to.written (held new) f → ServesConnection requests first to marks (Fault f)
-  Serves-fault fault.Read all w = cut_asked fault.Read (λ e. absurd (cc)) w
-  Serves-fault (Write sent) all w = cut (take sent interim) (Write sent) (λ e. absurd (cc)) w.2 (served_rest requests read_since (held new) marks h.sent served_held sent (λ _. w.0))
-  Serves-fault ReadLimit all w = cut_asked ReadLimit (λ e. subst (λ (n : ℕ). n ≤ length read_since) (all refl) counted_since) w
-  Serves-fault Memory all (inl w) = cut_asked Memory (λ e. absurd (cc)) w
-  Serves-fault Memory all (inr w) = cut [] Memory (λ e. absurd (cc)) w (served_nothing requests read_since (held new) marks h.sent served_held)
+  Serves-fault fault.Read all w = cut_asked fault.Read (λ e. absurd (cc)) (λ n is. absurd (cc)) w
+  Serves-fault (Write sent) all w = cut (take sent interim) (Write sent) (λ e. absurd (cc)) (λ n is. let same : sent ≡ n = cc in subst (FailsWithin requests read_since marks (h.sent ++ take sent interim)) same (cut_interim sent w.0 w.1)) w.2 (served_rest requests read_since (held new) marks h.sent served_held sent (λ _. w.0))
+  Serves-fault ReadLimit all w = cut_asked ReadLimit (λ e. subst (λ (n : ℕ). n ≤ length read_since) (all refl) counted_since) (λ n is. absurd (cc)) w
+  Serves-fault Memory all (inl w) = cut_asked Memory (λ e. absurd (cc)) (λ n is. absurd (cc)) w
+  Serves-fault Memory all (inr w) = cut [] Memory (λ e. absurd (cc)) (λ n is. absurd (cc)) w (served_nothing requests read_since (held new) marks h.sent served_held)
 
 -- ---- what was answered
 
@@ -129,6 +144,7 @@ module _ (requests : Keeping) (first : Streams) (left written : Option (List ℕ
         (served_last requests h.got (held inbox) marks h.sent h.served (Read lent) ((lent_len inbox, h.lends.begins), refl) a.marked.mark after closed a.marked.fit a.marked.kept);
     at_end = λ e. absurd (cc);
     limited = λ e. absurd (cc);
+    failed = λ n e. absurd (cc);
   }
 
   -- the message was answered, and more may come
@@ -144,9 +160,9 @@ module _ (requests : Keeping) (first : Streams) (left written : Option (List ℕ
     more = h.lends.last ∙ open';
   }
 
-  -- a fault came
-  pub Serves-unanswered : (after : List Request) (new : List Mark) (written' : Option (List ℕ)) (f : ConnFault) → f ≢ ReadLimit → IsUntouched requests.after after marks new written written' ⊎ IsPartly requests.limit requests.early requests.after after (Read lent) marks new written written' → ServesConnection (record requests { after = after }) first (streams left written') new (Fault f)
-  Serves-unanswered after new written' f other (inl u) = record {
+  -- memory ran out before it was marked
+  pub Serves-unmarked : (after : List Request) (new : List Mark) (written' : Option (List ℕ)) → IsUntouched requests.after after marks new written written' → ServesConnection (record requests { after = after }) first (streams left written') new (Fault Memory)
+  Serves-unmarked after new written' u = record {
     got = h.got;
     sent = h.sent ++ (interim_of (Read lent) ++ []);
     read = h.read;
@@ -156,18 +172,51 @@ module _ (requests : Keeping) (first : Streams) (left written : Option (List ℕ
         (subst (λ (t : List ℕ). IsCutShort requests h.got marks (h.sent ++ t)) (sym (append_nil (interim_of (Read lent))))
         (served_read requests h.got (held inbox) marks h.sent h.served lent (lent_len inbox) h.lends.begins)));
     at_end = λ e. absurd (cc);
-    limited = λ e. absurd (other (cc));
+    limited = λ e. absurd (cc);
+    failed = λ n e. absurd (cc);
   }
-  Serves-unanswered after new written' f other (inr p) = record {
+
+  -- its reply was cut
+  cut_answer : (after : List Request) (new : List Mark) (m : IsMarked requests.limit requests.after after (Read lent) marks new) (sent : ℕ) → sent ≤ length (reply_text_with requests.early requests.after (Read lent) m.mark)
+      → FailsWithin (record requests { after = after }) h.got new (h.sent ++ (interim_of (Read lent) ++ take sent (reply_text_with requests.early requests.after (Read lent) m.mark))) sent
+  cut_answer after new m sent within = record {
+    rest = held inbox;
+    done = marks;
+    before = h.sent;
+    now = requests.after;
+    served = h.served;
+    more = m.mark ∷ [];
+    lead = interim_of (Read lent);
+    text = reply_text_with requests.early requests.after (Read lent) m.mark;
+    next = (Read lent, (lent_len inbox, h.lends.begins, (λ _. (refl, refl)), λ _. tt), refl, refl);
+    marked = m.marks;
+    within = within;
+    written = refl;
+  }
+
+  -- so much of its reply was written
+  part : (after : List Request) (new : List Mark) (written' : Option (List ℕ)) (f : ConnFault) (m : IsMarked requests.limit requests.after after (Read lent) marks new) (sent : ℕ) → f ≢ ReadLimit
+      → ((n : ℕ) → f ≡ Write n → FailsWithin (record requests { after = after }) h.got new (h.sent ++ (interim_of (Read lent) ++ take sent (reply_text_with requests.early requests.after (Read lent) m.mark))) n)
+      → Appends written written' (take sent (reply_text_with requests.early requests.after (Read lent) m.mark)) → ServesConnection (record requests { after = after }) first (streams left written') new (Fault f)
+  part after new written' f m sent other told w = record {
     got = h.got;
-    sent = h.sent ++ (interim_of (Read lent) ++ take p.sent (reply_text_with requests.early requests.after (Read lent) p.marked.mark));
+    sent = h.sent ++ (interim_of (Read lent) ++ take sent (reply_text_with requests.early requests.after (Read lent) m.mark));
     read = h.read;
-    wrote = wrote_after written' (take p.sent (reply_text_with requests.early requests.after (Read lent) p.marked.mark)) p.written;
-    serves = subst (λ (ms : List Mark). IsCutShort (record requests { after = after }) h.got ms (h.sent ++ (interim_of (Read lent) ++ take p.sent (reply_text_with requests.early requests.after (Read lent) p.marked.mark)))) (sym p.marked.marks)
-        (served_part requests h.got (held inbox) marks h.sent h.served (Read lent) ((lent_len inbox, h.lends.begins), refl) p.marked.mark after p.sent p.marked.fit p.marked.kept);
+    wrote = wrote_after written' (take sent (reply_text_with requests.early requests.after (Read lent) m.mark)) w;
+    serves = subst (λ (ms : List Mark). IsCutShort (record requests { after = after }) h.got ms (h.sent ++ (interim_of (Read lent) ++ take sent (reply_text_with requests.early requests.after (Read lent) m.mark)))) (sym m.marks)
+        (served_part requests h.got (held inbox) marks h.sent h.served (Read lent) ((lent_len inbox, h.lends.begins), refl) m.mark after sent m.fit m.kept);
     at_end = λ e. absurd (cc);
     limited = λ e. absurd (other (cc));
+    failed = λ n e. told n (cc);
   }
+
+  -- a fault came within its reply
+  pub Serves-unanswered : (after : List Request) (new : List Mark) (written' : Option (List ℕ)) (f : ConnFault) → IsPartly requests.limit requests.early requests.after after (Read lent) marks new written written' f → ServesConnection (record requests { after = after }) first (streams left written') new (Fault f)
+  Serves-unanswered after new written' fault.Read p = absurd p.written
+  Serves-unanswered after new written' (Write sent) p =
+      part after new written' (Write sent) p.marked sent (λ e. absurd (cc)) (λ n is. let same : sent ≡ n = cc in subst (FailsWithin (record requests { after = after }) h.got new (h.sent ++ (interim_of (Read lent) ++ take sent (reply_text_with requests.early requests.after (Read lent) p.marked.mark)))) same (cut_answer after new p.marked sent p.written.0)) p.written.1
+  Serves-unanswered after new written' ReadLimit p = absurd p.written
+  Serves-unanswered after new written' Memory p = part after new written' Memory p.marked 0 (λ e. absurd (cc)) (λ n is. absurd (cc)) p.written
 
 -- ---- what was refused
 
@@ -186,29 +235,63 @@ module _ (requests : Keeping) (first : Streams) (left written : Option (List ℕ
         (served_last requests h.got (held inbox) marks h.sent h.served (Refused refusal) (h.refused, refl) a.marked.mark requests.after tt a.marked.fit a.marked.kept);
     at_end = λ e. absurd (cc);
     limited = λ e. absurd (cc);
+    failed = λ n e. absurd (cc);
   }
 
-  -- a fault came
-  pub Serves-unrefused : (new : List Mark) (written' : Option (List ℕ)) (f : ConnFault) → f ≢ ReadLimit → IsUntouched requests.after requests.after marks new written written' ⊎ IsPartly requests.limit requests.early requests.after requests.after (Refused refusal) marks new written written' → ServesConnection requests first (streams left written') new (Fault f)
-  Serves-unrefused new written' f other (inl u) = record {
+  -- memory ran out before it was marked
+  pub Serves-unnoted : (new : List Mark) (written' : Option (List ℕ)) → IsUntouched requests.after requests.after marks new written written' → ServesConnection requests first (streams left written') new (Fault Memory)
+  Serves-unnoted new written' u = record {
     got = h.got;
     sent = h.sent ++ [];
     read = h.read;
     wrote = wrote_refusal written' [] u.written;
     serves = subst (λ (ms : List Mark). IsCutShort requests h.got ms (h.sent ++ [])) (sym u.marks) (served_nothing requests h.got (held inbox) marks h.sent h.served);
     at_end = λ e. absurd (cc);
-    limited = λ e. absurd (other (cc));
+    limited = λ e. absurd (cc);
+    failed = λ n e. absurd (cc);
   }
-  Serves-unrefused new written' f other (inr p) = record {
+
+  -- its reply was cut
+  cut_refusal : (new : List Mark) (m : IsMarked requests.limit requests.after requests.after (Refused refusal) marks new) (sent : ℕ) → sent ≤ length (reply_text_with requests.early requests.after (Refused refusal) m.mark)
+      → FailsWithin requests h.got new (h.sent ++ take sent (reply_text_with requests.early requests.after (Refused refusal) m.mark)) sent
+  cut_refusal new m sent within = record {
+    rest = held inbox;
+    done = marks;
+    before = h.sent;
+    now = requests.after;
+    served = h.served;
+    more = m.mark ∷ [];
+    lead = [];
+    text = reply_text_with requests.early requests.after (Refused refusal) m.mark;
+    next = (Refused refusal, (h.refused, refl, refl), refl, refl);
+    marked = m.marks;
+    within = within;
+    written = refl;
+  }
+
+  -- so much of its reply was written
+  part_refusal : (new : List Mark) (written' : Option (List ℕ)) (f : ConnFault) (m : IsMarked requests.limit requests.after requests.after (Refused refusal) marks new) (sent : ℕ) → f ≢ ReadLimit
+      → ((n : ℕ) → f ≡ Write n → FailsWithin requests h.got new (h.sent ++ take sent (reply_text_with requests.early requests.after (Refused refusal) m.mark)) n)
+      → Appends written written' (take sent (reply_text_with requests.early requests.after (Refused refusal) m.mark)) → ServesConnection requests first (streams left written') new (Fault f)
+  part_refusal new written' f m sent other told w = record {
     got = h.got;
-    sent = h.sent ++ take p.sent (reply_text_with requests.early requests.after (Refused refusal) p.marked.mark);
+    sent = h.sent ++ take sent (reply_text_with requests.early requests.after (Refused refusal) m.mark);
     read = h.read;
-    wrote = wrote_refusal written' (take p.sent (reply_text_with requests.early requests.after (Refused refusal) p.marked.mark)) p.written;
-    serves = subst (λ (ms : List Mark). IsCutShort requests h.got ms (h.sent ++ take p.sent (reply_text_with requests.early requests.after (Refused refusal) p.marked.mark))) (sym p.marked.marks)
-        (served_part requests h.got (held inbox) marks h.sent h.served (Refused refusal) (h.refused, refl) p.marked.mark requests.after p.sent p.marked.fit p.marked.kept);
+    wrote = wrote_refusal written' (take sent (reply_text_with requests.early requests.after (Refused refusal) m.mark)) w;
+    serves = subst (λ (ms : List Mark). IsCutShort requests h.got ms (h.sent ++ take sent (reply_text_with requests.early requests.after (Refused refusal) m.mark))) (sym m.marks)
+        (served_part requests h.got (held inbox) marks h.sent h.served (Refused refusal) (h.refused, refl) m.mark requests.after sent m.fit m.kept);
     at_end = λ e. absurd (cc);
     limited = λ e. absurd (other (cc));
+    failed = λ n e. told n (cc);
   }
+
+  -- a fault came within its reply
+  pub Serves-unrefused : (new : List Mark) (written' : Option (List ℕ)) (f : ConnFault) → IsPartly requests.limit requests.early requests.after requests.after (Refused refusal) marks new written written' f → ServesConnection requests first (streams left written') new (Fault f)
+  Serves-unrefused new written' fault.Read p = absurd p.written
+  Serves-unrefused new written' (Write sent) p =
+      part_refusal new written' (Write sent) p.marked sent (λ e. absurd (cc)) (λ n is. let same : sent ≡ n = cc in subst (FailsWithin requests h.got new (h.sent ++ take sent (reply_text_with requests.early requests.after (Refused refusal) p.marked.mark))) same (cut_refusal new p.marked sent p.written.0)) p.written.1
+  Serves-unrefused new written' ReadLimit p = absurd p.written
+  Serves-unrefused new written' Memory p = part_refusal new written' Memory p.marked 0 (λ e. absurd (cc)) (λ n is. absurd (cc)) p.written
 
 -- ---- the beginning
 
@@ -238,4 +321,5 @@ Serves-none limit early before first marks none = record {
   serves = subst (λ (ms : List Mark). IsCutShort (keeping limit early before before) [] ms []) (sym none) (served_nothing (keeping limit early before before) [] [] [] [] (HasServed-none limit early before));
   at_end = λ e. absurd (cc);
   limited = λ e. absurd (cc);
+  failed = λ n e. absurd (cc);
 }

@@ -160,6 +160,7 @@ ServesConnectionUntil-either requests old new crash marks None count s = record 
   serves = s.stopped;
   at_end = λ e. absurd (cc);
   limited = λ e. absurd (cc);
+  failed = λ n e. absurd (cc);
 }
 ServesConnectionUntil-either requests old new crash marks (Some ended) count s = record {
   got = s.got;
@@ -169,6 +170,7 @@ ServesConnectionUntil-either requests old new crash marks (Some ended) count s =
   serves = (s.serves, count);
   at_end = λ e. s.at_end (cc);
   limited = λ e. s.limited (cc);
+  failed = λ n e. s.failed n (cc);
 }
 
 -- where it ended, it was served to its end
@@ -181,4 +183,5 @@ ServesConnection-ended requests old new crash marks ended s = record {
   serves = s.serves.0;
   at_end = λ e. s.at_end (ap Some e);
   limited = λ e. s.limited (ap Some e);
+  failed = λ n e. s.failed n (ap Some e);
 }

@@ -1,5 +1,5 @@
 -- What a connection comes to at one arrival.
-use Rattle.std.proofs.Common.{◌≡◌, ℕ, ◌+◌, Bool, true, List, [], ◌++◌, length, Option, refl, sym, ◌∙◌, subst, inl, inr}
+use Rattle.std.proofs.Common.{◌≡◌, ℕ, ◌+◌, Bool, true, List, [], ◌++◌, length, Option, refl, sym, ◌∙◌, subst}
 use Rattle.std.proofs.KnownBytes.{Appends-nil}
 use Rattle.std.specs.Io.KnownBytes.{Appends}
 use Rattle.http_wire.specs.declared.inbox.Inbox.{Inbox}
@@ -19,8 +19,8 @@ use Rattle.gateway_server.specs.declared.serving.Turn.{Turn}
 use Rattle.gateway_server.specs.declared.serving.Turn.TheVariants.{On, Stopped, Ended as Ends}
 use Rattle.gateway_server.specs.Answered.{IsMarked}
 use Rattle.gateway_server.specs.Progress.{Streams, streams, HasMessage, HasRefusal}
-use Rattle.gateway_server.specs.Stopping.{IsBefore, IsAfter, IsStoppedAfter, Continues, IsTurnByReply, Replies, StopsConnection}
-use Rattle.gateway_server.proofs.Continuing.{Serves-closed, GoesOn-answered, Serves-unanswered, Serves-refused, Serves-unrefused, is_no_limit}
+use Rattle.gateway_server.specs.Stopping.{IsBefore, IsAfter, IsStoppedAfter, Continues, Replies, StopsConnection}
+use Rattle.gateway_server.proofs.Continuing.{Serves-closed, GoesOn-answered, Serves-unmarked, Serves-unanswered, Serves-refused, Serves-unnoted, Serves-unrefused}
 use Rattle.gateway_server.proofs.Stopping.{StopsConnection-before, StopsConnection-after}
 
 -- ---- a message
@@ -39,16 +39,16 @@ module _ (requests : Keeping) (first : Streams) (left written : Option (List ℕ
 
   -- memory ran out before it was marked
   pub message_unmarked : (after : List Request) (new : List Mark) → after ≡ requests.after → new ≡ marks → Continues (record requests { after = after }) first (streams left written) inbox crash new (Ends (Fault Memory))
-  message_unmarked after new kept same = Serves-unanswered requests first left written inbox marks h after new written Memory (λ e. absurd (cc)) (inl (record { kept = kept; marks = same; written = Appends-nil written }))
+  message_unmarked after new kept same = Serves-unmarked requests first left written inbox marks h after new written (record { kept = kept; marks = same; written = Appends-nil written })
 
   -- its reply was written, or a part of it, or it was stopped before that
-  pub message_replied : (after : List Request) (new : List Mark) (written' : Option (List ℕ)) (close : Bool) (turn : Turn) (w w' : ℕ) → close ≡ closes h.lends.request.head → (m : IsMarked requests.limit requests.after after (Read h.lends.request) marks new)
-      → Replies written written' (reply_text_with requests.early requests.after (Read h.lends.request) m.mark) close turn → IsStoppedAfter crash (length marks + 1) turn → IsTurnByReply w w' turn → Continues (record requests { after = after }) first (streams left written') inbox crash new turn
-  message_replied after new written' close On w w' is m r stops fine = GoesOn-answered requests first left written inbox marks h after new written' (sym is ∙ r.1) (record { marked = m; written = r.0 })
-  message_replied after new written' close Stopped w w' is m r stops fine = subst (λ w. StopsConnection (record requests { after = after }) first (streams left w) crash new) (sym r) (message_after after new stops m)
-  message_replied after new written' close (Ends Closed) w w' is m r stops fine = Serves-closed requests first left written inbox marks h after new written' (sym is ∙ r.1) (record { marked = m; written = r.0 })
-  message_replied after new written' close (Ends InputEnded) w w' is m r stops fine = absurd r
-  message_replied after new written' close (Ends (Fault fault)) w w' is m r stops fine = Serves-unanswered requests first left written inbox marks h after new written' fault (is_no_limit w w' fault fine) (inr (record { marked = m; sent = r.0; written = r.1 }))
+  pub message_replied : (after : List Request) (new : List Mark) (written' : Option (List ℕ)) (close : Bool) (turn : Turn) → close ≡ closes h.lends.request.head → (m : IsMarked requests.limit requests.after after (Read h.lends.request) marks new)
+      → Replies written written' (reply_text_with requests.early requests.after (Read h.lends.request) m.mark) close turn → IsStoppedAfter crash (length marks + 1) turn → Continues (record requests { after = after }) first (streams left written') inbox crash new turn
+  message_replied after new written' close On is m r stops = GoesOn-answered requests first left written inbox marks h after new written' (sym is ∙ r.1) (record { marked = m; written = r.0 })
+  message_replied after new written' close Stopped is m r stops = subst (λ w. StopsConnection (record requests { after = after }) first (streams left w) crash new) (sym r) (message_after after new stops m)
+  message_replied after new written' close (Ends Closed) is m r stops = Serves-closed requests first left written inbox marks h after new written' (sym is ∙ r.1) (record { marked = m; written = r.0 })
+  message_replied after new written' close (Ends InputEnded) is m r stops = absurd r
+  message_replied after new written' close (Ends (Fault fault)) is m r stops = Serves-unanswered requests first left written inbox marks h after new written' fault (record { marked = m; written = r })
 
 -- ---- what is refused
 
@@ -66,13 +66,13 @@ module _ (requests : Keeping) (first : Streams) (left written : Option (List ℕ
 
   -- memory ran out before it was marked
   pub refusal_unmarked : (new : List Mark) → new ≡ marks → Continues requests first (streams left written) inbox crash new (Ends (Fault Memory))
-  refusal_unmarked new same = Serves-unrefused requests first left written inbox refusal marks h new written Memory (λ e. absurd (cc)) (inl (record { kept = refl; marks = same; written = Appends-nil written }))
+  refusal_unmarked new same = Serves-unnoted requests first left written inbox refusal marks h new written (record { kept = refl; marks = same; written = Appends-nil written })
 
   -- its reply was written, or a part of it, or it was stopped before that
-  pub refusal_replied : (new : List Mark) (written' : Option (List ℕ)) (turn : Turn) (w w' : ℕ) (m : IsMarked requests.limit requests.after requests.after (Refused refusal) marks new)
-      → Replies written written' (reply_text_with requests.early requests.after (Refused refusal) m.mark) true turn → IsStoppedAfter crash (length marks + 1) turn → IsTurnByReply w w' turn → Continues requests first (streams left written') inbox crash new turn
-  refusal_replied new written' On w w' m r stops fine = absurd (let e = r.1 in cc)
-  refusal_replied new written' Stopped w w' m r stops fine = subst (λ w. StopsConnection requests first (streams left w) crash new) (sym r) (refusal_after new stops m)
-  refusal_replied new written' (Ends Closed) w w' m r stops fine = Serves-refused requests first left written inbox refusal marks h new written' (record { marked = m; written = r.0 })
-  refusal_replied new written' (Ends InputEnded) w w' m r stops fine = absurd r
-  refusal_replied new written' (Ends (Fault fault)) w w' m r stops fine = Serves-unrefused requests first left written inbox refusal marks h new written' fault (is_no_limit w w' fault fine) (inr (record { marked = m; sent = r.0; written = r.1 }))
+  pub refusal_replied : (new : List Mark) (written' : Option (List ℕ)) (turn : Turn) (m : IsMarked requests.limit requests.after requests.after (Refused refusal) marks new)
+      → Replies written written' (reply_text_with requests.early requests.after (Refused refusal) m.mark) true turn → IsStoppedAfter crash (length marks + 1) turn → Continues requests first (streams left written') inbox crash new turn
+  refusal_replied new written' On m r stops = absurd (let e = r.1 in cc)
+  refusal_replied new written' Stopped m r stops = subst (λ w. StopsConnection requests first (streams left w) crash new) (sym r) (refusal_after new stops m)
+  refusal_replied new written' (Ends Closed) m r stops = Serves-refused requests first left written inbox refusal marks h new written' (record { marked = m; written = r.0 })
+  refusal_replied new written' (Ends InputEnded) m r stops = absurd r
+  refusal_replied new written' (Ends (Fault fault)) m r stops = Serves-unrefused requests first left written inbox refusal marks h new written' fault (record { marked = m; written = r })

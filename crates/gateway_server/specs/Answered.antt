@@ -1,5 +1,5 @@
 -- What answering one arrival does. No public clause cites this file.
-use Rattle.std.specs.Prelude.{◌≡◌, ℕ, Bool, true, List, [], ◌∷◌, ◌++◌, take, Option, Result, IfOk, MatchResult}
+use Rattle.std.specs.Prelude.{◌≡◌, ℕ, ◌≤◌, Bool, true, List, [], ◌∷◌, ◌++◌, length, take, Option, Result, IfOk, MatchResult}
 use Rattle.std.specs.declared.alloc.AllocError.{AllocError}
 use Rattle.std.specs.Io.KnownBytes.{Appends}
 use Rattle.http_messages.specs.declared.refusal.ConnFault.{ConnFault}
@@ -37,9 +37,16 @@ abbrev pub Marks : ℕ → List Request → List Request → List Request → Ar
 Marks limit early before after arrival old new result =
     MatchResult result (λ d. IsDecided limit early before after arrival old new d) (λ _. (after ≡ before) × (new ≡ old))
 
--- the text was written, or a part of it
+-- what of a text was written before a fault: as many bytes as it says, or nothing where memory ran out
+abbrev pub WritesPart : Option (List ℕ) → Option (List ℕ) → List ℕ → ConnFault → Type 0
+WritesPart from to text ReadFault = ⊥
+WritesPart from to text (Write sent) = (sent ≤ length text) × Appends from to (take sent text)
+WritesPart from to text ReadLimit = ⊥
+WritesPart from to text Memory = Appends from to []
+
+-- the text was written, or that part of it
 abbrev pub WritesText : Option (List ℕ) → Option (List ℕ) → List ℕ → Result (Unit {0}) ConnFault → Type 0
-WritesText from to text result = MatchResult result (λ _. Appends from to text) (λ _. (sent : ℕ) × Appends from to (take sent text))
+WritesText from to text result = MatchResult result (λ _. Appends from to text) (WritesPart from to text)
 
 -- a reply fails by the writer, or because memory runs out where the writer didn't fail: its failures before and after
 abbrev pub IsReplyFault : ℕ → ℕ → ConnFault → Type 0

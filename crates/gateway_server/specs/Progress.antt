@@ -1,5 +1,5 @@
 -- How far a connection was served, and what serving it to its end does.
-use Rattle.std.specs.Prelude.{◌≡◌, ℕ, ◌+◌, ◌≤◌, false, List, [], ◌∷◌, ◌++◌, length, drop, map, Option}
+use Rattle.std.specs.Prelude.{◌≡◌, ℕ, ◌+◌, ◌≤◌, true, false, List, [], ◌∷◌, ◌++◌, length, take, drop, map, Option}
 use Rattle.std.specs.Io.KnownBytes.{Consumes, Appends, IsAtEnd}
 use Rattle.sqlite.specs.Store.{Ghosts}
 use Rattle.http_wire.specs.declared.inbox.Inbox.{Inbox}
@@ -11,14 +11,15 @@ use Rattle.http_wire.specs.Calls.{HoldsArrival, interim_if}
 use Rattle.http_wire.specs.Device.{ReaderFailed, WriterFailed, NoneFailed}
 use Rattle.http_wire.specs.Inbox.{held, unread, reads, is_over, lent_awaits, LendsFirst}
 use Rattle.http_messages.specs.Head.{closes}
-use Rattle.http_messages.specs.Message.{Read, Ending, BeginsRequest, IsRefused}
+use Rattle.http_messages.specs.Message.{Arrival, Read, Ending, Asks, BeginsRequest, IsRefused, interim}
 use Rattle.http_messages.specs.Reads.{max_reads}
 use Rattle.http_messages.specs.Request.{Request as Message}
 use Rattle.filing_model.specs.declared.served.Ended.{Ended}
 use Rattle.filing_model.specs.declared.served.Ended.TheVariants.{InputEnded, Closed, Fault}
 use Rattle.filing_model.specs.declared.served.Mark.{Mark}
-use Rattle.filing_model.specs.Serving.{Keeping, keeping, AreMarked, Serves, kept_by}
-use Rattle.filing_model.specs.Text.{completed, text_with}
+use Rattle.filing_model.specs.Request.{Request}
+use Rattle.filing_model.specs.Serving.{Keeping, keeping, AreMarked, BeginsArrivals, Serves, kept_by}
+use Rattle.filing_model.specs.Text.{completed, interim_of, reply_text_with, text_with}
 use Rattle.intake_core.specs.declared.intake.Intake.{Intake}
 use Rattle.intake_core.specs.Held.{limit_of, IsClean, IsTransition}
 use Rattle.gateway_server.specs.declared.serving.Served.{Served}
@@ -32,8 +33,44 @@ pub record Streams : Type 0 where
 abbrev pub streams : Option (List ℕ) → Option (List ℕ) → Streams
 streams left written = record { left = left; written = written }
 
+-- the bytes begin with these messages, none of which closes, and the rest follows
+abbrev pub GoesThrough : List ℕ → List Message → List ℕ → Type 0
+GoesThrough bytes [] rest = rest ≡ bytes
+GoesThrough bytes (message ∷ messages) rest = (n : ℕ) × BeginsRequest bytes message n × (closes message.head ≡ false) × GoesThrough (drop n bytes) messages rest
+
+-- The bytes begin with messages that are marked and answered, none of which closes; the rest follows.
+pub record HasServed (requests : Keeping) (bytes rest : List ℕ) (marks : List Mark) (out : List ℕ) : Type 0 where
+  pub messages : List Message
+  pub goes : GoesThrough bytes messages rest
+  pub marked : AreMarked requests.limit requests.before (map Read messages) marks
+  pub written : out ≡ text_with requests.early requests.before (map Read messages) Ending.Closed marks
+  pub kept : requests.after ≡ kept_by requests.before (completed (map Read messages) marks)
+
+-- The text that is written next, where a rest follows what was served, after the early requests and those that are kept now: with no mark
+-- more, the interim response that the rest asks for; with one more, the reply to the arrival with which the rest begins, behind what leads it.
+abbrev pub IsNextText : List Request → List Request → List ℕ → List Mark → List ℕ → List ℕ → Type 0
+IsNextText early now rest [] lead text = Asks rest true × (lead ≡ []) × (text ≡ interim)
+IsNextText early now rest (mark ∷ []) lead text =
+    (arrival : Arrival) × BeginsArrivals rest (arrival ∷ []) Ending.Closed × (lead ≡ interim_of arrival) × (text ≡ reply_text_with early now arrival mark)
+IsNextText early now rest (mark ∷ another ∷ marks) lead text = ⊥
+
+-- The writer failed within a text: what comes before it went out whole, and of the text itself the first `sent` bytes.
+pub record FailsWithin (requests : Keeping) (bytes : List ℕ) (marks : List Mark) (out : List ℕ) (sent : ℕ) : Type 0 where
+  pub rest : List ℕ
+  pub done : List Mark
+  pub before : List ℕ
+  pub now : List Request
+  pub served : HasServed (record requests { after = now }) bytes rest done before
+  pub more : List Mark
+  pub lead : List ℕ
+  pub text : List ℕ
+  pub next : IsNextText requests.early now rest more lead text
+  pub marked : marks ≡ done ++ more
+  pub within : sent ≤ length text
+  pub written : out ≡ before ++ (lead ++ take sent text)
+
 -- What a connection came to: some bytes were read and some text was written, and that is what serving these bytes may mark, write,
--- keep and end with.
+-- keep and end with. A failed write says how many bytes it took of the text in which it failed.
 pub record ServesConnection (requests : Keeping) (old new : Streams) (marks : List Mark) (ended : Ended) : Type 0 where
   pub got : List ℕ
   pub sent : List ℕ
@@ -42,6 +79,7 @@ pub record ServesConnection (requests : Keeping) (old new : Streams) (marks : Li
   pub serves : Serves requests got marks ended sent
   pub at_end : ended ≡ InputEnded → IsAtEnd new.left
   pub limited : ended ≡ Fault fault.ReadLimit → max_reads ≤ length got
+  pub failed : (n : ℕ) → ended ≡ Fault (fault.Write n) → FailsWithin requests got marks sent n
 
 -- why a connection ended by a fault, by the failures of the reader and of the writer before and after: the one failed, and the other
 -- didn't; or neither did
@@ -75,19 +113,6 @@ pub record ServesToEnd {R W S : Type 0} (left : R → Option (List ℕ)) (read_f
   pub limited : IsLimited (left reader) (left reader') result.ended
 
 -- ---- of a part of a connection, with its inbox; no public clause cites what follows
-
--- the bytes begin with these messages, none of which closes, and the rest follows
-abbrev pub GoesThrough : List ℕ → List Message → List ℕ → Type 0
-GoesThrough bytes [] rest = rest ≡ bytes
-GoesThrough bytes (message ∷ messages) rest = (n : ℕ) × BeginsRequest bytes message n × (closes message.head ≡ false) × GoesThrough (drop n bytes) messages rest
-
--- The bytes begin with messages that are marked and answered, none of which closes; the rest follows.
-pub record HasServed (requests : Keeping) (bytes rest : List ℕ) (marks : List Mark) (out : List ℕ) : Type 0 where
-  pub messages : List Message
-  pub goes : GoesThrough bytes messages rest
-  pub marked : AreMarked requests.limit requests.before (map Read messages) marks
-  pub written : out ≡ text_with requests.early requests.before (map Read messages) Ending.Closed marks
-  pub kept : requests.after ≡ kept_by requests.before (completed (map Read messages) marks)
 
 -- Since the connection began, so much was read and written, and so far that is served. Each read that is counted gave a byte.
 pub record GoesOn (requests : Keeping) (old new : Streams) (inbox : Inbox) (marks : List Mark) : Type 0 where

@@ -1,5 +1,5 @@
 -- What serving a connection does that may be stopped at one of its requests.
-use Rattle.std.specs.Prelude.{◌≡◌, ℕ, suc, ◌≤◌, max, Bool, true, false, List, length, take, Option, Some, None, IsSome, IfSome}
+use Rattle.std.specs.Prelude.{◌≡◌, ℕ, suc, ◌≤◌, max, Bool, true, false, List, length, Option, Some, None, IsSome, IfSome}
 use Rattle.std.specs.Io.KnownBytes.{Consumes, Appends, IsAtEnd}
 use Rattle.sqlite.specs.Store.{Ghosts}
 use Rattle.http_wire.specs.declared.inbox.Inbox.{Inbox}
@@ -18,7 +18,8 @@ use Rattle.gateway_server.specs.declared.serving.Turn.{Turn}
 use Rattle.gateway_server.specs.declared.serving.Turn.TheVariants.{On, Stopped, Ended as Ends}
 use Rattle.gateway_server.specs.declared.stop.Stop.{Stop}
 use Rattle.gateway_server.specs.declared.stop.Stop.TheVariants as stop
-use Rattle.gateway_server.specs.Progress.{Streams, streams, GoesOn, ServesConnection, IsEndedBy, IsLimited, IsEndedByReply, TellsLimit}
+use Rattle.gateway_server.specs.Answered.{WritesPart}
+use Rattle.gateway_server.specs.Progress.{Streams, streams, GoesOn, FailsWithin, ServesConnection, IsEndedBy, IsLimited, IsEndedByReply, TellsLimit}
 
 -- the stop as the model has it
 abbrev pub view_stop : Stop → Crash
@@ -26,7 +27,7 @@ view_stop stop.Never = No
 view_stop (stop.Before number) = Before number
 view_stop (stop.After number) = After number
 
--- what the connection came to, up to its end or to the stop
+-- what the connection came to, up to its end or to the stop; a failed write says how many bytes it took of the text in which it failed
 pub record ServesConnectionUntil (requests : Keeping) (old new : Streams) (crash : Crash) (marks : List Mark) (ended : Option Ended) : Type 0 where
   pub got : List ℕ
   pub sent : List ℕ
@@ -35,6 +36,7 @@ pub record ServesConnectionUntil (requests : Keeping) (old new : Streams) (crash
   pub serves : StopsOrServes requests got crash marks ended sent
   pub at_end : ended ≡ Some how.InputEnded → IsAtEnd new.left
   pub limited : ended ≡ Some (how.Fault fault.ReadLimit) → max_reads ≤ length got
+  pub failed : (n : ℕ) → ended ≡ Some (how.Fault (fault.Write n)) → FailsWithin requests got marks sent n
 
 -- So many marks there are where it was stopped: those of the requests before the one to stop at, and where it stopped after that, its mark too.
 abbrev pub IsCountAtStop : Crash → ℕ → Type 0
@@ -131,10 +133,10 @@ IsStoppedAfter crash number On = ¬ (IsAfter crash number)
 IsStoppedAfter crash number Stopped = IsAfter crash number
 IsStoppedAfter crash number (Ends ended) = ¬ (IsAfter crash number)
 
--- A reply of this text was written, and the connection goes on or closes; or nothing of it, or a fault came after a part of it.
+-- A reply of this text was written, and the connection goes on or closes; or nothing of it; or a fault came after the part that it says.
 abbrev pub Replies : Option (List ℕ) → Option (List ℕ) → List ℕ → Bool → Turn → Type 0
 Replies from to text close On = Appends from to text × (close ≡ false)
 Replies from to text close Stopped = to ≡ from
 Replies from to text close (Ends how.Closed) = Appends from to text × (close ≡ true)
 Replies from to text close (Ends how.InputEnded) = ⊥
-Replies from to text close (Ends (how.Fault fault)) = (sent : ℕ) × Appends from to (take sent text)
+Replies from to text close (Ends (how.Fault fault)) = WritesPart from to text fault

@@ -50,7 +50,8 @@ enum Turn {
 }
 
 /// Serves a connection up to its end: reads its requests one after another, decides each on the
-/// intake, and writes the replies.
+/// intake, and writes the replies. A failed write is told with how many bytes it took of the reply, or
+/// of the interim response, in which it failed.
 pub fn serve<R: Source, W: Sink, S: Alter>(
     alloc: Global,
     reader: &mut R,

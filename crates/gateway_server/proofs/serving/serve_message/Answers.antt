@@ -47,10 +47,10 @@ returns-clause-serves g c = λ clean now kept.
           let close : c.closes.result ≡ closes h.lends.request.head = c.closes.ensures ∙ ap (λ (r : Message). closes r.head) same in
           let is = subst (λ (r : Message). IsDecided (limit_of c.args.intake.now) (early_in c.args.intake.now now) now decided.0 (Read r) old new c.in-Ok.decided) same decided.3 in
           message_replied (keeping (limit_of c.args.intake.now) (early_in c.args.intake.now now) before now) first left (g.W.Sink.written c.args.writer.now) c.args.inbox.now old h (view_stop c.args.stop)
-          decided.0 new (g.W.Sink.written c.reply.new.writer) c.closes.result c.reply.result (g.W.Sink.write_failures c.args.writer.now) (g.W.Sink.write_failures c.reply.new.writer)
+          decided.0 new (g.W.Sink.written c.reply.new.writer) c.closes.result c.reply.result
           close is.marked
           (c.reply.ensures.written (reply_text_with (early_in c.args.intake.now now) now (Read h.lends.request) is.marked.mark) (subst (λ (b : Bool). IfOk c.in-Ok.decided.reply (λ r. render (reply_parts r) b ≡ reply_text_with (early_in c.args.intake.now now) now (Read h.lends.request) is.marked.mark)) (sym close) is.reply))
-          (subst (λ n. IsStoppedAfter (view_stop c.args.stop) (n + 1) c.reply.result) (c.len-number.ensures ∙ c.args.marks.now.ok.0) c.reply.ensures.stops) c.reply.ensures.fault,
+          (subst (λ n. IsStoppedAfter (view_stop c.args.stop) (n + 1) c.reply.result) (c.len-number.ensures ∙ c.args.marks.now.ok.0) c.reply.ensures.stops),
     )
 
 pub returns-clause-counted : goal.returns-clause-counted

@@ -14,9 +14,9 @@ pub returns-clause-serves : goal.returns-clause-serves
 returns-clause-serves g c = λ requests first left inbox h.
     let is = c.in-Ok.ensures.marked requests.limit requests.early requests.after in
     refusal_replied requests first left (g.W.Sink.written c.args.writer.now) inbox c.args.refusal c.args.marks.now.items h (view_stop c.args.stop)
-    c.mark_refusal.new.marks.items (g.W.Sink.written c.reply.new.writer) c.reply.result (g.W.Sink.write_failures c.args.writer.now) (g.W.Sink.write_failures c.reply.new.writer)
+    c.mark_refusal.new.marks.items (g.W.Sink.written c.reply.new.writer) c.reply.result
     is.marked (c.reply.ensures.written (reply_text_with requests.early requests.after (Refused c.args.refusal) is.marked.mark) is.reply)
-    (subst (λ n. IsStoppedAfter (view_stop c.args.stop) (n + 1) c.reply.result) (c.len-number.ensures ∙ c.args.marks.now.ok.0) c.reply.ensures.stops) c.reply.ensures.fault
+    (subst (λ n. IsStoppedAfter (view_stop c.args.stop) (n + 1) c.reply.result) (c.len-number.ensures ∙ c.args.marks.now.ok.0) c.reply.ensures.stops)
 
 pub returns-in-Err-clause-serves : goal.returns-in-Err-clause-serves
 returns-in-Err-clause-serves g c = λ requests first left inbox h.
