@@ -1,5 +1,6 @@
 -- What is promised of an outbox that a call hands out over a connection, and of the connection where the call refuses.
-use Rattle.std.specs.Prelude.{◌≡◌, ◌↔◌, true, false, ℕ, List, [], Result, Err, IsTrue, IfOk, IfErr, OnErr}
+use Rattle.std.specs.Prelude.{◌≡◌, ◌↔◌, true, false, ℕ, List, [], Result, Err, IsTrue, IfOk, IfErr}
+use Rattle.std.specs.Result.{result_map_both}
 use Rattle.key_string.specs.Filer.{is_filer}
 use Rattle.sqlite.specs.Store.{Ghosts}
 use Rattle.sqlite.specs.Held.{Held, state}
@@ -17,7 +18,7 @@ use Rattle.outbox_core.specs.OutboxParts.{OutboxParts, shows, contents, HandsOut
 use Rattle.outbox_opening.specs.Promises.{ForOutbox}
 use Rattle.outbox_opening.specs.Making.{LeavesMade}
 use Rattle.outbox_opening.specs.Earlier.{ForEarlier, IsAlone, IsEarlierOf, LeavesMigrated}
-use Rattle.outbox_core.specs.Refusals.{GivesUpMaking, GivesUpOpening, GivesUpMigrating}
+use Rattle.outbox_core.specs.Refusals.{GivesBackMaking, GivesBackOpening, GivesBackMigrating, GivesUpMaking, GivesUpOpening, GivesUpMigrating}
 
 -- An outbox of the filer of this code was made, in one transaction; or it was refused, and the connection is given up.
 pub record HandsOutMade {S : Type 0} (g : Ghosts S) (code : List ℕ) (conn : Held S) (result : Result (OutboxParts S) OutboxFault) : Type 0 where
@@ -29,8 +30,8 @@ pub record HandsOutMade {S : Type 0} (g : Ghosts S) (code : List ℕ) (conn : He
   pub bad_filer : (result ≡ Err BadFiler) ↔ (is_filer code ≡ false)
   pub taken : (result ≡ Err Taken) ↔ ((is_filer code ≡ true) × IsTrue (is_taken (state g conn).now.schema))
   pub no_other : IfErr result IsOfMaking
-  -- Of the connection as it was given up; `MakesOutbox` says the same of one that is kept.
-  pub refused : OnErr result (GivesUpMaking g code conn)
+  -- Of some last state of the connection, which is given up: `create_or_back` says it of the one that comes back.
+  pub refused : IfErr result (GivesUpMaking g code conn)
   -- A crash leaves what one before the call could leave, or the outbox with no entry, and after the call that alone.
   pub crash : IfOk result (λ outbox. Survives (state g conn) (shows g outbox) (LeavesMade g code conn))
   pub durable : HandsOut g result (λ outbox. (state g conn).now.schema ≡ no_schema → IsDurableAs g outbox (empty code))
@@ -46,7 +47,7 @@ pub record HandsOutFound {S : Type 0} (g : Ghosts S) (conn : Held S) (result : R
   pub same : IfOk result (λ outbox. ForOutbox g conn outbox.conn (λ it. (outbox.filer ≡ it.filer) × HasEntries g outbox it.entries))
   pub durable : IfOk result (λ outbox. ForOutbox g conn outbox.conn (IsDurableAs g outbox))
   pub crash : IfOk result (λ outbox. CommitsNothing (state g conn) (shows g outbox))
-  -- Of the connection as it was given up; `ReadsOutbox` says the same of one that is kept.
+  -- Of some last state of the connection, which is given up: `open_or_back` says it of the one that comes back.
   pub refused : IfErr result (GivesUpOpening g conn)
   pub no_other : IfErr result IsOfOpening
 
@@ -59,8 +60,29 @@ pub record HandsOutMigrated {S : Type 0} (g : Ghosts S) (conn : Held S) (result 
       IsAlone (state g conn).now.schema → (entries : List Entry) × IsEarlierOf (contents outbox entries) (state g conn).now × HasEntries g outbox entries)
   pub only : HandsOut g result (λ outbox. ForEarlier (state g conn) (λ it. (outbox.filer ≡ it.filer) × HasEntries g outbox it.entries))
   pub able : IfOk result (λ outbox. outbox.has_failed ≡ false)
-  -- Of the connection as it was given up; `MigratesOutbox` says the same of one that is kept.
+  -- Of some last state of the connection, which is given up: `migrate_or_back` says it of the one that comes back.
   pub refused : IfErr result (GivesUpMigrating g conn)
   -- A crash leaves what it could leave before, or the migrated rows, and after the call these alone.
   pub crash : IfOk result (λ outbox. Survives (state g conn) (shows g outbox) (LeavesMigrated (state g conn)))
   pub durable : HandsOut g result (λ outbox. (entries : List Entry) → HasEntries g outbox entries → IsDurableAs g outbox (contents outbox entries))
+
+-- ---- or the connection comes back
+
+-- the outbox, or the fault without the connection that comes back beside it
+abbrev pub without_conn : {T E C : Type 0} → Result T (E × C) → Result T E
+without_conn = result_map_both (λ outbox. outbox) (λ refusal. refusal.0)
+
+-- What `create_or_back` does: what `create` does, and of the connection that comes back it says what was left of the database.
+pub record MakesOrGivesBack {S : Type 0} (g : Ghosts S) (code : List ℕ) (conn : Held S) (result : Result (OutboxParts S) (OutboxFault × Held S)) : Type 0 where
+  pub outcome : HandsOutMade g code conn (without_conn result)
+  pub back : IfErr result (λ refusal. GivesBackMaking g code conn refusal.0 refusal.1)
+
+-- What `open_or_back` does, in the same way.
+pub record FindsOrGivesBack {S : Type 0} (g : Ghosts S) (conn : Held S) (result : Result (OutboxParts S) (OutboxFault × Held S)) : Type 0 where
+  pub outcome : HandsOutFound g conn (without_conn result)
+  pub back : IfErr result (λ refusal. GivesBackOpening g conn refusal.0 refusal.1)
+
+-- What `migrate_or_back` does, in the same way.
+pub record MigratesOrGivesBack {S : Type 0} (g : Ghosts S) (conn : Held S) (result : Result (OutboxParts S) (OutboxFault × Held S)) : Type 0 where
+  pub outcome : HandsOutMigrated g conn (without_conn result)
+  pub back : IfErr result (λ refusal. GivesBackMigrating g conn refusal.0 refusal.1)

@@ -1,10 +1,11 @@
--- What a refusal says of the connection that it gives up.
-use Rattle.std.specs.Prelude.{◌≡◌, ℕ, false, List}
+-- What a refusal says of the connection that it gives back, and what is left to say of one that it gives up.
+use Rattle.std.specs.Prelude.{◌≡◌, ◌⊎◌, ℕ, false, List, None, IsTrue}
 use Rattle.sqlite.specs.Store.{Ghosts}
 use Rattle.sqlite.specs.Held.{Held, state}
-use Rattle.sqlite.specs.State.{HasCleanDisk, Survives}
-use Rattle.table_rows.specs.Standing.{CommitsNothing, StaysCommitted}
+use Rattle.sqlite.specs.State.{HasCleanDisk, KeepsCommit, Survives}
+use Rattle.table_rows.specs.Standing.{CommitsNothing}
 use Rattle.outbox_opening.specs.declared.fault.OutboxFault.{OutboxFault}
+use Rattle.outbox_opening.specs.declared.fault.OutboxFault.TheVariants.{BadFiler, Taken}
 use Rattle.outbox_opening.specs.Audit.{IsRefused}
 use Rattle.outbox_opening.specs.Earlier.{IsEarlierOf, IsNotMigrated, LeavesMigrated, is_blocked}
 use Rattle.outbox_opening.specs.Entries.{Contents}
@@ -12,21 +13,52 @@ use Rattle.outbox_opening.specs.Faults.{IsFailure}
 use Rattle.outbox_opening.specs.Making.{LeavesMade}
 use Rattle.outbox_opening.specs.Promises.{ForOutbox}
 
--- No outbox was made: nothing is committed.
-abbrev pub GivesUpMaking : {S : Type 0} → Ghosts S → List ℕ → Held S → Type 0
-GivesUpMaking {S} g filer conn = (last : Held S) × Survives (state g conn) (state g last) (LeavesMade g filer conn) × StaysCommitted g conn last
+-- ---- the connection comes back
 
--- No outbox was opened: nothing was written, the fault says why, and an outbox is refused by memory or disk.
+-- What is written is what was committed, and it is committed still: so the rows are as they were.
+abbrev pub ShowsCommitted : {S : Type 0} → Ghosts S → Held S → Held S → Type 0
+ShowsCommitted g conn back = HasCleanDisk (state g back) → KeepsCommit (state g conn) (state g back) × (IsTrue (state g back).is_open → (state g back).now ≡ (state g conn).committed)
+
+-- No outbox was made, and the connection comes back as one that may be used again.
+pub record GivesBackMaking {S : Type 0} (g : Ghosts S) (filer : List ℕ) (conn : Held S) (fault : OutboxFault) (back : Held S) : Type 0 where
+  pub autocommit : back.in_transaction ≡ false
+  pub unlimited : back.step_limit ≡ None
+  pub untouched : (fault ≡ BadFiler) ⊎ (fault ≡ Taken) → back ≡ conn
+  pub same : ShowsCommitted g conn back
+  -- A crash leaves what it could leave before, or what all the statements make of the database.
+  pub crash : Survives (state g conn) (state g back) (LeavesMade g filer conn)
+
+-- No outbox was opened, and the connection comes back as one that may be used again. The fault says why.
+pub record GivesBackOpening {S : Type 0} (g : Ghosts S) (conn : Held S) (fault : OutboxFault) (back : Held S) : Type 0 where
+  pub autocommit : back.in_transaction ≡ false
+  pub unlimited : back.step_limit ≡ None
+  pub same : ShowsCommitted g conn back
+  pub why : HasCleanDisk (state g back) → IsRefused g fault conn back
+  -- An outbox is refused by memory or disk.
+  pub sound : ForOutbox g conn back (λ _. IsFailure fault)
+  -- A crash leaves what it could leave before.
+  pub crash : CommitsNothing (state g conn) (state g back)
+
+-- No outbox was migrated, and the connection comes back as one that may be used again. The fault says why.
+pub record GivesBackMigrating {S : Type 0} (g : Ghosts S) (conn : Held S) (fault : OutboxFault) (back : Held S) : Type 0 where
+  pub autocommit : back.in_transaction ≡ false
+  pub unlimited : back.step_limit ≡ None
+  pub same : ShowsCommitted g conn back
+  pub why : HasCleanDisk (state g back) → IsNotMigrated g fault conn back
+  -- Where the rows hold an outbox in the earlier form, and the name is not in the way, it is by memory or disk.
+  pub sound : HasCleanDisk (state g back) → (it : Contents) → IsEarlierOf it (state g conn).now → is_blocked (state g conn).now.schema ≡ false → IsFailure fault
+  -- A crash leaves what it could leave before, or the migrated rows.
+  pub crash : Survives (state g conn) (state g back) (LeavesMigrated (state g conn))
+
+-- ---- the connection is given up
+
+-- No clause can name the last state of a connection that is given up: this says that some such state is its last. The calls that give the
+-- connection back say it of the one that comes back.
+abbrev pub GivesUpMaking : {S : Type 0} → Ghosts S → List ℕ → Held S → OutboxFault → Type 0
+GivesUpMaking {S} g filer conn fault = (last : Held S) × GivesBackMaking g filer conn fault last
+
 abbrev pub GivesUpOpening : {S : Type 0} → Ghosts S → Held S → OutboxFault → Type 0
-GivesUpOpening {S} g conn fault =
-    (last : Held S) × CommitsNothing (state g conn) (state g last) × StaysCommitted g conn last
-    × (HasCleanDisk (state g last) → IsRefused g fault conn last)
-    × ForOutbox g conn last (λ _. IsFailure fault)
+GivesUpOpening {S} g conn fault = (last : Held S) × GivesBackOpening g conn fault last
 
--- No outbox was migrated: what is committed is what was committed, and the fault says why. Where the rows hold an outbox in the earlier
--- form, and the name is not in the way, it is by memory or disk.
 abbrev pub GivesUpMigrating : {S : Type 0} → Ghosts S → Held S → OutboxFault → Type 0
-GivesUpMigrating {S} g conn fault =
-    (last : Held S) × Survives (state g conn) (state g last) (LeavesMigrated (state g conn)) × StaysCommitted g conn last
-    × (HasCleanDisk (state g last) → IsNotMigrated g fault conn last)
-    × (HasCleanDisk (state g last) → (it : Contents) → IsEarlierOf it (state g conn).now → is_blocked (state g conn).now.schema ≡ false → IsFailure fault)
+GivesUpMigrating {S} g conn fault = (last : Held S) × GivesBackMigrating g conn fault last

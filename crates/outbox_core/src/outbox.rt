@@ -27,6 +27,9 @@ use table_rows::StoreFault;
 ///
 /// What a clause says of entries holds where the disk is clean as the call ends: where it gave back what was written.
 /// After a call was refused as Store, each later call that can be refused so is, until the database is opened again.
+///
+/// An outbox's file is its own: if the database had a table before the outbox was made in it, no clause says what the rows stand
+/// for.
 pub struct Outbox<S: Alter> {
     pub(crate) alloc: Global,
     pub(crate) conn: Connection<S>,
@@ -61,16 +64,21 @@ impl<S: Alter + Drop> Drop for Outbox<S> {
     }
 }
 
-impl<S: Alter + Drop> Outbox<S> {
-    ghost use Rattle.outbox_core.specs.HandedOut.{HandsOutMade};
+impl<S: Alter> Outbox<S> {
+    ghost use Rattle.outbox_core.specs.HandedOut.{FindsOrGivesBack, MakesOrGivesBack, MigratesOrGivesBack};
 
-    /// Makes the tables of an outbox of this filer that has no entry, in one transaction. A refusal gives the connection
-    /// up, and leaves the database as it was, as `make_outbox` says of one that is kept. The tables are those of an outbox
-    /// where the database had none before.
-    pub fn create(alloc: Global, conn: Connection<S>, filer: &str) -> Result<Outbox<S>, OutboxFault>
+    /// Makes the tables of an outbox of this filer that has no entry, in one transaction. A refusal leaves the database as it
+    /// was, and gives the connection back, which may be used again.
+    ///
+    /// An outbox's file is its own: if the database had a table before, no clause says what the rows stand for.
+    pub fn create_or_back(
+        alloc: Global,
+        conn: Connection<S>,
+        filer: &str,
+    ) -> Result<Outbox<S>, (OutboxFault, Connection<S>)>
         requires autocommit { conn.in_transaction ≡ false }
         requires unlimited { conn.step_limit ≡ None }
-        ensures { HandsOutMade S.Store filer.now conn result }
+        ensures { MakesOrGivesBack S.Store filer.now conn result }
     {
         let mut conn = conn;
         match make_outbox(alloc, &mut conn, filer) {
@@ -81,20 +89,22 @@ impl<S: Alter + Drop> Outbox<S> {
                 count: 0,
                 has_failed: false,
             }),
-            Err(refusal) => Err(refusal),
+            Err(fault) => {
+                prove!(conn.is_autocommit());
+                Err((fault, conn))
+            }
         }
     }
-}
 
-impl<S: Alter + Drop> Outbox<S> {
-    ghost use Rattle.outbox_core.specs.HandedOut.{HandsOutFound};
-
-    /// Opens the outbox that the database holds. A refusal gives the connection up, and leaves the database as it was. How
-    /// the tables are declared is not tested.
-    pub fn open(alloc: Global, conn: Connection<S>) -> Result<Outbox<S>, OutboxFault>
+    /// Opens the outbox that the database holds. Nothing is written, whatever the answer is, and a refusal gives the connection
+    /// back, which may be used again. How the tables are declared is not tested.
+    pub fn open_or_back(
+        alloc: Global,
+        conn: Connection<S>,
+    ) -> Result<Outbox<S>, (OutboxFault, Connection<S>)>
         requires autocommit { conn.in_transaction ≡ false }
         requires unlimited { conn.step_limit ≡ None }
-        ensures { HandsOutFound S.Store conn result }
+        ensures { FindsOrGivesBack S.Store conn result }
     {
         let mut conn = conn;
         match read_outbox(alloc, &mut conn) {
@@ -105,21 +115,23 @@ impl<S: Alter + Drop> Outbox<S> {
                 count,
                 has_failed: false,
             }),
-            Err(fault) => Err(fault),
+            Err(fault) => {
+                prove!(conn.is_autocommit());
+                Err((fault, conn))
+            }
         }
     }
-}
-
-impl<S: Alter + Drop> Outbox<S> {
-    ghost use Rattle.outbox_core.specs.HandedOut.{HandsOutMigrated};
 
     /// Brings the outbox that the database holds from the form before this one into this one, in one transaction, and opens
-    /// it: no entry has a target. A refusal gives the connection up, and leaves the rows as they were. What is said of the new
-    /// rows holds where the database has no other tables.
-    pub fn migrate(alloc: Global, conn: Connection<S>) -> Result<Outbox<S>, OutboxFault>
+    /// it: no entry has a target. A refusal leaves the rows as they were, and gives the connection back, which may be used
+    /// again. What is said of the new rows holds where the database has no other tables.
+    pub fn migrate_or_back(
+        alloc: Global,
+        conn: Connection<S>,
+    ) -> Result<Outbox<S>, (OutboxFault, Connection<S>)>
         requires autocommit { conn.in_transaction ≡ false }
         requires unlimited { conn.step_limit ≡ None }
-        ensures { HandsOutMigrated S.Store conn result }
+        ensures { MigratesOrGivesBack S.Store conn result }
     {
         let mut conn = conn;
         match migrate_outbox(alloc, &mut conn) {
@@ -130,7 +142,51 @@ impl<S: Alter + Drop> Outbox<S> {
                 count,
                 has_failed: false,
             }),
-            Err(fault) => Err(fault),
+            Err(fault) => {
+                prove!(conn.is_autocommit());
+                Err((fault, conn))
+            }
+        }
+    }
+}
+
+impl<S: Alter + Drop> Outbox<S> {
+    ghost use Rattle.outbox_core.specs.HandedOut.{HandsOutFound, HandsOutMade, HandsOutMigrated};
+
+    /// As `create_or_back`, but a refusal gives the connection up. An outbox's file is its own: if the database had a table
+    /// before, no clause says what the rows stand for.
+    pub fn create(alloc: Global, conn: Connection<S>, filer: &str) -> Result<Outbox<S>, OutboxFault>
+        requires autocommit { conn.in_transaction ≡ false }
+        requires unlimited { conn.step_limit ≡ None }
+        ensures { HandsOutMade S.Store filer.now conn result }
+    {
+        match Outbox::create_or_back(alloc, conn, filer) {
+            Ok(outbox) => Ok(outbox),
+            Err((fault, _conn)) => Err(fault),
+        }
+    }
+
+    /// As `open_or_back`, but a refusal gives the connection up.
+    pub fn open(alloc: Global, conn: Connection<S>) -> Result<Outbox<S>, OutboxFault>
+        requires autocommit { conn.in_transaction ≡ false }
+        requires unlimited { conn.step_limit ≡ None }
+        ensures { HandsOutFound S.Store conn result }
+    {
+        match Outbox::open_or_back(alloc, conn) {
+            Ok(outbox) => Ok(outbox),
+            Err((fault, _conn)) => Err(fault),
+        }
+    }
+
+    /// As `migrate_or_back`, but a refusal gives the connection up.
+    pub fn migrate(alloc: Global, conn: Connection<S>) -> Result<Outbox<S>, OutboxFault>
+        requires autocommit { conn.in_transaction ≡ false }
+        requires unlimited { conn.step_limit ≡ None }
+        ensures { HandsOutMigrated S.Store conn result }
+    {
+        match Outbox::migrate_or_back(alloc, conn) {
+            Ok(outbox) => Ok(outbox),
+            Err((fault, _conn)) => Err(fault),
         }
     }
 }
