@@ -1,11 +1,6 @@
 //! Giving the files of an outbox back.
 
-ghost use Rattle.std.specs.Prelude.{◌≡◌};
-ghost use Rattle.sqlite_store.specs.FileStore.{view, files as store_files};
-ghost use Rattle.sqlite_trees.specs.View.{IsClean};
-ghost use Rattle.sqlite.specs.Files.{IsClosed, FailsToClose};
-ghost use Rattle.table_rows.specs.Causes.{store_fault};
-ghost use Rattle.outbox_core.specs.Files.{GivesFilesBack};
+ghost use Rattle.outbox_core.specs.Files.{AreLeft, GivesFilesBack, IsNotCopied};
 
 use crate::outbox::Outbox;
 use sqlite::{FileStore, Files};
@@ -14,11 +9,10 @@ use table_rows::StoreFault;
 
 impl<D: Disk + Drop> Outbox<FileStore<D>> {
     /// The files, with what was committed in the database file. They come wherever the close succeeds, also after a call
-    /// was refused as Store. A refusal is that of the close, and gives the files up.
+    /// was refused as Store. A refusal is that of the close, and gives the files up: no clause can name them, and `close` gives
+    /// them back.
     pub fn into_files(self) -> Result<Files<D>, StoreFault>
-        ensures { GivesFilesBack D.Disk self result (λ fault.
-            (last : _) × IsClosed self.conn last × (error : _)
-            × (IsClean (view last) → FailsToClose self.conn last error) × (fault ≡ store_fault error)) }
+        ensures { GivesFilesBack D.Disk self result (λ fault. (last : _) × IsNotCopied self.conn last fault) }
     {
         match self.close() {
             Ok(closed) => Ok(closed),
@@ -29,9 +23,7 @@ impl<D: Disk + Drop> Outbox<FileStore<D>> {
     /// The same, where a refusal gives the files back as well, as the close left them: an outcome of a crash is one of
     /// before.
     pub fn close(self) -> Result<Files<D>, (StoreFault, Files<D>)>
-        ensures { GivesFilesBack D.Disk self result (λ refusal.
-            (last : _) × IsClosed self.conn last × (store_files last ≡ (refusal.1.log, refusal.1.db)) × (error : _)
-            × (IsClean (view last) → FailsToClose self.conn last error) × (refusal.0 ≡ store_fault error)) }
+        ensures { GivesFilesBack D.Disk self result (λ refusal. AreLeft self.conn refusal.0 refusal.1) }
     {
         match self.into_conn().close_files() {
             Ok(files) => Ok(files),
