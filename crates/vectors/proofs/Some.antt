@@ -1,31 +1,12 @@
--- Lists that are some of a list, as it grows.
-use Rattle.std.proofs.Common.{ℕ, ◌+◌, ◌<◌, inl, inr, List, [], ◌∷◌, ◌++◌, length, get_or, take, refl}
-use Rattle.std.proofs.lemmas.List.{take_more}
+-- Those of a list that pass a test are some of it.
+use Rattle.std.proofs.Common.{◌≡◌, ℕ, Bool, true, false, inl, inr, List, [], ◌∷◌, map, filter, refl, ⊎_elim}
+use Rattle.std.proofs.lemmas.Bool.{cases_Bool}
 use Rattle.vectors.specs.Report.{AreSomeOf}
 
--- none are some of none
-pub none_of_none : AreSomeOf [] []
+pub some_of : {X : Type 0} (name : X → ℕ) (p : X → Bool) (xs : List X) → AreSomeOf (map name xs) (map name (filter p xs))
 unfolding AreSomeOf
-none_of_none = refl
-
--- one more number, which is not among them
-some_without : (ns some : List ℕ) (n : ℕ) → AreSomeOf ns some → AreSomeOf (ns ++ n ∷ []) some
-unfolding AreSomeOf
-some_without [] some n e = inl e
-some_without (m ∷ ns) some n (inl h) = inl (some_without ns some n h)
-some_without (m ∷ ns) some n (inr (rest, e, h)) = inr (rest, e, some_without ns rest n h)
-
--- and which is
-some_with : (ns some : List ℕ) (n : ℕ) → AreSomeOf ns some → AreSomeOf (ns ++ n ∷ []) (some ++ n ∷ [])
-unfolding AreSomeOf
-some_with [] some n e = rw e (inr ([], refl, refl))
-some_with (m ∷ ns) some n (inl h) = inl (some_with ns some n h)
-some_with (m ∷ ns) some n (inr (rest, e, h)) = inr (rest ++ n ∷ [], rw e refl, some_with ns rest n h)
-
--- the next number of a list is passed over
-pub some_after : (ns some : List ℕ) (i : ℕ) → i < length ns → AreSomeOf (take i ns) some → AreSomeOf (take (i + 1) ns) some
-some_after ns some i below h = rw (take_more ns i 0 below) (some_without (take i ns) some (get_or ns i 0) h)
-
--- or taken
-pub some_after_with : (ns some : List ℕ) (i : ℕ) → i < length ns → AreSomeOf (take i ns) some → AreSomeOf (take (i + 1) ns) (some ++ get_or ns i 0 ∷ [])
-some_after_with ns some i below h = rw (take_more ns i 0 below) (some_with (take i ns) some (get_or ns i 0) h)
+some_of name p [] = refl
+some_of name p (x ∷ xs) = ⊎_elim
+    (λ (passes : p x ≡ true). rw passes (inr (map name (filter p xs), refl, some_of name p xs)))
+    (λ (fails : p x ≡ false). rw fails (inl (some_of name p xs)))
+    (cases_Bool (p x))

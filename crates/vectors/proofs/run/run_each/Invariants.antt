@@ -1,6 +1,9 @@
-use Rattle.std.proofs.Common.{◌≡◌, ◌+◌, vec_len, take}
-use Rattle.vectors.specs.Report.{AreSomeOf}
+use Rattle.std.proofs.Common.{◌≡◌, All, map, take}
+use Rattle.vectors.specs.Report.{IsWhole}
 use Rattle.vectors.proofs.run.run_each.Given as goal
 
 abbrev pub invariant-loop-number : goal.invariant-loop-number
-invariant-loop-number l = record { some : AreSomeOf (take l.number-index l.numbers) l.failed.items; counted : l.passed + vec_len l.failed ≡ l.number-index }
+invariant-loop-number l = record {
+  numbers : map (λ o. o.number) l.outcomes.items ≡ take l.number-index l.numbers;
+  whole : All IsWhole l.outcomes.items;
+}
