@@ -1,3 +1,5 @@
+pub mod Asleep
+pub mod Causes
 pub mod Coming
 pub mod Early
 pub mod Entries

@@ -1,8 +1,15 @@
--- Why a database was not opened.
+-- The causes by which an end tells the refusals below it. Want of memory is told as that alone.
+use Rattle.std.specs.Prelude.{ℕ}
 use Rattle.sqlite.specs.declared.error.Error.{Error}
 use Rattle.table_rows.specs.declared.cause.Cause.{Cause as Refusal}
 use Rattle.table_rows.specs.declared.cause.Cause.TheVariants as refusal
 use Rattle.table_rows.specs.Causes.{cause_of}
+use Rattle.table_rows.specs.declared.fault.StoreFault.{StoreFault}
+use Rattle.table_rows.specs.declared.fault.StoreFault.TheVariants as store
+use Rattle.register_opening.specs.declared.fault.OpenFault.{OpenFault}
+use Rattle.register_opening.specs.declared.fault.OpenFault.TheVariants as register
+use Rattle.outbox_opening.specs.declared.fault.OutboxFault.{OutboxFault}
+use Rattle.outbox_opening.specs.declared.fault.OutboxFault.TheVariants as outbox
 use Rattle.filing_ends.specs.declared.cause.Cause.{Cause}
 use Rattle.filing_ends.specs.declared.cause.Cause.TheVariants as cause
 
@@ -11,6 +18,27 @@ reopen_cause_by refusal.Memory = cause.Memory
 reopen_cause_by refusal.Disk = cause.Reopen
 reopen_cause_by refusal.Other = cause.Reopen
 
--- that memory ran out is told as that alone
+-- of a database that was not opened
 abbrev pub reopen_cause : Error → Cause
 reopen_cause error = reopen_cause_by (cause_of error)
+
+-- of a register that was not opened
+abbrev pub register_cause : OpenFault → Cause
+register_cause register.NotOurs = cause.Reopen
+register_cause (register.Damaged row) = cause.Reopen
+register_cause register.Memory = cause.Memory
+register_cause register.Disk = cause.Reopen
+
+-- of an outbox that was not opened
+abbrev pub outbox_cause : OutboxFault → Cause
+outbox_cause outbox.BadFiler = cause.Reopen
+outbox_cause outbox.Taken = cause.Reopen
+outbox_cause outbox.NotOurs = cause.Reopen
+outbox_cause (outbox.Damaged row) = cause.Reopen
+outbox_cause outbox.Memory = cause.Memory
+outbox_cause outbox.Disk = cause.Reopen
+
+-- of a store that did not give its files back
+abbrev pub closing_cause : StoreFault → Cause
+closing_cause store.Memory = cause.Memory
+closing_cause store.Store = cause.Reopen

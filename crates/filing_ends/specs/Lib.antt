@@ -5,4 +5,5 @@ pub mod IntakeProcess
 pub mod Listed
 pub mod OutboxProcess
 pub mod Outboxes
+pub mod Refusals
 pub mod Registers

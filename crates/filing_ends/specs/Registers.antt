@@ -1,9 +1,10 @@
 -- What contracts see of an intake over a register in files.
 use Rattle.std.specs.Prelude.{◌≡◌, List, []}
 use Rattle.sqlite.specs.Store as database
+use Rattle.sqlite.specs.Held.{Held}
 use Rattle.filing_model.specs.Request.{Request}
 use Rattle.intake_core.specs.declared.intake.Intake.{Intake}
-use Rattle.intake_core.specs.Held.{HoldsRequests, early_in}
+use Rattle.intake_core.specs.Held.{HoldsRequests, early_in, store_of}
 use Rattle.filing_ends.specs.declared.registers.Opening.{Opening}
 use Rattle.filing_ends.specs.declared.registers.Opening.TheVariants.{Made, Found}
 
@@ -11,6 +12,10 @@ use Rattle.filing_ends.specs.declared.registers.Opening.TheVariants.{Made, Found
 abbrev pub ComesWith : Opening → Type 0 → List Request → Type 0
 ComesWith Made Lies F = F ≡ []
 ComesWith Found Lies F = Lies
+
+-- the connection of its register
+abbrev pub conn_of : {S : Type 0} → Intake S → Held S
+conn_of intake = (store_of intake).conn
 
 -- It holds these requests, and none of them was kept before there were problem details.
 abbrev pub HoldsNew : {S : Type 0} → database.Ghosts S → Intake S → List Request → Type 0

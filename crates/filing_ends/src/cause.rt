@@ -1,8 +1,10 @@
 //! Why an end did not do what it was asked.
 
+use outbox_core::OutboxFault;
+use register_store::OpenFault;
 use sqlite::Error as DatabaseError;
 use std::alloc::AllocError;
-use table_rows::Cause as Refusal;
+use table_rows::{Cause as Refusal, StoreFault};
 
 /// Why an end, or what plays events on the ends, did not do what it was asked.
 #[derive(Clone, Copy, Debug, PartialEq, Eq)]
@@ -30,7 +32,7 @@ impl From<AllocError> for Cause {
 
 impl Cause {
     ghost use Rattle.std.specs.Prelude.{◌≡◌, ◌≢◌};
-    ghost use Rattle.filing_ends.specs.Causes.{reopen_cause};
+    ghost use Rattle.filing_ends.specs.Causes.{reopen_cause, register_cause, outbox_cause, closing_cause};
 
     /// The cause where a database was not opened.
     pub(crate) fn of_opening(error: DatabaseError) -> Cause
@@ -40,6 +42,40 @@ impl Cause {
         match Refusal::from(error) {
             Refusal::Memory => Cause::Memory,
             Refusal::Disk | Refusal::Other => Cause::Reopen,
+        }
+    }
+
+    /// The cause if a register was not opened.
+    pub(crate) fn of_register(fault: OpenFault) -> Cause
+        ensures { result ≡ register_cause fault }
+    {
+        match fault {
+            OpenFault::Memory => Cause::Memory,
+            OpenFault::NotOurs | OpenFault::Damaged { .. } | OpenFault::Disk => Cause::Reopen,
+        }
+    }
+
+    /// The cause if an outbox was not opened.
+    pub(crate) fn of_outbox(fault: OutboxFault) -> Cause
+        ensures { result ≡ outbox_cause fault }
+    {
+        match fault {
+            OutboxFault::Memory => Cause::Memory,
+            OutboxFault::BadFiler
+            | OutboxFault::Taken
+            | OutboxFault::NotOurs
+            | OutboxFault::Damaged { .. }
+            | OutboxFault::Disk => Cause::Reopen,
+        }
+    }
+
+    /// The cause if a store did not give its files back.
+    pub(crate) fn of_closing(fault: StoreFault) -> Cause
+        ensures { result ≡ closing_cause fault }
+    {
+        match fault {
+            StoreFault::Memory => Cause::Memory,
+            StoreFault::Store => Cause::Reopen,
         }
     }
 }

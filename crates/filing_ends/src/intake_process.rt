@@ -1,13 +1,13 @@
 //! The process that an intake runs in, over a register in files.
 
-ghost use Rattle.std.specs.Prelude.{◌≡◌, ◌≢◌, ◌≤◌, ◌^◌, ◌++◌, [], ℕ, List, true, false, IfOk, Err};
+ghost use Rattle.std.specs.Prelude.{◌≡◌, ◌≢◌, ◌≤◌, ◌^◌, ◌++◌, ◌↔◌, [], ℕ, List, true, false, IfOk, IfErr, Err};
 ghost use Rattle.http_messages.specs.Message.{Arrival};
 ghost use Rattle.filing_model.specs.Request.{Request, firsts};
 ghost use Rattle.filing_model.specs.Register.{register};
 ghost use Rattle.filing_model.specs.Stopping.{ServesUntil};
 ghost use Rattle.filing_model.specs.Text.{completed};
 ghost use Rattle.gateway_server.specs.Stopping.{view_stop};
-ghost use Rattle.filing_ends.specs.IntakeProcess.{Keeps, is_up, is_down};
+ghost use Rattle.filing_ends.specs.IntakeProcess.{Keeps, is_up, is_down, is_asleep, IsNotStopped, IsNotStarted};
 
 use crate::cause::Cause;
 use crate::honest::Honest;
@@ -62,6 +62,7 @@ impl<D: Honest> IntakeProcess<D> {
         ensures up { is_up self.new ≡ is_up self.old }
         ensures other { result ≢ Err Cause.NoSuch }
         ensures reopen { result ≢ Err Cause.Reopen }
+        ensures store { is_up self.old ≡ true → result ≢ Err Cause.Store }
     {
         match self {
             IntakeProcess::Up(intake) => Ok(ask(alloc, intake, Serve { bytes, stop })?),
@@ -70,47 +71,53 @@ impl<D: Honest> IntakeProcess<D> {
         }
     }
 
-    /// The files in the place of the register. `Reopen` comes where they were not given for another cause than
-    /// memory, and `Store` where a fault took it.
+    /// The files in the place of the register. `Reopen` comes if they were not given for another cause than memory, or
+    /// if a fault took it before.
     pub fn stopped(self) -> Result<IntakeProcess<D>, Cause>
         ensures kept { (limit : ℕ) (F : List Request) → Keeps self limit F
             → IfOk result (λ process. Keeps process limit F) }
         ensures down { IfOk result (λ process. is_up process ≡ false) }
         ensures files { IfOk result (λ process. is_down process ≡ true) }
+        ensures refused { IfErr result (IsNotStopped self) }
         ensures other { result ≢ Err Cause.NoSuch }
+        ensures store { result ≢ Err Cause.Store }
     {
         match self {
             IntakeProcess::Up(intake) => Ok(IntakeProcess::Down(files_of_intake(intake)?)),
             IntakeProcess::Down(files) => Ok(IntakeProcess::Down(files)),
-            IntakeProcess::Gone => Err(Cause::Store),
+            IntakeProcess::Gone => Err(Cause::Reopen),
         }
     }
 
-    /// The register in the place of the files. `Reopen` comes where it was not opened for another cause than memory,
-    /// or has a request of before there were problem details, and `Store` where a fault took it.
+    /// The register in the place of the files. `Reopen` comes if it was not opened for another cause than memory, or has
+    /// a request of before there were problem details, or if a fault took it before.
     pub fn started(self, alloc: Global, limit: u64) -> Result<IntakeProcess<D>, Cause>
         requires { limit ≤ 2 ^ 62 }
         ensures kept { (F : List Request) → firsts F ≡ F → Keeps self limit F
             → IfOk result (λ process. Keeps process limit F) }
         ensures up { IfOk result (λ process. is_up process ≡ true) }
+        ensures refused { IfErr result (IsNotStarted self) }
         ensures other { result ≢ Err Cause.NoSuch }
+        ensures store { result ≢ Err Cause.Store }
     {
         match self {
             IntakeProcess::Up(intake) => Ok(IntakeProcess::Up(intake)),
             IntakeProcess::Down(files) => {
                 Ok(IntakeProcess::Up(intake_in(alloc, files, Opening::Found, limit)?))
             }
-            IntakeProcess::Gone => Err(Cause::Store),
+            IntakeProcess::Gone => Err(Cause::Reopen),
         }
     }
 
-    /// The registered requests under their numbers, ascending. `Down` comes where it is down.
+    /// The registered requests under their numbers, ascending. `Down` comes if it is down, or if its database refused
+    /// earlier, and only then; `Full` never comes.
     pub fn register(&mut self, alloc: Global) -> Result<Vec<Registered>, Unavailable>
         ensures list { (limit : ℕ) (F : List Request) → Keeps self.old limit F
             → IfOk result (λ rows. rows.items ≡ register F) }
         ensures kept { (limit : ℕ) (F : List Request) → Keeps self.old limit F → Keeps self.new limit F }
         ensures up { is_up self.new ≡ is_up self.old }
-        ensures down { is_up self.old ≡ false → result ≡ Err Unavailable.Down }
+        ensures down { (result ≡ Err Unavailable.Down) ↔ (is_asleep self.old ≡ true) }
+        ensures room { (k : ℕ) → result ≢ Err (Unavailable.Full k) }
     {
         match self {
             IntakeProcess::Up(intake) => ask(alloc, intake, ListRegister),

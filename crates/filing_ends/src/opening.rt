@@ -1,11 +1,12 @@
 //! A database is made in files, and opened again.
 
-ghost use Rattle.std.specs.Prelude.{◌≡◌, ◌≢◌, ◌↔◌, false, None, IsTrue, IfOk, Err};
+ghost use Rattle.std.specs.Prelude.{◌≡◌, ◌≢◌, ◌↔◌, false, None, IsTrue, IfOk, IfErr, Err};
 ghost use Rattle.sqlite.specs.Effect.{Database};
-ghost use Rattle.sqlite.specs.Files.{file_state};
+ghost use Rattle.sqlite.specs.Files.{file_state, Finds};
 ghost use Rattle.sqlite.specs.Held.{state};
 ghost use Rattle.table_rows.specs.Files.{HoldsDatabase};
 ghost use Rattle.table_rows.specs.Tables.{no_schema};
+ghost use Rattle.filing_ends.specs.Refusals.{FailToOpen};
 
 use crate::cause::Cause;
 use crate::faithful::Faithful;
@@ -55,10 +56,13 @@ pub(crate) fn open<D: Honest>(
     requires db { IsTrue (D.Disk.is_usable files.db) }
     ensures idle { IfOk result (λ conn. (conn.in_transaction ≡ false) × (conn.step_limit ≡ None)) }
     ensures found { IfOk result (λ conn. (db : Database) → HoldsDatabase D.Disk files db → (file_state conn).now ≡ db) }
+    ensures lies { IfOk result (Finds files) }
+    ensures refused { IfErr result (FailToOpen D.Disk files) }
     ensures other { result ≢ Err Cause.NoSuch }
+    ensures store { result ≢ Err Cause.Store }
 {
     match Connection::open_files(alloc, files, Options::new(1)) {
         Ok(conn) => Ok(conn),
-        Err((error, _)) => Err(Cause::of_opening(error)),
+        Err((error, _left)) => Err(Cause::of_opening(error)),
     }
 }

@@ -1,6 +1,6 @@
 //! The process that an outbox in files runs in.
 
-ghost use Rattle.std.specs.Prelude.{◌≡◌, ◌≢◌, ◌++◌, ◌∷◌, [], ℕ, List, map, true, false, Option, Some, None, IfOk, Err, if◌then◌else◌};
+ghost use Rattle.std.specs.Prelude.{◌≡◌, ◌≢◌, ◌++◌, ◌∷◌, [], ℕ, List, map, true, false, Option, Some, None, IsTrue, IfOk, IfErr, Err, if◌then◌else◌};
 ghost use Rattle.key_string.specs.Filer.{is_filer};
 ghost use Rattle.http_messages.specs.Posting.{IsTarget};
 ghost use Rattle.http_messages.specs.Reply.{ReplyParts};
@@ -11,7 +11,7 @@ ghost use Rattle.filing_world.specs.Step.{takes, Hears, heard_by};
 ghost use Rattle.filing_world.specs.Headline.{states_of};
 ghost use Rattle.outbox_core.specs.Entries.{opened};
 ghost use Rattle.filing_ends.specs.Listed.{listed};
-ghost use Rattle.filing_ends.specs.OutboxProcess.{Keeps, is_up, is_down};
+ghost use Rattle.filing_ends.specs.OutboxProcess.{Keeps, is_up, is_down, is_asleep, IsNotStopped, IsNotStarted};
 ghost use Rattle.filing_ends.specs.Outboxes.{up_with, after_answer, IsRequest, state_or, entries_after};
 
 use crate::cause::Cause;
@@ -60,13 +60,16 @@ impl<D: Honest> OutboxProcess<D> {
         Ok(OutboxProcess::Up(outbox_in(alloc, files, Opening::Made { filer })?))
     }
 
-    /// The files in the place of the outbox. `Reopen` comes where they were not given for another cause than memory.
+    /// The files in the place of the outbox. `Reopen` comes if they were not given for another cause than memory, or if a
+    /// fault took it before.
     pub fn stopped(self) -> Result<OutboxProcess<D>, Cause>
         ensures kept { (filer : List ℕ) (entries : List Item) → Keeps self filer entries
             → IfOk result (λ process. Keeps process filer entries) }
         ensures down { IfOk result (λ process. is_up process ≡ false) }
         ensures files { IfOk result (λ process. is_down process ≡ true) }
+        ensures refused { IfErr result (IsNotStopped self) }
         ensures other { result ≢ Err Cause.NoSuch }
+        ensures store { result ≢ Err Cause.Store }
     {
         match self {
             OutboxProcess::Up(outbox) => Ok(OutboxProcess::Down(files_of_outbox(outbox)?)),
@@ -75,12 +78,15 @@ impl<D: Honest> OutboxProcess<D> {
         }
     }
 
-    /// The outbox in the place of its files. `Reopen` comes where it was not opened for another cause than memory.
+    /// The outbox in the place of its files. `Reopen` comes if it was not opened for another cause than memory, or if a
+    /// fault took it before.
     pub fn started(self, alloc: Global) -> Result<OutboxProcess<D>, Cause>
         ensures kept { (filer : List ℕ) (entries : List Item) → Keeps self filer entries
             → IfOk result (λ process. Keeps process filer entries) }
         ensures up { IfOk result (λ process. is_up process ≡ true) }
+        ensures refused { IfErr result (IsNotStarted self) }
         ensures other { result ≢ Err Cause.NoSuch }
+        ensures store { result ≢ Err Cause.Store }
     {
         match self {
             OutboxProcess::Up(outbox) => Ok(OutboxProcess::Up(outbox)),
@@ -161,7 +167,8 @@ impl<D: Honest> OutboxProcess<D> {
         }
     }
 
-    /// The number and the state of each entry, in the order of the numbers. `Store` comes where it is down.
+    /// The number and the state of each entry, in the order of the numbers. `Store` comes if it is down, and else only if
+    /// its database refused.
     pub fn states(&mut self, alloc: Global) -> Result<Vec<(u64, State)>, StoreFault>
         ensures list { (filer : List ℕ) (entries : List Item) → Keeps self.old filer entries
             → IfOk result (λ s. (number : ℕ) → map (listed number) s.items ≡ states_of number 1 entries) }
@@ -169,6 +176,7 @@ impl<D: Honest> OutboxProcess<D> {
             → Keeps self.new filer entries }
         ensures up { is_up self.new ≡ is_up self.old }
         ensures down { is_up self.old ≡ false → result ≡ Err StoreFault.Store }
+        ensures store { result ≡ Err StoreFault.Store → IsTrue (is_asleep self.new) }
     {
         match self {
             OutboxProcess::Up(outbox) => ask(alloc, outbox, ListStates),

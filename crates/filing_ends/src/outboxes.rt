@@ -1,7 +1,7 @@
 //! An outbox is made, opened, called and closed. A call is a value, a `Call`: what it does is written over any store,
 //! and `ask` is the one function that makes it on a store in files, since each such function costs much to prove.
 
-ghost use Rattle.std.specs.Prelude.{◌≡◌, ◌≢◌, ◌++◌, ◌∷◌, [], ℕ, List, map, true, false, Option, Some, None, IfOk, Err, if◌then◌else◌};
+ghost use Rattle.std.specs.Prelude.{◌≡◌, ◌≢◌, ◌++◌, ◌∷◌, [], ℕ, List, Bool, map, true, false, Option, Some, None, IsTrue, IfOk, IfErr, Err, if◌then◌else◌};
 ghost use Rattle.key_string.specs.Filer.{is_filer};
 ghost use Rattle.http_messages.specs.Reply.{ReplyParts};
 ghost use Rattle.filing_model.specs.Outbox.{Entry as Item};
@@ -17,7 +17,9 @@ ghost use Rattle.outbox_opening.specs.Entries.{Contents};
 ghost use Rattle.outbox_core.specs.Entries.{opened};
 ghost use Rattle.outbox_core.specs.Files.{HoldOutbox};
 ghost use Rattle.outbox_opening.specs.Rows.{IsOutboxOf};
+ghost use Rattle.table_rows.specs.declared.fault.StoreFault.TheVariants.{Store as Refused};
 ghost use Rattle.filing_ends.specs.Listed.{listed};
+ghost use Rattle.filing_ends.specs.Refusals.{AreRefused, RefusesFiler, IsNotClosed};
 ghost use Rattle.filing_ends.specs.declared.cause.Cause.TheVariants.{NoSuch, Reopen};
 ghost use Rattle.filing_ends.specs.Outboxes.{up_with, after_answer, ComesWith, IsForFiler, IsRequest, cause_of_unheard, state_or, entries_after};
 
@@ -57,12 +59,13 @@ fn open_outbox<S: Faithful>(alloc: Global, conn: Connection<S>) -> Result<Outbox
     requires { (conn.in_transaction ≡ false) × (conn.step_limit ≡ None) }
     ensures opened { (it : Contents) → IsOutboxOf it (state S.Store conn).now
         → IfOk result (λ outbox. HasEntries S.Store outbox it.entries × (outbox.filer ≡ it.filer)) }
+    ensures refused { IfErr result (RefusesFiler S.Store conn) }
     ensures other { result ≢ Err Cause.NoSuch }
+    ensures store { result ≢ Err Cause.Store }
 {
     match Outbox::open(alloc, conn) {
         Ok(outbox) => Ok(outbox),
-        Err(OutboxFault::Memory) => Err(Cause::Memory),
-        Err(_fault) => Err(Cause::Reopen),
+        Err(fault) => Err(Cause::of_outbox(fault)),
     }
 }
 
@@ -85,7 +88,9 @@ fn outbox_over<S: Faithful>(
     requires idle { (conn.in_transaction ≡ false) × (conn.step_limit ≡ None) }
     ensures opened { (it : Contents) → ComesWith opening.entry (IsOutboxOf it (state S.Store conn).now) it
         → IfOk result (λ outbox. HasEntries S.Store outbox it.entries × (outbox.filer ≡ it.filer)) }
+    ensures refused { opening.entry ≡ Opening.Found → IfErr result (RefusesFiler S.Store conn) }
     ensures other { result ≢ Err Cause.NoSuch }
+    ensures store { opening.entry ≡ Opening.Found → result ≢ Err Cause.Store }
 {
     match opening {
         Opening::Made { filer } => make_outbox(alloc, conn, filer),
@@ -102,7 +107,9 @@ pub(crate) fn outbox_in<D: Honest>(
     requires { IsForFiler opening }
     ensures opened { (it : Contents) → ComesWith opening.entry (HoldOutbox D.Disk files it) it
         → IfOk result (λ outbox. HasEntries over_files outbox it.entries × (outbox.filer ≡ it.filer)) }
+    ensures refused { opening.entry ≡ Opening.Found → IfErr result (AreRefused D.Disk files (RefusesFiler over_files)) }
     ensures other { result ≢ Err Cause.NoSuch }
+    ensures store { opening.entry ≡ Opening.Found → result ≢ Err Cause.Store }
 {
     if !files.may_be_used() {
         return Err(Cause::Reopen);
@@ -114,12 +121,13 @@ pub(crate) fn outbox_in<D: Honest>(
 pub(crate) fn files_of_outbox<D: Honest>(outbox: Outbox<FileStore<D>>) -> Result<Files<D>, Cause>
     ensures held { (entries : List Item) → HasEntries over_files outbox entries
         → IfOk result (λ files. HoldOutbox D.Disk files (contents outbox entries)) }
+    ensures refused { IfErr result (IsNotClosed outbox.conn) }
     ensures other { result ≢ Err Cause.NoSuch }
+    ensures store { result ≢ Err Cause.Store }
 {
     match outbox.into_files() {
         Ok(files) => Ok(files),
-        Err(StoreFault::Memory) => Err(Cause::Memory),
-        Err(StoreFault::Store) => Err(Cause::Reopen),
+        Err(fault) => Err(Cause::of_closing(fault)),
     }
 }
 
@@ -134,6 +142,9 @@ pub(crate) trait Call {
     // Whether this outbox may answer so.
     ghost answers: { Self → Ours → Self.Answer → Type 0 };
 
+    // Whatever it has, an outbox may answer so whose database refused a call by then, or did not.
+    ghost may_answer: { Self → Bool → Self.Answer → Type 0 } = { λ _ _ _. Unit {0} };
+
     // The entries after such an answer, of those before.
     ghost leaves: { Self → List Item → Self.Answer → List Item };
 
@@ -144,6 +155,7 @@ pub(crate) trait Call {
             → answers self (up_with outbox.old.filer entries) result }
         ensures rows { (entries : List Item) → HasEntries S.Store outbox.old entries
             → HasEntries S.Store outbox.new (leaves self entries result) }
+        ensures always { may_answer self outbox.new.has_failed result }
         ensures filer { outbox.new.filer ≡ outbox.old.filer };
 }
 
@@ -158,6 +170,7 @@ pub(crate) fn ask<D: Honest, C: Call>(
         → C.answers call (up_with outbox.old.filer entries) result }
     ensures rows { (entries : List Item) → HasEntries over_files outbox.old entries
         → HasEntries over_files outbox.new (C.leaves call entries result) }
+    ensures always { C.may_answer call outbox.new.has_failed result }
     ensures filer { outbox.new.filer ≡ outbox.old.filer }
 {
     call.on(alloc, outbox)
@@ -281,6 +294,8 @@ impl Call for ListStates {
 
     ghost answers = { λ _ box answer.
         IfOk answer (λ states. (number : ℕ) → map (listed number) states.items ≡ states_of number 1 box.entries) };
+
+    ghost may_answer = { λ _ failed answer. answer ≡ Err Refused → IsTrue failed };
 
     ghost leaves = { λ _ entries _. entries };
 

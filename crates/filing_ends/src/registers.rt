@@ -2,7 +2,7 @@
 //! written over any store, and `ask` is the one function that makes it on a store in files, since each such function
 //! costs much to prove.
 
-ghost use Rattle.std.specs.Prelude.{◌≡◌, ◌≢◌, ◌≤◌, ◌^◌, ◌++◌, [], ℕ, List, Some, None, IfOk, Err, true, false};
+ghost use Rattle.std.specs.Prelude.{◌≡◌, ◌≢◌, ◌≤◌, ◌^◌, ◌++◌, ◌↔◌, [], ℕ, Bool, List, Some, None, IfOk, IfErr, Err, true, false};
 ghost use Rattle.http_messages.specs.Message.{Arrival};
 ghost use Rattle.http_messages.specs.declared.refusal.ConnFault.TheVariants.{Write};
 ghost use Rattle.filing_model.specs.declared.served.Ended.TheVariants.{Fault};
@@ -14,9 +14,11 @@ ghost use Rattle.sqlite.specs.Files.{over_files};
 ghost use Rattle.sqlite.specs.Held.{state};
 ghost use Rattle.register_opening.specs.Registers.{IsRegisterOf};
 ghost use Rattle.register_store.specs.Files.{HoldRegister};
-ghost use Rattle.intake_core.specs.Held.{limit_of, early_of};
+ghost use Rattle.intake_core.specs.Held.{limit_of, early_of, has_stopped};
+ghost use Rattle.intake_core.specs.declared.intake.Unavailable.TheVariants.{Down, Full};
 ghost use Rattle.gateway_server.specs.Stopping.{view_stop};
-ghost use Rattle.filing_ends.specs.Registers.{HoldsNew, ComesWith};
+ghost use Rattle.filing_ends.specs.Registers.{HoldsNew, ComesWith, conn_of};
+ghost use Rattle.filing_ends.specs.Refusals.{AreRefused, RefusesIntake, IsNotClosed};
 
 use crate::bytes::{Given, Kept};
 use crate::cause::Cause;
@@ -27,8 +29,8 @@ use filing_model::{Ended, Mark};
 use gateway_server::{Partly, Stop, serve_until};
 use http_wire::ConnFault;
 use intake_core::{Intake, Unavailable};
-use register_store::{CreateFault, OpenFault, Registered, Store, StoreFault};
-use sqlite::{Connection, FileStore, Files};
+use register_store::{CreateFault, Registered, Store};
+use sqlite::{Alter, Connection, FileStore, Files};
 use std::alloc::{AllocError, Global};
 
 /// An intake over a register without requests, which keeps at most `limit` keys. `Reopen` comes where the database has
@@ -52,6 +54,13 @@ fn make_intake<S: Faithful>(
     }
 }
 
+/// Whether no request was kept before there were problem details.
+fn is_new<S: Alter>(store: &Store<S>) -> bool
+    ensures { (result ≡ true) ↔ (store.now.early ≡ 0) }
+{
+    matches!(store.early_count(), Ok(0))
+}
+
 /// An intake over the register that lies in this database, which keeps at most `limit` keys. `Reopen` comes also where a request
 /// was kept before there were problem details: no such register is played on.
 fn open_intake<S: Faithful>(
@@ -65,15 +74,19 @@ fn open_intake<S: Faithful>(
         → IfOk result (λ intake. HoldsNew S.Store intake F) }
     ensures limit { IfOk result (λ intake. limit_of intake ≡ limit) }
     ensures problem { IfOk result (λ intake. early_of intake ≡ 0) }
+    ensures refused { IfErr result (RefusesIntake S.Store conn) }
     ensures other { result ≢ Err Cause.NoSuch }
+    ensures store { result ≢ Err Cause.Store }
 {
     match Store::open(alloc, conn) {
-        Ok(store) => match store.early_count() {
-            Ok(0) => Ok(Intake::new(alloc, store, limit)),
-            Ok(_) | Err(_) => Err(Cause::Reopen),
-        },
-        Err(OpenFault::Memory) => Err(Cause::Memory),
-        Err(_fault) => Err(Cause::Reopen),
+        Ok(store) => {
+            if is_new(&store) {
+                Ok(Intake::new(alloc, store, limit))
+            } else {
+                Err(Cause::Reopen)
+            }
+        }
+        Err(fault) => Err(Cause::of_register(fault)),
     }
 }
 
@@ -100,7 +113,9 @@ fn intake_over<S: Faithful>(
         → IfOk result (λ intake. HoldsNew S.Store intake F) }
     ensures limit { IfOk result (λ intake. limit_of intake ≡ limit) }
     ensures problem { IfOk result (λ intake. early_of intake ≡ 0) }
+    ensures refused { opening ≡ Opening.Found → IfErr result (RefusesIntake S.Store conn) }
     ensures other { result ≢ Err Cause.NoSuch }
+    ensures store { opening ≡ Opening.Found → result ≢ Err Cause.Store }
 {
     match opening {
         Opening::Made => make_intake(alloc, conn, limit),
@@ -120,7 +135,9 @@ pub(crate) fn intake_in<D: Honest>(
         → IfOk result (λ intake. HoldsNew over_files intake F) }
     ensures limit { IfOk result (λ intake. limit_of intake ≡ limit) }
     ensures problem { IfOk result (λ intake. early_of intake ≡ 0) }
+    ensures refused { opening ≡ Opening.Found → IfErr result (AreRefused D.Disk files (RefusesIntake over_files)) }
     ensures other { result ≢ Err Cause.NoSuch }
+    ensures store { opening ≡ Opening.Found → result ≢ Err Cause.Store }
 {
     if !files.may_be_used() {
         return Err(Cause::Reopen);
@@ -132,12 +149,13 @@ pub(crate) fn intake_in<D: Honest>(
 pub(crate) fn files_of_intake<D: Honest>(intake: Intake<FileStore<D>>) -> Result<Files<D>, Cause>
     ensures held { (F : List Request) → HoldsNew over_files intake F
         → IfOk result (λ files. HoldRegister D.Disk files 0 F) }
+    ensures refused { IfErr result (IsNotClosed (conn_of intake)) }
     ensures other { result ≢ Err Cause.NoSuch }
+    ensures store { result ≢ Err Cause.Store }
 {
     match intake.into_store().into_files() {
         Ok(files) => Ok(files),
-        Err(StoreFault::Memory) => Err(Cause::Memory),
-        Err(StoreFault::Store) => Err(Cause::Reopen),
+        Err(fault) => Err(Cause::of_closing(fault)),
     }
 }
 
@@ -150,10 +168,14 @@ pub(crate) trait Call {
     // then.
     ghost answers: { Self → ℕ → List Request → Self.Answer → (List Request → Type 0) → Type 0 };
 
+    // Whatever it holds, an intake whose database refused a call earlier, or did not, may answer so.
+    ghost may_answer: { Self → Bool → Self.Answer → Type 0 } = { λ _ _ _. Unit {0} };
+
     /// Makes it.
     fn on<S: Faithful>(self, alloc: Global, intake: &mut Intake<S>) -> Self::Answer
         ensures answer { (done : List Request) → HoldsNew S.Store intake.old (firsts done)
             → answers self (limit_of intake.old) done result (λ after. HoldsNew S.Store intake.new (firsts after)) }
+        ensures always { may_answer self (has_stopped intake.old) result }
         ensures limit { limit_of intake.new ≡ limit_of intake.old };
 }
 
@@ -165,6 +187,7 @@ pub(crate) fn ask<D: Honest, C: Call>(
 ) -> C::Answer
     ensures answer { (done : List Request) → HoldsNew over_files intake.old (firsts done)
         → C.answers call (limit_of intake.old) done result (λ after. HoldsNew over_files intake.new (firsts after)) }
+    ensures always { C.may_answer call (has_stopped intake.old) result }
     ensures limit { limit_of intake.new ≡ limit_of intake.old }
 {
     call.on(alloc, intake)
@@ -234,6 +257,9 @@ impl Call for ListRegister {
 
     ghost answers = { λ _ _ done answer Holds.
         IfOk answer (λ rows. rows.items ≡ register (firsts done)) × Holds done };
+
+    ghost may_answer = { λ _ stopped answer.
+        ((answer ≡ Err Down) ↔ (stopped ≡ true)) × ((k : ℕ) → answer ≢ Err (Full k)) };
 
     fn on<S: Faithful>(
         self,

@@ -7,7 +7,7 @@ use Rattle.filing_world.specs.Step.{Run, CannotPlay}
 use Rattle.world_events.specs.declared.fault.Fault.{Fault}
 use Rattle.world_events.specs.declared.fault.Fault.TheVariants.{NoSuch, Memory, Store, Reopen}
 use Rattle.world_events.specs.Played.{next_number, Tells}
-use Rattle.world_events.specs.Playing.{Closes}
+use Rattle.world_events.specs.Playing.{AsksOutbox, Closes}
 use Rattle.schedule.specs.Ending.{Comes, EndsBy}
 
 -- no count that a u64 has stops the number of the next event
@@ -25,12 +25,14 @@ comes_next view events at or first world within run = record {
 }
 
 module _ (first : World) (events : List Event) where
-  pub ends_at : (number : ℕ) (world : World) (event : Event) (fault : Fault) → Comes first events number world event → Tells number fault → ((n : ℕ) → fault ≡ NoSuch n → CannotPlay world event) → ((n : ℕ) → fault ≡ Reopen n → Closes event)
-      → EndsBy first events fault
-  ends_at number world event (NoSuch n) comes tells cannot closes = (world, event, subst (λ k. Comes first events k world event) (sym tells) comes, cannot n refl)
-  ends_at number world event Memory comes tells cannot closes = tt
-  ends_at number world event (Store n) comes tells cannot closes = inr (world, event, subst (λ k. Comes first events k world event) (sym tells) comes)
-  ends_at number world event (Reopen n) comes tells cannot closes = inr (world, event, subst (λ k. Comes first events k world event) (sym tells) comes, closes n refl)
+  pub ends_at : (number : ℕ) (world : World) (event : Event) (fault : Fault) → Comes first events number world event → Tells number fault → ((n : ℕ) → fault ≡ NoSuch n → CannotPlay world event) → ((n : ℕ) → fault ≡ Store n → AsksOutbox world event)
+      → ((n : ℕ) → fault ≡ Reopen n → Closes event × (¬ CannotPlay world event)) → EndsBy first events fault
+  ends_at number world event (NoSuch n) comes tells cannot asks closes = (world, event, subst (λ k. Comes first events k world event) (sym tells) comes, cannot n refl)
+  ends_at number world event Memory comes tells cannot asks closes = tt
+  ends_at number world event (Store n) comes tells cannot asks closes = inr (world, event, subst (λ k. Comes first events k world event) (sym tells) comes, asks n refl)
+  ends_at number world event (Reopen n) comes tells cannot asks closes = 
+      let stops = closes n refl in
+      inr (world, event, subst (λ k. Comes first events k world event) (sym tells) comes, stops.0, stops.1)
 
   -- where the world was not made
   pub not_made : (fault : Fault) → Tells 0 fault → ((n : ℕ) → fault ≡ NoSuch n → ⊥) → EndsBy first events fault

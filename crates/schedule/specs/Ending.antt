@@ -4,16 +4,17 @@ use Rattle.filing_world.specs.World.{World, Event, numbered}
 use Rattle.filing_world.specs.Step.{Run, CannotPlay}
 use Rattle.world_events.specs.declared.fault.Fault.{Fault}
 use Rattle.world_events.specs.declared.fault.Fault.TheVariants.{NoSuch, Memory, Store, Reopen}
-use Rattle.world_events.specs.Playing.{Closes}
+use Rattle.world_events.specs.Playing.{AsksOutbox, Closes}
 
 -- the event of this number comes in this world, to which those before it lead
 pub record Comes (first : World) (events : List Event) (number : ℕ) (world : World) (event : Event) : Type 0 where
   pub there : numbered events number ≡ Some event
   pub run : Run first (take (number - 1) events) world
 
--- Why a run of these events ended. An event that a fault tells was come to; with NoSuch it can't be played, and with Reopen it stops an end or restarts it. The making of the world counts as 0.
+-- Why a run of these events ended. An event that a fault tells was come to; with NoSuch it can't be played, with Store it asks an outbox,
+-- and with Reopen it can be played, and stops an end or restarts it. The making of the world counts as 0.
 abbrev pub EndsBy : World → List Event → Fault → Type 0
 EndsBy first events (NoSuch n) = (world : World) × (event : Event) × Comes first events n world event × CannotPlay world event
 EndsBy first events Memory = Unit {0}
-EndsBy first events (Store n) = (n ≡ 0) ⊎ ((world : World) × (event : Event) × Comes first events n world event)
-EndsBy first events (Reopen n) = (n ≡ 0) ⊎ ((world : World) × (event : Event) × Comes first events n world event × Closes event)
+EndsBy first events (Store n) = (n ≡ 0) ⊎ ((world : World) × (event : Event) × Comes first events n world event × AsksOutbox world event)
+EndsBy first events (Reopen n) = (n ≡ 0) ⊎ ((world : World) × (event : Event) × Comes first events n world event × Closes event × (¬ CannotPlay world event))

@@ -4,7 +4,7 @@
 
 mod events;
 
-pub use event_script::{Crash, Event};
+pub use event_script::{Crash, Event, Script, ScriptFault, read_script};
 pub use events::run;
 pub use filing_ends::{Durable, Honest};
 pub use world_events::{Fault, Output, Sent, World};

@@ -5,7 +5,7 @@ ghost use Rattle.key_string.specs.Key.{IsKey};
 ghost use Rattle.key_string.specs.Filer.{is_filer};
 ghost use Rattle.http_messages.specs.Reply.{ReplyParts};
 ghost use Rattle.filing_model.specs.Outbox.{Entry as Item};
-ghost use Rattle.filing_model.specs.Stopping.{No};
+ghost use Rattle.filing_model.specs.Stopping.{No, Before};
 ghost use Rattle.filing_world.specs.World.{numbered, new_outbox};
 ghost use Rattle.filing_world.specs.Step.{is_no, with_entry, Hears, box_after};
 ghost use Rattle.filing_world.specs.Headline.{states_of};
@@ -121,6 +121,7 @@ impl<D: Honest> Filer<D> {
             → (heard : Option ReplyParts) × Hears bytes.now (view_crash crash) heard
             × (self.new ≡ box_after self.old entry what heard (view_crash crash))) }
         ensures other { result ≢ Err Cause.NoSuch }
+        ensures store { result ≡ Err Cause.Store → (j : ℕ) → view_crash crash ≢ Before j }
         ensures reopen { result ≡ Err Cause.Reopen → is_no (view_crash crash) ≡ false }
     {
         match crash {
@@ -153,6 +154,7 @@ impl<D: Honest> Filer<D> {
     fn stop(&mut self) -> Result<(), Cause>
         ensures down { OnOk result (self.new ≡ record self.old { up = false }) }
         ensures other { result ≢ Err Cause.NoSuch }
+        ensures store { result ≢ Err Cause.Store }
     {
         let process = mem::replace(&mut self.process, OutboxProcess::Gone);
         self.process = process.stopped()?;
@@ -164,6 +166,7 @@ impl<D: Honest> Filer<D> {
     pub fn restart(&mut self) -> Result<(), Cause>
         ensures restarted { OnOk result (self.new ≡ record self.old { up = true }) }
         ensures other { result ≢ Err Cause.NoSuch }
+        ensures store { result ≢ Err Cause.Store }
     {
         let process = mem::replace(&mut self.process, OutboxProcess::Gone);
         self.process = process.stopped()?.started(self.alloc)?;

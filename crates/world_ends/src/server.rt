@@ -90,6 +90,7 @@ fn after_delivery<D: Honest>(
         → IfOk result (λ it. Keeps it limit F) }
     ensures up { is_up process ≡ true → IfOk result (λ it. is_up it ≡ is_no (view_crash crash)) }
     ensures other { result ≢ Err Cause.NoSuch }
+    ensures store { result ≢ Err Cause.Store }
     ensures reopen { result ≡ Err Cause.Reopen → is_no (view_crash crash) ≡ false }
 {
     match crash {
@@ -171,6 +172,7 @@ impl<D: Honest> Server<D> {
               up = is_no (view_crash crash);
             })) }
         ensures other { result ≢ Err Cause.NoSuch }
+        ensures store { result ≢ Err Cause.Store }
         ensures reopen { result ≡ Err Cause.Reopen → is_no (view_crash crash) ≡ false }
     {
         let before = self.done.len();
@@ -192,6 +194,7 @@ impl<D: Honest> Server<D> {
     pub fn restart(&mut self) -> Result<(), Cause>
         ensures restarted { OnOk result (self.new ≡ record self.old { up = true }) }
         ensures other { result ≢ Err Cause.NoSuch }
+        ensures store { result ≢ Err Cause.Store }
     {
         let process = mem::replace(&mut self.process, IntakeProcess::Gone);
         let files = process.stopped()?;
@@ -200,10 +203,12 @@ impl<D: Honest> Server<D> {
         Ok(())
     }
 
-    /// The registered requests under their numbers, ascending. `Down` comes where it is down, and after `Store`.
+    /// The registered requests under their numbers, ascending. `Down` comes if it is down, and after `Store`; `Full` never
+    /// comes.
     pub fn register(&mut self) -> Result<Vec<Registered>, Unavailable>
         ensures list { IfOk result (λ rows. rows.items ≡ register self.old.done) }
         ensures down { self.old.up ≡ false → result ≡ Err Unavailable.Down }
+        ensures room { (k : ℕ) → result ≢ Err (Unavailable.Full k) }
         ensures same { self.new ≡ self.old }
     {
         self.process.register(self.alloc)

@@ -1,19 +1,20 @@
 -- What each event did to the parts of a world, said as its step.
-use Rattle.std.proofs.Common.{◌≡◌, ℕ, zero, suc, true, false, List, [], ◌∷◌, ◌++◌, Option, Some, None, Result, Ok, Err, refl, sym, ap, take, ◌∙◌, subst, ⊎_elim, slice_get, slice_set, slice_index_or, ◌<◌, ◌⊎◌, OnOk, length, arith}
-use Rattle.std.proofs.lemmas.Option.{slice_get_past, get_or_from_slice_get}
+use Rattle.std.proofs.Common.{◌≡◌, ℕ, zero, suc, true, false, List, [], ◌∷◌, ◌++◌, Option, Some, None, Result, Ok, Err, refl, sym, ap, take, ◌∙◌, subst, ⊎_elim, slice_get, slice_set, slice_index_or, ◌<◌, ◌⊎◌, OnOk, length, arith, true≢false}
+use Rattle.std.proofs.lemmas.Option.{slice_get_past, get_or_from_slice_get, some_pair_parts}
 use Rattle.key_string.specs.Key.{IsKey}
 use Rattle.http_messages.specs.Reply.{ReplyParts}
 use Rattle.http_messages.specs.Posting.{IsTarget}
 use Rattle.filing_model.specs.Outbox.{Entry, request_of, bytes_of}
 use Rattle.filing_model.specs.Stopping.{Crash}
-use Rattle.filing_world.specs.World.{Outbox, Sent, Output, numbered, renewed}
-use Rattle.filing_world.specs.Step.{Puts, Sends, Hands, Restarts, Hears, with_entry, box_after, IsAway}
+use Rattle.filing_world.specs.World.{Outbox, Sent, Output, Hand, numbered, renewed}
+use Rattle.filing_world.specs.Step.{Puts, Sends, Hands, Restarts, Hears, with_entry, box_after, IsAway, CannotPlay}
 use Rattle.filing_world.specs.Invariant.{AllOwn}
-use Rattle.filing_world.proofs.Lists.{renewed_same, written}
+use Rattle.filing_world.proofs.Lists.{renewed_same, same_element, written}
 use Rattle.filing_ends.specs.declared.cause.Cause.{Cause}
 use Rattle.filing_ends.specs.Outboxes.{IsRequest}
 use Rattle.world_ends.specs.Served.{Served}
 use Rattle.world_events.specs.Played.{world_of}
+use Rattle.world_events.specs.Playing.{IsUp}
 
 -- what is there stands at its place
 pub element_is : {X : Type 0} → (xs : List X) (at : ℕ) (x y : X) → slice_get xs at ≡ Some x → y ≡ slice_index_or xs at y → y ≡ x
@@ -26,6 +27,14 @@ none_past xs (suc at) past = slice_get_past xs at (⊎_elim (λ (e : suc at ≡ 
 
 pub named : {X : Type 0} → (xs : List X) (number at : ℕ) (x : X) → number ≡ suc at → slice_get xs at ≡ Some x → numbered xs number ≡ Some x
 named xs number at x is here = subst (λ n. numbered xs n ≡ Some x) (sym is) here
+
+-- an outbox that is up is there by its number
+pub up_there : (boxes : List Outbox) (number at : ℕ) (box : Outbox) → number ≡ suc at → slice_get boxes at ≡ Some box → box.up ≡ true → IsUp boxes number
+up_there boxes number at box is here up = (box, named boxes number at box is here, up)
+
+-- and is not away
+pub up_not_away : (boxes : List Outbox) (number : ℕ) → IsUp boxes number → ¬ (IsAway boxes number)
+up_not_away boxes number up away = true≢false (sym up.2 ∙ away up.0 up.1)
 
 -- no outbox has a number past the end
 pub away_past : (boxes : List Outbox) (number : ℕ) → (number ≡ 0) ⊎ (length boxes < number) → IsAway boxes number
@@ -41,6 +50,24 @@ away_down boxes number at box is here down = λ other there.
 -- an element that is set to itself
 pub set_same : {X : Type 0} → (xs : List X) (k : ℕ) (x : X) → slice_get xs k ≡ Some x → slice_set xs k x ≡ xs
 set_same xs k x here = written xs k x ∙ renewed_same xs (suc k) x here
+
+-- an output can be handed over to an outbox that is up
+pub can_hand : (sent : List Sent) (outputs : List Output) (boxes : List Outbox) (output given outbox entry : ℕ) (crash : Crash) (from : Output) (item : Sent) → numbered outputs output ≡ Some from → numbered sent from.item ≡ Some item
+    → item.from ≡ Some (outbox, entry) → IsUp boxes outbox → (server : Served) → ¬ (CannotPlay (world_of server sent outputs boxes) (Hand output given crash))
+can_hand sent outputs boxes output given outbox entry crash from item here item_here sender up server cannot = ⊎_elim
+    (λ (none : numbered outputs output ≡ None). some-none from (sym here ∙ none))
+    (λ other.
+    let same : from ≡ other.0 = same_element (numbered outputs output) from other.0 here other.2 in
+    let item_is : item ≡ other.1 = same_element (numbered sent other.0.item) item other.1 (subst (λ (o : Output). numbered sent o.item ≡ Some item) same item_here) other.3 in
+    let from_is = ap (λ (x : Sent). x.from) item_is in
+    ⊎_elim
+    (λ (none : other.1.from ≡ None). some-none (outbox, entry) (sym sender ∙ from_is ∙ none))
+    (λ away. up_not_away boxes outbox up (subst (IsAway boxes) (sym (some_pair_parts outbox away.0 entry away.1 (sym sender ∙ from_is ∙ away.2)).0) away.3))
+    other.4)
+    cannot
+  where
+    some-none : {X : Type 0} (x : X) → Some x ≡ None → ⊥
+    some-none x e = cc
 
 module _ (boxes : List Outbox) (at number : ℕ) (is : number ≡ suc at) (box : Outbox) (here : slice_get boxes at ≡ Some box) where
   set : (new : Outbox) → slice_set boxes at new ≡ renewed boxes number new

@@ -2,7 +2,7 @@
 use Rattle.std.proofs.Common.{◌≡◌, ℕ, refl}
 use Rattle.filing_ends.specs.declared.cause.Cause.{Cause}
 use Rattle.filing_ends.specs.declared.cause.Cause.TheVariants as cause
-use Rattle.world_events.specs.declared.fault.Fault.TheVariants.{NoSuch, Reopen}
+use Rattle.world_events.specs.declared.fault.Fault.TheVariants.{NoSuch, Store, Reopen}
 use Rattle.world_events.specs.Faults.{fault_at}
 use Rattle.world_events.specs.Played.{Tells}
 
@@ -12,6 +12,13 @@ no_such_cause event n cause.NoSuch is = refl
 no_such_cause event n cause.Memory is = absurd (cc)
 no_such_cause event n cause.Store is = absurd (cc)
 no_such_cause event n cause.Reopen is = absurd (cc)
+
+-- what is told as Store was it
+pub store_cause : (event n : ℕ) (why : Cause) → fault_at event why ≡ Store n → why ≡ cause.Store
+store_cause event n cause.NoSuch is = absurd (cc)
+store_cause event n cause.Memory is = absurd (cc)
+store_cause event n cause.Store is = refl
+store_cause event n cause.Reopen is = absurd (cc)
 
 -- what is told as Reopen was it
 pub reopen_cause : (event n : ℕ) (why : Cause) → fault_at event why ≡ Reopen n → why ≡ cause.Reopen

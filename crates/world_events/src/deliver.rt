@@ -1,6 +1,6 @@
 //! The first bytes of an item arrive at the intake.
 
-ghost use Rattle.std.specs.Prelude.{◌≡◌, List, OnOk, Err, false};
+ghost use Rattle.std.specs.Prelude.{◌≡◌, ◌≢◌, List, OnOk, Err, false};
 ghost use Rattle.event_script.specs.Events.{view_crash};
 ghost use Rattle.filing_world.specs.World.{Outbox, Deliver};
 ghost use Rattle.filing_world.specs.Step.{is_no, Delivers, CannotPlay};
@@ -25,7 +25,10 @@ pub(crate) fn deliver<D: Honest>(
         (world_of server.new sent.now outputs.new.items outboxes)) }
     ensures no_such { result ≡ Err Cause.NoSuch → (outboxes : List Outbox)
         → CannotPlay (world_of server.old sent.now outputs.old.items outboxes) (Deliver item bytes (view_crash crash)) }
-    ensures reopen { result ≡ Err Cause.Reopen → is_no (view_crash crash) ≡ false }
+    ensures store { result ≢ Err Cause.Store }
+    ensures reopen { result ≡ Err Cause.Reopen → (is_no (view_crash crash) ≡ false) × ((outboxes : List Outbox)
+        → ¬ CannotPlay (world_of server.old sent.now outputs.old.items outboxes)
+        (Deliver item bytes (view_crash crash))) }
 {
     if !server.is_up() {
         return Err(Cause::NoSuch);

@@ -46,10 +46,12 @@ pub(crate) fn outbox_at<D: Honest>(
     filer.outbox()
 }
 
-/// The numbers of the outbox and the entry that this item was sent for. `NoSuch` comes where a stranger sent it.
+/// The numbers of the outbox and the entry that this item was sent for. `NoSuch` comes if a stranger sent it, and `Store`
+/// if there is no such item.
 pub(crate) fn sender_of(sent: &[Sent], item: u64) -> Result<(u64, u64), Cause>
     ensures some { IfOk result (λ from. (it : Item) × (numbered sent.now item ≡ Some it) × (it.from ≡ Some from)) }
     ensures stranger { result ≡ Err Cause.NoSuch → (it : Item) × (numbered sent.now item ≡ Some it) × (it.from ≡ None) }
+    ensures gone { result ≡ Err Cause.Store → numbered sent.now item ≡ None }
     ensures reopen { result ≢ Err Cause.Reopen }
 {
     let Some(at) = index_of(item, sent.len()) else {

@@ -4,9 +4,10 @@ ghost use Rattle.std.specs.Prelude.{◌≡◌, OnOk, Err, false};
 ghost use Rattle.event_script.specs.Events.{view_crash};
 ghost use Rattle.filing_world.specs.World.{Hand};
 ghost use Rattle.filing_world.specs.Step.{is_no, Hands, CannotPlay};
-ghost use Rattle.filing_world.specs.Invariant.{AllOwn};
+ghost use Rattle.filing_world.specs.Invariant.{AllOwn, Keeps};
 ghost use Rattle.world_ends.specs.Served.{Served};
 ghost use Rattle.world_events.specs.Played.{world_of};
+ghost use Rattle.world_events.specs.Playing.{AsksOutbox};
 
 use crate::element::{first, index_of, sender_of, up_at};
 use crate::lists::{Output, Sent};
@@ -28,7 +29,12 @@ pub(crate) fn hand<D: Honest>(
         (world_of server sent.now outputs.now filers.new.items)) }
     ensures no_such { result ≡ Err Cause.NoSuch → (server : Served)
         → CannotPlay (world_of server sent.now outputs.now filers.old.items) (Hand output bytes (view_crash crash)) }
-    ensures reopen { result ≡ Err Cause.Reopen → is_no (view_crash crash) ≡ false }
+    ensures store { result ≡ Err Cause.Store → (server : Served)
+        → Keeps (world_of server sent.now outputs.now filers.old.items)
+        → AsksOutbox (world_of server sent.now outputs.now filers.old.items) (Hand output bytes (view_crash crash)) }
+    ensures reopen { result ≡ Err Cause.Reopen → (is_no (view_crash crash) ≡ false) × ((server : Served)
+        → ¬ CannotPlay (world_of server sent.now outputs.now filers.old.items)
+        (Hand output bytes (view_crash crash))) }
 {
     let Some(at) = index_of(output, outputs.len()) else {
         return Err(Cause::NoSuch);

@@ -7,6 +7,7 @@ ghost use Rattle.filing_world.specs.Step.{Puts, CannotPlay};
 ghost use Rattle.outbox_core.specs.Entries.{opened};
 ghost use Rattle.world_ends.specs.Served.{Served};
 ghost use Rattle.world_events.specs.Played.{world_of};
+ghost use Rattle.world_events.specs.Playing.{IsUp};
 
 use crate::element::up_at;
 use filing_ends::{Cause, Honest};
@@ -26,6 +27,7 @@ pub(crate) fn put<D: Honest>(
         (world_of server sent outputs filers.new.items)) }
     ensures no_such { result ≡ Err Cause.NoSuch → (server : Served) (sent : List Item) (outputs : List Left)
         → CannotPlay (world_of server sent outputs filers.old.items) (Put outbox key.now target body.now) }
+    ensures store { result ≡ Err Cause.Store → IsUp filers.old.items outbox }
     ensures reopen { result ≢ Err Cause.Reopen }
 {
     let Some(at) = up_at(filers.as_slice(), outbox) else {

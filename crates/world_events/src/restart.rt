@@ -1,6 +1,6 @@
 //! An outbox is opened again.
 
-ghost use Rattle.std.specs.Prelude.{◌≡◌, List, OnOk, Err};
+ghost use Rattle.std.specs.Prelude.{◌≡◌, ◌≢◌, List, OnOk, Err};
 ghost use Rattle.filing_world.specs.World.{Sent as Item, Output as Left, RestartOutbox};
 ghost use Rattle.filing_world.specs.Step.{Restarts, CannotPlay};
 ghost use Rattle.world_ends.specs.Served.{Served};
@@ -19,6 +19,9 @@ pub(crate) fn restart_outbox<D: Honest>(
         (world_of server sent outputs filers.new.items)) }
     ensures no_such { result ≡ Err Cause.NoSuch → (server : Served) (sent : List Item) (outputs : List Left)
         → CannotPlay (world_of server sent outputs filers.old.items) (RestartOutbox outbox) }
+    ensures store { result ≢ Err Cause.Store }
+    ensures reopen { result ≡ Err Cause.Reopen → (server : Served) (sent : List Item) (outputs : List Left)
+        → ¬ CannotPlay (world_of server sent outputs filers.old.items) (RestartOutbox outbox) }
 {
     let Some(at) = index_of(outbox, filers.len()) else {
         return Err(Cause::NoSuch);

@@ -7,12 +7,12 @@ ghost use Rattle.filing_model.specs.Request.{firsts};
 ghost use Rattle.filing_model.specs.Register.{register};
 ghost use Rattle.filing_world.specs.World.{new_outbox};
 ghost use Rattle.filing_world.specs.Step.{Step, CannotPlay, IsAway};
-ghost use Rattle.filing_world.specs.Invariant.{AllOwn};
+ghost use Rattle.filing_world.specs.Invariant.{AllOwn, Keeps};
 ghost use Rattle.filing_world.specs.Headline.{AreFilers, start, states, confirmed};
 ghost use Rattle.sqlite.specs.Files.{over_files};
 ghost use Rattle.intake_core.specs.Held.{HoldsRequests as Lends};
 ghost use Rattle.world_events.specs.Played.{world_of, Tells, IsLent};
-ghost use Rattle.world_events.specs.Playing.{Closes, Plays};
+ghost use Rattle.world_events.specs.Playing.{AsksOutbox, Closes, Plays};
 ghost use Rattle.world_events.specs.Listed.{view_listed, are_up};
 
 use crate::deliver::deliver;
@@ -91,7 +91,11 @@ fn play_on<D: Honest>(
         (world_of server.new sent.new.items outputs.new.items filers.new.items)) }
     ensures no_such { result ≡ Err Cause.NoSuch
         → CannotPlay (world_of server.old sent.old.items outputs.old.items filers.old.items) (view_event event.now) }
-    ensures reopen { result ≡ Err Cause.Reopen → Closes (view_event event.now) }
+    ensures store { result ≡ Err Cause.Store
+        → Keeps (world_of server.old sent.old.items outputs.old.items filers.old.items)
+        → AsksOutbox (world_of server.old sent.old.items outputs.old.items filers.old.items) (view_event event.now) }
+    ensures reopen { result ≡ Err Cause.Reopen → Closes (view_event event.now)
+        × (¬ CannotPlay (world_of server.old sent.old.items outputs.old.items filers.old.items) (view_event event.now)) }
 {
     match event {
         Event::Put {
@@ -218,10 +222,12 @@ impl<D: Honest> World<D> {
         }
     }
 
-    /// The registered requests under their numbers, ascending. `Down` comes where the intake is down, and after `Store`.
+    /// The registered requests under their numbers, ascending. `Down` comes if the intake is down, and after `Store`; `Full`
+    /// never comes.
     pub fn register(&mut self) -> Result<Vec<Registered>, Unavailable>
         ensures list { IfOk result (λ rows. rows.items ≡ register self.old.world.done) }
         ensures down { self.old.world.up ≡ false → result ≡ Err Unavailable.Down }
+        ensures room { (k : ℕ) → result ≢ Err (Unavailable.Full k) }
         ensures same { self.new ≡ self.old }
     {
         self.server.register()

@@ -1,6 +1,13 @@
+use Rattle.std.proofs.Common.{ap, ◌∙◌}
 use Rattle.table_rows.proofs.CleanLemmas.{are_clean}
+use Rattle.filing_ends.specs.Causes.{closing_cause}
 use Rattle.filing_ends.proofs.outboxes.files_of_outbox.Goals as goal
 
 pub returns-in-Ok-clause-held : goal.returns-in-Ok-clause-held
 returns-in-Ok-clause-held g c = λ entries has.
     c.in-Ok.ensures.held (are_clean g.D.Disk g.met.D.Honest.honest c.in-Ok.files.log c.in-Ok.files.db) entries has
+
+pub returns-in-Err-clause-refused : goal.returns-in-Err-clause-refused
+returns-in-Err-clause-refused g c =
+    let why = c.in-Err.ensures.fault in
+    record { last = why.0; closed = why.1; error = why.2; failed = why.3; told = c.of_closing.ensures ∙ ap closing_cause why.4 }

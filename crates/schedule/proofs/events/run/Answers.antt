@@ -63,7 +63,8 @@ returns-in_err-play-clause-ends g c =
     let number = c.in_err-play.ensures.counts fine ∙ ap next_number c.loop-event.invariant.events ∙ next_is i (omega arith) ∙ next in
     let comes = subst (λ e. Comes first (map view_event events) (suc i) world (view_event e)) (sym c.event-item.is) (comes_next view_event events i event first world c.loop-event-test.true c.loop-event.invariant.run) in
     rw told
-    (ends_at first (map view_event events) (suc i) world (view_event event) fault comes (subst (λ n. Tells n fault) number (c.in_err-play.ensures.numbered fine)) (λ n e. c.in_err-play.ensures.no_such n (ap Err e) fine) (λ n e. c.in_err-play.ensures.reopen n (ap Err e) fine))
+    (ends_at first (map view_event events) (suc i) world (view_event event) fault comes (subst (λ n. Tells n fault) number (c.in_err-play.ensures.numbered fine)) (λ n e. c.in_err-play.ensures.no_such n (ap Err e) fine) (λ n e. c.in_err-play.ensures.store n (ap Err e) fine)
+    (λ n e. c.in_err-play.ensures.reopen n (ap Err e) fine))
 
 pub play-requires : goal.play-requires
 play-requires g c =

@@ -1,10 +1,13 @@
-use Rattle.std.proofs.Common.{◌≡◌, ◌∙◌, ap, take, subst, Some, slice_get, ◌<◌, refl, inr}
+use Rattle.std.proofs.Common.{rules, ◌≡◌, ◌∙◌, ap, sym, take, subst, Some, None, slice_get, ◌<◌, refl, inr}
 use Rattle.event_script.specs.Events.{view_crash}
 use Rattle.filing_world.specs.World.{Output, numbered}
 use Rattle.filing_world.specs.Step.{IsAway}
 use Rattle.world_ends.proofs.Entries.{element_at}
-use Rattle.world_events.proofs.Steps.{element_is, named, hand_step}
+use Rattle.world_events.proofs.Steps.{element_is, named, up_there, can_hand, hand_step}
 use Rattle.world_events.proofs.hand.hand.Goals as goal
+
+some-none : {X : Type 0} (x : X) → Some x ≡ None → ⊥
+some-none x e = cc
 
 pub returns-clause-step : goal.returns-clause-step
 returns-clause-step g c =
@@ -43,4 +46,33 @@ returns-in_default-up_at-clause-no_such g c = λ e server.
     inr (from, sender.0, here, item_here, inr (c.in_ok-outbox.outbox, c.in_ok-outbox.entry, sender.2, subst (λ bs. IsAway bs c.in_ok-outbox.outbox) c.as_slice.ensures.value (c.in_default-up_at.ensures.none refl)))
 
 pub returns-clause-reopen : goal.returns-clause-reopen
-returns-clause-reopen g c = c.hand.ensures.reopen
+returns-clause-reopen g c = λ e.
+    let boxes = c.args.filers.now.items in
+    let from = c.index-outputs-at.result in
+    let sender = c.in_ok-outbox.ensures.some in
+    let up = c.in-Some-up_at.ensures.some in
+    let there : slice_get boxes c.in-Some-up_at.index ≡ Some up.1 = subst (λ bs. slice_get bs c.in-Some-up_at.index ≡ Some up.1) c.as_slice.ensures.value up.2 in
+    let here = named c.args.outputs.now c.args.output c.in-Some.at from c.in-Some.ensures.some.0 (element_at c.args.outputs.now c.in-Some.at from c.in-Some.ensures.some.1 c.index-outputs-at.is) in
+    let item_is : c.from.inside.item ≡ from.item = ap (λ (o : Output). o.item) c.from.view_is in
+    let item_here = subst (λ n. numbered c.args.sent.now n ≡ Some sender.0) item_is sender.1 in
+    (c.hand.ensures.reopen e, can_hand c.args.sent.now c.args.outputs.now boxes c.args.output c.args.bytes c.in_ok-outbox.outbox c.in_ok-outbox.entry (view_crash c.args.crash) from sender.0 here item_here sender.2 (up_there boxes c.in_ok-outbox.outbox c.in-Some-up_at.index up.1 up.0 there up.3))
+
+pub returns-clause-store : goal.returns-clause-store
+returns-clause-store g c = λ e server keeps.
+    let boxes = c.args.filers.now.items in
+    let from = c.index-outputs-at.result in
+    let sender = c.in_ok-outbox.ensures.some in
+    let up = c.in-Some-up_at.ensures.some in
+    let there : slice_get boxes c.in-Some-up_at.index ≡ Some up.1 = subst (λ bs. slice_get bs c.in-Some-up_at.index ≡ Some up.1) c.as_slice.ensures.value up.2 in
+    let here = named c.args.outputs.now c.args.output c.in-Some.at from c.in-Some.ensures.some.0 (element_at c.args.outputs.now c.in-Some.at from c.in-Some.ensures.some.1 c.index-outputs-at.is) in
+    let item_is : c.from.inside.item ≡ from.item = ap (λ (o : Output). o.item) c.from.view_is in
+    let item_here = subst (λ n. numbered c.args.sent.now n ≡ Some sender.0) item_is sender.1 in
+    (c.hand.ensures.store e, (c.in_ok-outbox.outbox, (from, sender.0, c.in_ok-outbox.entry, here, item_here, sender.2), up_there boxes c.in_ok-outbox.outbox c.in-Some-up_at.index up.1 up.0 there up.3))
+
+pub returns-in_err-outbox-clause-store : goal.returns-in_err-outbox-clause-store
+returns-in_err-outbox-clause-store g c = λ e server keeps.
+    let from = c.index-outputs-at.result in
+    let lies = keeps.outputs c.in-Some.at from (element_at c.args.outputs.now c.in-Some.at from c.in-Some.ensures.some.1 c.index-outputs-at.is) in
+    let item_is : c.from.inside.item ≡ from.item = ap (λ (o : Output). o.item) c.from.view_is in
+    let gone : numbered c.args.sent.now from.item ≡ None = subst (λ n. numbered c.args.sent.now n ≡ None) item_is (c.in_err-outbox.ensures.gone (search rules)) in
+    absurd (some-none lies.item (sym lies.here ∙ gone))

@@ -1,7 +1,7 @@
 use Rattle.std.proofs.Common.{◌≡◌, subst, Some, slice_get, ◌<◌, refl}
 use Rattle.outbox_core.specs.Entries.{opened}
 use Rattle.filing_world.specs.Step.{IsAway}
-use Rattle.world_events.proofs.Steps.{element_is, put_step}
+use Rattle.world_events.proofs.Steps.{up_there, element_is, put_step}
 use Rattle.world_events.proofs.put.put.Goals as goal
 
 pub returns-clause-step : goal.returns-clause-step
@@ -33,3 +33,10 @@ put-requires g c =
     let there : slice_get boxes c.in-Some.at ≡ Some up.1 = subst (λ bs. slice_get bs c.in-Some.at ≡ Some up.1) c.as_slice.ensures.value up.2 in
     let same : c.index_mut.result.now ≡ up.1 = element_is boxes c.in-Some.at up.1 c.index_mut.result.now there c.index_mut.ensures.value in
     record { up = rw same up.3; target = c.requires }
+
+pub returns-clause-store : goal.returns-clause-store
+returns-clause-store g c = λ e.
+    let boxes = c.args.filers.now.items in
+    let up = c.in-Some.ensures.some in
+    let there : slice_get boxes c.in-Some.at ≡ Some up.1 = subst (λ bs. slice_get bs c.in-Some.at ≡ Some up.1) c.as_slice.ensures.value up.2 in
+    up_there boxes c.args.outbox c.in-Some.at up.1 up.0 there up.3

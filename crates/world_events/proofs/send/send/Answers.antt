@@ -1,6 +1,6 @@
 use Rattle.std.proofs.Common.{rules, ◌≡◌, subst, Some, slice_get, ◌<◌, refl, inl, inr}
 use Rattle.filing_world.specs.Step.{IsAway}
-use Rattle.world_events.proofs.Steps.{element_is, send_step, no_entry}
+use Rattle.world_events.proofs.Steps.{up_there, element_is, send_step, no_entry}
 use Rattle.world_events.proofs.send.send.Goals as goal
 
 pub returns-clause-step : goal.returns-clause-step
@@ -36,3 +36,10 @@ returns-in_err-bytes-clause-no_such g c = λ e server outputs.
     let box = c.index_mut.result.now in
     let same : box ≡ up.1 = element_is boxes c.in-Some.at up.1 box there c.index_mut.ensures.value in
     inr (no_entry boxes c.in-Some.at c.args.outbox up.0 box (rw same there) c.args.entry (c.in_err-bytes.ensures.no_such (search rules)))
+
+pub returns-in_err-bytes-clause-store : goal.returns-in_err-bytes-clause-store
+returns-in_err-bytes-clause-store g c = λ e.
+    let boxes = c.args.filers.now.items in
+    let up = c.in-Some.ensures.some in
+    let there : slice_get boxes c.in-Some.at ≡ Some up.1 = subst (λ bs. slice_get bs c.in-Some.at ≡ Some up.1) c.as_slice.ensures.value up.2 in
+    up_there boxes c.args.outbox c.in-Some.at up.1 up.0 there up.3

@@ -2,9 +2,10 @@ use Rattle.std.proofs.Common.{List, subst, sym, ap}
 use Rattle.event_script.specs.Events.{view_crash}
 use Rattle.filing_world.specs.World.{Sent, Output, Deliver, Hand}
 use Rattle.filing_world.specs.Step.{CannotPlay, Puts, Delivers, Hands}
-use Rattle.filing_world.specs.Invariant.{AllOwn}
+use Rattle.filing_world.specs.Invariant.{AllOwn, Keeps}
 use Rattle.outbox_core.specs.Entries.{opened}
 use Rattle.world_events.specs.Played.{world_of}
+use Rattle.world_events.specs.Playing.{AsksOutbox}
 use Rattle.world_ends.proofs.Entries.{then_ok}
 use Rattle.world_events.proofs.world.play_on.Goals as goal
 
@@ -82,6 +83,31 @@ returns-in-RestartOutbox-clause-no_such g c = λ e. rw c.in-RestartOutbox.is (c.
 pub returns-in-RestartServer-clause-no_such : goal.returns-in-RestartServer-clause-no_such
 returns-in-RestartServer-clause-no_such g c = λ e. absurd (c.restart.ensures.other e)
 
+pub returns-in-Put-clause-store : goal.returns-in-Put-clause-store
+returns-in-Put-clause-store g c = λ e keeps. rw c.in-Put.is (c.put.ensures.store e)
+
+pub returns-in-Send-clause-store : goal.returns-in-Send-clause-store
+returns-in-Send-clause-store g c = λ e keeps. rw c.in-Send.is (c.send.ensures.store e)
+
+pub returns-in-Deliver-clause-store : goal.returns-in-Deliver-clause-store
+returns-in-Deliver-clause-store g c = λ e keeps. absurd (c.deliver.ensures.store e)
+
+pub returns-in-Hand-clause-store : goal.returns-in-Hand-clause-store
+returns-in-Hand-clause-store g c = λ e keeps.
+    let event = Hand c.in-Hand.output c.in-Hand.bytes (view_crash c.in-Hand.crash) in
+    let server = c.args.server.now in
+    let boxes = c.args.filers.now.items in
+    let answered = c.as_slice-in-Hand-2.ensures.value in
+    let sent_is = c.as_slice-in-Hand.ensures.value in
+    let whole : Keeps (world_of server c.as_slice-in-Hand.result.now c.as_slice-in-Hand-2.result.now boxes) = subst (λ w. Keeps w) (λ i. world_of server (sym sent_is i) (sym answered i) boxes) keeps in
+    rw c.in-Hand.is (subst (λ w. AsksOutbox w event) (λ i. world_of server (sent_is i) (answered i) boxes) (c.hand.ensures.store e server whole))
+
+pub returns-in-RestartServer-clause-store : goal.returns-in-RestartServer-clause-store
+returns-in-RestartServer-clause-store g c = λ e keeps. absurd (c.restart.ensures.store e)
+
+pub returns-in-RestartOutbox-clause-store : goal.returns-in-RestartOutbox-clause-store
+returns-in-RestartOutbox-clause-store g c = λ e keeps. absurd (c.restart_outbox.ensures.store e)
+
 pub returns-in-Put-clause-reopen : goal.returns-in-Put-clause-reopen
 returns-in-Put-clause-reopen g c = λ e. absurd (c.put.ensures.reopen e)
 
@@ -89,13 +115,24 @@ pub returns-in-Send-clause-reopen : goal.returns-in-Send-clause-reopen
 returns-in-Send-clause-reopen g c = λ e. absurd (c.send.ensures.reopen e)
 
 pub returns-in-Deliver-clause-reopen : goal.returns-in-Deliver-clause-reopen
-returns-in-Deliver-clause-reopen g c = λ e. rw c.in-Deliver.is (c.deliver.ensures.reopen e)
+returns-in-Deliver-clause-reopen g c = λ e.
+    let closes = c.deliver.ensures.reopen e in
+    let event = Deliver c.in-Deliver.item c.in-Deliver.bytes (view_crash c.in-Deliver.crash) in
+    rw c.in-Deliver.is
+    (closes.0, subst (λ sent. ¬ (CannotPlay (world_of c.args.server.now sent c.args.outputs.now.items c.args.filers.now.items) event)) c.as_slice.ensures.value (closes.1 c.args.filers.now.items))
 
 pub returns-in-Hand-clause-reopen : goal.returns-in-Hand-clause-reopen
-returns-in-Hand-clause-reopen g c = λ e. rw c.in-Hand.is (c.hand.ensures.reopen e)
+returns-in-Hand-clause-reopen g c = λ e.
+    let closes = c.hand.ensures.reopen e in
+    let event = Hand c.in-Hand.output c.in-Hand.bytes (view_crash c.in-Hand.crash) in
+    let server = c.args.server.now in
+    let boxes = c.args.filers.now.items in
+    let answered = c.as_slice-in-Hand-2.ensures.value in
+    let sent_is = c.as_slice-in-Hand.ensures.value in
+    rw c.in-Hand.is (closes.0, subst (λ w. ¬ (CannotPlay w event)) (λ i. world_of server (sent_is i) (answered i) boxes) (closes.1 server))
 
 pub returns-in-RestartServer-clause-reopen : goal.returns-in-RestartServer-clause-reopen
-returns-in-RestartServer-clause-reopen g c = λ e. rw c.in-RestartServer.is tt
+returns-in-RestartServer-clause-reopen g c = λ e. rw c.in-RestartServer.is (tt, λ cannot. cannot)
 
 pub returns-in-RestartOutbox-clause-reopen : goal.returns-in-RestartOutbox-clause-reopen
-returns-in-RestartOutbox-clause-reopen g c = λ e. rw c.in-RestartOutbox.is tt
+returns-in-RestartOutbox-clause-reopen g c = λ e. rw c.in-RestartOutbox.is (tt, c.restart_outbox.ensures.reopen e c.args.server.now c.args.sent.now.items c.args.outputs.now.items)

@@ -1,6 +1,7 @@
 use Rattle.std.proofs.Common.{◌≡◌, IfOk, sym, subst}
 use Rattle.filing_model.specs.Request.{firsts}
 use Rattle.filing_model.proofs.Answers.{register-firsts}
+use Rattle.filing_ends.proofs.Asleep.{asleep}
 use Rattle.world_ends.proofs.server.Server.register.Goals as goal
 
 pub invariant_of-self : goal.invariant_of-self
@@ -13,7 +14,7 @@ returns-clause-list g c =
     rw (sym c.self.view_is) (subst (λ filings. IfOk c.register.result (λ rows. rows.items ≡ filings)) (register-firsts done) (c.register.ensures.list inside.limit (firsts done) c.self.invariant.1))
 
 pub returns-clause-down : goal.returns-clause-down
-returns-clause-down g c = rw (sym c.self.view_is) c.register.ensures.down
+returns-clause-down g c = rw (sym c.self.view_is) (λ down. c.register.ensures.down.1 (asleep c.self.inside.process down))
 
 pub returns-clause-same : goal.returns-clause-same
 returns-clause-same g c =

@@ -1,9 +1,9 @@
 use Rattle.std.proofs.Common.{◌≡◌, ◌∙◌, Some, None, Err, sym, ap, refl, subst}
 use Rattle.event_script.specs.Events.{view_event}
 use Rattle.filing_world.proofs.Keeping.{keeps_step, holds}
-use Rattle.world_events.specs.declared.fault.Fault.TheVariants.{NoSuch, Reopen}
+use Rattle.world_events.specs.declared.fault.Fault.TheVariants.{NoSuch, Store, Reopen}
 use Rattle.world_events.specs.Played.{Played, next_number, Tells, world_of}
-use Rattle.world_events.proofs.Telling.{no_such_cause, reopen_cause, tells_own}
+use Rattle.world_events.proofs.Telling.{no_such_cause, store_cause, reopen_cause, tells_own}
 use Rattle.world_events.proofs.world.World.play.Goals as goal
 
 pub invariant_of-self : goal.invariant_of-self
@@ -27,6 +27,7 @@ returns-in-Ok g c =
       step = rw (sym c.self.view_is) stepped;
       holds = holds after (keeps_step before (view_event c.args.event.now) after keeps stepped);
       no_such = λ n e first. absurd (cc);
+      store = λ n e first. absurd (cc);
       reopen = λ n e first. absurd (cc);
       counts = λ first. c.saturating_add-number.ensures ∙ ap (λ (w : Played). next_number w.events) c.self.view_is;
       numbered = λ first. tt;
@@ -46,9 +47,14 @@ returns-in-Err g c =
           let told : c.of-fault.result ≡ NoSuch n = cc e in
           let is = no_such_cause c.saturating_add-number.result n c.in-Err.cause (sym c.of-fault.ensures ∙ told) in
           rw (sym c.self.view_is) (c.in-Err.ensures.no_such (ap Err is));
+      store = λ n e first.
+          let told : c.of-fault.result ≡ Store n = cc e in
+          let is = store_cause c.saturating_add-number.result n c.in-Err.cause (sym c.of-fault.ensures ∙ told) in
+          rw (sym c.self.view_is) (c.in-Err.ensures.store (ap Err is) (c.self.invariant none));
       reopen = λ n e first.
           let told : c.of-fault.result ≡ Reopen n = cc e in
-          c.in-Err.ensures.reopen (ap Err (reopen_cause c.saturating_add-number.result n c.in-Err.cause (sym c.of-fault.ensures ∙ told)));
+          let is = reopen_cause c.saturating_add-number.result n c.in-Err.cause (sym c.of-fault.ensures ∙ told) in
+          rw (sym c.self.view_is) (c.in-Err.ensures.reopen (ap Err is));
       counts = λ first. c.saturating_add-number.ensures ∙ ap (λ (w : Played). next_number w.events) c.self.view_is;
       numbered = λ first. subst (Tells c.saturating_add-number.result) (sym c.of-fault.ensures) (tells_own c.saturating_add-number.result c.in-Err.cause);
       ended = λ fault e. absurd (let no : None ≡ Some fault = sym none ∙ fault_is ∙ e in cc);
@@ -63,6 +69,7 @@ returns-in-Some g c =
       step = tt;
       holds = tt;
       no_such = λ n e none. absurd (let no : Some c.in-Some.fault ≡ None = sym c.in-Some.is ∙ fault_is ∙ none in cc);
+      store = λ n e none. absurd (let no : Some c.in-Some.fault ≡ None = sym c.in-Some.is ∙ fault_is ∙ none in cc);
       reopen = λ n e none. absurd (let no : Some c.in-Some.fault ≡ None = sym c.in-Some.is ∙ fault_is ∙ none in cc);
       counts = λ none. absurd (let no : Some c.in-Some.fault ≡ None = sym c.in-Some.is ∙ fault_is ∙ none in cc);
       numbered = λ none. absurd (let no : Some c.in-Some.fault ≡ None = sym c.in-Some.is ∙ fault_is ∙ none in cc);
