@@ -47,10 +47,10 @@ fn make_outbox<S: Faithful>(
     ensures made { IfOk result (λ outbox. HasEntries S.Store outbox [] × (outbox.filer ≡ filer.now)) }
     ensures other { result ≢ Err Cause.NoSuch }
 {
-    match Outbox::create(alloc, without_tables(conn)?, filer) {
+    match Outbox::create_or_back(alloc, without_tables(conn)?, filer) {
         Ok(outbox) => Ok(outbox),
-        Err(OutboxFault::Memory) => Err(Cause::Memory),
-        Err(_fault) => Err(Cause::Store),
+        Err((OutboxFault::Memory, _back)) => Err(Cause::Memory),
+        Err((_fault, _back)) => Err(Cause::Store),
     }
 }
 
@@ -63,9 +63,9 @@ fn open_outbox<S: Faithful>(alloc: Global, conn: Connection<S>) -> Result<Outbox
     ensures other { result ≢ Err Cause.NoSuch }
     ensures store { result ≢ Err Cause.Store }
 {
-    match Outbox::open(alloc, conn) {
+    match Outbox::open_or_back(alloc, conn) {
         Ok(outbox) => Ok(outbox),
-        Err(fault) => Err(Cause::of_outbox(fault)),
+        Err((fault, _back)) => Err(Cause::of_outbox(fault)),
     }
 }
 

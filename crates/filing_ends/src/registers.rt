@@ -47,10 +47,10 @@ fn make_intake<S: Faithful>(
     ensures problem { IfOk result (λ intake. early_of intake ≡ 0) }
     ensures other { result ≢ Err Cause.NoSuch }
 {
-    match Store::create(alloc, without_tables(conn)?) {
+    match Store::create_or_back(alloc, without_tables(conn)?) {
         Ok(store) => Ok(Intake::new(alloc, store, limit)),
-        Err(CreateFault::Memory) => Err(Cause::Memory),
-        Err(_fault) => Err(Cause::Store),
+        Err((CreateFault::Memory, _back)) => Err(Cause::Memory),
+        Err((_fault, _back)) => Err(Cause::Store),
     }
 }
 
@@ -78,7 +78,7 @@ fn open_intake<S: Faithful>(
     ensures other { result ≢ Err Cause.NoSuch }
     ensures store { result ≢ Err Cause.Store }
 {
-    match Store::open(alloc, conn) {
+    match Store::open_or_back(alloc, conn) {
         Ok(store) => {
             if is_new(&store) {
                 Ok(Intake::new(alloc, store, limit))
@@ -86,7 +86,7 @@ fn open_intake<S: Faithful>(
                 Err(Cause::Reopen)
             }
         }
-        Err(fault) => Err(Cause::of_register(fault)),
+        Err((fault, _back)) => Err(Cause::of_register(fault)),
     }
 }
 

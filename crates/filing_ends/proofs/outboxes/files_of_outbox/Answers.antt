@@ -10,4 +10,4 @@ returns-in-Ok-clause-held g c = λ entries has.
 pub returns-in-Err-clause-refused : goal.returns-in-Err-clause-refused
 returns-in-Err-clause-refused g c =
     let why = c.in-Err.ensures.fault in
-    record { last = why.0; closed = why.1; error = why.2; failed = why.3; told = c.of_closing.ensures ∙ ap closing_cause why.4 }
+    record { last = why.0; closed = why.1.closed; error = why.1.error; failed = why.1.failed; told = c.of_closing.ensures ∙ ap closing_cause why.1.named }

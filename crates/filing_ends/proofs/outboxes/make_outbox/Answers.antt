@@ -2,4 +2,4 @@ use Rattle.filing_ends.proofs.outboxes.make_outbox.Goals as goal
 
 pub returns-in-Ok-clause-made : goal.returns-in-Ok-clause-made
 returns-in-Ok-clause-made g c =
-    (c.in-Ok.ensures.made (g.met.S.Faithful.faithful c.in-Ok.outbox.conn) c.in_ok-without_tables.ensures.empty, c.in-Ok.ensures.filer.0)
+    (c.in-Ok.ensures.outcome.made (g.met.S.Faithful.faithful c.in-Ok.outbox.conn) c.in_ok-without_tables.ensures.empty, c.in-Ok.ensures.outcome.filer.0)

@@ -6,11 +6,11 @@ use Rattle.filing_ends.proofs.registers.make_intake.Goals as goal
 pub returns-in-Ok-clause-made : goal.returns-in-Ok-clause-made
 unfolding firsts
 returns-in-Ok-clause-made g c =
-    (c.new.ensures.holds [] refl (c.in-Ok.ensures.made (g.met.S.Faithful.faithful c.in-Ok.store.conn) c.in_ok-without_tables.ensures.empty), none_of (early_of c.new.result))
+    (c.new.ensures.holds [] refl (c.in-Ok.ensures.outcome.made (g.met.S.Faithful.faithful c.in-Ok.store.conn) c.in_ok-without_tables.ensures.empty), none_of (early_of c.new.result))
   where
     none_of : (n : ℕ) → take {A = Request} n [] ≡ []
     none_of zero = refl
     none_of (suc n) = refl
 
 pub returns-in-Ok-clause-problem : goal.returns-in-Ok-clause-problem
-returns-in-Ok-clause-problem g c = ap (λ s. s.early) c.new.ensures.store ∙ c.in-Ok.ensures.counts.2
+returns-in-Ok-clause-problem g c = ap (λ s. s.early) c.new.ensures.store ∙ c.in-Ok.ensures.outcome.counts.2

@@ -4,7 +4,7 @@ use Rattle.world_ends.proofs.server.append_completed.Goals as goal
 
 pub loop-request-init : goal.loop-request-init
 loop-request-init c = λ arrivals ending begins few.
-    ap (λ l. c.args.done.now.items ++ l) (c.into_iter-request-iterator.ensures.into_iter_gives.0 ∙ c.in_ok-request-items.ensures arrivals ending begins few)
+    ap (λ l. c.args.done.now.items ++ l) (c.into_iter-request-iterator.ensures.into_iter_gives.0 ∙ c.in_ok-request-items.ensures.first arrivals ending begins few)
 
 pub loop-request-preserved : goal.loop-request-preserved
 loop-request-preserved c = λ arrivals ending begins few.
