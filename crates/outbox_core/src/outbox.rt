@@ -115,9 +115,9 @@ impl<S: Alter> Outbox<S> {
                 count,
                 has_failed: false,
             }),
-            Err(fault) => {
+            Err(refusal) => {
                 prove!(conn.is_autocommit());
-                Err((fault, conn))
+                Err((refusal, conn))
             }
         }
     }
@@ -142,9 +142,9 @@ impl<S: Alter> Outbox<S> {
                 count,
                 has_failed: false,
             }),
-            Err(fault) => {
+            Err(reason) => {
                 prove!(conn.is_autocommit());
-                Err((fault, conn))
+                Err((reason, conn))
             }
         }
     }

@@ -143,7 +143,7 @@ impl<S: Alter> Store<S> {
                 filings,
                 early,
             }),
-            Err(fault) => Err((fault, conn)),
+            Err(refusal) => Err((refusal, conn)),
         }
     }
 }

@@ -34,7 +34,7 @@ returns-in-Ok g c = record {
 pub returns-in-Err : goal.returns-in-Err
 returns-in-Err g c =
     let crash = c.migrate_register.ensures.crash in
-    let back : GivesBackMigrating g.S.Store c.args.conn c.in-Err.fault c.migrate_register.new.conn = record {
+    let back : GivesBackMigrating g.S.Store c.args.conn c.in-Err.refusal c.migrate_register.new.conn = record {
       autocommit = c.migrate_register.ensures.autocommit;
       unlimited = crash.limit ∙ c.requires.unlimited;
       same = c.in-Err.ensures.neither;
