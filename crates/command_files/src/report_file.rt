@@ -1,7 +1,12 @@
 //! Reading the file of a report.
 
-use command_line::{ReadFault, read_up_to};
-use http_wire::{Device, MAX_BODY_LEN};
+ghost use Rattle.std.specs.Prelude.{◌≡◌, IfOk, IfErr, OnOk};
+ghost use Rattle.command_line.specs.Reading.{IsWhole};
+ghost use Rattle.command_files.specs.Reports.{IsReportFault};
+
+use command_line::{ReadFault, read_whole};
+use http_wire::{Device, MAX_BODY_LEN, Source};
+use std::alloc::Global;
 use std::{fs, io};
 use thiserror::Error;
 
@@ -33,12 +38,25 @@ fn open<'a>(rt: &HostRuntime, name: &'a str) -> Result<fs::File, ReportFault<'a>
     }
 }
 
-/// The bytes of a report's file, of which there may be 1,048,576.
-pub fn report<'a>(rt: &HostRuntime, name: &'a str) -> Result<Vec<u8>, ReportFault<'a>> {
-    let mut file = Device::new(open(rt, name)?);
-    match read_up_to(rt.alloc(), &mut file, MAX_BODY_LEN + 1) {
-        Ok(body) if body.len() > MAX_BODY_LEN => Err(ReportFault::TooLarge { name }),
-        Ok(body) => Ok(body),
+/// The bytes of the report that a reader gives, of which there may be 1,048,576. A fault has this name.
+pub fn report_from<'a, R: Source>(
+    alloc: Global,
+    reader: &mut R,
+    name: &'a str,
+) -> Result<Vec<u8>, ReportFault<'a>>
+    ensures whole { IfOk result (λ body.
+        IsWhole (R.left reader.old) (R.left reader.new) MAX_BODY_LEN body.items) }
+    ensures fine { OnOk result (R.read_failures reader.new ≡ R.read_failures reader.old) }
+    ensures fault { IfErr result (IsReportFault R.left R.read_failures name.now reader.old reader.new) }
+{
+    match read_whole(alloc, reader, MAX_BODY_LEN) {
+        Ok(Some(body)) => Ok(body),
+        Ok(None) => Err(ReportFault::TooLarge { name }),
         Err(fault) => Err(ReportFault::Read { name, fault }),
     }
+}
+
+/// The bytes of a report's file, of which there may be 1,048,576.
+pub fn report<'a>(rt: &HostRuntime, name: &'a str) -> Result<Vec<u8>, ReportFault<'a>> {
+    report_from(rt.alloc(), &mut Device::new(open(rt, name)?), name)
 }

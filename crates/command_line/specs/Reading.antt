@@ -1,7 +1,7 @@
 -- What reading up to a length does, and why it fails. Own rules, over those of a reader. First comes what contracts see of it: the bytes
 -- that it has left, and how many of its reads have failed.
-use Rattle.std.specs.Prelude.{◌≡◌, ℕ, zero, suc, ◌<◌, ◌≤◌, List, length, Option}
-use Rattle.std.specs.Io.KnownBytes.{Consumes}
+use Rattle.std.specs.Prelude.{◌≡◌, ℕ, zero, suc, ◌+◌, ◌<◌, ◌≤◌, List, length, Option}
+use Rattle.std.specs.Io.KnownBytes.{Consumes, IsAtEnd}
 use Rattle.http_messages.specs.Reads.{max_reads}
 use Rattle.http_wire.specs.Device.{HasFailed}
 use Rattle.command_line.specs.declared.bytes.ReadFault.{ReadFault}
@@ -41,3 +41,15 @@ abbrev pub IsNoRead : {R : Type 0} → (R → ℕ) → ℕ → R → R → ReadF
 IsNoRead failures made before after Read = HasFailed (failures before) (failures after)
 IsNoRead failures made before after ReadLimit = (made ≡ max_reads) × (after ≡ before)
 IsNoRead failures made before after Memory = failures after ≡ failures before
+
+-- these are all bytes that were left, and at most so many
+pub record IsWhole (before after : Option (List ℕ)) (most : ℕ) (bytes : List ℕ) : Type 0 where
+  pub given : Consumes before after bytes
+  pub end : IsAtEnd after
+  pub bound : length bytes ≤ most
+
+-- more bytes than so many were left
+pub record IsLonger (before after : Option (List ℕ)) (most : ℕ) : Type 0 where
+  pub bytes : List ℕ
+  pub given : Consumes before after bytes
+  pub longer : most < length bytes

@@ -1,11 +1,11 @@
-//! Reading bytes up to a length.
+//! Reading an input of bytes whole, up to a length.
 
-ghost use Rattle.std.specs.Prelude.{◌≡◌, ◌++◌, ◌+◌, ◌<◌, ◌≤◌, drop, slice_range, vec_len, IfOk, IfErr, OnOk, Ok};
+ghost use Rattle.std.specs.Prelude.{◌≡◌, ◌++◌, ◌+◌, ◌-◌, ◌^◌, ◌<◌, ◌≤◌, drop, slice_range, vec_len, None, IfSome, IfOk, IfErr, OnOk, Ok};
 ghost use Rattle.std.specs.Io.KnownBytes.{Consumes, IsAtEnd};
 ghost use Rattle.http_wire.specs.Device.{HasFailed};
 ghost use Rattle.http_messages.specs.Reads.{max_reads};
 ghost use Rattle.command_line.specs.declared.bytes.ReadFault.TheVariants.{Read, ReadLimit, Memory};
-ghost use Rattle.command_line.specs.Reading.{GivesBytes, IsReadFailure, IsNoRead};
+ghost use Rattle.command_line.specs.Reading.{GivesBytes, IsReadFailure, IsNoRead, IsWhole, IsLonger};
 
 use http_wire::{MAX_READS, Source};
 use std::alloc::{AllocError, Global};
@@ -57,13 +57,31 @@ impl From<AllocError> for ReadFault {
     }
 }
 
-/// The bytes of a reader up to its end, or the first `most` of them. At most 4,194,304 reads are made,
-/// each of one byte at least. `ReadLimit` comes only after as many, and with fewer than `most` bytes.
-pub fn read_up_to<R: Source>(
+/// All bytes of a reader, if there are at most `most`; `None` if there are more, and then some of them
+/// are left.
+pub fn read_whole<R: Source>(
     alloc: Global,
     reader: &mut R,
     most: usize,
-) -> Result<Vec<u8>, ReadFault>
+) -> Result<Option<Vec<u8>>, ReadFault>
+    requires { most < 2 ^ 64 - 1 }
+    ensures whole { IfOk result (λ found. IfSome found (λ bytes.
+        IsWhole (R.left reader.old) (R.left reader.new) most bytes.items)) }
+    ensures longer { result ≡ Ok None → IsLonger (R.left reader.old) (R.left reader.new) most }
+    ensures fine { OnOk result (R.read_failures reader.new ≡ R.read_failures reader.old) }
+    ensures fault { IfErr result (IsReadFailure R.left R.read_failures (most + 1) reader.old reader.new) }
+{
+    let bytes = read_up_to(alloc, reader, most + 1)?;
+    Ok(if bytes.len() > most {
+        None
+    } else {
+        Some(bytes)
+    })
+}
+
+/// The bytes of a reader up to its end, or the first `most` of them. At most 4,194,304 reads are made,
+/// each of one byte at least. `ReadLimit` comes only after as many, and with fewer than `most` bytes.
+fn read_up_to<R: Source>(alloc: Global, reader: &mut R, most: usize) -> Result<Vec<u8>, ReadFault>
     ensures given { IfOk result (λ bytes. Consumes (R.left reader.old) (R.left reader.new) bytes.items) }
     ensures bound { IfOk result (λ bytes. vec_len bytes ≤ most) }
     ensures whole { IfOk result (λ bytes. vec_len bytes < most → IsAtEnd (R.left reader.new)) }

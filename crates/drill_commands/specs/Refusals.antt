@@ -1,7 +1,8 @@
--- Why no world is answered of a script, and why nothing is shown of a world.
-use Rattle.std.specs.Prelude.{◌≡◌, ℕ, ⊤, List, Contains, Ok}
+-- Why a script is not read, why no world is answered of it, and why nothing is shown of a world.
+use Rattle.std.specs.Prelude.{◌≡◌, ℕ, ⊤, List, Contains, Option, Ok}
 use Rattle.std.specs.Str.{IsUtf8}
 use Rattle.command_line.specs.declared.fault.CommandFault.TheVariants.{Memory}
+use Rattle.command_line.specs.Reading.{IsReadFailure, IsLonger}
 use Rattle.event_script.specs.Restarts.{restarted}
 use Rattle.event_script.specs.Scripts.{Script, script_of, IsFaultOf}
 use Rattle.filing_model.specs.Register.{Filing, register}
@@ -11,6 +12,19 @@ use Rattle.key_string.specs.Key.{IsTextFault}
 use Rattle.schedule.specs.Ending.{EndsBy}
 use Rattle.drill_commands.specs.declared.fault.Fault.{Fault}
 use Rattle.drill_commands.specs.declared.fault.Fault.TheVariants as fault
+
+-- The reader of a script, of which contracts see the bytes that it has left and its failures, had more bytes than a script may have; or so many
+-- and one more, by which that is seen, were not read.
+abbrev pub IsNotRead : {R : Type 0} → (R → Option (List ℕ)) → (R → ℕ) → R → R → Fault → Type 0
+IsNotRead left failures before after (fault.Read why) = IsReadFailure left failures 8388609 before after why
+IsNotRead left failures before after fault.TooLong = IsLonger (left before) (left after) 8388608
+IsNotRead left failures before after (fault.Command why) = ⊥
+IsNotRead left failures before after fault.NotText = ⊥
+IsNotRead left failures before after (fault.Script why) = ⊥
+IsNotRead left failures before after (fault.World why) = ⊥
+IsNotRead left failures before after (fault.Register why) = ⊥
+IsNotRead left failures before after (fault.Outbox why) = ⊥
+IsNotRead left failures before after (fault.Key why) = ⊥
 
 -- The bytes are no UTF-8, a line of the script says nothing, an event ended the run, or memory ran out.
 abbrev pub IsNotPlayed : List ℕ → Fault → Type 0

@@ -20,7 +20,7 @@ pub enum Fault {
     #[error("{0}")]
     Command(#[from] CommandFault<'static>),
     #[error("the script: {0}")]
-    Read(#[from] ReadFault),
+    Read(ReadFault),
     #[error("the script has more than 8388608 bytes")]
     TooLong,
     #[error("the script is not UTF-8")]

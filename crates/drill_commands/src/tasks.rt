@@ -1,14 +1,16 @@
 //! Reads a script, plays it, and shows what came of it.
 
-ghost use Rattle.std.specs.Prelude.{IfOk};
+ghost use Rattle.std.specs.Prelude.{◌≡◌, IfOk, IfErr, OnOk};
+ghost use Rattle.command_line.specs.Reading.{IsWhole};
+ghost use Rattle.drill_commands.specs.Refusals.{IsNotRead};
 ghost use Rattle.drill_commands.specs.Shown.{IsShownOf};
 
 use crate::fault::Fault;
 use crate::lines::shown;
 use crate::options;
 use crate::world::played;
-use command_line::{DONE, read_up_to, show, show_refusal, words};
-use http_wire::Device;
+use command_line::{DONE, read_whole, show, show_refusal, words};
+use http_wire::{Device, Source};
 use schedule::{Durable, Honest, World};
 use std::alloc::Global;
 use std::io::{Read, Write};
@@ -16,14 +18,18 @@ use std::io::{Read, Write};
 /// The longest script that is read (own rule).
 const MAX_SCRIPT_LEN: usize = 8_388_608;
 
-/// The bytes of the script.
-fn read_bytes<R: Read>(alloc: Global, input: &mut R) -> Result<Vec<u8>, Fault> {
-    let mut reader = Device::new(input);
-    let bytes = read_up_to(alloc, &mut reader, MAX_SCRIPT_LEN + 1)?;
-    if bytes.len() > MAX_SCRIPT_LEN {
-        return Err(Fault::TooLong);
+/// The bytes of the script, of which there may be 8,388,608.
+fn read_bytes<R: Source>(alloc: Global, reader: &mut R) -> Result<Vec<u8>, Fault>
+    ensures whole { IfOk result (λ bytes.
+        IsWhole (R.left reader.old) (R.left reader.new) MAX_SCRIPT_LEN bytes.items) }
+    ensures fine { OnOk result (R.read_failures reader.new ≡ R.read_failures reader.old) }
+    ensures fault { IfErr result (IsNotRead R.left R.read_failures reader.old reader.new) }
+{
+    match read_whole(alloc, reader, MAX_SCRIPT_LEN) {
+        Ok(Some(bytes)) => Ok(bytes),
+        Ok(None) => Err(Fault::TooLong),
+        Err(why) => Err(Fault::Read(why)),
     }
-    Ok(bytes)
 }
 
 /// Plays the script, starts each end that is down then, and answers what is shown.
@@ -39,7 +45,7 @@ fn perform_script<R: Read, O: Write>(
     input: &mut R,
     output: &mut O,
 ) -> Result<u8, Fault> {
-    let bytes = read_bytes(alloc, input)?;
+    let bytes = read_bytes(alloc, &mut Device::new(input))?;
     let text = drill::<Durable>(alloc, bytes.as_slice())?;
     show(output, text.as_slice())?;
     Ok(DONE)

@@ -25,3 +25,5 @@ mod rows;
 mod scripts;
 #[cfg(test)]
 mod streams;
+#[cfg(test)]
+mod whole;

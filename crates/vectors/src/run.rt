@@ -61,7 +61,8 @@ fn run_each(alloc: Global, numbers: &[u32]) -> Result<Vec<Outcome>, AllocError>
     Ok(outcomes)
 }
 
-/// Runs the vector of this number. Vectors 15 and 16 are scripts, and so are the end of vector 24 and the beginning of vector 27.
+/// Runs the vector of this number. Vectors 15 and 16 are scripts, and so are the end of vector 24 and the beginning of
+/// vector 27.
 fn run(alloc: Global, number: u32) -> Result<Outcome, AllocError>
     ensures number { IfOk result (λ outcome. outcome.number ≡ number) }
     ensures whole { IfOk result IsWhole }

@@ -1,0 +1,61 @@
+//! Tests of an input that is read whole, up to a length.
+
+use crate::streams::Pieces;
+use command_line::{ReadFault, read_whole};
+use http_wire::Device;
+use std::alloc::Global;
+
+/// How many bytes of a reader that has `len` are read, if it may have `most`. Each read gets `piece` of them at most, and
+/// behind them the reader ends or fails.
+fn read_len(
+    alloc: Global,
+    (len, piece, fails): (usize, usize, bool),
+    most: u32,
+) -> Result<Option<usize>, ReadFault> {
+    let mut text = Vec::new(alloc);
+    text.resize(len, b' ')?;
+    let mut reader = Device::new(Pieces {
+        rest: text.as_slice(),
+        piece,
+        fails,
+    });
+    let found = read_whole(alloc, &mut reader, most as usize)?;
+    Ok(found.map(|bytes| bytes.len()))
+}
+
+/// Reports, of which one may have 1,048,576 bytes, by their length and the bytes that a read gets at most; and how many
+/// are read.
+const REPORTS: &[((usize, usize), Option<usize>)] = &[
+    ((0, 16_384), Some(0)),
+    ((1_048_576, 16_384), Some(1_048_576)),
+    ((1_048_576, 1_000), Some(1_048_576)),
+    ((1_048_577, 16_384), None),
+    ((1_048_577, 1_000), None),
+];
+
+#[test]
+fn as_long_as_a_report(rt: HostRuntime) {
+    for &((len, piece), read) in REPORTS {
+        let given = read_len(rt.alloc(), (len, piece, false), 1_048_576);
+        assert_eq!(rt; given, Ok(read), "{len} in {piece}");
+    }
+}
+
+/// A script may have 8,388,608 bytes, and take 4,194,304 reads, however many bytes these give.
+#[test]
+fn more_bytes_than_reads(rt: HostRuntime) {
+    let read = read_len(rt.alloc(), (6_000_000, 16_384, false), 8_388_608);
+    assert_eq!(rt; read, Ok(Some(6_000_000)));
+}
+
+#[test]
+fn behind_bytes_that_are_too_many(rt: HostRuntime) {
+    assert_eq!(rt; read_len(rt.alloc(), (1, 1, false), 0), Ok(None));
+    assert_eq!(rt; read_len(rt.alloc(), (2, 1, true), 1), Ok(None));
+}
+
+#[test]
+fn a_reader_that_fails(rt: HostRuntime) {
+    assert_eq!(rt; read_len(rt.alloc(), (0, 1, true), 9), Err(ReadFault::Read));
+    assert_eq!(rt; read_len(rt.alloc(), (9, 2, true), 9), Err(ReadFault::Read));
+}
