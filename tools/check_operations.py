@@ -1,0 +1,270 @@
+#!/usr/bin/env python3
+"""Tries with the built programs what docs/OPERATIONS.md promises an operator: copies, restores, logs, rounds, and a full disk.
+
+    tools/check_operations.py [WORD]        each trial, or those with this word in their name
+
+It takes the programs that `rt run` builds in their folders, as crates/intake/out/intake, and the scripts of deploy/. It listens on
+127.0.0.1 alone and works in folders of its own, which it removes. What needs a program that is not installed is said, and is no failure.
+The last line says how many trials passed and failed. Status 1 if one failed.
+
+A further trial is a function in TRIALS, which gets a folder. A further kind of copy is a row in COPIES, a further reply that a round may
+meet a row in ROUNDS, a further request to nginx a row in FRONT, and one to a full disk a row in FULL.
+"""
+import contextlib
+import fcntl
+import os
+import pathlib
+import shutil
+import socket
+import sqlite3
+import subprocess
+import sys
+import tempfile
+import threading
+import time
+
+import check_deploy
+import trials
+from check_programs import SmallDisk, listing
+from trials import INTAKE, OUTBOX, REPORT, ROOT, SMALLEST, Serving, exchange, free_port, request, run, statuses
+
+DEPLOY = ROOT / "deploy"
+PATHS = {**os.environ, "PATH": f"{INTAKE.parent}:{OUTBOX.parent}:{os.environ['PATH']}"}
+passed = []
+
+
+def hold(what, found, wanted):
+    trials.hold(what, found, wanted)
+    passed.extend([what] if found == wanted else [])
+
+
+def script(name, *words, **options):
+    """The status, the output and the errors of a script of deploy/."""
+    words = [str(DEPLOY / name), *map(str, words)]
+    done = subprocess.run(words, capture_output=True, text=True, check=False, timeout=120, env=PATHS, **options)
+    return done.returncode, done.stdout, done.stderr
+
+
+def missing(*programs):
+    """Says which of these is not installed, if one is."""
+    found = [program for program in programs if shutil.which(program, path=f"{os.environ['PATH']}:/usr/sbin:/sbin") is None]
+    for program in found:
+        print(f"not tried: {program} is not installed")
+    return bool(found)
+
+
+def names(folder):
+    return sorted(it.name for it in folder.iterdir())
+
+
+def rights(path):
+    return oct(path.stat().st_mode & 0o777)
+
+
+def rows(database):
+    """All rows of all tables of a file that nothing has open."""
+    with contextlib.closing(sqlite3.connect(f"{database.as_uri()}?mode=ro&immutable=1", uri=True)) as conn:
+        tables = [name for (name,) in conn.execute("SELECT name FROM sqlite_master WHERE type = 'table' ORDER BY name")]
+        return {name: sorted(conn.execute(f"SELECT * FROM {name}"), key=repr) for name in tables}
+
+
+# ---- databases
+
+LARGE = SMALLEST.ljust(50_000)
+REQUESTS = [request("k-1", REPORT), request("k-2", LARGE), request("k-3", b"{}"), request("k-4", REPORT, "ACME/1")]
+SOUND = "sound: 4 kept, 3 filings"
+
+
+def make_register(database):
+    """A register with three filings, one of which replaces another, and a refused report. It is closed."""
+    serving = Serving(database, len(REQUESTS), "--new")
+    for it in REQUESTS:
+        exchange(serving.port, it)
+    serving.end()
+
+
+def make_outbox(database):
+    """An outbox with two open entries."""
+    reports = database.with_name("reports")
+    reports.mkdir()
+    run(OUTBOX, "init", "--db", database, "--filer", "ACME")
+    for number, body in enumerate((REPORT, LARGE), 1):
+        (reports / f"{number}").write_bytes(body)
+        run(OUTBOX, "put", "--db", database, "--body", reports / f"{number}", "--key", f"k-{number}")
+
+
+# ---- copies, and what is restored of them
+
+
+def shell(database, command):
+    return subprocess.run(["sqlite3", "-batch", str(database), command], capture_output=True, text=True, check=False, timeout=60)
+
+
+def python_backup(database, copy):
+    with contextlib.closing(sqlite3.connect(database)) as source, contextlib.closing(sqlite3.connect(copy)) as target:
+        source.backup(target)
+
+
+# How a copy is made, how, and whether the programs open it as it is.
+COPIES = [
+    ("cp", lambda database, copy: shutil.copy(database, copy), True),
+    (".backup", lambda database, copy: shell(database, f".backup '{copy}'"), False),
+    ("VACUUM INTO", lambda database, copy: shell(database, f"VACUUM INTO '{copy}'"), False),
+    ("Python's backup", python_backup, False),
+    (".dump", lambda database, copy: shell(copy, f".read '|sqlite3 {database} .dump'"), True),
+]
+
+
+def check_copies(folder, kind, database, restored, ask):
+    """Restores each kind of copy. `ask` gives the status and output of a program that opens a file."""
+    before = rows(database)
+    opened = ask(database)[1]
+    for what, copy_to, opens in COPIES:
+        own = folder / what.replace(" ", "-")
+        own.mkdir()
+        copy, new = own / "copy.db", own / "new.db"
+        copy_to(database, copy)
+        data = copy.read_bytes()
+        hold(f"{what} of {kind}: {'opens' if opens else 'is refused'} as it is", ask(shutil.copy(copy, own / "tried"))[0] == 0, opens)
+        for it in own.glob("tried*"):
+            it.unlink()
+        status, said, errors = script(f"{kind}-restore", copy, new)
+        sums = "" if what != ".dump" else "; its pages have no sums, as those of the copy"
+        hold(f"{what} of {kind}: restored", (status, said, errors), (0, f"{new}: restored: {restored}{sums}\n", ""))
+        if status:
+            continue
+        hold(f"{what} of {kind}: only the two files are there", (names(own), rights(new)), (["copy.db", "new.db"], "0o600"))
+        hold(f"{what} of {kind}: the copy is as it was", copy.read_bytes() == data, True)
+        hold(f"{what} of {kind}: each row is there", rows(new) == before, True)
+        hold(f"{what} of {kind}: it opens", ask(new), (0, opened))
+        hold(f"{what} of {kind}: it is not overwritten", script(f"{kind}-restore", copy, new)[::2],
+             (1, f"{kind}-restore: {new} is there already\n"))
+        if not sums:
+            hold(f"{what} of {kind}: a changed byte is found", ask(with_changed_byte(new))[0], 1)
+
+
+def with_changed_byte(database):
+    """The same file with another byte of white space in the longest body."""
+    data = bytearray(database.read_bytes())
+    data[data.index(b" " * 2000) + 1000] = 9
+    database.write_bytes(data)
+    return database
+
+
+def ask_register(database):
+    done = run(INTAKE, "check", "--db", database)
+    return done.returncode, done.stdout
+
+
+def ask_outbox(database):
+    done = run(OUTBOX, "show", "--db", database)
+    return done.returncode, done.stdout
+
+
+def check_register_copies(folder):
+    if missing("sqlite3"):
+        return
+    make_register(folder / "register.db")
+    check_copies(folder, "register", folder / "register.db", SOUND, ask_register)
+    serving = Serving(folder / "cp" / "copy.db", 1)
+    hold("a restored register answers repeats", statuses(exchange(serving.port, request("k-1", REPORT))), [201])
+    serving.end()
+
+
+def check_outbox_copies(folder):
+    if missing("sqlite3"):
+        return
+    make_outbox(folder / "outbox.db")
+    check_copies(folder, "outbox", folder / "outbox.db", "2 entries, 2 open", ask_outbox)
+
+
+def check_refused_copies(folder):
+    """What is no copy of a register, or is a damaged one: nothing is restored, and nothing is left."""
+    register, outbox = folder / "register.db", folder / "outbox.db"
+    make_register(register)
+    make_outbox(outbox)
+    register.with_name("register.db-wal").unlink(missing_ok=True)
+    shutil.copy(register, folder / "byte.db")
+    with_changed_byte(folder / "byte.db")
+    data = register.read_bytes()
+    (folder / "cut.db").write_bytes(data[: len(data) - 3 * 4096])
+    (folder / "text.db").write_text("no database " * 100)
+    (folder / "empty.db").write_bytes(b"")
+    shutil.copy(register, folder / "journal.db")
+    (folder / "journal.db-journal").write_bytes(b"")
+    kept = names(folder)
+    for kind, name, status, cause in [
+        ("register", "byte.db", 1, "it is damaged"),
+        ("register", "cut.db", 1, ""),
+        ("register", "text.db", 1, "file is not a database"),
+        ("register", "empty.db", 1, "not a register"),
+        ("register", "outbox.db", 1, "this is an outbox"),
+        ("outbox", "register.db", 1, "this is a register"),
+        ("register", "none.db", 1, "there is no such file"),
+        ("register", "journal.db", 1, "open a copy of both files with sqlite3 once"),
+    ]:
+        found, said, errors = script(f"{kind}-restore", folder / name, folder / "new.db")
+        hold(f"{kind}-restore of {name}", (found, said, cause in errors, errors.count("\n")), (status, "", True, 1))
+    for ending in ("-wal", "-journal"):
+        beside = folder / f"new.db{ending}"
+        beside.write_bytes(b"")
+        hold(f"register-restore beside another file's {ending}", script("register-restore", register, folder / "new.db")[0], 1)
+        beside.unlink()
+    hold("nothing is left", names(folder), kept)
+
+
+def check_copy_with_log(folder):
+    """Both files of an intake that was killed: what was answered last is in the log."""
+    database = folder / "register.db"
+    serving = Serving(database, 9, "--new")
+    for it in REQUESTS:
+        exchange(serving.port, it)
+    serving.process.kill()
+    serving.process.communicate()
+    copies = folder / "copies"
+    copies.mkdir()
+    for ending in ("", "-wal"):
+        shutil.copy(f"{database}{ending}", copies / f"copy.db{ending}")
+    before = {it.name: it.read_bytes() for it in copies.iterdir()}
+    new = folder / "new.db"
+    hold("a copy with a log beside it", script("register-restore", copies / "copy.db", new), (0, f"{new}: restored: {SOUND}\n", ""))
+    hold("both files are as they were", {it.name: it.read_bytes() for it in copies.iterdir()} == before, True)
+
+
+def check_earlier_copies(folder):
+    """Copies of earlier versions become databases of this one."""
+    for kind, make, restored in [("register", trials.make_earlier, "1 kept, 0 filings"), ("outbox", trials.make_earlier_outbox, "2 entries, 1 open")]:
+        copy, new = folder / f"{kind}.db", folder / f"{kind}-new.db"
+        make(copy)
+        status, said, _ = script(f"{kind}-restore", copy, new)
+        wanted = f"{new}: restored: migrated, {'sound: ' if kind == 'register' else ''}{restored}; its pages have no sums, as those of the copy\n"
+        hold(f"a copy of an earlier {kind}", (status, said), (0, wanted))
+
+
+TRIALS = [
+    check_register_copies,
+    check_outbox_copies,
+    check_refused_copies,
+    check_copy_with_log,
+    check_earlier_copies,
+]
+
+
+def main(words):
+    for program in (INTAKE, OUTBOX):
+        if not program.exists():
+            sys.exit(f"build the program first: (cd crates/{program.name} && rt run < stdin)")
+    for trial in TRIALS:
+        if not all(word in trial.__name__ for word in words):
+            continue
+        with tempfile.TemporaryDirectory() as folder:
+            try:
+                trial(pathlib.Path(folder).resolve())
+            except (OSError, subprocess.SubprocessError, ValueError, sqlite3.Error) as fault:
+                trials.tell(trial.__name__, repr(fault))
+    print(f"{len(passed)} passed, {len(trials.failures)} failed")
+    return 1 if trials.failures else 0
+
+
+if __name__ == "__main__":
+    sys.exit(main(sys.argv[1:]))
