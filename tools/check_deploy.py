@@ -7,6 +7,8 @@ Scripts are parsed, held to shellcheck and run with stand-ins for `intake` and `
 asked over the tables that docs/PROTOCOL.md declares; nginx tests its files, and then serves requests with and without certificates
 in front of a stand-in for the intake. Status 1 where a trial fails. What could not be tried is no failure.
 """
+import contextlib
+import gzip
 import http.client
 import json
 import os
@@ -171,25 +173,48 @@ SELECT * FROM filings; SELECT * FROM replaced; SELECT * FROM refused; SELECT * F
     hold("the views of reading.sql", done.stdout + done.stderr, wanted)
 
 
+def make_copy(copy, filings, refused=()):
+    """A file with the tables of a register, in which these filers' keys are filings or refused."""
+    with contextlib.closing(sqlite3.connect(copy)) as database:
+        database.executescript("\n".join(tables_of_protocol()))
+        rows = [(*who, number) for number, who in enumerate(filings, 1)] + [(*who, None) for who in refused]
+        database.executemany("INSERT INTO kept VALUES (NULL, ?, ?, x'', ?)", rows)
+        database.commit()
+
+
+def log_line(path, key, status="201", **more):
+    return json.dumps({"time": "T", "uri": path, "key": f'"{key}"', "intake_status": status, **more}).encode() + b"\n"
+
+
 def try_log(folder):
-    """A log of four reports that were answered 201, of which the register has three, one that replaces another among them."""
+    """Logs of reports that were answered 201, of which the register has some, one that replaces another among them."""
     copy = folder / "copy.db"
-    database = sqlite3.connect(copy)
-    database.executescript("\n".join(tables_of_protocol()))
-    database.execute("INSERT INTO kept VALUES (1, 'ACME', 'a\"b', x'', 1), (2, 'ACME', 'k-2', x'', 2), (3, 'ACME', 'k-3', x'', NULL)")
-    database.execute("INSERT INTO kept VALUES (4, 'ACME', 'k-4', x'', 3)")
-    database.commit()
-    database.close()
-    lines = [("ACME", '"a\\"b"', "201"), ("ACME", '"k-2"', "201"), ("ACME", '"k-3"', "422"), ("ACME/1", '"k-4"', "201")]
-    lines += [("BETA", '"k-2"', "201")] * 2
-    log = folder / "filings.log"
-    log.write_text(
-        "".join(json.dumps({"time": "T", "uri": f"/filings/{f}", "key": k, "intake_status": s}) + "\n" for f, k, s in lines)
-    )
-    done = run(DEPLOY / "told-and-kept", copy, log)
-    hold("told-and-kept names what is missing", (done.returncode, done.stdout), (1, 'T BETA "k-2"\n'))
-    log.write_text("")
-    hold("told-and-kept, where nothing is", run(DEPLOY / "told-and-kept", copy, log).returncode, 0)
+    make_copy(copy, [("ACME", 'a"b'), ("ACME", "k-2"), ("ACME", "k-4")], [("ACME", "k-3")])
+    own = [log_line("/filings/ACME", 'a\\"b'), log_line("/filings/ACME", "k-2"), log_line("/filings/ACME", "k-3", "422"),
+           log_line("/filings/ACME/1", "k-4"), log_line("/filings/BETA", "k-2"), log_line("/filings/BETA", "k-2")]
+    odd = [b'{"uri":"/\xff","intake_status":"","key":""}\n', b"\n", b"[1]\n", b"7\n"]
+    agent = log_line("/filings/ACME", "k-5").replace(b"}", b',"agent":"\xff"}')
+    cut, unread = b'{"time":"T","uri":"/filings/AC', "lost-filings: {}: {} lines can't be read, the first is line {}\n"
+    beta, five = 'T BETA "k-2"\n', 'T ACME "k-5"\n'
+    later = [log_line("/2025/filings/ACME", "p-1"), log_line("/filings/ACME", "h-1", host="b.example"),
+             log_line("/filings/ACME", "k-2", host="A.example")]
+    for what, words, data, wanted in [
+        ("nothing", (), b"", (0, "", "")),
+        ("all that is missing, once", (), b"".join(own), (1, beta, "")),
+        ("what is packed", (), gzip.compress(b"".join(own)), (1, beta, "")),
+        ("lines that can't be read", (), b"".join(odd + own) + cut, (1, beta, unread.format("log", 4, 2))),
+        ("a line with a byte that is no UTF-8", (), agent, (1, five, "")),
+        ("a server's lines", ("--host", "a.example"), b"".join(own + later), (1, beta, "")),
+        ("another server's lines", ("--host", "b.example"), b"".join(later), (1, 'T ACME "h-1"\n', "")),
+        ("a path's lines", ("--prefix", "/2025"), b"".join(own + later), (1, 'T ACME "p-1"\n', "")),
+    ]:
+        (folder / "log").write_bytes(data)
+        done = run(DEPLOY / "lost-filings", *words, "copy.db", "log", cwd=folder)
+        hold(f"lost-filings: {what}", (done.returncode, done.stdout, done.stderr), wanted)
+    (folder / "log").write_bytes(b"".join(own))
+    hold("told-and-kept, its earlier name", run(DEPLOY / "told-and-kept", "copy.db", "log", cwd=folder).stdout, beta)
+    hold("lost-filings: no such log", run(DEPLOY / "lost-filings", "copy.db", "none", cwd=folder).returncode, 3)
+    hold("lost-filings: a file that is no copy", run(DEPLOY / "lost-filings", "log", "log", cwd=folder).returncode, 3)
 
 
 # ---- nginx

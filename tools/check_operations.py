@@ -241,12 +241,43 @@ def check_earlier_copies(folder):
         hold(f"a copy of an earlier {kind}", (status, said), (0, wanted))
 
 
+# ---- filings that a restore loses
+
+
+def check_lost(folder):
+    """A restored copy lacks the filing after it, and lost-filings names it from the logs: one packed, one with odd lines and a cut end."""
+    if missing("gzip"):
+        return
+    database, log = folder / "register.db", folder / "filings.log"
+    serving = Serving(database, 3, "--new")
+    exchange(serving.port, request("k-1", REPORT))
+    script("register-snapshot", database, folder / "copy.db")
+    exchange(serving.port, request("k-2", REPORT))
+    exchange(serving.port, request("k-3", b"{}"))
+    serving.end()
+    line = '{"time":"T%s","host":"intake.example","uri":"/filings/ACME","key":"\\"%s\\"","status":%s,"intake_status":"%s"}\n'
+    log.write_text(line % (1, "k-1", 201, 201) + line % (2, "k-2", 201, 201) + line % (3, "k-3", 422, 422))
+    subprocess.run(["gzip", "-k", log], check=True)
+    hold("lost-filings of the register", script("lost-filings", database, log, f"{log}.gz"), (0, "", ""))
+    wanted = (1, 'T2 ACME "k-2"\n', "")
+    hold("lost-filings of the copy", script("lost-filings", folder / "copy.db", f"{log}.gz", log), wanted)
+    script("register-restore", folder / "copy.db", folder / "new.db")
+    hold("lost-filings of what was restored", script("lost-filings", folder / "new.db", log), wanted)
+    odd = b'{"time":"T4","uri":"/\xff","intake_status":""}\n'
+    others = (line % (5, "k-5", 201, 201)).replace("intake.example", "other.example").encode()
+    log.write_bytes(odd + others + log.read_bytes() + b'{"time":"T6","ur')
+    unread = f"lost-filings: {log}: 1 lines can't be read, the first is line 6\n"
+    found = script("lost-filings", "--host", "intake.example", folder / "copy.db", log)
+    hold("lost-filings of a log with odd lines", found, (*wanted[:2], unread))
+
+
 TRIALS = [
     check_register_copies,
     check_outbox_copies,
     check_refused_copies,
     check_copy_with_log,
     check_earlier_copies,
+    check_lost,
 ]
 
 
