@@ -29,6 +29,7 @@ from trials import failures, hold, tell
 ROOT = pathlib.Path(__file__).resolve().parent.parent
 DEPLOY = ROOT / "deploy"
 SCRIPTS = ["register-new", "register-snapshot", "outbox-round"]
+SECOND_HOST = "2025.example"
 
 
 def find(program):
@@ -280,23 +281,32 @@ def make_certificates(openssl, folder):
         run(openssl, "req", "-newkey", "ec", "-pkeyopt", "ec_paramgen_curve:P-256", "-nodes", "-subj", subject,
             "-keyout", folder / f"{name}.key", "-out", folder / f"{name}.csr")
         names = folder / "names"
-        names.write_text("subjectAltName=DNS:intake.example")
+        names.write_text(f"subjectAltName=DNS:intake.example,DNS:{SECOND_HOST}")
         run(openssl, "x509", "-req", "-in", folder / f"{name}.csr", "-CA", folder / "ca.pem", "-CAkey", folder / "ca.key",
             "-CAcreateserial", "-days", "2", "-extfile", names, "-out", folder / f"{name}.pem")
 
 
-def nginx_file(folder, intake_port, port, outbox_port):
-    """The two files of deploy/ as one that runs in a folder."""
-    front = (DEPLOY / "nginx-intake.conf").read_text()
-    front = front.replace("127.0.0.1:8080", f"127.0.0.1:{intake_port}").replace("listen 443", f"listen 127.0.0.1:{port}")
-    front = front.replace("/etc/nginx/tls/filers-ca.pem", f"{folder}/ca.pem").replace("/etc/nginx/tls", str(folder))
-    front = front.replace("/var/log/nginx/filings.log", f"{folder}/filings.log")
+def second_register():
+    """The file of a second register, made by the command of docs/OPERATIONS.md."""
+    command = re.search(r"(?m)^    (sed -e 's/intake(?:.*\\\n)*.*) > nginx-intake-2025.conf$", (ROOT / "docs" / "OPERATIONS.md").read_text())
+    return run("sh", "-c", command[1], cwd=DEPLOY).stdout
+
+
+def nginx_file(folder, port, intakes, outbox_port):
+    """The files of deploy/ as one that runs in a folder, for two registers."""
+    fronts = (DEPLOY / "nginx-intake.conf").read_text() + second_register()
+    for written, own in [("127.0.0.1:8080", intakes[0]), ("127.0.0.1:8082", intakes[1])]:
+        fronts = fronts.replace(written, f"127.0.0.1:{own}")
+    fronts = fronts.replace("listen 443", f"listen 127.0.0.1:{port}")
+    fronts = fronts.replace("/etc/nginx/tls/filers-ca.pem", f"{folder}/ca.pem").replace("/etc/nginx/tls", str(folder))
+    fronts = fronts.replace("/var/log/nginx/filings.log", f"{folder}/filings.log")
     behind = (DEPLOY / "nginx-outbox.conf").read_text()
     behind = behind.replace("127.0.0.1:8081", f"127.0.0.1:{outbox_port}").replace("https://intake.example", f"https://127.0.0.1:{port}")
     behind = behind.replace("/etc/berruzpil/intake-ca.pem", f"{folder}/ca.pem").replace("/etc/berruzpil/filer", f"{folder}/acme")
     temporary = "".join(f"    {kind}_temp_path {folder}/{kind};\n" for kind in ["client_body", "proxy", "fastcgi", "uwsgi", "scgi"])
     whole = f"daemon off;\npid {folder}/pid;\nerror_log {folder}/error.log;\nevents {{}}\n"
-    (folder / "nginx.conf").write_text(f"{whole}http {{\n    access_log off;\n{temporary}{front}{behind}}}\n")
+    log = (DEPLOY / "nginx-berruzpil-log.conf").read_text()
+    (folder / "nginx.conf").write_text(f"{whole}http {{\n    access_log off;\n{temporary}{log}{fronts}{behind}}}\n")
     return folder / "nginx.conf"
 
 
@@ -315,18 +325,65 @@ def ask(folder, port, user, filer, **more):
     return status, content
 
 
-def ask_kind(folder, port, user, filer, method="POST", body=b"{}", **fields):
-    """The status, media type and content that nginx gives a user's request."""
+def connect(folder, port, user, host):
+    """A connection over TLS as this user, or as nobody."""
     context = ssl.create_default_context(cafile=folder / "ca.pem")
     if user:
         context.load_cert_chain(folder / f"{user}.pem", folder / f"{user}.key")
-    peer = socket.create_connection(("127.0.0.1", port), timeout=60)
-    connection = http.client.HTTPSConnection("intake.example", port, context=context)
-    connection.sock = context.wrap_socket(peer, server_hostname="intake.example")
+    return context.wrap_socket(socket.create_connection(("127.0.0.1", port), timeout=60), server_hostname=host)
+
+
+def ask_bytes(folder, port, given):
+    """The status, media type and content that nginx gives these bytes."""
+    with connect(folder, port, "acme", "intake.example") as peer:
+        peer.sendall(given)
+        reply = http.client.HTTPResponse(peer)
+        reply.begin()
+        return reply.status, reply.getheader("Content-Type"), reply.read()
+
+
+def ask_kind(folder, port, user, filer, method="POST", body=b"{}", host="intake.example", **fields):
+    """The status, media type and content that nginx gives a user's request."""
+    connection = http.client.HTTPConnection(host)
+    connection.sock = connect(folder, port, user, host)
     fields = {"Idempotency-Key": '"k-1"', **fields}
     connection.request(method, f"/filings/{filer}", body, fields, encode_chunked="Transfer-Encoding" in fields)
     reply = connection.getresponse()
     return reply.status, reply.getheader("Content-Type"), reply.read()
+
+
+def odd_requests():
+    """Requests that nginx answers itself, as the intake would."""
+    malformed = problem(400, "malformed", "Bad Request")
+    head_too_large = problem(431, "head-too-large", "Request Header Fields Too Large")
+    method, coding = problem(405, "no-method", "Method Not Allowed"), problem(501, "coding", "Not Implemented")
+    host = problem(421, "wrong-host", "Misdirected Request")
+    path = b"/filings/ACME HTTP/1.1\r\nHost: intake.example\r\n"
+    return [
+        ("a line that is no request", b"\x16\x03 hello\r\n\r\n", malformed),
+        ("a request of two hosts", b"GET " + path + b"Host: intake.example\r\n\r\n", malformed),
+        ("another host than that of the connection", b"GET / HTTP/1.1\r\nHost: localhost\r\n\r\n", host),
+        ("a path that is none", b"GET /%zz HTTP/1.1\r\nHost: intake.example\r\n\r\n", malformed),
+        ("a version that is none", b"GET /filings/ACME HTTP/3.0\r\nHost: intake.example\r\n\r\n", malformed),
+        ("a line that is too long", b"GET /" + b"a" * 20000 + b" HTTP/1.1\r\nHost: intake.example\r\n\r\n", head_too_large),
+        ("a field that is too long", b"GET " + path + b"A: " + b"a" * 20000 + b"\r\n\r\n", head_too_large),
+        ("TRACE", b"TRACE " + path + b"\r\n", method),
+        ("a coding that nginx doesn't know", b"POST " + path + b"Transfer-Encoding: gzip\r\n\r\n", coding),
+    ]
+
+
+def try_second_register(folder, intake, second, port):
+    """Two registers behind one nginx, whose lines in the log can be told apart."""
+    before = len(intake.requests)
+    status, _ = ask(folder, port, "acme", "ACME", host=SECOND_HOST, **{"Idempotency-Key": '"second"'})
+    hold("a report for the second register", (status, len(second.requests), len(intake.requests) - before), (201, 1, 0))
+    copies = {host: folder / f"{host}.db" for host in ("intake.example", SECOND_HOST)}
+    for host, copy in copies.items():
+        make_copy(copy, [("ACME", "k-1")] if host == "intake.example" else [])
+    for host, missing in [("intake.example", []), (SECOND_HOST, ['ACME "second"'])]:
+        done = run(DEPLOY / "lost-filings", "--host", host, copies[host], folder / "filings.log")
+        found = [line.partition(" ")[2] for line in done.stdout.splitlines()]
+        hold(f"lost-filings of {host}", (done.returncode, found, done.stderr), (1 if missing else 0, missing, ""))
 
 
 def try_requests(folder, intake, port, outbox_port):
@@ -354,9 +411,11 @@ def try_requests(folder, intake, port, outbox_port):
         hold(what, ask_kind(folder, port, *who), wanted)
     large = ask_kind(folder, port, "acme", "ACME", body=b" " * 1048577)
     hold("a body that is too large", large, problem(413, "too-large", "Content Too Large"))
+    for what, given, wanted in odd_requests():
+        hold(what, ask_bytes(folder, port, given), wanted)
     hold("none of these reached the intake", len(intake.requests), before)
     slow = socket.create_connection(("127.0.0.1", outbox_port))
-    slow.sendall(b"POST /filings/ACME HTTP/1.1\r\nHost: localhost\r\nContent-Length: 2\r\n\r\n{")
+    slow.sendall(b'POST /filings/ACME HTTP/1.1\r\nHost: localhost\r\nIdempotency-Key: "k-1"\r\nContent-Length: 2\r\n\r\n{')
     hold("a silent filer keeps nobody waiting", ask(folder, port, "acme", "ACME")[0], 201)
     slow.sendall(b"}")
     hold("through the filer's own nginx", b"201" in read_message(slow).split(b"\r\n")[0], True)
@@ -370,9 +429,9 @@ def try_nginx(folder):
     if not nginx or not openssl:
         return
     make_certificates(openssl, folder)
-    with Intake(201) as intake:
+    with Intake(201) as intake, Intake(201) as second:
         port, outbox_port = free_port(), free_port()
-        file = nginx_file(folder, intake.port, port, outbox_port)
+        file = nginx_file(folder, port, (intake.port, second.port), outbox_port)
         tested = run(nginx, "-t", "-p", folder, "-c", file)
         tell_run("nginx -t", tested)
         if tested.returncode:
@@ -381,6 +440,7 @@ def try_nginx(folder):
             try:
                 time.sleep(1)
                 try_requests(folder, intake, port, outbox_port)
+                try_second_register(folder, intake, second, port)
                 intake.leave()
                 away = problem(503, "unavailable", "Service Unavailable")
                 hold("an intake that is away", ask_kind(folder, port, "acme", "ACME"), away)

@@ -271,6 +271,51 @@ def check_lost(folder):
     hold("lost-filings of a log with odd lines", found, (*wanted[:2], unread))
 
 
+# ---- nginx in front of the intake
+
+MALFORMED = check_deploy.problem(400, "malformed", "Bad Request")
+NO_METHOD = check_deploy.problem(405, "no-method", "Method Not Allowed")
+REGISTERED = (201, "application/json")
+# What is sent to nginx, the status and media type of the reply or all of it, and whether the intake gets it.
+FRONT = [
+    ("a report", request("k-1", REPORT), REGISTERED, True),
+    ("a report after the copy", request("k-2", REPORT), REGISTERED, True),
+    ("its repeat", request("k-2", REPORT), REGISTERED, True),
+    ("a refused report", request("k-3", b"{}"), (422, "application/problem+json"), True),
+    ("a method that the intake refuses", b"PUT" + request("k-4", REPORT)[4:], NO_METHOD, True),
+    ("a line that is no request", b"\x16\x03 hello\r\n\r\n", MALFORMED, False),
+    ("TRACE", b"TRACE /filings/ACME HTTP/1.1\r\nHost: h\r\n\r\n", NO_METHOD, False),
+    ("a path that is no UTF-8", b"GET /\xff HTTP/1.1\r\nHost: h\r\n\r\n", check_deploy.problem(404, "no-path", "Not Found"), False),
+]
+
+
+def check_front(folder):
+    """nginx with the files of deploy/ in front of the built intake: what it answers, and that its log finds what a copy lacks."""
+    if missing("nginx", "openssl"):
+        return
+    folder.chmod(0o755)
+    database, copy, log = folder / "register.db", folder / "copy.db", folder / "filings.log"
+    check_deploy.make_certificates("openssl", folder)
+    serving = Serving(database, sum(reaches for *_, reaches in FRONT), "--new")
+    port = free_port()
+    file = check_deploy.nginx_file(folder, port, (serving.port, serving.port), free_port())
+    with subprocess.Popen([check_deploy.find("nginx"), "-p", folder, "-c", file], stderr=subprocess.DEVNULL) as front:
+        try:
+            time.sleep(1)
+            for what, given, wanted, _ in FRONT:
+                found = check_deploy.ask_bytes(folder, port, given.replace(b"Host: h\r\n", b"Host: intake.example\r\n"))
+                hold(f"{what}, through nginx", found[: len(wanted)], wanted)
+                if not copy.exists():
+                    script("register-snapshot", database, copy)
+        finally:
+            front.terminate()
+    hold("the intake got what it is to get", serving.end()[0], 0)
+    hold("each request has a line in the log", len(log.read_bytes().splitlines()), len(FRONT))
+    hold("lost-filings of the register", script("lost-filings", database, log), (0, "", ""))
+    status, said, errors = script("lost-filings", "--host", "intake.example", copy, log)
+    hold("lost-filings of the copy", (status, said.partition(" ")[2], errors), (1, 'ACME "k-2"\n', ""))
+
+
 TRIALS = [
     check_register_copies,
     check_outbox_copies,
@@ -278,6 +323,7 @@ TRIALS = [
     check_copy_with_log,
     check_earlier_copies,
     check_lost,
+    check_front,
 ]
 
 
