@@ -299,7 +299,7 @@ def nginx_file(folder, port, intakes, outbox_port):
         fronts = fronts.replace(written, f"127.0.0.1:{own}")
     fronts = fronts.replace("listen 443", f"listen 127.0.0.1:{port}")
     fronts = fronts.replace("/etc/nginx/tls/filers-ca.pem", f"{folder}/ca.pem").replace("/etc/nginx/tls", str(folder))
-    fronts = fronts.replace("/var/log/nginx/filings.log", f"{folder}/filings.log")
+    fronts = fronts.replace("/var/log/berruzpil/", f"{folder}/")
     behind = (DEPLOY / "nginx-outbox.conf").read_text()
     behind = behind.replace("127.0.0.1:8081", f"127.0.0.1:{outbox_port}").replace("https://intake.example", f"https://127.0.0.1:{port}")
     behind = behind.replace("/etc/berruzpil/intake-ca.pem", f"{folder}/ca.pem").replace("/etc/berruzpil/filer", f"{folder}/acme")
@@ -424,6 +424,24 @@ def try_requests(folder, intake, port, outbox_port):
     hold("the line of the log", logged, ("acme", '"k-1"', 201, "201"))
 
 
+def try_rotation(folder, port):
+    """The rules for the log, while nginx runs: what was logged is kept under the day's name, and what comes next is logged anew."""
+    if not (logrotate := find("logrotate")):
+        return
+    rules, log = folder / "rules", folder / "filings.log"
+    text = (DEPLOY / "logrotate-berruzpil").read_text().replace("/var/log/berruzpil/", f"{folder}/").replace("/run/nginx.pid", f"{folder}/pid")
+    rules.write_text(text if os.geteuid() == 0 else text.replace("create 0640 www-data adm", "create 0640"))
+    rules.chmod(0o644)
+    (folder / "error.log").rename(folder / "errors")
+    before = log.read_bytes()
+    done = run(logrotate, "--force", "--state", folder / "state", rules)
+    kept = log.with_name(f"filings.log-{time.strftime('%Y-%m-%d')}")
+    hold("logrotate", (done.returncode, done.stderr, kept.exists() and kept.read_bytes()), (0, "", before))
+    time.sleep(1)
+    ask(folder, port, "acme", "ACME")
+    hold("nginx opens its log anew", (len(log.read_bytes().splitlines()), kept.read_bytes()), (1, before))
+
+
 def try_nginx(folder):
     nginx, openssl = find("nginx"), find("openssl")
     if not nginx or not openssl:
@@ -441,6 +459,7 @@ def try_nginx(folder):
                 time.sleep(1)
                 try_requests(folder, intake, port, outbox_port)
                 try_second_register(folder, intake, second, port)
+                try_rotation(folder, port)
                 intake.leave()
                 away = problem(503, "unavailable", "Service Unavailable")
                 hold("an intake that is away", ask_kind(folder, port, "acme", "ACME"), away)
