@@ -241,6 +241,127 @@ def check_earlier_copies(folder):
         hold(f"a copy of an earlier {kind}", (status, said), (0, wanted))
 
 
+# ---- while the register is served
+
+
+def check_served(folder):
+    """What copies a register that is served, and what only says that it is locked."""
+    if missing("sqlite3"):
+        return
+    database = folder / "register.db"
+    serving = Serving(database, len(REQUESTS) + 1, "--new")
+    for it in REQUESTS:
+        exchange(serving.port, it)
+    for what, command in [(".backup", ".backup '{}'"), ("VACUUM INTO", "VACUUM INTO '{}'"), (".dump", ".dump")]:
+        done = shell(database, command.format(folder / "copy.db"))
+        hold(f"{what} while it is served", "database is locked" in done.stdout + done.stderr, True)
+        (folder / "copy.db").unlink(missing_ok=True)
+    with contextlib.closing(sqlite3.connect(database)) as source, contextlib.closing(sqlite3.connect(folder / "copy.db")) as target:
+        tries = []
+
+        def count(status, *_):
+            tries.append(status)
+            if len(tries) == 3:
+                raise TimeoutError
+
+        try:
+            source.backup(target, progress=count, sleep=0.01)
+        except TimeoutError:
+            pass
+    hold("Python's backup waits while it is served", tries, [sqlite3.SQLITE_BUSY] * 3)
+    (folder / "copy.db").unlink(missing_ok=True)
+    hold("register-restore while it is served", script("register-restore", database, folder / "copy.db")[::2],
+         (3, f"register-restore: {database}: database is locked\n"))
+    found = script("register-snapshot", database, folder / "copy.db")
+    hold("register-snapshot while it is served", found, (0, f"{SOUND}\n", ""))
+    hold("only its owner may read the copy", rights(folder / "copy.db"), "0o600")
+    hold("the intake goes on", statuses(exchange(serving.port, request("k-1", REPORT))), [201])
+    serving.end()
+    hold("the copy is the register", rows(folder / "copy.db") == rows(database), True)
+
+
+def check_rush(folder):
+    """A log that begins again during each copy: there is none, and what to do is said."""
+    database, programs = folder / "register.db", folder / "programs"
+    make_register(database)
+    programs.mkdir()
+    cp = programs / "cp"
+    cp.write_text('#!/bin/sh\n/bin/cp "$@"\nhead -c 41 /dev/urandom > register.db-wal\n')
+    cp.chmod(0o755)
+    before = names(folder)
+    paths = {**PATHS, "PATH": f"{programs}:{PATHS['PATH']}"}
+    words = [DEPLOY / "register-snapshot", "register.db", "copy.db"]
+    done = subprocess.run(words, capture_output=True, text=True, check=False, cwd=folder, env=paths, timeout=60)
+    hold("register-snapshot in a rush gives up", (done.returncode, done.stdout, "stop the intake" in done.stderr), (3, "", True))
+    hold("nothing is left of the copy", names(folder), before)
+
+
+# ---- a new register
+
+
+class Listening:
+    """A program that has a port, and answers each connection with these bytes; or with nothing, and holds it."""
+
+    def __init__(self, reply=None):
+        self.reply, self.held, self.listener = reply, [], socket.create_server(("127.0.0.1", 0))
+        self.port = self.listener.getsockname()[1]
+
+    def __enter__(self):
+        threading.Thread(target=self.serve, daemon=True).start()
+        return self
+
+    def __exit__(self, *_):
+        self.listener.shutdown(socket.SHUT_RDWR)
+        self.listener.close()
+        for peer in self.held:
+            peer.close()
+
+    def serve(self):
+        while True:
+            try:
+                peer, _ = self.listener.accept()
+            except OSError:
+                return
+            self.held.append(peer)
+            if self.reply is not None:
+                read_request(peer)
+                peer.sendall(self.reply)
+                self.held.remove(peer)
+                peer.close()
+
+
+def read_request(peer):
+    """Reads a request with as many bytes as it declares."""
+    with peer.makefile("rb") as file:
+        length = 0
+        while (line := file.readline()) not in (b"\r\n", b""):
+            if line.lower().startswith(b"content-length:"):
+                length = int(line.split(b":")[1])
+        file.read(length)
+
+
+def reply(status, reason, content, kind="application/problem+json"):
+    head = f"HTTP/1.1 {status} {reason}\r\nContent-Type: {kind}\r\nContent-Length: {len(content)}\r\nConnection: close\r\n\r\n"
+    return head.encode() + content
+
+
+def check_new(folder):
+    """A register on a used port leaves nothing, so that the next try makes it."""
+    if missing("curl"):
+        return
+    database = folder / "register.db"
+    for what, answer in [("a silent program", None), ("a program that answers", reply(200, "OK", b"{}"))]:
+        with Listening(answer) as other:
+            status, said, errors = script("register-new", database, other.port)
+        hold(f"register-new on the port of {what}", (status, said, names(folder)), (3, "", []))
+        hold("it says so", errors.splitlines()[-1:], ["register-new: no register was made"])
+    status, said, _ = script("register-new", database, free_port())
+    hold("register-new after that", (status, said), (0, "sound: 0 kept, 0 filings\n"))
+    hold("only its owner may read it", rights(database), "0o600")
+    hold("it is not overwritten", script("register-new", database, free_port())[::2], (1, f"register-new: {database} is there already\n"))
+    hold("and is sound", ask_register(database), (0, b"sound: 0 kept, 0 filings\n"))
+
+
 # ---- filings that a restore loses
 
 
@@ -322,6 +443,9 @@ TRIALS = [
     check_refused_copies,
     check_copy_with_log,
     check_earlier_copies,
+    check_served,
+    check_rush,
+    check_new,
     check_lost,
     check_front,
 ]
