@@ -64,22 +64,35 @@ def try_scripts():
 
 
 def try_round(folder):
-    """Rounds that settle what is open, that leave an entry open, that find no intake, and whose database is none."""
-    write_program(folder / "outbox", '#!/bin/sh\necho "$*" > asked\n[ -z "$SAID" ] || printf "$SAID"\nexit "$STATUS"\n')
-    settled = "entry 1 confirmed 8\\nentry 4 refused\\n"
-    for said, status, wanted in [
-        (settled, 0, 0),
-        ("nothing open\\n", 0, 0),
-        (settled + "entry 5 open\\n", 0, 75),
-        ("entry 1 open\\n", 3, 75),
-        ("", 1, 1),
+    """Rounds that settle what is open, that leave entries open, that find no intake, and whose database is none."""
+    write_program(
+        folder / "outbox",
+        """#!/bin/sh
+echo "$*" >> asked
+[ "$1" = send ] && { printf "$SAID"; exit "$STATUS"; }
+printf "$LEFT"
+exit "$LEFT_STATUS"
+""",
+    )
+    settled, left = "entry 1 confirmed 8\\nentry 4 refused\\n", "outbox-round: entries that are open still: "
+    look = "outbox-round: look at this one: entry 4 refused\n"
+    for said, status, stays, left_status, wanted, errors in [
+        (settled, 0, settled, 0, 0, look),
+        ("nothing open\\n", 0, settled, 0, 0, ""),
+        (settled + "entry 5 open\\n", 0, settled + "entry 5 open\\n", 0, 75, f"{look}{left}1\n"),
+        ("entry 1 open\\n", 3, "entry 1 open\\nentry 2 open\\n", 0, 75, f"{left}2\n"),
+        ("", 124, "entry 1 open\\n", 0, 75, f"{left}1\n"),
+        ("", 3, "", 3, 3, ""),
+        ("", 3, settled, 0, 3, ""),
+        ("", 1, "", 1, 1, ""),
     ]:
-        paths = {**os.environ, "PATH": f"{folder}:{os.environ['PATH']}", "SAID": said, "STATUS": str(status)}
-        done = run(DEPLOY / "outbox-round", "outbox.db", "1", cwd=folder, env=paths)
-        hold(f"outbox-round where outbox says {said!r} and ends with {status}", (done.returncode, done.stdout), (wanted, said.replace("\\n", "\n")))
-        hold("and what it asks", (folder / "asked").read_text(), "send --db outbox.db --port 1 --all\n")
-        look = "outbox-round: look at this one: entry 4 refused\n" if "refused" in said else ""
-        hold("and what it points to", done.stderr, look)
+        paths = {**os.environ, "PATH": f"{folder}:{os.environ['PATH']}", "SAID": said, "STATUS": str(status), "LEFT": stays}
+        (folder / "asked").unlink(missing_ok=True)
+        done = run(DEPLOY / "outbox-round", "outbox.db", "1", cwd=folder, env={**paths, "LEFT_STATUS": str(left_status)})
+        found = (done.returncode, done.stdout, done.stderr)
+        hold(f"outbox-round, if send says {said!r} and ends with {status}", found, (wanted, said.replace("\\n", "\n"), errors))
+        asked = "send --db outbox.db --port 1 --all\n" + ("" if status == 1 else "status --db outbox.db\n")
+        hold("and what it asks", (folder / "asked").read_text(), asked)
 
 
 def try_snapshot(folder):

@@ -362,6 +362,41 @@ def check_new(folder):
     hold("and is sound", ask_register(database), (0, b"sound: 0 kept, 0 filings\n"))
 
 
+# ---- rounds
+
+HTML = b"<html><body>no</body></html>"
+# What answers a round, the reply to each request (none: it listens no more), and the status of the round.
+ROUNDS = [
+    ("a front that refuses the certificate", reply(403, "Forbidden", b'{"reason":"no-certificate","status":403}'), 75),
+    ("a front without this path", reply(404, "Not Found", HTML, "text/html"), 75),
+    ("a front that is rate-limited", reply(429, "Too Many Requests", HTML, "text/html"), 75),
+    ("a front without an intake", reply(502, "Bad Gateway", HTML, "text/html"), 75),
+    ("nobody", None, 75),
+]
+
+
+def check_rounds(folder):
+    """Rounds after which entries are open end with 75 and say how many; one that settles all ends with 0."""
+    database = folder / "outbox.db"
+    make_outbox(database)
+    for what, answer, wanted in ROUNDS:
+        with Listening(answer) if answer else contextlib.nullcontext() as other:
+            status, _, errors = script("outbox-round", database, other.port if answer else free_port())
+        last = errors.splitlines()[-1:]
+        hold(f"a round to {what}", (status, last), (wanted, ["outbox-round: entries that are open still: 2"]))
+    serving = Serving(folder / "register.db", 2, "--new")
+    status, said, errors = script("outbox-round", database, serving.port)
+    serving.end()
+    hold("a round that settles all", (status, said, errors), (0, "entry 1 confirmed 1\nentry 2 confirmed 2\n", ""))
+    hold("a round with nothing open", script("outbox-round", database, free_port()), (0, "nothing open\n", ""))
+    if missing("flock"):
+        return
+    with open(f"{database}.lock", "w", encoding="utf-8") as lock:
+        fcntl.flock(lock, fcntl.LOCK_EX)
+        busy = script("outbox-round", database, free_port())
+    hold("a round while another is running", busy, (75, "", "outbox-round: another round is running\n"))
+
+
 # ---- filings that a restore loses
 
 
@@ -446,6 +481,7 @@ TRIALS = [
     check_served,
     check_rush,
     check_new,
+    check_rounds,
     check_lost,
     check_front,
 ]
