@@ -472,6 +472,36 @@ def check_front(folder):
     hold("lost-filings of the copy", (status, said.partition(" ")[2], errors), (1, 'ACME "k-2"\n', ""))
 
 
+# ---- a full disk
+
+# What is asked of a register whose disk is full, and the statuses of the replies.
+FULL = [
+    ("a new report", request("k-5", LARGE), [503]),
+    ("the list", listing("ACME"), [200]),
+    ("a repeat", request("k-1", REPORT), [201]),
+    ("the repeat of a refused report", request("k-3", b"{}"), [422]),
+    ("another new report", request("k-6", REPORT), [503]),
+]
+
+
+def check_full_disk(folder):
+    with SmallDisk(folder / "disk", 4 << 20) as disk:
+        if not disk.is_mounted:
+            print("not tried: a full disk, since no file system may be mounted")
+            return
+        database = disk.folder / "register.db"
+        serving = Serving(database, len(REQUESTS) + len(FULL) + 1, "--new")
+        for it in REQUESTS:
+            exchange(serving.port, it)
+        filler = disk.fill(8 << 10)
+        for what, given, wanted in FULL:
+            hold(f"{what}, on a full disk", statuses(exchange(serving.port, given)), wanted)
+        filler.unlink()
+        hold("a new report, once there is room", statuses(exchange(serving.port, request("k-5", LARGE))), [201])
+        hold("serve ends", serving.end()[0], 0)
+        hold("what was answered is kept", ask_register(database), (0, b"sound: 5 kept, 4 filings\n"))
+
+
 TRIALS = [
     check_register_copies,
     check_outbox_copies,
@@ -484,6 +514,7 @@ TRIALS = [
     check_rounds,
     check_lost,
     check_front,
+    check_full_disk,
 ]
 
 
