@@ -1,0 +1,108 @@
+//! How long a connection may take: its reads and writes wait no longer than its time allows.
+
+use std::io::{self, ErrorKind, Read, Write};
+use std::net::TcpStream;
+use std::time::{Clock, Duration, Instant};
+
+/// A stream whose reads and writes can be kept from waiting for ever.
+pub trait Waits {
+    /// Lets each read and each write from here on wait for this long at most.
+    fn limit_waits(&self, most: Duration) -> io::Result<()>;
+}
+
+impl Waits for &TcpStream {
+    fn limit_waits(&self, most: Duration) -> io::Result<()> {
+        self.set_read_timeout(Some(most))?;
+        self.set_write_timeout(Some(most))
+    }
+}
+
+/// A time that ends, from its start on.
+#[derive(Clone, Copy)]
+struct Span {
+    start: Instant,
+    len: Duration,
+}
+
+/// The time that a connection may take, by this clock.
+#[derive(Drop)]
+pub struct Deadline<'a, C> {
+    clock: &'a C,
+    /// None if it may take any time. The clock is not looked at then.
+    span: Option<Span>,
+}
+
+impl<'a, C: Clock> Deadline<'a, C> {
+    /// So much time from now on, or any time if no patience is given.
+    pub fn after(clock: &'a C, patience: Option<Duration>) -> io::Result<Deadline<'a, C>> {
+        let span = match patience {
+            Some(len) => Some(Span {
+                start: Instant::now(clock)?,
+                len,
+            }),
+            None => None,
+        };
+        Ok(Deadline { clock, span })
+    }
+
+    /// Whether the time is over. A clock that fails ends it too.
+    pub fn is_over(&self) -> bool {
+        self.left().is_err()
+    }
+
+    /// The time that is left; none if there is no limit. It fails once the time is over, and if the clock does.
+    fn left(&self) -> io::Result<Option<Duration>> {
+        let Some(span) = self.span else {
+            return Ok(None);
+        };
+        let left = span.len.saturating_sub(span.start.elapsed(self.clock)?);
+        if left.is_zero() {
+            return Err(ErrorKind::TimedOut.into());
+        }
+        Ok(Some(left))
+    }
+
+    /// Lets the next read or write of this stream wait for the time that is left.
+    fn begin_wait<S: Waits>(&self, stream: &S) -> io::Result<()> {
+        match self.left()? {
+            Some(left) => stream.limit_waits(left),
+            None => Ok(()),
+        }
+    }
+}
+
+/// A stream that fails once the time of its connection is over.
+#[derive(Drop)]
+pub struct Patient<'a, S, C> {
+    stream: S,
+    deadline: &'a Deadline<'a, C>,
+}
+
+impl<'a, S: Waits, C: Clock> Patient<'a, S, C> {
+    /// The stream, for as long as this time lasts.
+    pub fn new(stream: S, deadline: &'a Deadline<'a, C>) -> Patient<'a, S, C> {
+        Patient { stream, deadline }
+    }
+}
+
+impl<S: Read + Waits, C: Clock> Read for Patient<'_, S, C> {
+    ghost remaining = { λ patient. S.remaining patient.stream };
+
+    fn read(&mut self, buf: &mut [u8]) -> io::Result<usize> {
+        self.deadline.begin_wait(&self.stream)?;
+        self.stream.read(buf)
+    }
+}
+
+impl<S: Write + Waits, C: Clock> Write for Patient<'_, S, C> {
+    ghost contents = { λ patient. S.contents patient.stream };
+
+    fn write(&mut self, buf: &[u8]) -> io::Result<usize> {
+        self.deadline.begin_wait(&self.stream)?;
+        self.stream.write(buf)
+    }
+
+    fn flush(&mut self) -> io::Result<()> {
+        self.stream.flush()
+    }
+}
