@@ -85,6 +85,8 @@ pub enum Fault<'a> {
     Connection(ConnFault),
     #[error("connection {connection}: {fault}")]
     Served { connection: u32, fault: ConnFault },
+    #[error("connection {connection}: cut off after {seconds} seconds")]
+    Late { connection: u32, seconds: u32 },
     #[error("127.0.0.1:{port}: {error}")]
     Network { port: u16, error: io::Error },
 }
@@ -108,6 +110,7 @@ impl Fault<'_> {
             Fault::InMemory(_)
             | Fault::Connection(_)
             | Fault::Served { .. }
+            | Fault::Late { .. }
             | Fault::Network { .. } => 3,
         }
     }

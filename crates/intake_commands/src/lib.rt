@@ -9,8 +9,10 @@ mod finding;
 mod limit;
 mod log;
 mod note;
+mod pause;
 mod progress;
 mod register;
+mod room;
 mod serving;
 mod tasks;
 

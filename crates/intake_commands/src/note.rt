@@ -16,6 +16,14 @@ pub enum Note {
     },
     /// The database refused a call.
     Down,
+    /// It failed again, and is left alone for so long.
+    Paused {
+        seconds: u64,
+    },
+    /// The register keeps as many keys as it may, and a new one was turned away.
+    Full {
+        limit: u64,
+    },
     /// It was opened again.
     OpenAgain,
     /// So many connections were served, which are all.
@@ -37,7 +45,15 @@ impl fmt::Display for Note {
                 "serving 127.0.0.1:{port}: {kept} kept, {filings} filings, opened in {milliseconds} ms"
             ),
             Note::Down => f.write_str(
-                "the database failed: what was answered is kept, it is opened again before the next connection, and until that is done a request gets 503",
+                "the database failed, as on a full disk: what was answered is kept; it is opened again before the next connection, and until it is open a request gets 503",
+            ),
+            Note::Paused { seconds } => write!(
+                f,
+                "the database failed again: it is opened in {seconds} s at the earliest, and until then a request gets 503 at once"
+            ),
+            Note::Full { limit } => write!(
+                f,
+                "the register is full: --limit is {limit}, and a report with another key gets 503"
             ),
             Note::OpenAgain => f.write_str("the database is open again"),
             Note::Served { connections } => write!(f, "ended after {connections} connections"),

@@ -7,10 +7,12 @@ use crate::fault::{Fault, VisitFault};
 use crate::limit::Limit;
 use crate::log::{ConnectionLine, Noted, Statuses};
 use crate::note::Note;
+use crate::pause::Pause;
 use crate::register::{create, left_by, open, refused, tell_close};
-use command_files::{Cache, FileSystem, Left, Opening, Work, on_database};
+use crate::room::Room;
+use command_files::{Cache, Deadline, FileSystem, Left, Opening, Patient, Work, on_database};
 use command_line::show;
-use gateway_server::{Ended, Served};
+use gateway_server::{Ended, Mark, Served};
 use http_wire::{Device, Sink, Source};
 use intake_core::Intake;
 use intake_options::Serving;
@@ -20,7 +22,7 @@ use sqlite_disk::Disk;
 use std::alloc::{AllocError, Global};
 use std::io::{self, Write};
 use std::net::{TcpListener, TcpStream};
-use std::time::Instant;
+use std::time::{Duration, Instant};
 
 /// What answers the requests of a connection.
 trait Answers {
@@ -95,19 +97,20 @@ impl<'a> Port<'a> {
         }
     }
 
-    /// Serves a connection, and prints its line.
+    /// Serves a connection for as long as its time lasts, and prints its line.
     fn serve_logged<A: Answers, O: Write>(
         &self,
         alloc: Global,
         answers: &mut A,
         stream: &TcpStream,
+        deadline: &Deadline<'_, HostRuntime>,
         output: &mut O,
-    ) -> Result<Ended, Fault<'a>> {
-        let mut reader = Noted::new(alloc, Device::new(stream));
-        let mut writer = Statuses::new(alloc, Device::new(stream));
+    ) -> Result<Served, Fault<'a>> {
+        let mut reader = Noted::new(alloc, Device::new(Patient::new(stream, deadline)));
+        let mut writer = Statuses::new(alloc, Device::new(Patient::new(stream, deadline)));
         let served = answers.serve(alloc, &mut reader, &mut writer)?;
         self.log(alloc, &served, reader.bytes(), writer.statuses(), output)?;
-        Ok(served.ended)
+        Ok(served)
     }
 
     /// Prints the line of the connection that was taken last, of which these bytes and statuses were noted.
@@ -129,56 +132,97 @@ impl<'a> Port<'a> {
         show_line(alloc, &line, output)
     }
 
-    /// Serves a connection, and says how it ended.
+    /// The time that the connection which is served now may take.
+    fn deadline<'r>(&self, rt: &'r HostRuntime) -> Result<Deadline<'r, HostRuntime>, Fault<'a>> {
+        let patience = self.serving.patience;
+        match Deadline::after(
+            rt,
+            patience.map(|seconds| Duration::from_secs(u64::from(seconds))),
+        ) {
+            Ok(deadline) => Ok(deadline),
+            Err(error) => Err(Fault::Network {
+                port: self.serving.port,
+                error,
+            }),
+        }
+    }
+
+    /// Serves the connection that was taken last, for as long as its time lasts.
     fn serve_stream<A: Answers, O: Write>(
         &self,
-        alloc: Global,
+        rt: &HostRuntime,
         answers: &mut A,
         stream: &TcpStream,
         output: &mut O,
-    ) -> Result<Ended, Fault<'a>> {
+    ) -> Result<Went<'a>, Fault<'a>> {
         // Replies are written whole, and without this each may wait for the peer to tell of the one before.
         let _ = stream.set_nodelay(true);
-        if self.serving.log {
-            self.serve_logged(alloc, answers, stream, output)
+        let deadline = self.deadline(rt)?;
+        let served = if self.serving.log {
+            self.serve_logged(rt.alloc(), answers, stream, &deadline, output)?
         } else {
-            serve_plain(alloc, answers, stream)
+            serve_plain(rt.alloc(), answers, stream, &deadline)?
+        };
+        let Served { marks, ended } = served;
+        let fault = self.fault_of(ended, &deadline);
+        Ok(Went { marks, fault })
+    }
+
+    /// The fault in which the connection that was taken last ended, if it did.
+    fn fault_of(&self, ended: Ended, deadline: &Deadline<'_, HostRuntime>) -> Option<Fault<'a>> {
+        let connection = self.taken;
+        match (ended, self.serving.patience) {
+            (Ended::Fault(_), Some(seconds)) if deadline.is_over() => Some(Fault::Late {
+                connection,
+                seconds,
+            }),
+            (Ended::Fault(fault), _) => Some(Fault::Served { connection, fault }),
+            _ => None,
         }
     }
 
-    /// Serves the connection that was taken last. A fault in which it ends is told.
+    /// Serves the connection that was taken last, reports a fault in which it ends, and gives the marks of its requests.
     fn serve<A: Answers, O: Write, E: Write>(
         &self,
-        alloc: Global,
+        rt: &HostRuntime,
         answers: &mut A,
         stream: &TcpStream,
         output: &mut O,
         errors: &mut E,
-    ) {
-        let connection = self.taken;
-        match self.serve_stream(alloc, answers, stream, output) {
-            Ok(Ended::Fault(fault)) => {
-                Fault::Served { connection, fault }.tell(errors);
+    ) -> Vec<Mark> {
+        match self.serve_stream(rt, answers, stream, output) {
+            Ok(Went { marks, fault }) => {
+                if let Some(fault) = fault {
+                    fault.tell(errors);
+                }
+                marks
             }
-            Ok(_) => {}
             Err(fault) => {
                 fault.tell(errors);
+                Vec::new(rt.alloc())
             }
         }
     }
 
-    /// Serves the connection that was taken last by this register. That its database refused a call is told.
+    /// Serves the connection that was taken last by this register, and reports that its database refused a call or that
+    /// it is full.
     fn serve_by<S: Alter, O: Write, E: Write>(
         &self,
-        alloc: Global,
+        rt: &HostRuntime,
         intake: &mut Intake<S>,
+        room: &mut Room,
         stream: &TcpStream,
         output: &mut O,
         errors: &mut E,
     ) {
-        self.serve(alloc, intake, stream, output, errors);
+        let marks = self.serve(rt, intake, stream, output, errors);
         if intake.is_down() {
             Note::Down.tell(errors);
+        } else if room.is_used_up_by(marks.as_slice()) {
+            Note::Full {
+                limit: room.limit(),
+            }
+            .tell(errors);
         }
     }
 
@@ -186,8 +230,9 @@ impl<'a> Port<'a> {
     /// One that ends in a fault, or that its peer gave up before, counts as served.
     fn serve_left<S: Alter, O: Write, E: Write>(
         &mut self,
-        alloc: Global,
+        rt: &HostRuntime,
         intake: &mut Intake<S>,
+        room: &mut Room,
         output: &mut O,
         errors: &mut E,
     ) -> Result<(), Fault<'a>> {
@@ -197,14 +242,14 @@ impl<'a> Port<'a> {
             }
             self.taken = taken + 1;
             if let Some(stream) = self.accept()? {
-                self.serve_by(alloc, intake, &stream, output, errors);
+                self.serve_by(rt, intake, room, &stream, output, errors);
             }
         }
         Ok(())
     }
 
-    /// Serves the connections that are left while there is no register. For each the register is opened again, and then
-    /// serves more.
+    /// Serves the connections that are left while there is no register. It is opened again for the first of them, and
+    /// then serves more. After each failure more it is left alone for a while, in which connections are turned away.
     fn serve_down<D: Disk + Drop, F: FileSystem<D>, O: Write, E: Write>(
         &mut self,
         rt: &HostRuntime,
@@ -212,28 +257,45 @@ impl<'a> Port<'a> {
         output: &mut O,
         errors: &mut E,
     ) -> Result<(), Fault<'a>> {
+        let mut pause = Pause::none();
         for _ in self.taken..self.serving.connections {
             if self.taken >= self.serving.connections {
                 return Ok(());
             }
             self.taken += 1;
             if let Some(stream) = self.accept()? {
-                self.serve_again(rt, system, stream, output, errors)?;
+                if pause.is_over(rt) {
+                    pause = self.serve_again(rt, system, stream, pause, output, errors)?;
+                } else {
+                    self.turn_away(rt, &stream, output, errors);
+                }
             }
         }
         Ok(())
     }
 
-    /// Opens the register again, which serves this connection and those that are left. Where it is not opened the
-    /// connection is turned away.
+    /// Answers the connection that was taken last that there is no register.
+    fn turn_away<O: Write, E: Write>(
+        &self,
+        rt: &HostRuntime,
+        stream: &TcpStream,
+        output: &mut O,
+        errors: &mut E,
+    ) {
+        drop(self.serve(rt, &mut NoRegister, stream, output, errors));
+    }
+
+    /// Opens the register again, which serves this connection and those that are left. If it is not opened the
+    /// connection is turned away. Gives the pause before it is opened once more.
     fn serve_again<D: Disk + Drop, F: FileSystem<D>, O: Write, E: Write>(
         &mut self,
         rt: &HostRuntime,
         system: &F,
         stream: TcpStream,
+        pause: Pause,
         output: &mut O,
         errors: &mut E,
-    ) -> Result<(), Fault<'a>> {
+    ) -> Result<Pause, Fault<'a>> {
         let name = self.serving.database;
         let mut waiting = Some(stream);
         let work = Resumed {
@@ -242,20 +304,40 @@ impl<'a> Port<'a> {
             output: &mut *output,
             errors: &mut *errors,
         };
-        let served = match on_database(rt, system, name, Opening::Found(Cache::Largest), work) {
+        let has_kept = match on_database(rt, system, name, Opening::Found(Cache::Largest), work) {
             Ok(visited) => {
                 tell_close(visited.closed, name, errors);
-                visited.answer
+                visited.answer?
             }
-            Err(_) => Ok(()),
+            Err(_) => false,
         };
         if let Some(stream) = waiting {
-            self.serve(rt.alloc(), &mut NoRegister, &stream, output, errors);
+            self.turn_away(rt, &stream, output, errors);
         }
-        served
+        Ok(self.paused(rt, has_kept, pause, errors))
     }
 
-    /// The port, where connections are left.
+    /// The pause after a failure, which is reported if connections are left. A register that kept a request since it was
+    /// opened failed for the first time.
+    fn paused<E: Write>(
+        &self,
+        rt: &HostRuntime,
+        has_kept: bool,
+        pause: Pause,
+        errors: &mut E,
+    ) -> Pause {
+        if has_kept {
+            return Pause::none();
+        }
+        let longer = pause.longer(rt);
+        if self.taken < self.serving.connections {
+            let seconds = longer.seconds();
+            Note::Paused { seconds }.tell(errors);
+        }
+        longer
+    }
+
+    /// The port, if connections are left.
     fn if_left(self) -> Option<Port<'a>> {
         if self.taken < self.serving.connections {
             Some(self)
@@ -265,15 +347,25 @@ impl<'a> Port<'a> {
     }
 }
 
-/// Serves a connection, of which nothing is printed, and says how it ended.
+/// What came of a connection.
+#[derive(Drop)]
+struct Went<'a> {
+    /// The marks of its requests.
+    marks: Vec<Mark>,
+    /// The fault in which it ended, if it did.
+    fault: Option<Fault<'a>>,
+}
+
+/// Serves a connection for as long as its time lasts. Nothing is printed of it.
 fn serve_plain<'a, A: Answers>(
     alloc: Global,
     answers: &mut A,
     stream: &TcpStream,
-) -> Result<Ended, Fault<'a>> {
-    let mut reader = Device::new(stream);
-    let mut writer = Device::new(stream);
-    Ok(answers.serve(alloc, &mut reader, &mut writer)?.ended)
+    deadline: &Deadline<'_, HostRuntime>,
+) -> Result<Served, Fault<'a>> {
+    let mut reader = Device::new(Patient::new(stream, deadline));
+    let mut writer = Device::new(Patient::new(stream, deadline));
+    Ok(answers.serve(alloc, &mut reader, &mut writer)?)
 }
 
 /// Prints the line of a connection.
@@ -286,7 +378,7 @@ fn show_line<'a, O: Write>(
     Ok(show(output, text.as_bytes())?)
 }
 
-/// How long it took since then, in milliseconds; 0 where the system has no clock.
+/// How long it took since then, in milliseconds; 0 if the system has no clock.
 fn milliseconds_since(rt: &HostRuntime, start: io::Result<Instant>) -> u128 {
     match start {
         Ok(start) => match start.elapsed(rt) {
@@ -297,14 +389,16 @@ fn milliseconds_since(rt: &HostRuntime, start: io::Result<Instant>) -> u128 {
     }
 }
 
-/// What is left of the database of an intake.
-fn left_of<S: Alter>(intake: Intake<S>) -> Left<S> {
+/// What is left of the database of an intake, and how many requests it keeps.
+fn left_of<S: Alter>(intake: Intake<S>) -> (Left<S>, u64) {
     let is_down = intake.is_down();
-    let conn = intake.into_store().into_conn();
+    let register = intake.into_store();
+    let count = kept(&register);
+    let conn = register.into_conn();
     if is_down {
-        Left::Failed(conn)
+        (Left::Failed(conn), count)
     } else {
-        Left::Open(conn)
+        (Left::Open(conn), count)
     }
 }
 
@@ -339,9 +433,20 @@ impl<'a, O: Write, E: Write> Work for Begun<'a, '_, O, E> {
             Err(fault) => return refused(serving.database, fault),
         };
         let ready = ready(rt, serving.port, &register, start);
+        let mut room = Room::new(limit.keys, kept(&register));
         let mut intake = Intake::new(rt.alloc(), register, limit.keys);
-        let served = serve_port(rt, serving, limit, &mut intake, ready, output, errors);
-        (left_of(intake), served)
+        let served = serve_port(
+            rt,
+            serving,
+            limit,
+            &mut intake,
+            &mut room,
+            ready,
+            output,
+            errors,
+        );
+        let (left, _) = left_of(intake);
+        (left, served)
     }
 }
 
@@ -361,7 +466,12 @@ fn register_of<S: Alter + Drop>(
     }
 }
 
-/// What is told once connections of the port are taken.
+/// How many requests the register keeps.
+fn kept<S: Alter>(register: &Store<S>) -> u64 {
+    calls::counts(register).unwrap_or((0, 0)).0
+}
+
+/// What is reported once connections of the port are taken.
 fn ready<S: Alter>(
     rt: &HostRuntime,
     port: u16,
@@ -383,13 +493,14 @@ fn serve_port<'a, S: Alter, O: Write, E: Write>(
     serving: Serving<'a>,
     limit: Limit,
     intake: &mut Intake<S>,
+    room: &mut Room,
     ready: Note,
     output: &mut O,
     errors: &mut E,
 ) -> Result<Option<Port<'a>>, Fault<'a>> {
     let mut port = Port::listen(rt, serving, limit)?;
     ready.tell(errors);
-    port.serve_left(rt.alloc(), intake, output, errors)?;
+    port.serve_left(rt, intake, room, output, errors)?;
     Ok(port.if_left())
 }
 
@@ -404,13 +515,14 @@ struct Resumed<'a, 'o, O, E> {
 }
 
 impl<'a, O: Write, E: Write> Work for Resumed<'a, '_, O, E> {
-    type Answer = Result<(), Fault<'a>>;
+    /// Whether the register kept a request since it was opened.
+    type Answer = Result<bool, Fault<'a>>;
 
     fn on<S: Alter + Drop>(
         self,
         rt: &HostRuntime,
         conn: Connection<S>,
-    ) -> (Left<S>, Result<(), Fault<'a>>) {
+    ) -> (Left<S>, Result<bool, Fault<'a>>) {
         let Resumed {
             port,
             waiting,
@@ -419,15 +531,18 @@ impl<'a, O: Write, E: Write> Work for Resumed<'a, '_, O, E> {
         } = self;
         let register = match open(rt.alloc(), conn) {
             Ok(register) => register,
-            Err(fault) => return (left_by(fault), Ok(())),
+            Err(fault) => return (left_by(fault), Ok(false)),
         };
         Note::OpenAgain.tell(errors);
+        let before = kept(&register);
+        let mut room = Room::new(port.limit.keys, before);
         let mut intake = Intake::new(rt.alloc(), register, port.limit.keys);
         if let Some(stream) = waiting.take() {
-            port.serve_by(rt.alloc(), &mut intake, &stream, output, errors);
+            port.serve_by(rt, &mut intake, &mut room, &stream, output, errors);
         }
-        let served = port.serve_left(rt.alloc(), &mut intake, output, errors);
-        (left_of(intake), served)
+        let served = port.serve_left(rt, &mut intake, &mut room, output, errors);
+        let (left, after) = left_of(intake);
+        (left, served.map(|_| after > before))
     }
 }
 

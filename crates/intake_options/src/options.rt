@@ -7,10 +7,13 @@ use command_line::{
 };
 use std::alloc::{AllocError, Global};
 
-/// How many keys are kept at most, where the command line does not say.
+/// How many keys are kept at most, if the command line does not say.
 pub const DEFAULT_LIMIT: u64 = 1_000_000;
 
 const MOST_CONNECTIONS: i64 = (1 << 32) - 1;
+
+/// The seconds of a day.
+const MOST_PATIENCE: i64 = 86_400;
 
 /// What is served, and how.
 #[derive(Clone, Copy)]
@@ -21,6 +24,8 @@ pub struct Serving<'a> {
     pub connections: u32,
     /// How many keys are kept at most.
     pub limit: u64,
+    /// How many seconds each connection may take. Any time if none is given.
+    pub patience: Option<u32>,
     /// The register is made, and not opened.
     pub new: bool,
     /// A line for each connection is printed.
@@ -47,7 +52,7 @@ pub enum Task<'a> {
     Run {
         limit: u64,
     },
-    /// Serve so many connections of a port on the register of a file, which is made where it is new.
+    /// Serve so many connections of a port on the register of a file, which is made if it is new.
     Serve(Serving<'a>),
     /// Do this with the register of a file.
     Visit {
@@ -61,7 +66,7 @@ pub enum Task<'a> {
     },
 }
 
-/// A flag, which is set where its name is given.
+/// A flag, which is set if its name is given.
 fn flag<'a>(alloc: Global, name: &'a str, help: &'a str) -> Arg<'a> {
     Arg::new(alloc, name)
         .long(name)
@@ -101,6 +106,17 @@ fn connections<'a>(alloc: Global) -> Arg<'a> {
     )
 }
 
+fn patience<'a>(alloc: Global) -> Arg<'a> {
+    number_option(
+        alloc,
+        "patience",
+        "SECONDS",
+        "How long each connection may take, 1 to 86400 seconds; without it, as long as the peer takes",
+        value_parser!(u32).range(1..=MOST_PATIENCE),
+    )
+    .required(false)
+}
+
 fn number<'a>(alloc: Global) -> Arg<'a> {
     number_option(
         alloc,
@@ -125,6 +141,7 @@ enum Argument {
     Port,
     Connections,
     Limit,
+    Patience,
     New,
     Log,
     Filer,
@@ -139,10 +156,11 @@ impl ToArg for Argument {
             Argument::Port => port_option(alloc, "The port of 127.0.0.1 to listen on, 1 to 65535"),
             Argument::Connections => connections(alloc),
             Argument::Limit => limit(alloc),
+            Argument::Patience => patience(alloc),
             Argument::New => flag(
                 alloc,
                 "new",
-                "Makes the register; the file is made where it is missing",
+                "Makes the register; creates the file if there is none",
             ),
             Argument::Log => flag(
                 alloc,
@@ -166,13 +184,14 @@ static WORDS: [Word<Argument>; 7] = [
     },
     Word {
         name: "serve",
-        about: "Serves connections of a port on the register of a file, and ends",
-        example: "Example: intake serve --db register.db --port 8080 --connections 4294967295 --new",
+        about: "Serves a register on a port of 127.0.0.1, and ends after so many connections",
+        example: "Examples: intake serve --db register.db --port 8080 --connections 4294967295 --new\n          intake serve --db register.db --port 8080 --connections 4294967295 --patience 60",
         arguments: &[
             Argument::Database,
             Argument::Port,
             Argument::Connections,
             Argument::Limit,
+            Argument::Patience,
             Argument::New,
             Argument::Log,
         ],
@@ -191,19 +210,19 @@ static WORDS: [Word<Argument>; 7] = [
     },
     Word {
         name: "check",
-        about: "Holds each row of the register to the bodies that are kept, and says what it found",
+        about: "Checks every row against the stored reports, and says what it found",
         example: "Example: intake check --db register.db",
         arguments: &[Argument::Database],
     },
     Word {
         name: "migrate",
-        about: "Makes a register of an earlier version one of this version; what was answered stays as it was",
+        about: "Upgrades a register of an earlier version; what was answered stays as it was",
         example: "Example: intake migrate --db register.db",
         arguments: &[Argument::Database],
     },
     Word {
         name: "lint",
-        about: "Prints the findings of reports, a line each, as the register would judge them: 0 where there is none, and else 1",
+        about: "Checks reports as the register would, and prints a line for each finding; status 1 if there are findings",
         example: "Example: intake lint --filer ACME report.json",
         arguments: &[Argument::Filer, Argument::Files],
     },
@@ -253,6 +272,7 @@ fn serving_of<'a>(values: &ArgMatches<'a>) -> Option<Serving<'a>> {
         port: values.get_one("port")?,
         connections: values.get_one("connections")?,
         limit: limit_of(values),
+        patience: values.get_one("patience"),
         new: values.get_flag("new"),
         log: values.get_flag("log"),
     })
