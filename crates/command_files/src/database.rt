@@ -7,7 +7,9 @@
 ghost use Rattle.std.specs.Prelude.{◌≡◌, ◌≢◌, None, false, Err, IfOk, IfErr, IsTrue};
 ghost use Rattle.command_files.specs.Faults.{database_fault};
 
-use command_line::{CommandFault, DatabaseFault};
+use crate::head::{no_database, wrong_pages};
+use command_line::{CommandFault, DatabaseFault, read_up_to};
+use http_wire::Device;
 use sqlite::{Alter, Connection, Error, ErrorCode, File, FileStore, Files, Options, Unknown};
 use sqlite_disk::Disk;
 use sqlite_std_file::OpenError;
@@ -28,7 +30,7 @@ const MOST_PAGES_ONCE: u64 = 2_048;
 const SPARE_PAGES: u64 = 1_024;
 
 /// The bytes of a page of a new file.
-const PAGE_LEN: u64 = 4_096;
+const PAGE_LEN: usize = 4_096;
 
 /// A shorter log has nothing in it: its head takes 32 bytes, and a frame 24 and a page, which has 512 at least
 /// (SQLite's file format, section 4.1).
@@ -61,7 +63,7 @@ pub enum Left<S: Alter> {
     Failed(Connection<S>),
     /// Nothing: the connection was given up.
     GivenUp,
-    /// Nothing, and the file is none of ours: nothing is to lie beside it that was not there.
+    /// Nothing, and nothing of ours is to lie beside the file that was not there.
     NotOurs,
 }
 
@@ -90,7 +92,14 @@ pub trait FileSystem<D: Disk + Drop> {
     /// Whether there is no file of this name.
     fn is_missing(&self, rt: &HostRuntime, name: &str) -> bool;
 
-    /// How many bytes the file of this name has, and 0 where that cannot be told.
+    /// Whether the file of this name is there and has no bytes, and no database is in the log beside it.
+    fn is_empty(&self, rt: &HostRuntime, name: &str) -> bool;
+
+    /// The first bytes of the file of this name, up to the page of a new file; none if they cannot be read. To be called
+    /// while the files are not held.
+    fn first_page(&self, rt: &HostRuntime, name: &str) -> Vec<u8>;
+
+    /// How many bytes the file of this name has, and 0 if that is not known.
     fn len(&self, rt: &HostRuntime, name: &str) -> u64;
 
     /// Whether a log lies beside the file of this name.
@@ -113,6 +122,23 @@ pub struct SystemFiles;
 impl FileSystem<File> for SystemFiles {
     fn is_missing(&self, rt: &HostRuntime, name: &str) -> bool {
         matches!(fs::exists(rt, name), Ok(false))
+    }
+
+    fn is_empty(&self, rt: &HostRuntime, name: &str) -> bool {
+        match fs::metadata(rt, name) {
+            Ok(found) => found.is_file() && found.len() == 0 && is_log_empty(rt, name),
+            Err(_) => false,
+        }
+    }
+
+    fn first_page(&self, rt: &HostRuntime, name: &str) -> Vec<u8> {
+        let Ok(file) = fs::File::open(rt, name) else {
+            return Vec::new(rt.alloc());
+        };
+        match read_up_to(rt.alloc(), &mut Device::new(file), PAGE_LEN) {
+            Ok(page) => page,
+            Err(_) => Vec::new(rt.alloc()),
+        }
     }
 
     fn len(&self, rt: &HostRuntime, name: &str) -> u64 {
@@ -150,6 +176,17 @@ fn log_name(rt: &HostRuntime, name: &str) -> Result<String, AllocError> {
     let mut log = String::from_str(rt.alloc(), name)?;
     log.push_str("-wal")?;
     Ok(log)
+}
+
+/// Whether no log lies beside the file of this name, or one with nothing in it.
+fn is_log_empty(rt: &HostRuntime, name: &str) -> bool {
+    let Ok(log) = log_name(rt, name) else {
+        return false;
+    };
+    match fs::metadata(rt, log.as_str()) {
+        Ok(found) => found.len() < LEAST_LOG,
+        Err(error) => error.kind() == ErrorKind::NotFound,
+    }
 }
 
 fn remove_if_empty(rt: &HostRuntime, name: &str) -> io::Result<()> {
@@ -239,7 +276,7 @@ fn open<D: Disk + Drop, F: FileSystem<D>>(
     }
 }
 
-/// Opens the database of the file with this name. A file that is not there is not made.
+/// Opens the database of the file with this name. A file that is not there is not made, and one without bytes stays so.
 fn find_database<D: Disk + Drop, F: FileSystem<D>>(
     rt: &HostRuntime,
     system: &F,
@@ -251,6 +288,9 @@ fn find_database<D: Disk + Drop, F: FileSystem<D>>(
 {
     if system.is_missing(rt, name) {
         return Err(DatabaseFault::Missing);
+    }
+    if system.is_empty(rt, name) {
+        return Err(DatabaseFault::Empty);
     }
     make_database(rt, system, name, cache)
 }
@@ -266,6 +306,9 @@ fn make_database<D: Disk + Drop, F: FileSystem<D>>(
     ensures unlimited { IfOk result (λ conn. conn.step_limit ≡ None) }
     ensures any_name { result ≢ Err DatabaseFault.Missing }
 {
+    if name.is_empty() {
+        return Err(DatabaseFault::NoName);
+    }
     let options = options(rt, pages(cache, system.len(rt, name)))?;
     let had_log = system.has_log(rt, name);
     let files = system.files(rt, name)?;
@@ -273,7 +316,12 @@ fn make_database<D: Disk + Drop, F: FileSystem<D>>(
         Ok(conn) => Ok(conn),
         Err(fault) => {
             remove_new_log(rt, system, name, had_log);
-            Err(fault)
+            let page = system.first_page(rt, name);
+            match fault {
+                DatabaseFault::NotADatabase => Err(no_database(page.as_slice())),
+                DatabaseFault::Damaged => Err(wrong_pages(page.as_slice())),
+                _ => Err(fault),
+            }
         }
     }
 }
@@ -298,7 +346,7 @@ fn remove_new_log<D: Disk + Drop, F: FileSystem<D>>(
 /// How many pages are kept of a file of so many bytes.
 fn pages(cache: Cache, len: u64) -> usize {
     let pages = match cache {
-        Cache::OfTheFile => MOST_PAGES_ONCE.min(len / PAGE_LEN + SPARE_PAGES),
+        Cache::OfTheFile => MOST_PAGES_ONCE.min(len / PAGE_LEN as u64 + SPARE_PAGES),
         Cache::Largest => MOST_PAGES,
     };
     pages as usize
@@ -352,9 +400,17 @@ fn fault_of_io(error: &io::Error) -> DatabaseFault
 {
     match error.kind() {
         ErrorKind::OutOfMemory => DatabaseFault::Memory,
-        ErrorKind::PermissionDenied => DatabaseFault::Denied,
+        ErrorKind::PermissionDenied | ErrorKind::ReadOnlyFilesystem => DatabaseFault::Denied,
+        ErrorKind::NotFound | ErrorKind::NotADirectory => DatabaseFault::NoFolder,
+        ErrorKind::StorageFull | ErrorKind::QuotaExceeded => DatabaseFault::Full,
+        _ if is_out_of_descriptors(error) => DatabaseFault::Descriptors,
         _ => DatabaseFault::Disk,
     }
+}
+
+/// Whether the system gives no more open files, to this program (EMFILE) or to all (ENFILE).
+fn is_out_of_descriptors(error: &io::Error) -> bool {
+    matches!(error.raw_os_error(), Some(23 | 24))
 }
 
 fn fault_of(error: sqlite::Error) -> DatabaseFault
@@ -362,11 +418,11 @@ fn fault_of(error: sqlite::Error) -> DatabaseFault
     ensures any_name { result ≢ DatabaseFault.Missing }
 {
     match error {
-        Error::SqliteFailure(ErrorCode::NotADatabase | ErrorCode::DatabaseCorrupt) => {
-            DatabaseFault::NotADatabase
-        }
+        Error::SqliteFailure(ErrorCode::NotADatabase) => DatabaseFault::NotADatabase,
+        Error::SqliteFailure(ErrorCode::DatabaseCorrupt) => DatabaseFault::Damaged,
         Error::SqliteFailure(ErrorCode::DatabaseBusy) => DatabaseFault::Busy,
         Error::SqliteFailure(ErrorCode::OutOfMemory) => DatabaseFault::Memory,
+        Error::SqliteFailure(ErrorCode::DiskFull) => DatabaseFault::Full,
         _ => DatabaseFault::Disk,
     }
 }

@@ -1,6 +1,6 @@
 //! What is printed of a database that is judged.
 
-use command_line::{CommandFault, show};
+use command_line::{CommandFault, DatabaseFault, show};
 use std::alloc::Global;
 use std::io::Write;
 
@@ -11,6 +11,22 @@ pub enum Verdict {
     NotOurs,
     /// It is damaged at this row.
     Damaged(u64),
+}
+
+impl Verdict {
+    /// What a file is that was not opened for this cause, if the cause says that: a database whose pages are wrong is
+    /// damaged before its first row.
+    pub fn of(fault: DatabaseFault) -> Option<Verdict> {
+        match fault {
+            DatabaseFault::Missing
+            | DatabaseFault::Empty
+            | DatabaseFault::NotADatabase
+            | DatabaseFault::Foreign
+            | DatabaseFault::AutoVacuum => Some(Verdict::NotOurs),
+            DatabaseFault::Damaged | DatabaseFault::Unsummed => Some(Verdict::Damaged(0)),
+            _ => None,
+        }
+    }
 }
 
 /// Prints the verdict on a database that is to be such a thing.

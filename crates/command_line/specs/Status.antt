@@ -5,16 +5,25 @@ use Rattle.command_line.specs.declared.fault.DatabaseFault.TheVariants as databa
 use Rattle.command_line.specs.declared.fault.CommandFault.{CommandFault}
 use Rattle.command_line.specs.declared.fault.CommandFault.TheVariants as command
 
--- 1 where the file is none of the program's, and else 3
+-- 1 if the file is not there or is no sound database of the program's, and else 3
 abbrev pub database_status : DatabaseFault → ℕ
 database_status database.Missing = 1
+database_status database.Empty = 1
 database_status database.NotADatabase = 1
+database_status database.Foreign = 1
+database_status database.AutoVacuum = 1
+database_status database.Damaged = 1
+database_status database.Unsummed = 1
 database_status database.Busy = 3
 database_status database.Memory = 3
 database_status database.Denied = 3
 database_status database.NotAFile = 3
 database_status database.Linked = 3
 database_status database.Journal = 3
+database_status database.NoFolder = 3
+database_status database.NoName = 3
+database_status database.Descriptors = 3
+database_status database.Full = 3
 database_status database.Disk = 3
 
 -- 2 where the command line is at fault

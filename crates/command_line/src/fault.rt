@@ -9,9 +9,24 @@ pub enum DatabaseFault {
     /// No file has the name.
     #[error("there is no such file")]
     Missing,
-    /// The file holds no database, or one whose rows do not obey its schema.
+    /// The file has no bytes.
+    #[error("the file is empty")]
+    Empty,
+    /// The file does not begin as a database of SQLite does.
     #[error("not a database")]
     NotADatabase,
+    /// The database holds what only other programs put into one.
+    #[error("the database of another program")]
+    Foreign,
+    /// The database has pages that only auto_vacuum needs.
+    #[error("it has auto_vacuum, and cannot be read with that: deploy/register-restore makes a database without it")]
+    AutoVacuum,
+    /// The sum of a page is wrong, or what the page says.
+    #[error("the sum or the structure of a page is wrong: keep the file and the log beside it, and restore a copy")]
+    Damaged,
+    /// The pages have room for sums, and SQLite, which does not know of them, wrote some.
+    #[error("SQLite wrote it without the sums of its pages: deploy/register-restore makes a database that opens")]
+    Unsummed,
     /// Another program has the database open.
     #[error("another program has it open")]
     Busy,
@@ -30,9 +45,53 @@ pub enum DatabaseFault {
     /// SQLite stopped within a transaction, and only it can undo that.
     #[error("a rollback journal lies beside it: open it with sqlite3 first")]
     Journal,
-    /// The system refused to open, to read or to write the file for another cause, as a full disk.
+    /// The folder of the file is not there.
+    #[error("there is no such folder")]
+    NoFolder,
+    /// The name has no character.
+    #[error("the name of the file is empty")]
+    NoName,
+    /// The system gives this program no more open files.
+    #[error("too many open files: raise the limit (ulimit -n)")]
+    Descriptors,
+    /// The disk has no room.
+    #[error("the disk is full")]
+    Full,
+    /// The system refused to open, to read or to write the file for another cause.
     #[error("the disk failed, or is full")]
     Disk,
+}
+
+impl DatabaseFault {
+    ghost use Rattle.std.specs.Prelude.{◌≡◌};
+    ghost use Rattle.command_line.specs.Status.{database_status};
+
+    /// The status that a program ends with: 1 for a file that is not there or is no sound database of the program's, and
+    /// else 3.
+    pub fn status(self) -> u8
+        ensures { result ≡ database_status self }
+    {
+        match self {
+            DatabaseFault::Missing
+            | DatabaseFault::Empty
+            | DatabaseFault::NotADatabase
+            | DatabaseFault::Foreign
+            | DatabaseFault::AutoVacuum
+            | DatabaseFault::Damaged
+            | DatabaseFault::Unsummed => 1,
+            DatabaseFault::Busy
+            | DatabaseFault::Memory
+            | DatabaseFault::Denied
+            | DatabaseFault::NotAFile
+            | DatabaseFault::Linked
+            | DatabaseFault::Journal
+            | DatabaseFault::NoFolder
+            | DatabaseFault::NoName
+            | DatabaseFault::Descriptors
+            | DatabaseFault::Full
+            | DatabaseFault::Disk => 3,
+        }
+    }
 }
 
 /// Why a command is not done, whatever the program. Its text is one line.
@@ -73,12 +132,9 @@ impl CommandFault<'_> {
         ensures { result ≡ status_of self.now }
     {
         match self {
-            CommandFault::Database {
-                fault: DatabaseFault::Missing | DatabaseFault::NotADatabase,
-                ..
-            } => 1,
+            CommandFault::Database { fault, .. } => fault.status(),
             CommandFault::NotText | CommandFault::NoTask | CommandFault::Filer => 2,
-            CommandFault::Database { .. } | CommandFault::Output | CommandFault::Memory => 3,
+            CommandFault::Output | CommandFault::Memory => 3,
         }
     }
 }

@@ -1,7 +1,7 @@
 //! Why a task is not done, in words and as a status.
 
 use command_files::{ReportFault, Verdict};
-use command_line::{CommandFault, DatabaseFault};
+use command_line::CommandFault;
 use http_wire::ConnFault;
 use intake_core::Unavailable;
 use register_store::{CreateFault, OpenFault, StoreFault};
@@ -119,12 +119,7 @@ impl Fault<'_> {
     pub fn verdict(&self) -> Option<Verdict> {
         match self {
             Fault::Register { fault, .. } => fault.verdict(),
-            Fault::Command(
-                CommandFault::Database {
-                    fault: DatabaseFault::Missing | DatabaseFault::NotADatabase,
-                    ..
-                },
-            ) => Some(Verdict::NotOurs),
+            Fault::Command(CommandFault::Database { fault, .. }) => Verdict::of(*fault),
             _ => None,
         }
     }
