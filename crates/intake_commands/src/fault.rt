@@ -1,40 +1,136 @@
 //! Why a task is not done, in words and as a status.
 
-use command_files::{ReportFault, Verdict};
+use command_files::{Holding, ReportFault, Verdict};
 use command_line::CommandFault;
 use http_wire::ConnFault;
 use intake_core::Unavailable;
 use register_store::{CreateFault, OpenFault, StoreFault};
+use sqlite::{Error as DatabaseError, ErrorCode};
 use std::alloc::AllocError;
-use std::io;
 use std::io::Write;
+use std::{fmt, io};
 use thiserror::Error;
+
+/// Why a database gave no register, and what it holds.
+#[derive(Clone, Copy, Debug)]
+pub struct Refusal {
+    pub fault: OpenFault,
+    pub holding: Holding,
+}
+
+impl Refusal {
+    /// What this says of a register.
+    fn verdict(self) -> Option<Verdict> {
+        match self.fault {
+            OpenFault::NotOurs => Some(Verdict::NotOurs),
+            OpenFault::Damaged { row } => Some(Verdict::Damaged(row)),
+            OpenFault::Memory | OpenFault::Disk => None,
+        }
+    }
+
+    /// The status that the program ends with: 1 if the database is no sound register, and else 3.
+    fn status(self) -> u8 {
+        match self.fault {
+            OpenFault::NotOurs | OpenFault::Damaged { .. } => 1,
+            OpenFault::Memory | OpenFault::Disk => 3,
+        }
+    }
+}
+
+impl fmt::Display for Refusal {
+    fn fmt<W: fmt::Write>(&self, f: &mut fmt::Formatter<W>) -> fmt::Result {
+        match self.fault {
+            OpenFault::NotOurs => f.write_str(not_a_register(self.holding)),
+            OpenFault::Disk => f.write_str(DISK),
+            OpenFault::Damaged { .. } | OpenFault::Memory => write!(f, "{}", self.fault),
+        }
+    }
+}
+
+/// What is said if the database refused a call. It does not say why.
+const DISK: &str = "the disk failed, or is full";
+
+/// What is said of a database that is no register of this version.
+fn not_a_register(holding: Holding) -> &'static str {
+    match holding {
+        Holding::Nothing =>
+            "not a register: the database has no tables (intake serve --new makes them)",
+        Holding::Register | Holding::EarlierRegister => {
+            "not a register of this version (intake migrate takes one of an earlier version)"
+        }
+        Holding::Outbox | Holding::EarlierOutbox => "not a register: this is an outbox",
+        Holding::Others => "not a register: these are the tables of another program",
+    }
+}
+
+/// What is said of a database that cannot become a register of this version.
+fn not_migrated(holding: Holding) -> &'static str {
+    match holding {
+        Holding::Register => "it has this version already",
+        Holding::EarlierRegister => "not a register of an earlier version",
+        other => not_a_register(other),
+    }
+}
+
+/// What is said of a database in which a register is to be made, and which has tables.
+fn has_tables(holding: Holding) -> &'static str {
+    match holding {
+        Holding::Register | Holding::EarlierRegister => "it is a register already: leave out --new",
+        Holding::Outbox | Holding::EarlierOutbox => "this is an outbox",
+        Holding::Nothing | Holding::Others => "the file has tables already",
+    }
+}
+
+/// Why no tables were made in a database without tables.
+fn not_made(fault: CreateFault) -> &'static str {
+    match fault {
+        CreateFault::Taken => "a table of the register's name is there",
+        CreateFault::Memory => "out of memory",
+        CreateFault::Disk => DISK,
+    }
+}
+
+/// Why a register was not read.
+fn not_read(fault: StoreFault) -> &'static str {
+    match fault {
+        StoreFault::Memory => "out of memory",
+        StoreFault::Store => DISK,
+    }
+}
+
+/// What is said of an error of the database.
+fn error_text(error: DatabaseError) -> &'static str {
+    match error {
+        DatabaseError::SqliteFailure(ErrorCode::DiskFull) => "the disk is full",
+        DatabaseError::SqliteFailure(ErrorCode::OutOfMemory) => "out of memory",
+        _ => DISK,
+    }
+}
 
 /// What went wrong in a visit to the register of a file.
 #[derive(Clone, Copy, Debug, Error)]
 pub enum VisitFault {
-    #[error("{0}")]
+    /// A register was to be made in a database that holds this.
+    #[error("{text}", text = has_tables(*.0))]
+    Taken(Holding),
+    #[error("{text}", text = not_made(*.0))]
     Create(CreateFault),
-    #[error("{0}{hint}", hint = hint(*.0))]
-    Open(OpenFault),
     #[error("{0}")]
-    NotMigrated(OpenFault),
+    Open(Refusal),
+    /// A register was to be migrated.
     #[error("{0}")]
+    Migrate(Refusal),
+    /// The same, and the database is no register of an earlier version.
+    #[error("{text}", text = not_migrated(*.0))]
+    NotMigrated(Holding),
+    #[error("{text}", text = not_read(*.0))]
     Store(StoreFault),
-    #[error("{0} when it was closed; what was answered is kept, in the log beside it")]
-    NotClosed(StoreFault),
+    #[error("{text} when it was closed; what was answered is kept, in the log beside it", text = error_text(*.0))]
+    NotClosed(DatabaseError),
     #[error("{0}")]
     List(Unavailable),
     #[error("there is no filing {number}")]
     NoFiling { number: u64 },
-}
-
-/// What can be done where a database is no register of this version.
-fn hint(fault: OpenFault) -> &'static str {
-    match fault {
-        OpenFault::NotOurs => " of this version (intake migrate takes one of an earlier version)",
-        _ => "",
-    }
 }
 
 impl VisitFault {
@@ -44,26 +140,35 @@ impl VisitFault {
     }
 
     /// The status that the program ends with: 1 for a database that is no sound register or cannot
-    /// become one, 3 for a fault of memory or the disk, 4 where a filing is missing.
+    /// become one, 3 for a fault of memory or the disk, 4 if a filing is missing.
     pub fn status(self) -> u8 {
         match self {
-            VisitFault::Create(CreateFault::Taken) => 1,
-            VisitFault::Open(OpenFault::NotOurs | OpenFault::Damaged { .. }) => 1,
-            VisitFault::NotMigrated(OpenFault::NotOurs | OpenFault::Damaged { .. }) => 1,
+            VisitFault::Taken(_)
+            | VisitFault::Create(CreateFault::Taken)
+            | VisitFault::NotMigrated(_) => 1,
+            VisitFault::Open(refusal) | VisitFault::Migrate(refusal) => refusal.status(),
             VisitFault::NoFiling { .. } => 4,
-            _ => 3,
+            VisitFault::Create(_)
+            | VisitFault::Store(_)
+            | VisitFault::NotClosed(_)
+            | VisitFault::List(_) => 3,
         }
     }
 
-    /// What it says of the register, where it says something.
+    /// What it says of the register, if it says something.
     pub fn verdict(self) -> Option<Verdict> {
         match self {
-            VisitFault::Open(fault) | VisitFault::NotMigrated(fault) => match fault {
-                OpenFault::NotOurs => Some(Verdict::NotOurs),
-                OpenFault::Damaged { row } => Some(Verdict::Damaged(row)),
-                OpenFault::Memory | OpenFault::Disk => None,
-            },
+            VisitFault::Open(refusal) | VisitFault::Migrate(refusal) => refusal.verdict(),
+            VisitFault::NotMigrated(_) => Some(Verdict::NotOurs),
             _ => None,
+        }
+    }
+
+    /// Whether the database is not the register that was looked for.
+    pub fn is_of_others(self) -> bool {
+        match self {
+            VisitFault::Taken(_) => true,
+            _ => matches!(self.verdict(), Some(Verdict::NotOurs)),
         }
     }
 }
@@ -73,6 +178,8 @@ impl VisitFault {
 pub enum Fault<'a> {
     #[error("{0}")]
     Command(#[from] CommandFault<'a>),
+    #[error("there is no init: intake serve --new makes a register")]
+    NoInit,
     #[error("--limit: it is 4611686018427387904 at most")]
     Limit,
     #[error("{0}")]
@@ -99,14 +206,14 @@ impl From<AllocError> for Fault<'_> {
 
 impl Fault<'_> {
     /// The status that the program ends with: 1 for a database that is no sound register or cannot
-    /// become one, 2 for the command line, 3 for a fault of memory, the disk or the network, 4 where
+    /// become one, 2 for the command line, 3 for a fault of memory, the disk or the network, 4 if
     /// a filing is missing.
     pub fn status(&self) -> u8 {
         match self {
             Fault::Command(fault) => fault.status(),
             Fault::Report(fault) => fault.status(),
             Fault::Register { fault, .. } => fault.status(),
-            Fault::Limit => 2,
+            Fault::Limit | Fault::NoInit => 2,
             Fault::InMemory(_)
             | Fault::Connection(_)
             | Fault::Served { .. }
@@ -115,7 +222,7 @@ impl Fault<'_> {
         }
     }
 
-    /// What the fault says of the register, where it says something.
+    /// What the fault says of the register, if it says something.
     pub fn verdict(&self) -> Option<Verdict> {
         match self {
             Fault::Register { fault, .. } => fault.verdict(),
@@ -126,7 +233,7 @@ impl Fault<'_> {
 
     /// Writes the text as a line, and answers the status.
     pub fn tell<E: Write>(&self, errors: &mut E) -> u8 {
-        // Nothing is left to be done where this text can't be written either.
+        // Nothing is left to be done if this text can't be written either.
         let _ = writeln!(errors, "intake: {self}");
         self.status()
     }

@@ -3,14 +3,14 @@
 ghost use Rattle.std.specs.Prelude.{◌≡◌, None, false};
 
 use crate::calls;
-use crate::fault::{Fault, VisitFault};
+use crate::fault::{Fault, Refusal, VisitFault};
 use crate::progress::Progress;
-use command_files::{Cache, FileSystem, Left, Opening, Verdict, Work, on_database};
+use command_files::{Cache, FileSystem, Holding, Left, Opening, Work, holding, on_database};
 use command_line::show;
 use gateway_server::fact_line;
 use intake_core::{FilingRow, Intake, list_reply};
 use intake_options::{DEFAULT_LIMIT, Errand};
-use register_store::{Counts, Store};
+use register_store::{Counts, OpenFault, Store};
 use sqlite::{Alter, Connection, Error};
 use sqlite_disk::Disk;
 use std::alloc::{AllocError, Global};
@@ -70,18 +70,21 @@ pub fn run_errand<'a, D: Disk + Drop, F: FileSystem<D>, O: Write, E: Write>(
 /// Says where the files of a register are not closed. What was answered is kept then, in the log beside the file.
 pub fn tell_close<E: Write>(closed: Result<(), Error>, name: &str, errors: &mut E) {
     if let Err(error) = closed {
-        VisitFault::NotClosed(error.into()).at(name).tell(errors);
+        VisitFault::NotClosed(error).at(name).tell(errors);
     }
 }
 
-/// Makes the tables of a register.
+/// Makes the tables of a register, in a database without tables.
 pub fn create<S: Alter + Drop>(alloc: Global, conn: Connection<S>) -> Result<Store<S>, VisitFault>
     requires autocommit { conn.in_transaction ≡ false }
     requires unlimited { conn.step_limit ≡ None }
 {
-    match calls::create(alloc, conn) {
-        Ok(register) => Ok(register),
-        Err(fault) => Err(VisitFault::Create(fault)),
+    match holding(&conn) {
+        Holding::Nothing => match calls::create(alloc, conn) {
+            Ok(register) => Ok(register),
+            Err(fault) => Err(VisitFault::Create(fault)),
+        },
+        held => Err(VisitFault::Taken(held)),
     }
 }
 
@@ -90,17 +93,22 @@ pub fn open<S: Alter + Drop>(alloc: Global, conn: Connection<S>) -> Result<Store
     requires autocommit { conn.in_transaction ≡ false }
     requires unlimited { conn.step_limit ≡ None }
 {
+    let held = holding(&conn);
     match calls::open(alloc, conn) {
         Ok(register) => Ok(register),
-        Err(fault) => Err(VisitFault::Open(fault)),
+        Err(fault) => Err(VisitFault::Open(Refusal {
+            fault,
+            holding: held,
+        })),
     }
 }
 
 /// What is left of a database that gave no register.
 pub fn left_by<S: Alter>(fault: VisitFault) -> Left<S> {
-    match fault.verdict() {
-        Some(Verdict::NotOurs) => Left::NotOurs,
-        Some(Verdict::Damaged(_)) | None => Left::GivenUp,
+    if fault.is_of_others() {
+        Left::NotOurs
+    } else {
+        Left::GivenUp
     }
 }
 
@@ -210,6 +218,7 @@ fn check<'a, S: Alter + Drop, O: Write>(
     requires autocommit { conn.in_transaction ≡ false }
     requires unlimited { conn.step_limit ≡ None }
 {
+    let held = holding(&conn);
     let mut progress = Progress::new(rt);
     let checked = calls::check(rt.alloc(), &mut conn, &mut progress);
     progress.end();
@@ -218,12 +227,29 @@ fn check<'a, S: Alter + Drop, O: Write>(
             let shown = show_sound(rt.alloc(), counts, output);
             (Left::Open(conn), shown)
         }
-        Err(fault) => refused(name, VisitFault::Open(fault)),
+        Err(fault) => refused(
+            name,
+            VisitFault::Open(Refusal {
+                fault,
+                holding: held,
+            }),
+        ),
     }
 }
 
 fn show_migrated<'a, O: Write>(output: &mut O) -> Result<(), Fault<'a>> {
     Ok(show(output, b"migrated\n")?)
+}
+
+/// Why a database that holds this was not migrated.
+fn not_migrated(fault: OpenFault, held: Holding) -> VisitFault {
+    match fault {
+        OpenFault::NotOurs => VisitFault::NotMigrated(held),
+        _ => VisitFault::Migrate(Refusal {
+            fault,
+            holding: held,
+        }),
+    }
 }
 
 /// Makes a register of an earlier version one of this version, and prints that it is.
@@ -236,11 +262,12 @@ fn migrate<'a, S: Alter + Drop, O: Write>(
     requires autocommit { conn.in_transaction ≡ false }
     requires unlimited { conn.step_limit ≡ None }
 {
+    let held = holding(&conn);
     match calls::migrate(alloc, conn) {
         Ok(register) => {
             let shown = show_migrated(output);
             (Left::Open(register.into_conn()), shown)
         }
-        Err(fault) => refused(name, VisitFault::NotMigrated(fault)),
+        Err(fault) => refused(name, not_migrated(fault, held)),
     }
 }

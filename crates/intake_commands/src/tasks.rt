@@ -172,6 +172,11 @@ fn perform_task<'a, D: Disk + Drop, F: FileSystem<D>, R: Read, O: Write, E: Writ
     }
 }
 
+/// Whether these words ask for what makes an outbox. A register is made where it is served.
+fn asks_for_init(words: &[String]) -> bool {
+    words.get(1).is_some_and(|word| word.as_str() == "init")
+}
+
 /// Performs what these words ask for, and answers the status.
 fn perform_words<'a, D: Disk + Drop, F: FileSystem<D>, R: Read, O: Write, E: Write>(
     rt: &HostRuntime,
@@ -181,6 +186,9 @@ fn perform_words<'a, D: Disk + Drop, F: FileSystem<D>, R: Read, O: Write, E: Wri
     output: &mut O,
     errors: &mut E,
 ) -> Result<u8, Fault<'a>> {
+    if asks_for_init(words) {
+        return Err(Fault::NoInit);
+    }
     match intake_options::read(rt.alloc(), words) {
         Ok(Some(task)) => perform_task(rt, system, &task, input, output, errors),
         Ok(None) => Err(CommandFault::NoTask.into()),
