@@ -8,7 +8,8 @@ It takes the programs that `rt run` builds in their folders, as crates/intake/ou
 import sqlite3
 import subprocess
 
-from trials import INTAKE, NOT_A_REGISTER, NO_OUTBOX, OUTBOX, REPORT, Serving, exchange, hold, make_earlier, make_earlier_outbox, run, said, try_all
+from trials import INTAKE, NOT_A_REGISTER, NO_OUTBOX, OUTBOX, REPORT, Serving, exchange, hold, make_by_sql, make_earlier, make_earlier_outbox
+from trials import run, said, try_all
 
 FACT = (
     '{"concept":"eg:Assets","decimals":0,"dimensions":{"concept":"eg:Assets","entity":"lei:ACME",'
@@ -24,15 +25,42 @@ BEFORE = [
     ("migrate --db @r.db", 1, "not a register\n", "r.db: there is no such file"),
     ("show --db @r.db --number 1", 1, "", "r.db: there is no such file"),
     ("serve --db @r.db --port 1 --connections 1", 1, "", "r.db: there is no such file"),
+    ("serve --db @none/r.db --port 1 --connections 1 --new", 3, "", "none/r.db: there is no such folder"),
+    ("serve --db  --port 1 --connections 1 --new", 3, "", ": the name of the file is empty"),
+    ("init --db @r.db", 2, "", "there is no init: intake serve --new makes a register"),
+]
+# A file of no bytes is no register, and stays as it is.
+EMPTY = [
+    ("check --db @empty.db", 1, "not a register\n", "empty.db: the file is empty"),
+    ("migrate --db @empty.db", 1, "not a register\n", "empty.db: the file is empty"),
+    ("list --db @empty.db --filer ACME", 1, "", "empty.db: the file is empty"),
+    ("show --db @empty.db --number 1", 1, "", "empty.db: the file is empty"),
+    ("serve --db @empty.db --port 1 --connections 1", 1, "", "empty.db: the file is empty"),
+]
+OUTBOX_TABLES = "not a register: this is an outbox"
+OTHER_TABLES = "not a register: these are the tables of another program"
+NO_TABLES = "not a register: the database has no tables (intake serve --new makes them)"
+AUTO_VACUUM = "it has auto_vacuum, and cannot be read with that: deploy/register-restore makes a database without it"
+# Databases of others.
+OTHERS = [
+    ("check --db @box.db", 1, "not a register\n", f"box.db: {OUTBOX_TABLES}"),
+    ("migrate --db @box.db", 1, "not a register\n", f"box.db: {OUTBOX_TABLES}"),
+    ("serve --db @box.db --port 1 --connections 1", 1, "", f"box.db: {OUTBOX_TABLES}"),
+    ("serve --db @box.db --port 1 --connections 1 --new", 1, "", "box.db: this is an outbox"),
+    ("check --db @other.db", 1, "not a register\n", f"other.db: {OTHER_TABLES}"),
+    ("migrate --db @other.db", 1, "not a register\n", f"other.db: {OTHER_TABLES}"),
+    ("serve --db @other.db --port 1 --connections 1 --new", 1, "", "other.db: the file has tables already"),
+    ("check --db @bare.db", 1, "not a register\n", f"bare.db: {NO_TABLES}"),
+    ("check --db @auto.db", 1, "not a register\n", f"auto.db: {AUTO_VACUUM}"),
 ]
 AFTER = [
-    ("migrate --db @r.db", 1, "not a register\n", "r.db: not a register"),
+    ("migrate --db @r.db", 1, "not a register\n", "r.db: it has this version already"),
     ("check --db @r.db", 0, "sound: 1 kept, 1 filings\n", ""),
     ("list --db @r.db --filer ACME", 0, '{"filings":[{"facts":1,"number":1}]}\n', ""),
     ("list --db @r.db --filer BETA", 0, '{"filings":[]}\n', ""),
     ("show --db @r.db --number 1", 0, FACT, ""),
     ("show --db @r.db --number 2", 4, "", "r.db: there is no filing 2"),
-    ("serve --db @r.db --port 1 --connections 1 --new", 1, "", "r.db: a table of the register's name is there"),
+    ("serve --db @r.db --port 1 --connections 1 --new", 1, "", "r.db: it is a register already: leave out --new"),
     ("lint --filer ACME @r.db", 1, 'r.db: not-json ""\n', ""),
 ]
 DAMAGED = [
@@ -45,7 +73,7 @@ MIGRATED = [
     ("list --db @old.db --filer ACME", 1, "", f"old.db: {NOT_A_REGISTER}"),
     ("migrate --db @old.db", 0, "migrated\n", ""),
     ("check --db @old.db", 0, "sound: 1 kept, 0 filings\n", ""),
-    ("migrate --db @old.db", 1, "not a register\n", "old.db: not a register"),
+    ("migrate --db @old.db", 1, "not a register\n", "old.db: it has this version already"),
 ]
 ENTRIES = [
     ("init --db @box.db --filer a/b", 2, "", f"--filer: {FILER_CODE}"),
@@ -82,11 +110,13 @@ MIGRATED_OUTBOXES = [
     ("put --db @old.db --body @small --key k-3 --amend 1", 0, "entry 3\n", ""),
 ]
 
-# Ports are 1 to 65535, and the numbers that `--amend` takes 1 to 9223372036854775807; limits, other numbers and ids begin with 0.
+# Ports are 1 to 65535, patience is 1 to 86400, and the numbers that `--amend` takes 1 to 9223372036854775807; limits, other numbers and ids begin with 0.
 OUT_OF_RANGE = [
     (INTAKE, "serve --db @r.db --port 0 --connections 1"),
     (INTAKE, "serve --db @r.db --port 65536 --connections 1"),
     (INTAKE, "serve --db @r.db --port 1 --connections 0"),
+    (INTAKE, "serve --db @r.db --port 1 --connections 1 --patience 0"),
+    (INTAKE, "serve --db @r.db --port 1 --connections 1 --patience 86401"),
     (INTAKE, "show --db @r.db --number -1"),
     (OUTBOX, "send --db @box.db --port 0"),
     (OUTBOX, "send --db @box.db --port 65536"),
@@ -140,6 +170,23 @@ def check_intake(folder):
     hold_each(INTAKE, DAMAGED, folder)
 
 
+def check_empty_file(folder):
+    empty = folder / "empty.db"
+    empty.touch()
+    hold_each(INTAKE, EMPTY, folder)
+    hold("an empty file stays empty", ([it.name for it in folder.iterdir()], empty.stat().st_size), (["empty.db"], 0))
+
+
+def check_others(folder):
+    run(OUTBOX, "init", "--db", folder / "box.db", "--filer", "ACME")
+    make_by_sql(folder / "other.db", "CREATE TABLE other (x);")
+    make_by_sql(folder / "bare.db", "CREATE TABLE other (x); DROP TABLE other;")
+    make_by_sql(folder / "auto.db", "PRAGMA auto_vacuum = FULL; VACUUM; CREATE TABLE other (x);")
+    before = sorted(it.name for it in folder.iterdir())
+    hold_each(INTAKE, OTHERS, folder)
+    hold("nothing is left beside them", sorted(it.name for it in folder.iterdir()), before)
+
+
 def check_migration(folder):
     (folder / "text").write_text("no database, and long enough to be read as one " * 20)
     make_earlier(folder / "old.db")
@@ -184,5 +231,6 @@ def check_closed_output(folder):
 if __name__ == "__main__":
     try_all(
         (INTAKE, OUTBOX),
-        (check_intake, check_migration, check_outbox, check_outbox_migration, check_ranges, check_name_of_a_uri, check_closed_output),
+        (check_intake, check_empty_file, check_others, check_migration, check_outbox, check_outbox_migration, check_ranges, check_name_of_a_uri,
+         check_closed_output),
     )

@@ -13,10 +13,12 @@ import pathlib
 import resource
 import shutil
 import signal
+import socket
 import sqlite3
 import subprocess
+import time
 
-from trials import INTAKE, NOT_A_REGISTER, OUTBOX, REPORT, SMALLEST, Serving, exchange, free_port, hold, make_register, request, run, said
+from trials import INTAKE, OUTBOX, REPORT, SMALLEST, Serving, exchange, free_port, hold, make_register, request, run, said
 from trials import statuses, tell, try_all
 
 
@@ -44,6 +46,38 @@ def check_serving(folder):
         ],
     )
     hold("serve says when it ends", (status, errors), (0, "intake: ended after 3 connections\n"))
+
+
+def send_slowly(port, given, seconds):
+    """Sends a byte of these every half second, for so long or until the peer is gone. Whether it is."""
+    with socket.create_connection(("127.0.0.1", port), timeout=60) as peer:
+        for at in range(2 * seconds):
+            time.sleep(0.5)
+            try:
+                peer.sendall(given[at : at + 1])
+            except OSError:
+                return True
+    return False
+
+
+def check_patience(folder):
+    for words in (("--log",), ()):
+        database = folder / f"register{len(words)}.db"
+        serving = Serving(database, 2, "--new", "--patience", "2", *words)
+        hold("a client that sends a byte at a time is cut off", send_slowly(serving.port, request("k-1", SMALLEST), 10), True)
+        hold("and the next is served", statuses(exchange(serving.port, request("k-2", SMALLEST))), [201])
+        status, output, errors = serving.end()
+        wanted = "intake: connection 1: cut off after 2 seconds\nintake: ended after 2 connections\n"
+        hold("serve says whom it cut off", (status, errors), (0, wanted))
+        hold("the log has both connections", [json.loads(line)["ended"] for line in output.splitlines()], ["the reader failed", "closed"] if words else [])
+
+
+def check_limit(folder):
+    serving = Serving(folder / "register.db", 4, "--new", "--limit", "1")
+    for key, status in (("k-1", 201), ("k-2", 503), ("k-3", 503), ("k-1", 201)):
+        hold(f"a report with the key {key}, in a register of one", statuses(exchange(serving.port, request(key, SMALLEST))), [status])
+    wanted = "intake: the register is full: --limit is 1, and a report with another key gets 503\nintake: ended after 4 connections\n"
+    hold("serve says once that the register is full", serving.end()[2], wanted)
 
 
 # ---- reports that replace filings
@@ -141,26 +175,35 @@ class SmallDisk:
         return filler
 
 
+PAUSED = "intake: the database failed again: it is opened in %d s at the earliest, and until then a request gets 503 at once"
+
+
 def check_full_register(folder):
     with SmallDisk(folder / "disk", 4 << 20) as disk:
         if not disk.is_mounted:
             print("not tried: a register on a full disk, since no file system may be mounted")
             return
         database = disk.folder / "register.db"
-        serving = Serving(database, 6, "--new")
+        serving = Serving(database, 8, "--new")
         hold("before the disk is full", statuses(exchange(serving.port, request("k-1", SMALLEST))), [201])
         filler = disk.fill(8 << 10)
         large = SMALLEST.ljust(200_000)
         hold("a report for which there is no room", statuses(exchange(serving.port, request("k-2", large))), [503])
         hold("and the next one", statuses(exchange(serving.port, request("k-3", large))), [503])
+        time.sleep(2.5)
+        hold("and the next one after the first pause", statuses(exchange(serving.port, request("k-3", large))), [503])
+        hold("anything in the second pause", statuses(exchange(serving.port, request("k-1", SMALLEST))), [503])
         filler.unlink()
+        time.sleep(4)
         hold("once there is room", statuses(exchange(serving.port, request("k-2", large))), [201])
         hold("a repeat of the first", statuses(exchange(serving.port, request("k-1", SMALLEST))), [201])
         hold("another body under its key", statuses(exchange(serving.port, request("k-1", large))), [422])
         status, _, errors = serving.end()
         hold("serve ends", status, 0)
-        failed, again = errors.count("the database failed"), errors.count("the database is open again")
-        tell("a failure is told, and that it is over", None if failed >= 1 and again == failed else errors)
+        failed, again = errors.count("the database failed,"), errors.count("the database is open again")
+        tell("a failure is told, and that it is over", None if failed == 3 and again == failed else errors)
+        pauses = [line for line in errors.splitlines() if "at the earliest" in line]
+        hold("and each pause", pauses, [PAUSED % 1, PAUSED % 2])
         hold("what was answered is kept", said(run(INTAKE, "check", "--db", database), folder)[:2], (0, "sound: 2 kept, 2 filings\n"))
 
 
@@ -215,7 +258,7 @@ def check_limited_outbox(folder):
     tell("put tells what it committed, at each size of files")
 
 
-# ---- files that are none
+# ---- files that are none, and damaged ones
 
 
 def check_files(folder):
@@ -230,7 +273,7 @@ def check_files(folder):
     for name, status, output, cause in (
         ("missing.db", 1, "not a register\n", "there is no such file"),
         ("text", 1, "not a register\n", "not a database"),
-        ("foreign.db", 1, "not a register\n", NOT_A_REGISTER),
+        ("foreign.db", 1, "not a register\n", "not a register: these are the tables of another program"),
         (".", 3, "", "not a regular file"),
         ("linked.db", 3, "", "the file has a second name (a hard link)"),
     ):
@@ -238,6 +281,72 @@ def check_files(folder):
         shown = str(folder) if name == "." else name
         hold(f"check of {name}", found, (status, output, f"intake: {shown}: {cause}\n"))
     hold("nothing is left beside them", sorted(os.listdir(folder)), before)
+
+
+def check_descriptors(folder):
+    database = folder / "register.db"
+    make_register(database)
+
+    def limited():
+        resource.setrlimit(resource.RLIMIT_NOFILE, (4, 4))
+
+    done = run(INTAKE, "check", "--db", database, preexec_fn=limited)
+    hold("check with few descriptors", said(done, folder), (3, "", "intake: register.db: too many open files: raise the limit (ulimit -n)\n"))
+
+
+DAMAGED = "the sum or the structure of a page is wrong: keep the file and the log beside it, and restore a copy"
+UNSUMMED = "SQLite wrote it without the sums of its pages: deploy/register-restore makes a database that opens"
+
+
+def make_small_register(database):
+    """A register with one report, and no log beside it."""
+    serving = Serving(database, 1, "--new")
+    exchange(serving.port, request("k-1", SMALLEST.ljust(3000)))
+    serving.end()
+
+
+def hold_damaged(what, database, cause, folder):
+    wanted = (1, "damaged at row 0\n", f"intake: {database.name}: {cause}\n")
+    hold(f"check of {what}", said(run(INTAKE, "check", "--db", database), folder), wanted)
+    listed = said(run(INTAKE, "list", "--db", database, "--filer", "ACME"), folder)
+    hold(f"list of {what}", listed, (1, "", f"intake: {database.name}: {cause}\n"))
+
+
+def check_damage(folder):
+    whole, changed = folder / "whole.db", folder / "changed.db"
+    make_small_register(whole)
+    sound = whole.read_bytes()
+    # A byte of a body, of the head's count of pages, of the names of the tables, of a sum, and of a page's head.
+    places = (sound.find(b"documentInfo"), 29, sound.find(b"intake_meta"), 4095, 4096)
+    for at in places:
+        data = bytearray(sound)
+        data[at] ^= 1
+        changed.write_bytes(data)
+        hold_damaged(f"a register whose byte {at} is changed", changed, DAMAGED, folder)
+    changed.write_bytes(sound[:-4096])
+    hold_damaged("a register that is cut", changed, DAMAGED, folder)
+    changed.write_bytes(b"s" + sound[1:])
+    done = said(run(INTAKE, "check", "--db", changed), folder)
+    hold("check of one without the head of a database", done, (1, "not a register\n", "intake: changed.db: not a database\n"))
+
+
+def check_copies(folder):
+    whole = folder / "whole.db"
+    make_small_register(whole)
+    with sqlite3.connect(whole) as old, sqlite3.connect(folder / "backup.db") as new:
+        old.backup(new)
+    old.close()
+    new.close()
+    old = sqlite3.connect(whole)
+    old.execute("VACUUM INTO ?", (str(folder / "vacuum.db"),))
+    with sqlite3.connect(folder / "dump.db") as new:
+        new.executescript("\n".join(old.iterdump()))
+    old.close()
+    new.close()
+    for name in ("backup.db", "vacuum.db"):
+        hold_damaged(f"a copy by SQLite, {name}", folder / name, UNSUMMED, folder)
+    for name in ("whole.db", "dump.db"):
+        hold(f"check of {name}", said(run(INTAKE, "check", "--db", folder / name), folder), (0, "sound: 1 kept, 1 filings\n", ""))
 
 
 def check_rights(folder):
@@ -251,19 +360,6 @@ def check_rights(folder):
     done = run("setpriv", "--reuid=65534", "--regid=65534", "--clear-groups", INTAKE, "check", "--db", database)
     wanted = "permission denied: the file and its folder have to be readable and writable"
     hold("check of a file without rights", said(done, folder), (3, "", f"intake: register.db: {wanted}\n"))
-
-
-def check_changed_byte(folder):
-    database = folder / "register.db"
-    serving = Serving(database, 1, "--new")
-    exchange(serving.port, request("k-1", SMALLEST.ljust(3000)))
-    serving.end()
-    data = bytearray(database.read_bytes())
-    at = data.find(b"documentInfo")
-    data[at] ^= 1
-    database.write_bytes(data)
-    done = said(run(INTAKE, "check", "--db", database), folder)
-    tell("a changed byte is told", None if done[0] != 0 else done)
 
 
 # ---- reports and entries
@@ -319,6 +415,6 @@ def check_closed_output(folder):
 if __name__ == "__main__":
     try_all(
         (INTAKE, OUTBOX),
-        (check_serving, check_amendments, check_sent_amendments, check_full_register, check_full_outbox, check_files, check_rights,
-         check_changed_byte, check_lint, check_entries, check_closed_output),
+        (check_serving, check_patience, check_limit, check_amendments, check_sent_amendments, check_full_register, check_full_outbox, check_files,
+         check_descriptors, check_rights, check_damage, check_copies, check_lint, check_entries, check_closed_output),
     )
