@@ -6,17 +6,15 @@ use crate::calls;
 use crate::fault::{Fault, VisitFault};
 use crate::line::{EntryLine, LongLine};
 use crate::options::{Target, Which};
+use crate::sending::send;
 use command_files::{Cache, FileSystem, Left, Opening, Verdict, Work, on_database};
 use command_line::show;
-use filer_client::ExchangeFault;
-use http_wire::Device;
 use key_string::KeyText;
 use outbox_core::{Entry, Outbox, State};
 use sqlite::{Alter, Connection, Error};
 use sqlite_disk::Disk;
 use std::alloc::{AllocError, Global};
-use std::io::{self, Write};
-use std::net::TcpStream;
+use std::io::Write;
 
 /// What is done with an outbox.
 #[derive(Drop)]
@@ -58,13 +56,14 @@ impl Errand<'_> {
 
 /// An errand to the outbox of the file with this name.
 #[derive(Drop)]
-struct Visit<'a, 'o, O> {
+struct Visit<'a, 'o, O, E> {
     name: &'a str,
     errand: Errand<'a>,
     output: &'o mut O,
+    errors: &'o mut E,
 }
 
-impl<'a, O: Write> Work for Visit<'a, '_, O> {
+impl<'a, O: Write, E: Write> Work for Visit<'a, '_, O, E> {
     type Answer = Result<(), Fault<'a>>;
 
     fn on<S: Alter + Drop>(
@@ -79,7 +78,7 @@ impl<'a, O: Write> Work for Visit<'a, '_, O> {
     }
 }
 
-impl<'a, O: Write> Visit<'a, '_, O> {
+impl<'a, O: Write, E: Write> Visit<'a, '_, O, E> {
     /// Does the errand to this outbox.
     fn done_on<S: Alter + Drop>(
         self,
@@ -90,8 +89,9 @@ impl<'a, O: Write> Visit<'a, '_, O> {
             name,
             errand,
             output,
+            errors,
         } = self;
-        let done = done(rt, name, &mut outbox, errand, output);
+        let done = done(rt, name, &mut outbox, errand, output, errors);
         (Left::Open(outbox.into_conn()), done)
     }
 }
@@ -111,6 +111,7 @@ pub fn run_errand<'a, D: Disk + Drop, F: FileSystem<D>, O: Write, E: Write>(
         name,
         errand,
         output,
+        errors: &mut *errors,
     };
     let visited = on_database(rt, system, name, opening, work)?;
     tell_close(visited.closed, name, errors);
@@ -186,18 +187,21 @@ fn left_by<S: Alter>(fault: VisitFault) -> Left<S> {
 }
 
 /// Does an errand to this outbox. An outbox that was made tells nothing.
-fn done<'a, S: Alter + Drop, O: Write>(
+fn done<'a, S: Alter + Drop, O: Write, E: Write>(
     rt: &HostRuntime,
     name: &'a str,
     outbox: &mut Outbox<S>,
     errand: Errand<'_>,
     output: &mut O,
+    errors: &mut E,
 ) -> Result<(), Fault<'a>> {
     match errand {
         Errand::Init { .. } => Ok(()),
         Errand::Put { key, target, body } => put(rt, name, outbox, key, target, body, output),
         Errand::Migrate => show_migrated(output),
-        Errand::Send { port, which } => send(rt, name, port, outbox, which, output),
+        Errand::Send { port, which } => {
+            send(rt, name, port, outbox, which, output, errors)
+        }
         Errand::Status => show_states(rt.alloc(), name, outbox, output),
         Errand::Show { entry } => show_entries(rt.alloc(), name, outbox, entry, output),
     }
@@ -205,16 +209,6 @@ fn done<'a, S: Alter + Drop, O: Write>(
 
 fn show_migrated<'a, O: Write>(output: &mut O) -> Result<(), Fault<'a>> {
     Ok(show(output, b"migrated\n")?)
-}
-
-fn show_entry<'a, O: Write>(
-    rt: &HostRuntime,
-    output: &mut O,
-    id: u64,
-    state: State,
-) -> Result<(), Fault<'a>> {
-    let text = format!(in rt.alloc(); "{}", EntryLine { id, state })?;
-    Ok(show(output, text.as_bytes())?)
 }
 
 /// Prints the id of an entry that was put in. Where the output takes nothing the fault names it, so that the report is
@@ -249,7 +243,7 @@ fn put<'a, S: Alter + Drop, O: Write>(
 }
 
 /// The entry of this id.
-fn entry_of<'a, S: Alter + Drop>(
+pub fn entry_of<'a, S: Alter + Drop>(
     outbox: &mut Outbox<S>,
     name: &'a str,
     id: u64,
@@ -261,154 +255,14 @@ fn entry_of<'a, S: Alter + Drop>(
     }
 }
 
-/// The open entry with the least id.
-fn next_open<'a, S: Alter + Drop>(
-    outbox: &mut Outbox<S>,
-    name: &'a str,
-) -> Result<Option<Entry>, Fault<'a>> {
-    match calls::next_open(outbox) {
-        Ok(entry) => Ok(entry),
-        Err(fault) => Err(VisitFault::Store(fault).at(name)),
-    }
-}
-
 /// The id and the state of each entry.
-fn states_of<'a, S: Alter + Drop>(
+pub fn states_of<'a, S: Alter + Drop>(
     outbox: &mut Outbox<S>,
     name: &'a str,
 ) -> Result<Vec<(u64, State)>, Fault<'a>> {
     match calls::states(outbox) {
         Ok(states) => Ok(states),
         Err(fault) => Err(VisitFault::Store(fault).at(name)),
-    }
-}
-
-/// One exchange over a connection of its own. A fault names the address, or the outbox where that failed.
-fn exchange_on<'a, S: Alter + Drop>(
-    rt: &HostRuntime,
-    name: &'a str,
-    port: u16,
-    outbox: &mut Outbox<S>,
-    id: u64,
-) -> Result<State, Fault<'a>> {
-    let stream = connect(rt, port)?;
-    let mut reader = Device::new(&stream);
-    let mut writer = Device::new(&stream);
-    match calls::exchange(rt.alloc(), &mut reader, &mut writer, outbox, id) {
-        Ok(state) => Ok(state),
-        Err(ExchangeFault::Take(fault)) => Err(VisitFault::Take(fault).at(name)),
-        Err(fault) => Err(Fault::Exchange { port, fault }),
-    }
-}
-
-fn connect<'a>(rt: &HostRuntime, port: u16) -> Result<TcpStream, Fault<'a>> {
-    match try_connect(rt, port) {
-        Ok(stream) => Ok(stream),
-        Err(error) => Err(Fault::Connect { port, error }),
-    }
-}
-
-fn try_connect(rt: &HostRuntime, port: u16) -> io::Result<TcpStream> {
-    let stream = TcpStream::connect(rt, ("127.0.0.1", port))?;
-    stream.set_nodelay(true)?;
-    Ok(stream)
-}
-
-/// Sends an entry that is open, and shows its state. After a fault it is open still.
-fn send_open<'a, S: Alter + Drop, O: Write>(
-    rt: &HostRuntime,
-    name: &'a str,
-    port: u16,
-    outbox: &mut Outbox<S>,
-    id: u64,
-    output: &mut O,
-) -> Result<(), Fault<'a>> {
-    match exchange_on(rt, name, port, outbox, id) {
-        Ok(state) => show_entry(rt, output, id, state),
-        Err(fault) => {
-            show_entry(rt, output, id, State::Open)?;
-            Err(fault)
-        }
-    }
-}
-
-/// Sends this entry, where it is open, and shows its state.
-fn send_entry<'a, S: Alter + Drop, O: Write>(
-    rt: &HostRuntime,
-    name: &'a str,
-    port: u16,
-    outbox: &mut Outbox<S>,
-    id: u64,
-    output: &mut O,
-) -> Result<(), Fault<'a>> {
-    match entry_of(outbox, name, id)?.state {
-        State::Open => send_open(rt, name, port, outbox, id, output),
-        state => show_entry(rt, output, id, state),
-    }
-}
-
-fn show_none<'a, O: Write>(output: &mut O) -> Result<(), Fault<'a>> {
-    Ok(show(output, b"nothing open\n")?)
-}
-
-/// Sends the open entry with the least id, and shows its state.
-fn send_next<'a, S: Alter + Drop, O: Write>(
-    rt: &HostRuntime,
-    name: &'a str,
-    port: u16,
-    outbox: &mut Outbox<S>,
-    output: &mut O,
-) -> Result<(), Fault<'a>> {
-    match next_open(outbox, name)? {
-        Some(entry) => send_open(rt, name, port, outbox, entry.id, output),
-        None => show_none(output),
-    }
-}
-
-/// Sends those of these entries that are open, and shows their states, up to the first fault.
-fn send_each<'a, S: Alter + Drop, O: Write>(
-    rt: &HostRuntime,
-    name: &'a str,
-    port: u16,
-    outbox: &mut Outbox<S>,
-    states: &[(u64, State)],
-    output: &mut O,
-) -> Result<(), Fault<'a>> {
-    let mut none = true;
-    for &(id, state) in states {
-        if state == State::Open {
-            none = false;
-            send_open(rt, name, port, outbox, id, output)?;
-        }
-    }
-    if none { show_none(output) } else { Ok(()) }
-}
-
-/// Sends each open entry once, by id, and shows its state, up to the first fault.
-fn send_all<'a, S: Alter + Drop, O: Write>(
-    rt: &HostRuntime,
-    name: &'a str,
-    port: u16,
-    outbox: &mut Outbox<S>,
-    output: &mut O,
-) -> Result<(), Fault<'a>> {
-    let states = states_of(outbox, name)?;
-    send_each(rt, name, port, outbox, states.as_slice(), output)
-}
-
-/// Sends these entries, and shows their states.
-fn send<'a, S: Alter + Drop, O: Write>(
-    rt: &HostRuntime,
-    name: &'a str,
-    port: u16,
-    outbox: &mut Outbox<S>,
-    which: Which,
-    output: &mut O,
-) -> Result<(), Fault<'a>> {
-    match which {
-        Which::Next => send_next(rt, name, port, outbox, output),
-        Which::Entry(id) => send_entry(rt, name, port, outbox, id, output),
-        Which::All => send_all(rt, name, port, outbox, output),
     }
 }
 

@@ -3,9 +3,11 @@
 use command_files::{ReportFault, Verdict};
 use command_line::{CommandFault, DatabaseFault};
 use filer_client::ExchangeFault;
+use http_wire::ReplyFault;
 use key_string::KeyFault;
 use outbox_core::{OutboxFault, PutFault, StoreFault, TakeFault};
 use std::alloc::AllocError;
+use std::fmt;
 use std::io;
 use std::io::Write;
 use thiserror::Error;
@@ -75,6 +77,24 @@ impl VisitFault {
     }
 }
 
+/// What went wrong in an exchange, in words.
+#[derive(Clone, Copy, Debug)]
+pub struct Cause(pub ExchangeFault);
+
+impl fmt::Display for Cause {
+    fn fmt<W: fmt::Write>(&self, f: &mut fmt::Formatter<W>) -> fmt::Result {
+        match self.0 {
+            ExchangeFault::Write { sent } => {
+                write!(f, "the connection broke after {sent} bytes of the request")
+            }
+            ExchangeFault::Reply(ReplyFault::Read) => {
+                f.write_str("the connection broke before the whole reply came")
+            }
+            fault => write!(f, "{fault}"),
+        }
+    }
+}
+
 /// Why a task was not done. Its text is one line.
 #[derive(Debug, Drop, Error)]
 pub enum Fault<'a> {
@@ -88,8 +108,10 @@ pub enum Fault<'a> {
     Outbox { name: &'a str, fault: VisitFault },
     #[error("127.0.0.1:{port}: {error}")]
     Connect { port: u16, error: io::Error },
-    #[error("127.0.0.1:{port}: {fault}")]
+    #[error("127.0.0.1:{port}: {cause}", cause = Cause(*.fault))]
     Exchange { port: u16, fault: ExchangeFault },
+    #[error("127.0.0.1:{port}: {failed} of {sent} exchanges failed")]
+    Round { port: u16, sent: u64, failed: u64 },
     #[error("no random key: {0}")]
     Random(io::Error),
 }
@@ -111,7 +133,10 @@ impl Fault<'_> {
             Fault::Outbox { fault, .. } => fault.status(),
             Fault::Key(KeyFault::Memory) => 3,
             Fault::Key(_) => 2,
-            Fault::Connect { .. } | Fault::Exchange { .. } | Fault::Random(_) => 3,
+            Fault::Connect { .. }
+            | Fault::Exchange { .. }
+            | Fault::Round { .. }
+            | Fault::Random(_) => 3,
         }
     }
 
@@ -125,6 +150,19 @@ impl Fault<'_> {
                     ..
                 },
             ) => Some(Verdict::NotOurs),
+            _ => None,
+        }
+    }
+
+    /// Why the exchange of an entry failed, if that is no reason against the next exchange: its connection broke, or
+    /// what came is no whole reply.
+    pub fn of_entry(&self) -> Option<ExchangeFault> {
+        match self {
+            Fault::Exchange {
+                fault: ExchangeFault::Reply(ReplyFault::Memory) | ExchangeFault::Take(_),
+                ..
+            } => None,
+            Fault::Exchange { fault, .. } => Some(*fault),
             _ => None,
         }
     }

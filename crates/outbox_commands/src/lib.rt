@@ -8,6 +8,7 @@ mod errand;
 mod fault;
 mod line;
 mod options;
+mod sending;
 mod tasks;
 
 pub use line::EntryLine;

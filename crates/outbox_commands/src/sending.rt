@@ -1,0 +1,217 @@
+//! Sending entries: each over a connection of its own, and what is printed of it.
+
+use crate::calls;
+use crate::errand::{entry_of, states_of};
+use crate::fault::{Cause, Fault, VisitFault};
+use crate::line::EntryLine;
+use crate::options::Which;
+use command_line::show;
+use filer_client::ExchangeFault;
+use http_wire::Device;
+use outbox_core::{Entry, Outbox, State};
+use sqlite::Alter;
+use std::io::{self, Write};
+use std::net::TcpStream;
+
+/// How many entries of a round were sent, and how many of these exchanges failed.
+#[derive(Clone, Copy)]
+struct Round {
+    sent: u64,
+    failed: u64,
+}
+
+impl Round {
+    /// The round after one exchange more.
+    fn and(self, has_failed: bool) -> Round {
+        Round {
+            sent: self.sent.saturating_add(1),
+            failed: self.failed.saturating_add(u64::from(has_failed)),
+        }
+    }
+}
+
+fn connect<'a>(rt: &HostRuntime, port: u16) -> Result<TcpStream, Fault<'a>> {
+    match try_connect(rt, port) {
+        Ok(stream) => Ok(stream),
+        Err(error) => Err(Fault::Connect { port, error }),
+    }
+}
+
+fn try_connect(rt: &HostRuntime, port: u16) -> io::Result<TcpStream> {
+    let stream = TcpStream::connect(rt, ("127.0.0.1", port))?;
+    stream.set_nodelay(true)?;
+    Ok(stream)
+}
+
+/// One exchange over a connection of its own. A fault names the address, or the outbox if that failed.
+fn exchange_on<'a, S: Alter + Drop>(
+    rt: &HostRuntime,
+    name: &'a str,
+    port: u16,
+    outbox: &mut Outbox<S>,
+    id: u64,
+) -> Result<State, Fault<'a>> {
+    let stream = connect(rt, port)?;
+    let mut reader = Device::new(&stream);
+    let mut writer = Device::new(&stream);
+    match calls::exchange(rt.alloc(), &mut reader, &mut writer, outbox, id) {
+        Ok(state) => Ok(state),
+        Err(ExchangeFault::Take(fault)) => Err(VisitFault::Take(fault).at(name)),
+        Err(fault) => Err(Fault::Exchange { port, fault }),
+    }
+}
+
+/// Prints the line of an entry.
+fn show_entry<'a, O: Write>(
+    rt: &HostRuntime,
+    output: &mut O,
+    id: u64,
+    state: State,
+) -> Result<(), Fault<'a>> {
+    let text = format!(in rt.alloc(); "{}", EntryLine { id, state })?;
+    Ok(show(output, text.as_bytes())?)
+}
+
+fn show_none<'a, O: Write>(output: &mut O) -> Result<(), Fault<'a>> {
+    Ok(show(output, b"nothing open\n")?)
+}
+
+/// Sends an entry that is open, and prints its state. After a fault it is open still.
+fn send_open<'a, S: Alter + Drop, O: Write>(
+    rt: &HostRuntime,
+    name: &'a str,
+    port: u16,
+    outbox: &mut Outbox<S>,
+    id: u64,
+    output: &mut O,
+) -> Result<(), Fault<'a>> {
+    match exchange_on(rt, name, port, outbox, id) {
+        Ok(state) => show_entry(rt, output, id, state),
+        Err(fault) => {
+            show_entry(rt, output, id, State::Open)?;
+            Err(fault)
+        }
+    }
+}
+
+/// Sends this entry if it is open, and prints its state.
+fn send_entry<'a, S: Alter + Drop, O: Write>(
+    rt: &HostRuntime,
+    name: &'a str,
+    port: u16,
+    outbox: &mut Outbox<S>,
+    id: u64,
+    output: &mut O,
+) -> Result<(), Fault<'a>> {
+    match entry_of(outbox, name, id)?.state {
+        State::Open => send_open(rt, name, port, outbox, id, output),
+        state => show_entry(rt, output, id, state),
+    }
+}
+
+/// The open entry with the least id.
+fn next_open<'a, S: Alter + Drop>(
+    outbox: &mut Outbox<S>,
+    name: &'a str,
+) -> Result<Option<Entry>, Fault<'a>> {
+    match calls::next_open(outbox) {
+        Ok(entry) => Ok(entry),
+        Err(fault) => Err(VisitFault::Store(fault).at(name)),
+    }
+}
+
+/// Sends the open entry with the least id, and prints its state.
+fn send_next<'a, S: Alter + Drop, O: Write>(
+    rt: &HostRuntime,
+    name: &'a str,
+    port: u16,
+    outbox: &mut Outbox<S>,
+    output: &mut O,
+) -> Result<(), Fault<'a>> {
+    match next_open(outbox, name)? {
+        Some(entry) => send_open(rt, name, port, outbox, entry.id, output),
+        None => show_none(output),
+    }
+}
+
+/// Sends an open entry of a round, and says whether its exchange failed. A fault is one that ends the round.
+fn send_in_round<'a, S: Alter + Drop, O: Write, E: Write>(
+    rt: &HostRuntime,
+    name: &'a str,
+    port: u16,
+    outbox: &mut Outbox<S>,
+    id: u64,
+    output: &mut O,
+    errors: &mut E,
+) -> Result<bool, Fault<'a>> {
+    match send_open(rt, name, port, outbox, id, output) {
+        Ok(()) => Ok(false),
+        Err(fault) => match fault.of_entry() {
+            Some(cause) => {
+                tell_entry(id, cause, errors);
+                Ok(true)
+            }
+            None => Err(fault),
+        },
+    }
+}
+
+/// Says on the standard error why the exchange of an entry failed.
+fn tell_entry<E: Write>(id: u64, fault: ExchangeFault, errors: &mut E) {
+    // Nothing is left to be done if this text can't be written either.
+    let _ = writeln!(errors, "outbox: entry {id}: {}", Cause(fault));
+}
+
+/// Sends those of these entries that are open, and prints their states. An exchange that fails is no reason to stop.
+fn send_each<'a, S: Alter + Drop, O: Write, E: Write>(
+    rt: &HostRuntime,
+    name: &'a str,
+    port: u16,
+    outbox: &mut Outbox<S>,
+    states: &[(u64, State)],
+    output: &mut O,
+    errors: &mut E,
+) -> Result<Round, Fault<'a>> {
+    let mut round = Round { sent: 0, failed: 0 };
+    for &(id, state) in states {
+        if state == State::Open {
+            let has_failed = send_in_round(rt, name, port, outbox, id, output, errors)?;
+            round = round.and(has_failed);
+        }
+    }
+    Ok(round)
+}
+
+/// Sends each open entry once, by id, and prints its state. If exchanges failed, that is the fault at the end.
+fn send_all<'a, S: Alter + Drop, O: Write, E: Write>(
+    rt: &HostRuntime,
+    name: &'a str,
+    port: u16,
+    outbox: &mut Outbox<S>,
+    output: &mut O,
+    errors: &mut E,
+) -> Result<(), Fault<'a>> {
+    let states = states_of(outbox, name)?;
+    match send_each(rt, name, port, outbox, states.as_slice(), output, errors)? {
+        Round { sent: 0, .. } => show_none(output),
+        Round { failed: 0, .. } => Ok(()),
+        Round { sent, failed } => Err(Fault::Round { port, sent, failed }),
+    }
+}
+
+/// Sends these entries, and prints their states.
+pub fn send<'a, S: Alter + Drop, O: Write, E: Write>(
+    rt: &HostRuntime,
+    name: &'a str,
+    port: u16,
+    outbox: &mut Outbox<S>,
+    which: Which,
+    output: &mut O,
+    errors: &mut E,
+) -> Result<(), Fault<'a>> {
+    match which {
+        Which::Next => send_next(rt, name, port, outbox, output),
+        Which::Entry(id) => send_entry(rt, name, port, outbox, id, output),
+        Which::All => send_all(rt, name, port, outbox, output, errors),
+    }
+}
