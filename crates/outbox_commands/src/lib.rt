@@ -3,6 +3,7 @@
 //! known here.
 #![tactic(auto)]
 
+mod answer;
 mod calls;
 mod errand;
 mod fault;

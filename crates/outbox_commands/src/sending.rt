@@ -1,5 +1,6 @@
 //! Sending entries: each over a connection of its own, and what is printed of it.
 
+use crate::answer::{Noted, tell_answer};
 use crate::calls;
 use crate::errand::{entry_of, states_of};
 use crate::fault::{Cause, Fault, VisitFault};
@@ -12,6 +13,13 @@ use outbox_core::{Entry, Outbox, State};
 use sqlite::Alter;
 use std::io::{self, Write};
 use std::net::TcpStream;
+
+/// What came of an exchange: the state of its entry, and the first bytes of the reply.
+#[derive(Drop)]
+struct Exchanged {
+    state: State,
+    noted: Vec<u8>,
+}
 
 /// How many entries of a round were sent, and how many of these exchanges failed.
 #[derive(Clone, Copy)]
@@ -50,12 +58,15 @@ fn exchange_on<'a, S: Alter + Drop>(
     port: u16,
     outbox: &mut Outbox<S>,
     id: u64,
-) -> Result<State, Fault<'a>> {
+) -> Result<Exchanged, Fault<'a>> {
     let stream = connect(rt, port)?;
-    let mut reader = Device::new(&stream);
+    let mut reader = Noted::new(rt.alloc(), Device::new(&stream));
     let mut writer = Device::new(&stream);
     match calls::exchange(rt.alloc(), &mut reader, &mut writer, outbox, id) {
-        Ok(state) => Ok(state),
+        Ok(state) => Ok(Exchanged {
+            state,
+            noted: reader.into_bytes(),
+        }),
         Err(ExchangeFault::Take(fault)) => Err(VisitFault::Take(fault).at(name)),
         Err(fault) => Err(Fault::Exchange { port, fault }),
     }
@@ -76,17 +87,29 @@ fn show_none<'a, O: Write>(output: &mut O) -> Result<(), Fault<'a>> {
     Ok(show(output, b"nothing open\n")?)
 }
 
+/// Says on the standard error why an entry stays open although it was answered.
+fn explain<E: Write>(rt: &HostRuntime, id: u64, exchanged: &Exchanged, errors: &mut E) {
+    if exchanged.state == State::Open {
+        tell_answer(rt.alloc(), id, exchanged.noted.as_slice(), errors);
+    }
+}
+
 /// Sends an entry that is open, and prints its state. After a fault it is open still.
-fn send_open<'a, S: Alter + Drop, O: Write>(
+fn send_open<'a, S: Alter + Drop, O: Write, E: Write>(
     rt: &HostRuntime,
     name: &'a str,
     port: u16,
     outbox: &mut Outbox<S>,
     id: u64,
     output: &mut O,
+    errors: &mut E,
 ) -> Result<(), Fault<'a>> {
     match exchange_on(rt, name, port, outbox, id) {
-        Ok(state) => show_entry(rt, output, id, state),
+        Ok(exchanged) => {
+            show_entry(rt, output, id, exchanged.state)?;
+            explain(rt, id, &exchanged, errors);
+            Ok(())
+        }
         Err(fault) => {
             show_entry(rt, output, id, State::Open)?;
             Err(fault)
@@ -95,16 +118,17 @@ fn send_open<'a, S: Alter + Drop, O: Write>(
 }
 
 /// Sends this entry if it is open, and prints its state.
-fn send_entry<'a, S: Alter + Drop, O: Write>(
+fn send_entry<'a, S: Alter + Drop, O: Write, E: Write>(
     rt: &HostRuntime,
     name: &'a str,
     port: u16,
     outbox: &mut Outbox<S>,
     id: u64,
     output: &mut O,
+    errors: &mut E,
 ) -> Result<(), Fault<'a>> {
     match entry_of(outbox, name, id)?.state {
-        State::Open => send_open(rt, name, port, outbox, id, output),
+        State::Open => send_open(rt, name, port, outbox, id, output, errors),
         state => show_entry(rt, output, id, state),
     }
 }
@@ -121,15 +145,16 @@ fn next_open<'a, S: Alter + Drop>(
 }
 
 /// Sends the open entry with the least id, and prints its state.
-fn send_next<'a, S: Alter + Drop, O: Write>(
+fn send_next<'a, S: Alter + Drop, O: Write, E: Write>(
     rt: &HostRuntime,
     name: &'a str,
     port: u16,
     outbox: &mut Outbox<S>,
     output: &mut O,
+    errors: &mut E,
 ) -> Result<(), Fault<'a>> {
     match next_open(outbox, name)? {
-        Some(entry) => send_open(rt, name, port, outbox, entry.id, output),
+        Some(entry) => send_open(rt, name, port, outbox, entry.id, output, errors),
         None => show_none(output),
     }
 }
@@ -144,7 +169,7 @@ fn send_in_round<'a, S: Alter + Drop, O: Write, E: Write>(
     output: &mut O,
     errors: &mut E,
 ) -> Result<bool, Fault<'a>> {
-    match send_open(rt, name, port, outbox, id, output) {
+    match send_open(rt, name, port, outbox, id, output, errors) {
         Ok(()) => Ok(false),
         Err(fault) => match fault.of_entry() {
             Some(cause) => {
@@ -210,8 +235,8 @@ pub fn send<'a, S: Alter + Drop, O: Write, E: Write>(
     errors: &mut E,
 ) -> Result<(), Fault<'a>> {
     match which {
-        Which::Next => send_next(rt, name, port, outbox, output),
-        Which::Entry(id) => send_entry(rt, name, port, outbox, id, output),
+        Which::Next => send_next(rt, name, port, outbox, output, errors),
+        Which::Entry(id) => send_entry(rt, name, port, outbox, id, output, errors),
         Which::All => send_all(rt, name, port, outbox, output, errors),
     }
 }

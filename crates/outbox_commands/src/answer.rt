@@ -1,0 +1,147 @@
+//! What a peer answered if its reply settled nothing: as much as was noted of it while it came.
+
+use http_messages::{Block, Kind, ResponseHead, find_block, read_response, skipped_len, split_at_first};
+use http_wire::{DeviceFailed, Source};
+use serde_json::Value;
+use std::alloc::Global;
+use std::fmt;
+use std::io::Write;
+
+/// How many bytes of a reply are noted.
+const MOST_NOTED: usize = 8_192;
+
+/// How many interim responses are skipped.
+const MOST_INTERIM: usize = 8;
+
+/// How many bytes of a peer's text are shown.
+const MOST_SHOWN: usize = 200;
+
+/// A reader whose first bytes are noted.
+#[derive(Drop)]
+pub struct Noted<R> {
+    inner: R,
+    bytes: Vec<u8>,
+}
+
+impl<R: Source + Drop> Noted<R> {
+    /// The reader, of which nothing was read.
+    pub fn new(alloc: Global, inner: R) -> Noted<R> {
+        Noted {
+            inner,
+            bytes: Vec::new(alloc),
+        }
+    }
+
+    /// The bytes that were noted.
+    pub fn into_bytes(self) -> Vec<u8> {
+        let Noted { inner: _, bytes } = self;
+        bytes
+    }
+}
+
+/// Notes these bytes, as many as there is room for.
+fn note(bytes: &mut Vec<u8>, more: &[u8]) {
+    let room = MOST_NOTED.saturating_sub(bytes.len());
+    let taken = more.len().min(room);
+    // If memory is short less is noted, and the exchange goes on.
+    let _ = bytes.extend_from_slice(&more[..taken]);
+}
+
+impl<R: Source> Source for Noted<R> {
+    ghost left = { λ n. R.left n.inner };
+
+    ghost read_failures = { λ n. R.read_failures n.inner };
+
+    fn read(&mut self, room: &mut [u8]) -> Result<usize, DeviceFailed> {
+        let count = self.inner.read(room)?;
+        note(&mut self.bytes, &room[..count]);
+        Ok(count)
+    }
+}
+
+/// The front of a peer's text, with `?` for each byte that is no printable ASCII character.
+#[derive(Clone, Copy)]
+struct Shown<'a>(&'a [u8]);
+
+/// The character that is shown for a byte.
+fn character_of(byte: u8) -> char {
+    match byte {
+        b' '..=b'~' => char::from(byte),
+        _ => '?',
+    }
+}
+
+impl fmt::Display for Shown<'_> {
+    fn fmt<W: fmt::Write>(&self, f: &mut fmt::Formatter<W>) -> fmt::Result {
+        for &byte in self.0.iter().take(MOST_SHOWN) {
+            f.write_char(character_of(byte))?;
+        }
+        Ok(())
+    }
+}
+
+/// The final reply among the bytes that were noted.
+#[derive(Clone, Copy)]
+pub struct Answer<'a> {
+    head: ResponseHead,
+    /// The number of the status and its phrase.
+    status: &'a [u8],
+    /// What follows the head.
+    rest: &'a [u8],
+}
+
+impl<'a> Answer<'a> {
+    /// The final reply, if its head was noted whole.
+    pub fn of(noted: &'a [u8]) -> Option<Answer<'a>> {
+        let mut bytes = noted;
+        for _ in 0..=MOST_INTERIM {
+            let (block, rest) = first_block(bytes)?;
+            let head = read_response(block)?;
+            if head.status >= 200 {
+                let status = status_of(block);
+                return Some(Answer { head, status, rest });
+            }
+            bytes = rest;
+        }
+        None
+    }
+
+    /// The `reason` of problem details, if they were noted whole.
+    pub fn reason(&self, alloc: Global) -> Option<String> {
+        if self.head.kind != Kind::Problem {
+            return None;
+        }
+        let len = self.head.content_len.ok()?;
+        let details = Value::from_slice(alloc, self.rest.get(..len)?).ok()?;
+        let reason = details.get("reason").and_then(Value::as_str)?;
+        String::from_str(alloc, reason).ok()
+    }
+}
+
+/// The block at the front of the bytes, and what follows it.
+fn first_block(bytes: &[u8]) -> Option<(&[u8], &[u8])> {
+    let Block::End(end) = find_block(bytes) else {
+        return None;
+    };
+    Some((bytes.get(skipped_len(bytes)..end)?, bytes.get(end..)?))
+}
+
+/// What the first line of a response has after its version (RFC 9112, section 4).
+fn status_of(block: &[u8]) -> &[u8] {
+    let (line, _) = split_at_first(block, b'\r');
+    let (_, status) = split_at_first(line, b' ');
+    status.unwrap_or(&[])
+}
+
+/// Says on the standard error what was answered for an entry that stays open.
+pub fn tell_answer<E: Write>(alloc: Global, id: u64, noted: &[u8], errors: &mut E) {
+    let Some(answer) = Answer::of(noted) else {
+        let _ = writeln!(errors, "outbox: entry {id}: the reply does not settle it");
+        return;
+    };
+    let status = Shown(answer.status);
+    let _ = match answer.reason(alloc) {
+        Some(reason) => writeln!(errors, "outbox: entry {id}: answered {status}: {}", Shown(reason.as_bytes())),
+        None => writeln!(errors, "outbox: entry {id}: answered {status}"),
+    };
+}
