@@ -1,11 +1,13 @@
 //! What a peer answered if its reply settled nothing: as much as was noted of it while it came.
 
+ghost use Rattle.std.specs.Prelude.{◌≤◌};
+
 use http_messages::{Block, Kind, ResponseHead, find_block, read_response, skipped_len, split_at_first};
 use http_wire::{DeviceFailed, Source};
 use serde_json::Value;
 use std::alloc::Global;
 use std::fmt;
-use std::io::Write;
+use std::io::{self, Write};
 
 /// How many bytes of a reply are noted.
 const MOST_NOTED: usize = 8_192;
@@ -63,8 +65,10 @@ impl<R: Source> Source for Noted<R> {
 #[derive(Clone, Copy)]
 struct Shown<'a>(&'a [u8]);
 
-/// The character that is shown for a byte.
-fn character_of(byte: u8) -> char {
+/// The character that is shown for a byte: it if it is printable ASCII.
+fn character_of(byte: u8) -> char
+    ensures { (32 ≤ result) × (result ≤ 126) }
+{
     match byte {
         b' '..=b'~' => char::from(byte),
         _ => '?',
@@ -82,7 +86,7 @@ impl fmt::Display for Shown<'_> {
 
 /// The final reply among the bytes that were noted.
 #[derive(Clone, Copy)]
-pub struct Answer<'a> {
+struct Answer<'a> {
     head: ResponseHead,
     /// The number of the status and its phrase.
     status: &'a [u8],
@@ -92,7 +96,7 @@ pub struct Answer<'a> {
 
 impl<'a> Answer<'a> {
     /// The final reply, if its head was noted whole.
-    pub fn of(noted: &'a [u8]) -> Option<Answer<'a>> {
+    fn of(noted: &'a [u8]) -> Option<Answer<'a>> {
         let mut bytes = noted;
         for _ in 0..=MOST_INTERIM {
             let (block, rest) = first_block(bytes)?;
@@ -106,16 +110,46 @@ impl<'a> Answer<'a> {
         None
     }
 
-    /// The `reason` of problem details, if they were noted whole.
-    pub fn reason(&self, alloc: Global) -> Option<String> {
+    /// The problem details, if they were noted whole.
+    fn details(&self, alloc: Global) -> Option<Value> {
         if self.head.kind != Kind::Problem {
             return None;
         }
         let len = self.head.content_len.ok()?;
-        let details = Value::from_slice(alloc, self.rest.get(..len)?).ok()?;
+        Value::from_slice(alloc, self.rest.get(..len)?).ok()
+    }
+
+    /// The `reason` of problem details.
+    fn reason(&self, alloc: Global) -> Option<String> {
+        let details = self.details(alloc)?;
         let reason = details.get("reason").and_then(Value::as_str)?;
         String::from_str(alloc, reason).ok()
     }
+
+    /// Whether the one finding is that the filing cannot be replaced, which the report alone does not show.
+    fn is_of_target(&self, alloc: Global) -> bool {
+        match self.details(alloc) {
+            Some(details) => details.get("findings").map_or(false, are_of_target),
+            None => false,
+        }
+    }
+}
+
+/// Whether these findings are one, of the filing that is to be replaced.
+fn are_of_target(findings: &Value) -> bool {
+    match findings.as_array() {
+        Some(list) => match list.as_slice() {
+            [finding] => has_code(finding, "not-replaceable"),
+            _ => false,
+        },
+        None => false,
+    }
+}
+
+/// Whether a finding has this code.
+fn has_code(finding: &Value, code: &str) -> bool {
+    let found = finding.get("code").and_then(Value::as_str);
+    found.map_or(false, |text| text == code)
 }
 
 /// The block at the front of the bytes, and what follows it.
@@ -134,14 +168,46 @@ fn status_of(block: &[u8]) -> &[u8] {
 }
 
 /// Says on the standard error what was answered for an entry that stays open.
-pub fn tell_answer<E: Write>(alloc: Global, id: u64, noted: &[u8], errors: &mut E) {
+pub fn tell_open<E: Write>(
+    alloc: Global,
+    id: u64,
+    noted: &[u8],
+    errors: &mut E,
+) -> io::Result<()> {
     let Some(answer) = Answer::of(noted) else {
-        let _ = writeln!(errors, "outbox: entry {id}: the reply does not settle it");
-        return;
+        return writeln!(errors, "outbox: entry {id}: the reply does not settle it");
     };
     let status = Shown(answer.status);
-    let _ = match answer.reason(alloc) {
-        Some(reason) => writeln!(errors, "outbox: entry {id}: answered {status}: {}", Shown(reason.as_bytes())),
+    match answer.reason(alloc) {
+        Some(reason) => {
+            let reason = Shown(reason.as_bytes());
+            writeln!(errors, "outbox: entry {id}: answered {status}: {reason}")
+        }
         None => writeln!(errors, "outbox: entry {id}: answered {status}"),
+    }
+}
+
+/// Says on the standard error what to do with an entry of this filer that was refused.
+pub fn tell_refused<E: Write>(
+    alloc: Global,
+    id: u64,
+    filer: &str,
+    noted: &[u8],
+    errors: &mut E,
+) -> io::Result<()> {
+    let is_of_target = match Answer::of(noted) {
+        Some(answer) => answer.is_of_target(alloc),
+        None => false,
     };
+    if is_of_target {
+        writeln!(
+            errors,
+            "outbox: entry {id}: refused; the filing that it is to replace is not there, or was replaced already"
+        )
+    } else {
+        writeln!(
+            errors,
+            "outbox: entry {id}: refused; the report has findings: intake lint --filer {filer} FILE lists them"
+        )
+    }
 }

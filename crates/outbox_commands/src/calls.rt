@@ -7,7 +7,7 @@ use crate::options::Target;
 use filer_client::{ExchangeFault, exchange as exchange_entry};
 use http_wire::{Sink, Source};
 use key_string::KeyText;
-use outbox_core::{Entry, Outbox, OutboxFault, PutFault, State, StoreFault};
+use outbox_core::{Entry, Outbox, OutboxFault, PutFault, State, StoreFault, read_outbox};
 use sqlite::{Alter, Connection};
 use std::alloc::Global;
 
@@ -29,6 +29,21 @@ pub fn open<S: Alter + Drop>(alloc: Global, conn: Connection<S>) -> Result<Outbo
     requires unlimited { conn.step_limit ≡ None }
 {
     Outbox::open(alloc, conn)
+}
+
+/// Reads the outbox of a database, which is one of this version unless this fails.
+pub fn read<S: Alter + Drop>(alloc: Global, conn: &mut Connection<S>) -> Result<(), OutboxFault>
+    requires autocommit { conn.old.in_transaction ≡ false }
+    requires unlimited { conn.old.step_limit ≡ None }
+    ensures autocommit { conn.new.in_transaction ≡ false }
+    ensures unlimited { conn.new.step_limit ≡ None }
+{
+    let read = read_outbox(alloc, conn);
+    conn.set_step_limit(None);
+    match read {
+        Ok(_) => Ok(()),
+        Err(fault) => Err(fault),
+    }
 }
 
 /// Makes an outbox of an earlier version one of this version.

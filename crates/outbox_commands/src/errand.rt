@@ -7,10 +7,11 @@ use crate::fault::{Fault, VisitFault};
 use crate::line::{EntryLine, LongLine};
 use crate::options::{Target, Which};
 use crate::sending::send;
-use command_files::{Cache, FileSystem, Left, Opening, Verdict, Work, on_database};
+use crate::tables::{Tables, tables_of};
+use command_files::{Cache, FileSystem, Left, Opening, Work, on_database};
 use command_line::show;
 use key_string::KeyText;
-use outbox_core::{Entry, Outbox, State};
+use outbox_core::{Entry, Outbox, OutboxFault, State};
 use sqlite::{Alter, Connection, Error};
 use sqlite_disk::Disk;
 use std::alloc::{AllocError, Global};
@@ -118,10 +119,10 @@ pub fn run_errand<'a, D: Disk + Drop, F: FileSystem<D>, O: Write, E: Write>(
     visited.answer
 }
 
-/// Says where the files of an outbox are not closed. What was told stays then, in the log beside the file.
+/// Says so if the files of an outbox were not closed. What was reported is kept then, in the log beside the file.
 fn tell_close<E: Write>(closed: Result<(), Error>, name: &str, errors: &mut E) {
-    if let Err(error) = closed {
-        VisitFault::NotClosed(error.into()).at(name).tell(errors);
+    if closed.is_err() {
+        VisitFault::NotClosed.at(name).tell(errors);
     }
 }
 
@@ -134,55 +135,87 @@ fn outbox_of<S: Alter + Drop>(
     requires autocommit { conn.in_transaction ≡ false }
     requires unlimited { conn.step_limit ≡ None }
 {
+    let tables = tables_of(&conn);
     match errand {
-        Errand::Init { filer } => create(alloc, conn, filer),
-        Errand::Migrate => migrate(alloc, conn),
-        _ => open(alloc, conn),
+        Errand::Init { filer } => create(alloc, conn, tables, filer),
+        Errand::Migrate => migrate(alloc, conn, tables),
+        _ => open(alloc, conn, tables),
     }
 }
 
-/// Makes the tables of an outbox of this filer.
+/// Makes the tables of an outbox of this filer, in a database without tables.
 fn create<S: Alter + Drop>(
     alloc: Global,
     conn: Connection<S>,
+    tables: Tables,
     filer: &str,
 ) -> Result<Outbox<S>, VisitFault>
     requires autocommit { conn.in_transaction ≡ false }
     requires unlimited { conn.step_limit ≡ None }
 {
+    if tables != Tables::Absent {
+        return Err(VisitFault::Taken(tables));
+    }
     match calls::create(alloc, conn, filer) {
         Ok(outbox) => Ok(outbox),
-        Err(fault) => Err(VisitFault::NotMade(fault)),
+        Err(fault) => Err(VisitFault::of_opening(fault, tables)),
     }
 }
 
 /// Makes the outbox, which is one of an earlier version, one of this version.
-fn migrate<S: Alter + Drop>(alloc: Global, conn: Connection<S>) -> Result<Outbox<S>, VisitFault>
+fn migrate<S: Alter + Drop>(
+    alloc: Global,
+    mut conn: Connection<S>,
+    tables: Tables,
+) -> Result<Outbox<S>, VisitFault>
+    requires autocommit { conn.in_transaction ≡ false }
+    requires unlimited { conn.step_limit ≡ None }
+{
+    match calls::read(alloc, &mut conn) {
+        Ok(()) => Err(VisitFault::IsCurrent),
+        Err(OutboxFault::NotOurs) => migrate_earlier(alloc, conn, tables),
+        Err(fault) => Err(VisitFault::of_migrating(fault, tables)),
+    }
+}
+
+/// The same if the outbox has another version than this.
+fn migrate_earlier<S: Alter + Drop>(
+    alloc: Global,
+    conn: Connection<S>,
+    tables: Tables,
+) -> Result<Outbox<S>, VisitFault>
     requires autocommit { conn.in_transaction ≡ false }
     requires unlimited { conn.step_limit ≡ None }
 {
     match calls::migrate(alloc, conn) {
         Ok(outbox) => Ok(outbox),
-        Err(fault) => Err(VisitFault::NotMade(fault)),
+        Err(fault) => Err(VisitFault::of_migrating(fault, tables)),
     }
 }
 
 /// The outbox of a database that is there.
-fn open<S: Alter + Drop>(alloc: Global, conn: Connection<S>) -> Result<Outbox<S>, VisitFault>
+fn open<S: Alter + Drop>(
+    alloc: Global,
+    conn: Connection<S>,
+    tables: Tables,
+) -> Result<Outbox<S>, VisitFault>
     requires autocommit { conn.in_transaction ≡ false }
     requires unlimited { conn.step_limit ≡ None }
 {
     match calls::open(alloc, conn) {
         Ok(outbox) => Ok(outbox),
-        Err(fault) => Err(VisitFault::Open(fault)),
+        Err(fault) => Err(VisitFault::of_opening(fault, tables)),
     }
 }
 
 /// What is left of a database that gave no outbox.
 fn left_by<S: Alter>(fault: VisitFault) -> Left<S> {
-    match fault.verdict() {
-        Some(Verdict::NotOurs) => Left::NotOurs,
-        Some(Verdict::Damaged(_)) | None => Left::GivenUp,
+    match fault {
+        VisitFault::Taken(_)
+        | VisitFault::NotOurs(_)
+        | VisitFault::IsCurrent
+        | VisitFault::NotEarlier => Left::NotOurs,
+        _ => Left::GivenUp,
     }
 }
 
@@ -238,7 +271,7 @@ fn put<'a, S: Alter + Drop, O: Write>(
 ) -> Result<(), Fault<'a>> {
     match calls::put(outbox, key, target, body) {
         Ok(id) => show_id(rt, name, id, output),
-        Err(fault) => Err(VisitFault::Put(fault).at(name)),
+        Err(fault) => Err(VisitFault::from(fault).at(name)),
     }
 }
 
@@ -251,7 +284,7 @@ pub fn entry_of<'a, S: Alter + Drop>(
     match calls::entry(outbox, id) {
         Ok(Some(entry)) => Ok(entry),
         Ok(None) => Err(VisitFault::NoEntry { id }.at(name)),
-        Err(fault) => Err(VisitFault::Store(fault).at(name)),
+        Err(fault) => Err(VisitFault::from(fault).at(name)),
     }
 }
 
@@ -262,7 +295,7 @@ pub fn states_of<'a, S: Alter + Drop>(
 ) -> Result<Vec<(u64, State)>, Fault<'a>> {
     match calls::states(outbox) {
         Ok(states) => Ok(states),
-        Err(fault) => Err(VisitFault::Store(fault).at(name)),
+        Err(fault) => Err(VisitFault::from(fault).at(name)),
     }
 }
 

@@ -1,5 +1,6 @@
 //! Why a task is not done, in words and as a status.
 
+use crate::tables::Tables;
 use command_files::{ReportFault, Verdict};
 use command_line::{CommandFault, DatabaseFault};
 use filer_client::ExchangeFault;
@@ -15,34 +16,89 @@ use thiserror::Error;
 /// What went wrong in a visit to the outbox of a file.
 #[derive(Clone, Copy, Debug, Error)]
 pub enum VisitFault {
-    /// It was not made, or not made one of this version.
-    #[error("{0}")]
-    NotMade(OutboxFault),
-    #[error("{0}{hint}", hint = hint(*.0))]
-    Open(OutboxFault),
-    #[error("{0}")]
-    Put(PutFault),
-    #[error("{0}")]
-    Store(StoreFault),
-    #[error("{0} when it was closed; what was told stays, in the log beside it")]
-    NotClosed(StoreFault),
-    #[error("entry {id} was put in, but the output cannot be written")]
-    NotTold { id: u64 },
+    /// An outbox is made only in a database without tables.
+    #[error("{why}", why = .0.taken())]
+    Taken(Tables),
+    /// The tables are not those of an outbox of this version.
+    #[error("{why}", why = .0.unfit())]
+    NotOurs(Tables),
+    /// The outbox that is to be migrated has this version.
+    #[error("this outbox has this version already")]
+    IsCurrent,
+    /// What is to be migrated has tables of an outbox, and not those of an earlier version.
+    #[error("its tables are not those of an earlier version")]
+    NotEarlier,
+    #[error("row {row} of the outbox is damaged")]
+    Damaged { row: u64 },
+    #[error("the filer is no filer code")]
+    BadFiler,
+    #[error("the report has more than 1048576 bytes")]
+    TooLarge,
+    #[error("this key is in use, by entry {id}")]
+    KeyUsed { id: u64 },
     #[error("there is no entry {id}")]
     NoEntry { id: u64 },
-    #[error("{0}")]
-    Take(TakeFault),
+    #[error("entry {id} was put in, but the output cannot be written")]
+    NotTold { id: u64 },
+    #[error("it could not be closed; what was reported is kept, in the log beside it")]
+    NotClosed,
+    #[error("out of memory")]
+    Memory,
+    /// The disk, or what the disk gave.
+    #[error("the database failed: the disk may be full")]
+    Database,
 }
 
-/// What can be done where a database is no outbox of this version.
-fn hint(fault: OutboxFault) -> &'static str {
-    match fault {
-        OutboxFault::NotOurs => " of this version (outbox migrate takes one of an earlier version)",
-        _ => "",
+impl From<PutFault> for VisitFault {
+    fn from(fault: PutFault) -> VisitFault {
+        match fault {
+            PutFault::TooLarge => VisitFault::TooLarge,
+            PutFault::KeyUsed { id } => VisitFault::KeyUsed { id },
+            PutFault::Memory => VisitFault::Memory,
+            PutFault::Store => VisitFault::Database,
+        }
+    }
+}
+
+impl From<StoreFault> for VisitFault {
+    fn from(fault: StoreFault) -> VisitFault {
+        match fault {
+            StoreFault::Memory => VisitFault::Memory,
+            StoreFault::Store => VisitFault::Database,
+        }
     }
 }
 
 impl VisitFault {
+    /// Why a database with these tables was not opened or made an outbox.
+    pub fn of_opening(fault: OutboxFault, tables: Tables) -> VisitFault {
+        match fault {
+            OutboxFault::BadFiler => VisitFault::BadFiler,
+            OutboxFault::Taken => VisitFault::Taken(tables),
+            OutboxFault::NotOurs => VisitFault::NotOurs(tables),
+            OutboxFault::Damaged { row } => VisitFault::Damaged { row },
+            OutboxFault::Memory => VisitFault::Memory,
+            OutboxFault::Disk => VisitFault::Database,
+        }
+    }
+
+    /// Why a database with these tables was not migrated.
+    pub fn of_migrating(fault: OutboxFault, tables: Tables) -> VisitFault {
+        match (fault, tables) {
+            (OutboxFault::NotOurs, Tables::OfOutbox) => VisitFault::NotEarlier,
+            _ => VisitFault::of_opening(fault, tables),
+        }
+    }
+
+    /// Why the reply for the entry of this id was not taken.
+    pub fn of_taking(fault: TakeFault, id: u64) -> VisitFault {
+        match fault {
+            TakeFault::NoEntry => VisitFault::NoEntry { id },
+            TakeFault::Memory => VisitFault::Memory,
+            TakeFault::Store => VisitFault::Database,
+        }
+    }
+
     /// Why a task was not done that visited the outbox of the file with this name.
     pub fn at(self, name: &str) -> Fault<'_> {
         Fault::Outbox { name, fault: self }
@@ -50,28 +106,30 @@ impl VisitFault {
 
     /// The status that the program ends with: 1 for a database that is no outbox or cannot become
     /// one, 2 for a filer, a key or a body that it does not take, 3 for a fault of memory or the
-    /// disk, 4 where an entry is missing.
+    /// disk, 4 if an entry is missing.
     pub fn status(self) -> u8 {
         match self {
-            VisitFault::NotMade(
-                OutboxFault::Taken | OutboxFault::NotOurs | OutboxFault::Damaged { .. },
-            ) => 1,
-            VisitFault::Open(OutboxFault::NotOurs | OutboxFault::Damaged { .. }) => 1,
-            VisitFault::NotMade(OutboxFault::BadFiler) => 2,
-            VisitFault::Put(PutFault::TooLarge | PutFault::KeyUsed { .. }) => 2,
+            VisitFault::Taken(_)
+            | VisitFault::NotOurs(_)
+            | VisitFault::IsCurrent
+            | VisitFault::NotEarlier
+            | VisitFault::Damaged { .. } => 1,
+            VisitFault::BadFiler | VisitFault::TooLarge | VisitFault::KeyUsed { .. } => 2,
+            VisitFault::NotTold { .. }
+            | VisitFault::NotClosed
+            | VisitFault::Memory
+            | VisitFault::Database => 3,
             VisitFault::NoEntry { .. } => 4,
-            _ => 3,
         }
     }
 
-    /// What it says of the outbox, where it says something.
+    /// What it says of the outbox, if it says something.
     pub fn verdict(self) -> Option<Verdict> {
         match self {
-            VisitFault::NotMade(fault) | VisitFault::Open(fault) => match fault {
-                OutboxFault::NotOurs => Some(Verdict::NotOurs),
-                OutboxFault::Damaged { row } => Some(Verdict::Damaged(row)),
-                _ => None,
-            },
+            VisitFault::NotOurs(_) | VisitFault::IsCurrent | VisitFault::NotEarlier => {
+                Some(Verdict::NotOurs)
+            }
+            VisitFault::Damaged { row } => Some(Verdict::Damaged(row)),
             _ => None,
         }
     }

@@ -10,6 +10,7 @@ mod fault;
 mod line;
 mod options;
 mod sending;
+mod tables;
 mod tasks;
 
 pub use line::EntryLine;

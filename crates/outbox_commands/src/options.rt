@@ -124,7 +124,10 @@ fn entry<'a>(alloc: Global, help: &'a str) -> Arg<'a> {
 fn all<'a>(alloc: Global) -> Result<Arg<'a>, AllocError> {
     Arg::new(alloc, "all")
         .long("all")
-        .help("Sends each open entry once, by id, up to the first fault of the network")
+        .help(concat!(
+            "Sends each open entry once, by id, and goes on after an exchange that failed; ",
+            "ends at once if nobody listens",
+        ))
         .action(ArgAction::SetTrue)
         .conflicts_with("entry")
 }
@@ -162,7 +165,7 @@ impl ToArg for Argument {
 static WORDS: [Word<Argument>; 6] = [
     Word {
         name: "init",
-        about: "Makes an outbox without entries; the file is made where it is missing",
+        about: "Makes an outbox without entries; creates the file if there is none",
         example: "Example: outbox init --db outbox.db --filer ACME",
         arguments: &[Argument::Database, Argument::Filer],
     },
@@ -180,7 +183,12 @@ static WORDS: [Word<Argument>; 6] = [
     Word {
         name: "send",
         about: "Sends an open entry once, and prints its state after the reply",
-        example: "Example: outbox send --db outbox.db --port 8080 --all",
+        example: concat!(
+            "Example: outbox send --db outbox.db --port 8080 --all\n\n",
+            "An answer that settles nothing, as 403 or 503, leaves its entry open: standard error shows it.\n",
+            "Exit status: 0 each reply was read; 1 not an outbox, or a damaged one; 3 an exchange failed, nobody listens, ",
+            "or memory or the disk failed; 4 no such entry",
+        ),
         arguments: &[
             Argument::Database,
             Argument::Port,
@@ -205,7 +213,7 @@ static WORDS: [Word<Argument>; 6] = [
     },
     Word {
         name: "migrate",
-        about: "Makes an outbox of an earlier version one of this version; its entries stay as they were",
+        about: "Upgrades an outbox of an earlier version; its entries stay as they are",
         example: "Example: outbox migrate --db outbox.db",
         arguments: &[Argument::Database],
     },

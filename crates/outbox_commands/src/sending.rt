@@ -1,6 +1,6 @@
 //! Sending entries: each over a connection of its own, and what is printed of it.
 
-use crate::answer::{Noted, tell_answer};
+use crate::answer::{Noted, tell_open, tell_refused};
 use crate::calls;
 use crate::errand::{entry_of, states_of};
 use crate::fault::{Cause, Fault, VisitFault};
@@ -67,7 +67,7 @@ fn exchange_on<'a, S: Alter + Drop>(
             state,
             noted: reader.into_bytes(),
         }),
-        Err(ExchangeFault::Take(fault)) => Err(VisitFault::Take(fault).at(name)),
+        Err(ExchangeFault::Take(fault)) => Err(VisitFault::of_taking(fault, id).at(name)),
         Err(fault) => Err(Fault::Exchange { port, fault }),
     }
 }
@@ -87,11 +87,26 @@ fn show_none<'a, O: Write>(output: &mut O) -> Result<(), Fault<'a>> {
     Ok(show(output, b"nothing open\n")?)
 }
 
-/// Says on the standard error why an entry stays open although it was answered.
-fn explain<E: Write>(rt: &HostRuntime, id: u64, exchanged: &Exchanged, errors: &mut E) {
-    if exchanged.state == State::Open {
-        tell_answer(rt.alloc(), id, exchanged.noted.as_slice(), errors);
-    }
+/// Says on the standard error why an entry that was answered is not confirmed, and what to do.
+fn explain<E: Write>(
+    rt: &HostRuntime,
+    id: u64,
+    filer: &str,
+    exchanged: &Exchanged,
+    errors: &mut E,
+) {
+    let alloc = rt.alloc();
+    let noted = exchanged.noted.as_slice();
+    // Nothing is left to be done if these texts can't be written either.
+    let _ = match exchanged.state {
+        State::Open => tell_open(alloc, id, noted, errors),
+        State::Refused => tell_refused(alloc, id, filer, noted, errors),
+        State::Clashed => writeln!(
+            errors,
+            "outbox: entry {id}: clashed; the register has another report under its key: put it in under a new one"
+        ),
+        State::Confirmed(_) => Ok(()),
+    };
 }
 
 /// Sends an entry that is open, and prints its state. After a fault it is open still.
@@ -107,7 +122,7 @@ fn send_open<'a, S: Alter + Drop, O: Write, E: Write>(
     match exchange_on(rt, name, port, outbox, id) {
         Ok(exchanged) => {
             show_entry(rt, output, id, exchanged.state)?;
-            explain(rt, id, &exchanged, errors);
+            explain(rt, id, outbox.filer(), &exchanged, errors);
             Ok(())
         }
         Err(fault) => {
@@ -140,7 +155,7 @@ fn next_open<'a, S: Alter + Drop>(
 ) -> Result<Option<Entry>, Fault<'a>> {
     match calls::next_open(outbox) {
         Ok(entry) => Ok(entry),
-        Err(fault) => Err(VisitFault::Store(fault).at(name)),
+        Err(fault) => Err(VisitFault::from(fault).at(name)),
     }
 }
 
