@@ -5,7 +5,7 @@ ghost use Rattle.std.specs.Prelude.{◌≡◌, None, false};
 use crate::calls;
 use crate::fault::{Fault, VisitFault};
 use crate::line::{EntryLine, LongLine};
-use crate::options::{Target, Which};
+use crate::options::{Peer, Target, Which};
 use crate::sending::send;
 use crate::tables::{Tables, tables_of};
 use command_files::{Cache, FileSystem, Left, Opening, Work, on_database};
@@ -34,7 +34,7 @@ pub enum Errand<'a> {
     Migrate,
     /// Send entries.
     Send {
-        port: u16,
+        peer: Peer,
         which: Which,
     },
     /// Show the state of each entry.
@@ -232,8 +232,8 @@ fn done<'a, S: Alter + Drop, O: Write, E: Write>(
         Errand::Init { .. } => Ok(()),
         Errand::Put { key, target, body } => put(rt, name, outbox, key, target, body, output),
         Errand::Migrate => show_migrated(output),
-        Errand::Send { port, which } => {
-            send(rt, name, port, outbox, which, output, errors)
+        Errand::Send { peer, which } => {
+            send(rt, name, peer, outbox, which, output, errors)
         }
         Errand::Status => show_states(rt.alloc(), name, outbox, output),
         Errand::Show { entry } => show_entries(rt.alloc(), name, outbox, entry, output),

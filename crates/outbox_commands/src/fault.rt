@@ -168,6 +168,8 @@ pub enum Fault<'a> {
     Connect { port: u16, error: io::Error },
     #[error("127.0.0.1:{port}: {cause}", cause = Cause(*.fault))]
     Exchange { port: u16, fault: ExchangeFault },
+    #[error("127.0.0.1:{port}: no reply within {seconds} s")]
+    Patience { port: u16, seconds: u64 },
     #[error("127.0.0.1:{port}: {failed} of {sent} exchanges failed")]
     Round { port: u16, sent: u64, failed: u64 },
     #[error("no random key: {0}")]
@@ -193,6 +195,7 @@ impl Fault<'_> {
             Fault::Key(_) => 2,
             Fault::Connect { .. }
             | Fault::Exchange { .. }
+            | Fault::Patience { .. }
             | Fault::Round { .. }
             | Fault::Random(_) => 3,
         }

@@ -35,7 +35,7 @@ pub enum Task<'a> {
     /// Send an entry, or all that are open.
     Send {
         database: &'a str,
-        port: u16,
+        peer: Peer,
         which: Which,
     },
     /// Show the state of each entry.
@@ -54,6 +54,15 @@ pub enum Task<'a> {
 pub struct Target {
     pub number: Option<u64>,
     ghost fits: { IsTarget number } by { IsTarget-prop number },
+}
+
+/// The intake to which entries are sent.
+#[derive(Clone, Copy)]
+pub struct Peer {
+    /// Its port of 127.0.0.1.
+    pub port: u16,
+    /// How many seconds an exchange with it may take, if there is a limit.
+    pub patience: Option<u64>,
 }
 
 /// Which entries are sent.
@@ -116,6 +125,16 @@ fn port<'a>(alloc: Global) -> Arg<'a> {
     )
 }
 
+fn patience<'a>(alloc: Global) -> Arg<'a> {
+    number_option(
+        alloc,
+        "patience",
+        "SECONDS",
+        "How long an exchange may take, 1 to 86400 [default: no limit]",
+        value_parser!(u64).range(1..=86_400),
+    )
+}
+
 fn entry<'a>(alloc: Global, help: &'a str) -> Arg<'a> {
     let numbers = value_parser!(u64).range(0..=i64::MAX);
     number_option(alloc, "entry", "ID", help, numbers)
@@ -126,7 +145,7 @@ fn all<'a>(alloc: Global) -> Result<Arg<'a>, AllocError> {
         .long("all")
         .help(concat!(
             "Sends each open entry once, by id, and goes on after an exchange that failed; ",
-            "ends at once if nobody listens",
+            "ends at once if nobody listens or patience runs out",
         ))
         .action(ArgAction::SetTrue)
         .conflicts_with("entry")
@@ -141,6 +160,7 @@ enum Argument {
     Key,
     Amend,
     Port,
+    Patience,
     /// The id of an entry, with this help.
     Entry(&'static str),
     All,
@@ -155,6 +175,7 @@ impl ToArg for Argument {
             Argument::Key => key(alloc),
             Argument::Amend => amend(alloc),
             Argument::Port => port(alloc),
+            Argument::Patience => patience(alloc),
             Argument::Entry(help) => entry(alloc, help),
             Argument::All => all(alloc)?,
         })
@@ -194,6 +215,7 @@ static WORDS: [Word<Argument>; 6] = [
             Argument::Port,
             Argument::Entry("The entry's id [default: the open entry with the least id]"),
             Argument::All,
+            Argument::Patience,
         ],
     },
     Word {
@@ -265,7 +287,10 @@ fn task_of<'a>(name: &str, values: &ArgMatches<'a>) -> Option<Task<'a>> {
         "migrate" => Some(Task::Migrate { database }),
         "send" => Some(Task::Send {
             database,
-            port: values.get_one("port")?,
+            peer: Peer {
+                port: values.get_one("port")?,
+                patience: values.get_one("patience"),
+            },
             which: which_of(values),
         }),
         "status" => Some(Task::Status { database }),

@@ -5,14 +5,16 @@ use crate::calls;
 use crate::errand::{entry_of, states_of};
 use crate::fault::{Cause, Fault, VisitFault};
 use crate::line::EntryLine;
-use crate::options::Which;
+use crate::options::{Peer, Which};
+use command_files::{Deadline, Patient};
 use command_line::show;
 use filer_client::ExchangeFault;
-use http_wire::Device;
+use http_wire::{Device, ReplyFault};
 use outbox_core::{Entry, Outbox, State};
 use sqlite::Alter;
 use std::io::{self, Write};
 use std::net::TcpStream;
+use std::time::Duration;
 
 /// What came of an exchange: the state of its entry, and the first bytes of the reply.
 #[derive(Drop)]
@@ -51,24 +53,52 @@ fn try_connect(rt: &HostRuntime, port: u16) -> io::Result<TcpStream> {
     Ok(stream)
 }
 
+/// The time that a connection to the peer may take from now on.
+fn deadline_for<'a>(
+    rt: &HostRuntime,
+    peer: Peer,
+) -> Result<Deadline<'_, HostRuntime>, Fault<'a>> {
+    match Deadline::after(rt, peer.patience.map(Duration::from_secs)) {
+        Ok(deadline) => Ok(deadline),
+        Err(error) => Err(Fault::Connect {
+            port: peer.port,
+            error,
+        }),
+    }
+}
+
+/// Why an exchange with the peer failed: its time was over, or another cause.
+fn fault_of<'a>(peer: Peer, fault: ExchangeFault, is_over: bool) -> Fault<'a> {
+    let port = peer.port;
+    match (peer.patience, fault) {
+        (Some(seconds), ExchangeFault::Write { .. } | ExchangeFault::Reply(ReplyFault::Read))
+            if is_over =>
+        {
+            Fault::Patience { port, seconds }
+        }
+        _ => Fault::Exchange { port, fault },
+    }
+}
+
 /// One exchange over a connection of its own. A fault names the address, or the outbox if that failed.
 fn exchange_on<'a, S: Alter + Drop>(
     rt: &HostRuntime,
     name: &'a str,
-    port: u16,
+    peer: Peer,
     outbox: &mut Outbox<S>,
     id: u64,
 ) -> Result<Exchanged, Fault<'a>> {
-    let stream = connect(rt, port)?;
-    let mut reader = Noted::new(rt.alloc(), Device::new(&stream));
-    let mut writer = Device::new(&stream);
+    let stream = connect(rt, peer.port)?;
+    let deadline = deadline_for(rt, peer)?;
+    let mut reader = Noted::new(rt.alloc(), Device::new(Patient::new(&stream, &deadline)));
+    let mut writer = Device::new(Patient::new(&stream, &deadline));
     match calls::exchange(rt.alloc(), &mut reader, &mut writer, outbox, id) {
         Ok(state) => Ok(Exchanged {
             state,
             noted: reader.into_bytes(),
         }),
         Err(ExchangeFault::Take(fault)) => Err(VisitFault::of_taking(fault, id).at(name)),
-        Err(fault) => Err(Fault::Exchange { port, fault }),
+        Err(fault) => Err(fault_of(peer, fault, deadline.is_over())),
     }
 }
 
@@ -113,13 +143,13 @@ fn explain<E: Write>(
 fn send_open<'a, S: Alter + Drop, O: Write, E: Write>(
     rt: &HostRuntime,
     name: &'a str,
-    port: u16,
+    peer: Peer,
     outbox: &mut Outbox<S>,
     id: u64,
     output: &mut O,
     errors: &mut E,
 ) -> Result<(), Fault<'a>> {
-    match exchange_on(rt, name, port, outbox, id) {
+    match exchange_on(rt, name, peer, outbox, id) {
         Ok(exchanged) => {
             show_entry(rt, output, id, exchanged.state)?;
             explain(rt, id, outbox.filer(), &exchanged, errors);
@@ -136,14 +166,14 @@ fn send_open<'a, S: Alter + Drop, O: Write, E: Write>(
 fn send_entry<'a, S: Alter + Drop, O: Write, E: Write>(
     rt: &HostRuntime,
     name: &'a str,
-    port: u16,
+    peer: Peer,
     outbox: &mut Outbox<S>,
     id: u64,
     output: &mut O,
     errors: &mut E,
 ) -> Result<(), Fault<'a>> {
     match entry_of(outbox, name, id)?.state {
-        State::Open => send_open(rt, name, port, outbox, id, output, errors),
+        State::Open => send_open(rt, name, peer, outbox, id, output, errors),
         state => show_entry(rt, output, id, state),
     }
 }
@@ -163,13 +193,13 @@ fn next_open<'a, S: Alter + Drop>(
 fn send_next<'a, S: Alter + Drop, O: Write, E: Write>(
     rt: &HostRuntime,
     name: &'a str,
-    port: u16,
+    peer: Peer,
     outbox: &mut Outbox<S>,
     output: &mut O,
     errors: &mut E,
 ) -> Result<(), Fault<'a>> {
     match next_open(outbox, name)? {
-        Some(entry) => send_open(rt, name, port, outbox, entry.id, output, errors),
+        Some(entry) => send_open(rt, name, peer, outbox, entry.id, output, errors),
         None => show_none(output),
     }
 }
@@ -178,13 +208,13 @@ fn send_next<'a, S: Alter + Drop, O: Write, E: Write>(
 fn send_in_round<'a, S: Alter + Drop, O: Write, E: Write>(
     rt: &HostRuntime,
     name: &'a str,
-    port: u16,
+    peer: Peer,
     outbox: &mut Outbox<S>,
     id: u64,
     output: &mut O,
     errors: &mut E,
 ) -> Result<bool, Fault<'a>> {
-    match send_open(rt, name, port, outbox, id, output, errors) {
+    match send_open(rt, name, peer, outbox, id, output, errors) {
         Ok(()) => Ok(false),
         Err(fault) => match fault.of_entry() {
             Some(cause) => {
@@ -206,7 +236,7 @@ fn tell_entry<E: Write>(id: u64, fault: ExchangeFault, errors: &mut E) {
 fn send_each<'a, S: Alter + Drop, O: Write, E: Write>(
     rt: &HostRuntime,
     name: &'a str,
-    port: u16,
+    peer: Peer,
     outbox: &mut Outbox<S>,
     states: &[(u64, State)],
     output: &mut O,
@@ -215,7 +245,7 @@ fn send_each<'a, S: Alter + Drop, O: Write, E: Write>(
     let mut round = Round { sent: 0, failed: 0 };
     for &(id, state) in states {
         if state == State::Open {
-            let has_failed = send_in_round(rt, name, port, outbox, id, output, errors)?;
+            let has_failed = send_in_round(rt, name, peer, outbox, id, output, errors)?;
             round = round.and(has_failed);
         }
     }
@@ -226,16 +256,20 @@ fn send_each<'a, S: Alter + Drop, O: Write, E: Write>(
 fn send_all<'a, S: Alter + Drop, O: Write, E: Write>(
     rt: &HostRuntime,
     name: &'a str,
-    port: u16,
+    peer: Peer,
     outbox: &mut Outbox<S>,
     output: &mut O,
     errors: &mut E,
 ) -> Result<(), Fault<'a>> {
     let states = states_of(outbox, name)?;
-    match send_each(rt, name, port, outbox, states.as_slice(), output, errors)? {
+    match send_each(rt, name, peer, outbox, states.as_slice(), output, errors)? {
         Round { sent: 0, .. } => show_none(output),
         Round { failed: 0, .. } => Ok(()),
-        Round { sent, failed } => Err(Fault::Round { port, sent, failed }),
+        Round { sent, failed } => Err(Fault::Round {
+            port: peer.port,
+            sent,
+            failed,
+        }),
     }
 }
 
@@ -243,15 +277,15 @@ fn send_all<'a, S: Alter + Drop, O: Write, E: Write>(
 pub fn send<'a, S: Alter + Drop, O: Write, E: Write>(
     rt: &HostRuntime,
     name: &'a str,
-    port: u16,
+    peer: Peer,
     outbox: &mut Outbox<S>,
     which: Which,
     output: &mut O,
     errors: &mut E,
 ) -> Result<(), Fault<'a>> {
     match which {
-        Which::Next => send_next(rt, name, port, outbox, output, errors),
-        Which::Entry(id) => send_entry(rt, name, port, outbox, id, output, errors),
-        Which::All => send_all(rt, name, port, outbox, output, errors),
+        Which::Next => send_next(rt, name, peer, outbox, output, errors),
+        Which::Entry(id) => send_entry(rt, name, peer, outbox, id, output, errors),
+        Which::All => send_all(rt, name, peer, outbox, output, errors),
     }
 }

@@ -112,13 +112,13 @@ fn perform_task<'a, D: Disk + Drop, F: FileSystem<D>, O: Write, E: Write>(
         Task::Migrate { database } => migrate(rt, system, database, output, errors),
         Task::Send {
             database,
-            port,
+            peer,
             which,
         } => run_errand(
             rt,
             system,
             database,
-            Errand::Send { port, which },
+            Errand::Send { peer, which },
             output,
             errors,
         ),
