@@ -17,6 +17,9 @@ use sqlite_disk::Disk;
 use std::alloc::{AllocError, Global};
 use std::io::Write;
 
+/// How many entries before a new one are compared with it.
+const MOST_COMPARED: u64 = 16;
+
 /// What is done with an outbox.
 #[derive(Drop)]
 pub enum Errand<'a> {
@@ -27,6 +30,8 @@ pub enum Errand<'a> {
     /// Put a report in under this key, to replace the filing of this number, if there is one.
     Put {
         key: KeyText,
+        /// Whether the key was drawn at random, so that a repeat of this errand is another entry.
+        is_random: bool,
         target: Target,
         body: Vec<u8>,
     },
@@ -230,7 +235,18 @@ fn done<'a, S: Alter + Drop, O: Write, E: Write>(
 ) -> Result<(), Fault<'a>> {
     match errand {
         Errand::Init { .. } => Ok(()),
-        Errand::Put { key, target, body } => put(rt, name, outbox, key, target, body, output),
+        Errand::Put {
+            key,
+            is_random,
+            target,
+            body,
+        } => {
+            let id = put(rt, name, outbox, key, target, body, output)?;
+            if is_random {
+                tell_same(outbox, id, errors);
+            }
+            Ok(())
+        }
         Errand::Migrate => show_migrated(output),
         Errand::Send { peer, which } => {
             send(rt, name, peer, outbox, which, output, errors)
@@ -259,7 +275,7 @@ fn show_id<'a, O: Write>(
     }
 }
 
-/// Puts a report in, and tells its id before the files are closed: it stands from then on.
+/// Puts a report in, and prints its id before the files are closed, since it is kept from then on.
 fn put<'a, S: Alter + Drop, O: Write>(
     rt: &HostRuntime,
     name: &'a str,
@@ -268,10 +284,43 @@ fn put<'a, S: Alter + Drop, O: Write>(
     target: Target,
     body: Vec<u8>,
     output: &mut O,
-) -> Result<(), Fault<'a>> {
+) -> Result<u64, Fault<'a>> {
     match calls::put(outbox, key, target, body) {
-        Ok(id) => show_id(rt, name, id, output),
+        Ok(id) => {
+            show_id(rt, name, id, output)?;
+            Ok(id)
+        }
         Err(fault) => Err(VisitFault::from(fault).at(name)),
+    }
+}
+
+/// Whether two entries have one report, and replace the same filing or none.
+fn is_same(one: &Entry, other: &Entry) -> bool {
+    one.target == other.target && one.body.as_slice() == other.body.as_slice()
+}
+
+/// The newest of the entries before this one that has its report. Only the last few are read, so that this costs
+/// little in a large outbox.
+fn same_before<S: Alter + Drop>(outbox: &mut Outbox<S>, entry: &Entry) -> Option<u64> {
+    let first = entry.id.saturating_sub(MOST_COMPARED).max(1);
+    for id in (first..entry.id).rev() {
+        if let Ok(Some(other)) = calls::entry(outbox, id) {
+            if is_same(entry, &other) {
+                return Some(id);
+            }
+        }
+    }
+    None
+}
+
+/// Says on the standard error if one of the last few entries has the report of this one too.
+fn tell_same<S: Alter + Drop, E: Write>(outbox: &mut Outbox<S>, id: u64, errors: &mut E) {
+    let Ok(Some(entry)) = calls::entry(outbox, id) else {
+        return;
+    };
+    if let Some(same) = same_before(outbox, &entry) {
+        // Nothing is left to be done if this text can't be written either.
+        let _ = writeln!(errors, "outbox: the same report is entry {same}");
     }
 }
 

@@ -63,7 +63,12 @@ fn put<'a, D: Disk + Drop, F: FileSystem<D>, O: Write, E: Write>(
 ) -> Result<(), Fault<'a>> {
     let key = key(rt, key_text)?;
     let body = report(rt, body_name)?;
-    let errand = Errand::Put { key, target, body };
+    let errand = Errand::Put {
+        key,
+        is_random: key_text.is_none(),
+        target,
+        body,
+    };
     run_errand(rt, system, name, errand, output, errors)
 }
 
