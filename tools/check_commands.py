@@ -8,8 +8,8 @@ It takes the programs that `rt run` builds in their folders, as crates/intake/ou
 import sqlite3
 import subprocess
 
-from trials import INTAKE, NOT_A_REGISTER, NO_OUTBOX, OUTBOX, REPORT, Serving, exchange, hold, make_by_sql, make_earlier, make_earlier_outbox
-from trials import run, said, try_all
+from trials import INTAKE, NOT_A_REGISTER, NO_OUTBOX, OUTBOX, REPORT, Serving, exchange, hold, make_by_sql, make_earlier
+from trials import make_earlier_outbox, make_register, run, said, try_all
 
 FACT = (
     '{"concept":"eg:Assets","decimals":0,"dimensions":{"concept":"eg:Assets","entity":"lei:ACME",'
@@ -79,38 +79,54 @@ ENTRIES = [
     ("init --db @box.db --filer a/b", 2, "", f"--filer: {FILER_CODE}"),
     ("status --db @box.db", 1, "", "box.db: there is no such file"),
     ("init --db @box.db --filer -x", 0, "", ""),
-    ("init --db @box.db --filer -x", 1, "", "box.db: a table of the outbox's name is there"),
+    ("init --db @box.db --filer -x", 1, "", "box.db: it is an outbox already"),
     ("put --db @none.db --body @none --key ", 2, "", "--key: the key is empty"),
     ("put --db @box.db --body @large --key k-1", 2, "", "large: the report has more than 1048576 bytes"),
     ("put --db @box.db --body @small --key k-1", 0, "entry 1\n", ""),
-    ("put --db @box.db --body @small --key k-1", 2, "", "box.db: the key is that of entry 1"),
-    ("put --db @box.db --body @small", 0, "entry 2\n", ""),
+    ("put --db @box.db --body @small --key k-1", 2, "", "box.db: this key is in use, by entry 1"),
+    ("put --db @box.db --body @small", 0, "entry 2\n", "the same report is entry 1"),
     ("send --db @box.db --port 1 --entry 3", 4, "", "box.db: there is no entry 3"),
     ("status --db @box.db", 0, "entry 1 open\nentry 2 open\n", ""),
     ("show --db @box.db --entry 1", 0, "entry 1 open, 2 bytes, key k-1\n", ""),
     ("show --db @box.db --entry 3", 4, "", "box.db: there is no entry 3"),
     ("status --db @small", 1, "", "small: not a database"),
-    ("migrate --db @box.db", 1, "not an outbox\n", "box.db: the database is no outbox"),
+    ("migrate --db @box.db", 1, "not an outbox\n", "box.db: this outbox has this version already"),
     ("put --db @box.db --body @small --key k-3 --amend 1", 0, "entry 3\n", ""),
     ("put --db @box.db --body @small --key k-4 --amend 9223372036854775807", 0, "entry 4\n", ""),
-    ("put --db @box.db --body @small --key k-1 --amend 1", 2, "", "box.db: the key is that of entry 1"),
+    ("put --db @box.db --body @small --key k-1 --amend 1", 2, "", "box.db: this key is in use, by entry 1"),
     ("show --db @box.db --entry 3", 0, "entry 3 open, 2 bytes, replaces 1, key k-3\n", ""),
 ]
 MIGRATED_OUTBOXES = [
     ("migrate --db @none.db", 1, "not an outbox\n", "none.db: there is no such file"),
     ("migrate --db @text", 1, "not an outbox\n", "text: not a database"),
     ("migrate --db @damaged.db", 1, "damaged at row 2\n", "damaged.db: row 2 of the outbox is damaged"),
-    ("migrate --db @used.db", 1, "not an outbox\n", "used.db: the database is no outbox"),
+    ("migrate --db @used.db", 1, "not an outbox\n", "used.db: its tables are not those of an earlier version"),
     ("status --db @old.db", 1, "", f"old.db: {NO_OUTBOX}"),
     ("put --db @old.db --body @small --key k-3", 1, "", f"old.db: {NO_OUTBOX}"),
     ("migrate --db @old.db", 0, "migrated\n", ""),
     ("status --db @old.db", 0, "entry 1 confirmed 1\nentry 2 open\n", ""),
     ("show --db @old.db", 0, "entry 1 confirmed 1, 2 bytes, key k-1\nentry 2 open, 2 bytes, key k-2\n", ""),
-    ("migrate --db @old.db", 1, "not an outbox\n", "old.db: the database is no outbox"),
+    ("migrate --db @old.db", 1, "not an outbox\n", "old.db: this outbox has this version already"),
     ("put --db @old.db --body @small --key k-3 --amend 1", 0, "entry 3\n", ""),
 ]
 
-# Ports are 1 to 65535, patience is 1 to 86400, and the numbers that `--amend` takes 1 to 9223372036854775807; limits, other numbers and ids begin with 0.
+# Files that have other tables, or none.
+OTHER_OUTBOXES = [
+    ("init --db @foreign.db --filer ACME", 1, "", "foreign.db: the file has tables already"),
+    ("status --db @foreign.db", 1, "", "foreign.db: not an outbox"),
+    ("migrate --db @foreign.db", 1, "not an outbox\n", "foreign.db: not an outbox"),
+    ("init --db @register.db --filer ACME", 1, "", "register.db: this is a register"),
+    ("put --db @register.db --body @small", 1, "", "register.db: this is a register"),
+    ("migrate --db @register.db", 1, "not an outbox\n", "register.db: this is a register"),
+    ("init --db @old.db --filer ACME", 1, "", "old.db: it is an outbox already"),
+    ("status --db @bare.db", 1, "", "bare.db: it has no tables (outbox init makes an outbox)"),
+    ("migrate --db @bare.db", 1, "not an outbox\n", "bare.db: it has no tables (outbox init makes an outbox)"),
+    ("init --db @bare.db --filer ACME", 0, "", ""),
+    ("status --db @bare.db", 0, "", ""),
+]
+
+# Ports are 1 to 65535, seconds 1 to 86400, and the numbers that `--amend` takes 1 to 9223372036854775807; limits, other numbers and ids
+# begin with 0.
 OUT_OF_RANGE = [
     (INTAKE, "serve --db @r.db --port 0 --connections 1"),
     (INTAKE, "serve --db @r.db --port 65536 --connections 1"),
@@ -121,6 +137,8 @@ OUT_OF_RANGE = [
     (OUTBOX, "send --db @box.db --port 0"),
     (OUTBOX, "send --db @box.db --port 65536"),
     (OUTBOX, "send --db @box.db --port 1 --entry -1"),
+    (OUTBOX, "send --db @box.db --port 1 --patience 0"),
+    (OUTBOX, "send --db @box.db --port 1 --patience 86401"),
     (OUTBOX, "put --db @box.db --body @small --amend 0"),
     (OUTBOX, "put --db @box.db --body @small --amend -1"),
     (OUTBOX, "put --db @box.db --body @small --amend 9223372036854775808"),
@@ -208,6 +226,17 @@ def check_outbox_migration(folder):
     hold_each(OUTBOX, MIGRATED_OUTBOXES, folder)
 
 
+def check_files_of_others(folder):
+    (folder / "small").write_bytes(b"{}")
+    make_register(folder / "register.db")
+    make_earlier_outbox(folder / "old.db")
+    make_by_sql(folder / "foreign.db", "CREATE TABLE other (x);")
+    make_by_sql(folder / "bare.db", "PRAGMA user_version = 1;")
+    before = sorted(it.name for it in folder.iterdir())
+    hold_each(OUTBOX, OTHER_OUTBOXES, folder)
+    hold("nothing is left beside them", sorted(it.name for it in folder.iterdir()), before)
+
+
 def check_ranges(folder):
     for program, line in OUT_OF_RANGE:
         status, output, errors = perform(program, line, folder)
@@ -231,6 +260,7 @@ def check_closed_output(folder):
 if __name__ == "__main__":
     try_all(
         (INTAKE, OUTBOX),
-        (check_intake, check_empty_file, check_others, check_migration, check_outbox, check_outbox_migration, check_ranges, check_name_of_a_uri,
+        (check_intake, check_empty_file, check_others, check_migration, check_outbox, check_outbox_migration, check_files_of_others, check_ranges,
+         check_name_of_a_uri,
          check_closed_output),
     )

@@ -18,8 +18,8 @@ import sqlite3
 import subprocess
 import time
 
-from trials import INTAKE, OUTBOX, REPORT, SMALLEST, Serving, exchange, free_port, hold, make_register, request, run, said
-from trials import statuses, tell, try_all
+from trials import INTAKE, NOT_A_REGISTER, OUTBOX, REPORT, SMALLEST, Peer, Serving, answers, breaks, exchange, free_port, hold, is_silent
+from trials import make_register, request, run, said, statuses, tell, try_all
 
 
 # ---- what serve says
@@ -133,11 +133,16 @@ def check_sent_amendments(folder):
     report.write_bytes(REPORT)
     run(OUTBOX, "init", "--db", outbox, "--filer", "ACME")
     serving = Serving(folder / "register.db", 3, "--new")
-    for entry, words, state in ((1, (), "confirmed 1"), (2, ("--amend", 1), "confirmed 2"), (3, ("--amend", 1), "refused")):
+    replaced = "outbox: entry 3: refused; the filing that it is to replace is not there, or was replaced already\n"
+    for entry, words, state, errors in (
+        (1, (), "confirmed 1", ""),
+        (2, ("--amend", 1), "confirmed 2", ""),
+        (3, ("--amend", 1), "refused", replaced),
+    ):
         put = run(OUTBOX, "put", "--db", outbox, "--body", report, "--key", f"k-{entry}", *words)
         hold(f"put of entry {entry}", said(put, folder), (0, f"entry {entry}\n", ""))
         sent = run(OUTBOX, "send", "--db", outbox, "--port", serving.port)
-        hold(f"send of entry {entry}", said(sent, folder), (0, f"entry {entry} {state}\n", ""))
+        hold(f"send of entry {entry}", said(sent, folder), (0, f"entry {entry} {state}\n", errors))
     serving.end()
     listed = run(INTAKE, "list", "--db", folder / "register.db", "--filer", "ACME")
     hold("list of what was sent", said(listed, folder), (0, f"{BOTH}\n", ""))
@@ -402,6 +407,142 @@ def check_entries(folder):
     hold("show of no entry", run(OUTBOX, "show", "--db", database, "--entry", 4).returncode, 4)
 
 
+# ---- peers that answer wrongly, or not at all
+
+
+def reply(status, content, kind="application/json", before=""):
+    """A reply with this status line's rest, and the content under this media type."""
+    length = f"Content-Type: {kind}\r\nContent-Length: {len(content)}\r\n{before}\r\n"
+    return b"HTTP/1.1 " + status + b"\r\n" + length.encode() + content
+
+
+def problem(status, reason):
+    """A refusal with this reason, as problem details."""
+    content = f'{{"reason":"{reason}","status":{status[:3].decode()},"title":"{status[4:].decode()}","type":"about:blank"}}'
+    return reply(status, content.encode(), "application/problem+json")
+
+
+def registered(number):
+    return reply(b"201 Created", f'{{"number":{number},"status":"registered"}}'.encode())
+
+
+def make_outbox(folder, entries):
+    """An outbox of ACME with so many entries, under the keys k-1, k-2, .."""
+    outbox, report = folder / "outbox.db", folder / "report.json"
+    report.write_bytes(SMALLEST)
+    run(OUTBOX, "init", "--db", outbox, "--filer", "ACME")
+    for entry in range(1, entries + 1):
+        run(OUTBOX, "put", "--db", outbox, "--body", report, "--key", f"k-{entry}")
+    return outbox
+
+
+# What a peer does with an entry's request, and what is said of it.
+FAILING = [
+    ("the reply is cut", answers(registered(1)[:-1])),
+    ("the reply is malformed", answers(b"HTTP/1.1 OK\r\n\r\n")),
+    ("the content length of the reply is missing", answers(b"HTTP/1.1 201 Created\r\n\r\n")),
+    ("the reply is too large", answers(b"HTTP/1.1 201 Created\r\nContent-Length: 8388609\r\n\r\n")),
+    ("the connection broke before the whole reply came", breaks),
+]
+
+
+def check_round(folder):
+    outbox = make_outbox(folder, len(FAILING) + 1)
+    peer = Peer(*(act for _, act in FAILING), answers(registered(7)))
+    every = run(OUTBOX, "send", "--db", outbox, "--port", peer.port, "--all")
+    lines = "".join(f"entry {entry} open\n" for entry in range(1, len(FAILING) + 1)) + "entry 6 confirmed 7\n"
+    errors = "".join(f"outbox: entry {entry}: {cause}\n" for entry, (cause, _) in enumerate(FAILING, 1))
+    errors += f"outbox: 127.0.0.1:{peer.port}: 5 of 6 exchanges failed\n"
+    hold("a round goes on after an exchange that failed", said(every, folder), (3, lines, errors))
+    for entry, (cause, act) in enumerate(FAILING, 1):
+        peer = Peer(act)
+        one = run(OUTBOX, "send", "--db", outbox, "--port", peer.port, "--entry", entry)
+        hold(f"send of one entry: {cause}", said(one, folder), (3, f"entry {entry} open\n", f"outbox: 127.0.0.1:{peer.port}: {cause}\n"))
+    peer = Peer(answers(b""))
+    every = said(run(OUTBOX, "send", "--db", outbox, "--port", peer.port, "--all"), folder)
+    hold("a round ends once nobody listens", every[:2], (3, "entry 1 open\nentry 2 open\n"))
+    first, *rest = every[2].splitlines()
+    refused = [line.startswith(f"outbox: 127.0.0.1:{peer.port}: ") for line in rest]
+    hold("and says why", (first, refused), ("outbox: entry 1: the reply is cut", [True]))
+
+
+# Replies that settle nothing, and what is said of them.
+UNSETTLED = [
+    (problem(b"403 Forbidden", "not-yours"), "answered 403 Forbidden: not-yours"),
+    (reply(b"404 Not Found", b'{"reason":"no-path"}'), "answered 404 Not Found"),
+    (problem(b"429 Too Many Requests", "too-many"), "answered 429 Too Many Requests: too-many"),
+    (reply(b"502 Bad Gateway", b"<html></html>", "text/html"), "answered 502 Bad Gateway"),
+    (b"HTTP/1.1 102 Processing\r\n\r\n" + problem(b"503 Service Unavailable", "unavailable"), "answered 503 Service Unavailable: unavailable"),
+    (reply(b"200 OK", b"ok", "text/plain"), "answered 200 OK"),
+    (reply(b"201 Created", b'{"number":0,"status":"registered"}'), "answered 201 Created"),
+    (reply(b"418 Th\xc3\xa9 \xff", b"{}"), "answered 418 Th?? ?"),
+    (reply(b"418 " + b"a" * 300, b"{}"), "answered 418 " + "a" * 196),
+    (problem(b"400 Bad Request", "\\u001b[31m\\u00e9\\n"), "answered 400 Bad Request: ?[31m???"),
+    (reply(b"400 Bad Request", b'{"reason":7}', "application/problem+json"), "answered 400 Bad Request"),
+    (reply(b"400 Bad Request", b"no JSON", "application/problem+json"), "answered 400 Bad Request"),
+    (reply(b"403 Forbidden", b"{}", before=f"X: {'x' * 9000}\r\n"), "the reply does not settle it"),
+    (problem(b"403 Forbidden", "x" * 9000), "answered 403 Forbidden"),
+]
+REFUSED = problem(b"422 Unprocessable Content", "refused")
+CLASHED = problem(b"422 Unprocessable Content", "key-reused")
+
+
+def check_answers(folder):
+    outbox = make_outbox(folder, 2)
+    for text, told in UNSETTLED:
+        sent = run(OUTBOX, "send", "--db", outbox, "--port", Peer(answers(text)).port)
+        hold(f"what is said of a reply: {told[:40]}", said(sent, folder), (0, "entry 1 open\n", f"outbox: entry 1: {told}\n"))
+    both = Peer(answers(UNSETTLED[0][0]), answers(UNSETTLED[3][0]))
+    every = run(OUTBOX, "send", "--db", outbox, "--port", both.port, "--all")
+    errors = "outbox: entry 1: answered 403 Forbidden: not-yours\noutbox: entry 2: answered 502 Bad Gateway\n"
+    hold("and in a round", said(every, folder), (0, "entry 1 open\nentry 2 open\n", errors))
+    peer = Peer(answers(REFUSED), answers(CLASHED))
+    every = run(OUTBOX, "send", "--db", outbox, "--port", peer.port, "--all")
+    errors = "outbox: entry 1: refused; the report has findings: intake lint --filer ACME FILE lists them\n"
+    errors += "outbox: entry 2: clashed; the register has another report under its key: put it in under a new one\n"
+    hold("what to do with what is refused", said(every, folder), (0, "entry 1 refused\nentry 2 clashed\n", errors))
+
+
+def drips(connection):
+    """The act of a peer that answers a byte each 0.2 seconds."""
+    try:
+        for byte in registered(1):
+            connection.sendall(bytes((byte,)))
+            time.sleep(0.2)
+    except OSError:
+        pass
+
+
+def check_patience_of_a_round(folder):
+    outbox = make_outbox(folder, 2)
+    for what, act in (("a silent peer", is_silent), ("a peer that drips", drips)):
+        for words, lines in ((("--entry", 2), "entry 2 open\n"), (("--all",), "entry 1 open\n")):
+            peer, begun = Peer(act, act), time.monotonic()
+            sent = run(OUTBOX, "send", "--db", outbox, "--port", peer.port, "--patience", 1, *words)
+            took = time.monotonic() - begun
+            wanted = (3, lines, f"outbox: 127.0.0.1:{peer.port}: no reply within 1 s\n")
+            hold(f"patience with {what}, {words[0]}", said(sent, folder), wanted)
+            tell("and it ends in time", None if 1 <= took < 5 else f"after {took:.1f} s")
+    sent = run(OUTBOX, "send", "--db", outbox, "--port", Peer(answers(registered(3))).port, "--patience", 86400)
+    hold("patience with a peer that answers", said(sent, folder), (0, "entry 1 confirmed 3\n", ""))
+
+
+def check_same_report(folder):
+    outbox, report = folder / "outbox.db", folder / "report.json"
+    report.write_bytes(SMALLEST)
+    run(OUTBOX, "init", "--db", outbox, "--filer", "ACME")
+    same = "outbox: the same report is entry %d\n"
+    for words, entry, errors in (((), 1, ""), ((), 2, same % 1), (("--key", "k-3"), 3, ""), (("--amend", 1), 4, ""), ((), 5, same % 3)):
+        put = run(OUTBOX, "put", "--db", outbox, "--body", report, *words)
+        hold(f"put of the same report, {words}", said(put, folder), (0, f"entry {entry}\n", errors))
+    report.write_bytes(REPORT)
+    hold("put of another report", said(run(OUTBOX, "put", "--db", outbox, "--body", report), folder), (0, "entry 6\n", ""))
+    for entry in range(7, 23):
+        run(OUTBOX, "put", "--db", outbox, "--body", report, "--key", f"k-{entry}", "--amend", 1)
+    put = run(OUTBOX, "put", "--db", outbox, "--body", report)
+    hold("16 entries are compared", said(put, folder), (0, "entry 23\n", ""))
+
+
 def check_closed_output(folder):
     database, report = folder / "outbox.db", folder / "report.json"
     report.write_bytes(SMALLEST)
@@ -416,5 +557,6 @@ if __name__ == "__main__":
     try_all(
         (INTAKE, OUTBOX),
         (check_serving, check_patience, check_limit, check_amendments, check_sent_amendments, check_full_register, check_full_outbox, check_files,
-         check_descriptors, check_rights, check_damage, check_copies, check_lint, check_entries, check_closed_output),
+         check_descriptors, check_rights, check_damage, check_copies, check_lint, check_entries, check_round, check_answers,
+         check_patience_of_a_round, check_same_report, check_closed_output),
     )

@@ -2,9 +2,11 @@
 import pathlib
 import socket
 import sqlite3
+import struct
 import subprocess
 import sys
 import tempfile
+import threading
 
 ROOT = pathlib.Path(__file__).resolve().parent.parent
 INTAKE = ROOT / "crates/intake/out/intake"
@@ -18,9 +20,9 @@ REPORT = (
     b'"taxonomy":["http://example.com/eg.xsd"]},"facts":{"f1":{"value":"100","decimals":0,"dimensions":'
     b'{"concept":"eg:Assets","entity":"lei:ACME","period":"2024-12-31T00:00:00","unit":"iso4217:EUR"}}}}'
 )
-# What both programs say of a database of another version, or of none.
+# What both programs say of a database of another version.
 NOT_A_REGISTER = "not a register of this version (intake migrate takes one of an earlier version)"
-NO_OUTBOX = "the database is no outbox of this version (outbox migrate takes one of an earlier version)"
+NO_OUTBOX = "this outbox has another version (outbox migrate upgrades an earlier one)"
 # A register of form 2, with an empty body, which is no JSON text.
 EARLIER = """
 CREATE TABLE intake_meta (id INTEGER PRIMARY KEY, kind TEXT NOT NULL, form INTEGER NOT NULL) STRICT;
@@ -112,6 +114,50 @@ class Serving:
         """The status, what was printed, and what was told behind the first line, once all connections were served."""
         output, errors = self.process.communicate(timeout=60)
         return self.process.returncode, output.decode(), errors.decode()
+
+
+class Peer:
+    """A peer of an outbox that takes a request whole on each connection, answers it by the next of these acts, and closes it."""
+
+    def __init__(self, *acts):
+        self.listener = socket.create_server(("127.0.0.1", 0))
+        self.port = self.listener.getsockname()[1]
+        self.acts = acts
+        threading.Thread(target=self.serve, daemon=True).start()
+
+    def serve(self):
+        with self.listener:
+            for act in self.acts:
+                with self.listener.accept()[0] as connection:
+                    take_request(connection)
+                    act(connection)
+
+
+def take_request(connection):
+    """Reads a request to the end of its body."""
+    found = b""
+    while b"\r\n\r\n" not in found:
+        found += connection.recv(65536)
+    head, _, body = found.partition(b"\r\n\r\n")
+    length = int(head.lower().split(b"content-length:")[1].split(b"\r\n")[0])
+    while len(body) < length:
+        body += connection.recv(65536)
+
+
+def answers(text):
+    """The act of a peer that answers these bytes."""
+    return lambda connection: connection.sendall(text)
+
+
+def breaks(connection):
+    """The act of a peer whose connection breaks: it is reset."""
+    connection.setsockopt(socket.SOL_SOCKET, socket.SO_LINGER, struct.pack("ii", 1, 0))
+
+
+def is_silent(connection):
+    """The act of a peer that answers nothing, for as long as the outbox waits."""
+    while connection.recv(65536):
+        pass
 
 
 def make_register(database):
