@@ -2,7 +2,9 @@
 
 ghost use Rattle.std.specs.Prelude.{◌≤◌};
 
-use http_messages::{Block, Kind, ResponseHead, find_block, read_response, skipped_len, split_at_first};
+use http_messages::{
+    Block, Kind, ResponseHead, find_block, read_response, skipped_len, split_at_first,
+};
 use http_wire::{DeviceFailed, Source};
 use serde_json::Value;
 use std::alloc::Global;
@@ -168,12 +170,7 @@ fn status_of(block: &[u8]) -> &[u8] {
 }
 
 /// Says on the standard error what was answered for an entry that stays open.
-pub fn tell_open<E: Write>(
-    alloc: Global,
-    id: u64,
-    noted: &[u8],
-    errors: &mut E,
-) -> io::Result<()> {
+pub fn tell_open<E: Write>(alloc: Global, id: u64, noted: &[u8], errors: &mut E) -> io::Result<()> {
     let Some(answer) = Answer::of(noted) else {
         return writeln!(errors, "outbox: entry {id}: the reply does not settle it");
     };

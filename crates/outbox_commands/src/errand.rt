@@ -248,9 +248,7 @@ fn done<'a, S: Alter + Drop, O: Write, E: Write>(
             Ok(())
         }
         Errand::Migrate => show_migrated(output),
-        Errand::Send { peer, which } => {
-            send(rt, name, peer, outbox, which, output, errors)
-        }
+        Errand::Send { peer, which } => send(rt, name, peer, outbox, which, output, errors),
         Errand::Status => show_states(rt.alloc(), name, outbox, output),
         Errand::Show { entry } => show_entries(rt.alloc(), name, outbox, entry, output),
     }

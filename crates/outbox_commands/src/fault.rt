@@ -8,9 +8,8 @@ use http_wire::ReplyFault;
 use key_string::KeyFault;
 use outbox_core::{OutboxFault, PutFault, StoreFault, TakeFault};
 use std::alloc::AllocError;
-use std::fmt;
-use std::io;
 use std::io::Write;
+use std::{fmt, io};
 use thiserror::Error;
 
 /// What went wrong in a visit to the outbox of a file.

@@ -54,10 +54,7 @@ fn try_connect(rt: &HostRuntime, port: u16) -> io::Result<TcpStream> {
 }
 
 /// The time that a connection to the peer may take from now on.
-fn deadline_for<'a>(
-    rt: &HostRuntime,
-    peer: Peer,
-) -> Result<Deadline<'_, HostRuntime>, Fault<'a>> {
+fn deadline_for<'a>(rt: &HostRuntime, peer: Peer) -> Result<Deadline<'_, HostRuntime>, Fault<'a>> {
     match Deadline::after(rt, peer.patience.map(Duration::from_secs)) {
         Ok(deadline) => Ok(deadline),
         Err(error) => Err(Fault::Connect {
@@ -72,10 +69,7 @@ fn fault_of<'a>(peer: Peer, fault: ExchangeFault, is_over: bool) -> Fault<'a> {
     let port = peer.port;
     match (peer.patience, fault) {
         (Some(seconds), ExchangeFault::Write { .. } | ExchangeFault::Reply(ReplyFault::Read))
-            if is_over =>
-        {
-            Fault::Patience { port, seconds }
-        }
+            if is_over => { Fault::Patience { port, seconds } }
         _ => Fault::Exchange { port, fault },
     }
 }
