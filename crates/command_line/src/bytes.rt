@@ -81,7 +81,11 @@ pub fn read_whole<R: Source>(
 
 /// The bytes of a reader up to its end, or the first `most` of them. At most 4,194,304 reads are made,
 /// each of one byte at least. `ReadLimit` comes only after as many, and with fewer than `most` bytes.
-fn read_up_to<R: Source>(alloc: Global, reader: &mut R, most: usize) -> Result<Vec<u8>, ReadFault>
+pub fn read_up_to<R: Source>(
+    alloc: Global,
+    reader: &mut R,
+    most: usize,
+) -> Result<Vec<u8>, ReadFault>
     ensures given { IfOk result (λ bytes. Consumes (R.left reader.old) (R.left reader.new) bytes.items) }
     ensures bound { IfOk result (λ bytes. vec_len bytes ≤ most) }
     ensures whole { IfOk result (λ bytes. vec_len bytes < most → IsAtEnd (R.left reader.new)) }

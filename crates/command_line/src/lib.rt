@@ -11,7 +11,7 @@ mod output;
 mod word;
 
 pub use arguments::words;
-pub use bytes::{ReadFault, read_whole};
+pub use bytes::{ReadFault, read_up_to, read_whole};
 pub use fault::{CommandFault, DatabaseFault};
 pub use options::{VERSION, database_option, filer_option, option, port_option};
 pub use output::{DONE, show, show_refusal};

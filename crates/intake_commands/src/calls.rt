@@ -13,20 +13,26 @@ use sqlite::{Alter, Connection, MemStore};
 use std::alloc::{AllocError, Global};
 use xbrl_report::{Fact, Findings, Judged, judge};
 
-/// Makes the tables of a register.
-pub fn create<S: Alter + Drop>(alloc: Global, conn: Connection<S>) -> Result<Store<S>, CreateFault>
+/// Makes the tables of a register. A refusal gives the connection back.
+pub fn create<S: Alter + Drop>(
+    alloc: Global,
+    conn: Connection<S>,
+) -> Result<Store<S>, (CreateFault, Connection<S>)>
     requires autocommit { conn.in_transaction ≡ false }
     requires unlimited { conn.step_limit ≡ None }
 {
-    Store::create(alloc, conn)
+    Store::create_or_back(alloc, conn)
 }
 
-/// Opens a register.
-pub fn open<S: Alter + Drop>(alloc: Global, conn: Connection<S>) -> Result<Store<S>, OpenFault>
+/// Opens a register. A refusal gives the connection back.
+pub fn open<S: Alter + Drop>(
+    alloc: Global,
+    conn: Connection<S>,
+) -> Result<Store<S>, (OpenFault, Connection<S>)>
     requires autocommit { conn.in_transaction ≡ false }
     requires unlimited { conn.step_limit ≡ None }
 {
-    Store::open(alloc, conn)
+    Store::open_or_back(alloc, conn)
 }
 
 /// How much a register holds that is sound.
@@ -41,12 +47,15 @@ pub fn check<S: Alter, W: Watch>(
     read_register(alloc, conn, watch)
 }
 
-/// Makes the register of an earlier version one of this version.
-pub fn migrate<S: Alter + Drop>(alloc: Global, conn: Connection<S>) -> Result<Store<S>, OpenFault>
+/// Upgrades the register of an earlier version. A refusal gives the connection back.
+pub fn migrate<S: Alter + Drop>(
+    alloc: Global,
+    conn: Connection<S>,
+) -> Result<Store<S>, (OpenFault, Connection<S>)>
     requires autocommit { conn.in_transaction ≡ false }
     requires unlimited { conn.step_limit ≡ None }
 {
-    Store::migrate(alloc, conn)
+    Store::migrate_or_back(alloc, conn)
 }
 
 /// The facts of a filing.

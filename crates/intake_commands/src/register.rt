@@ -82,7 +82,7 @@ pub fn create<S: Alter + Drop>(alloc: Global, conn: Connection<S>) -> Result<Sto
     match holding(&conn) {
         Holding::Nothing => match calls::create(alloc, conn) {
             Ok(register) => Ok(register),
-            Err(fault) => Err(VisitFault::Create(fault)),
+            Err((fault, _back)) => Err(VisitFault::Create(fault)),
         },
         held => Err(VisitFault::Taken(held)),
     }
@@ -93,12 +93,11 @@ pub fn open<S: Alter + Drop>(alloc: Global, conn: Connection<S>) -> Result<Store
     requires autocommit { conn.in_transaction ≡ false }
     requires unlimited { conn.step_limit ≡ None }
 {
-    let held = holding(&conn);
     match calls::open(alloc, conn) {
         Ok(register) => Ok(register),
-        Err(fault) => Err(VisitFault::Open(Refusal {
+        Err((fault, back)) => Err(VisitFault::Open(Refusal {
             fault,
-            holding: held,
+            holding: holding(&back),
         })),
     }
 }
@@ -218,7 +217,6 @@ fn check<'a, S: Alter + Drop, O: Write>(
     requires autocommit { conn.in_transaction ≡ false }
     requires unlimited { conn.step_limit ≡ None }
 {
-    let held = holding(&conn);
     let mut progress = Progress::new(rt);
     let checked = calls::check(rt.alloc(), &mut conn, &mut progress);
     progress.end();
@@ -231,7 +229,7 @@ fn check<'a, S: Alter + Drop, O: Write>(
             name,
             VisitFault::Open(Refusal {
                 fault,
-                holding: held,
+                holding: holding(&conn),
             }),
         ),
     }
@@ -262,12 +260,11 @@ fn migrate<'a, S: Alter + Drop, O: Write>(
     requires autocommit { conn.in_transaction ≡ false }
     requires unlimited { conn.step_limit ≡ None }
 {
-    let held = holding(&conn);
     match calls::migrate(alloc, conn) {
         Ok(register) => {
             let shown = show_migrated(output);
             (Left::Open(register.into_conn()), shown)
         }
-        Err(fault) => refused(name, not_migrated(fault, held)),
+        Err((fault, back)) => refused(name, not_migrated(fault, holding(&back))),
     }
 }

@@ -11,24 +11,27 @@ use outbox_core::{Entry, Outbox, OutboxFault, PutFault, State, StoreFault, read_
 use sqlite::{Alter, Connection};
 use std::alloc::Global;
 
-/// Makes the tables of an outbox.
+/// Makes the tables of an outbox. A refusal gives the connection back.
 pub fn create<S: Alter + Drop>(
     alloc: Global,
     conn: Connection<S>,
     filer: &str,
-) -> Result<Outbox<S>, OutboxFault>
+) -> Result<Outbox<S>, (OutboxFault, Connection<S>)>
     requires autocommit { conn.in_transaction ≡ false }
     requires unlimited { conn.step_limit ≡ None }
 {
-    Outbox::create(alloc, conn, filer)
+    Outbox::create_or_back(alloc, conn, filer)
 }
 
-/// Opens an outbox.
-pub fn open<S: Alter + Drop>(alloc: Global, conn: Connection<S>) -> Result<Outbox<S>, OutboxFault>
+/// Opens an outbox. A refusal gives the connection back.
+pub fn open<S: Alter + Drop>(
+    alloc: Global,
+    conn: Connection<S>,
+) -> Result<Outbox<S>, (OutboxFault, Connection<S>)>
     requires autocommit { conn.in_transaction ≡ false }
     requires unlimited { conn.step_limit ≡ None }
 {
-    Outbox::open(alloc, conn)
+    Outbox::open_or_back(alloc, conn)
 }
 
 /// Reads the outbox of a database, which is one of this version unless this fails.
@@ -46,15 +49,15 @@ pub fn read<S: Alter + Drop>(alloc: Global, conn: &mut Connection<S>) -> Result<
     }
 }
 
-/// Makes an outbox of an earlier version one of this version.
+/// Upgrades an outbox of an earlier version. A refusal gives the connection back.
 pub fn migrate<S: Alter + Drop>(
     alloc: Global,
     conn: Connection<S>,
-) -> Result<Outbox<S>, OutboxFault>
+) -> Result<Outbox<S>, (OutboxFault, Connection<S>)>
     requires autocommit { conn.in_transaction ≡ false }
     requires unlimited { conn.step_limit ≡ None }
 {
-    Outbox::migrate(alloc, conn)
+    Outbox::migrate_or_back(alloc, conn)
 }
 
 /// Puts a report in.

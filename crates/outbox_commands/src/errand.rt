@@ -7,8 +7,7 @@ use crate::fault::{Fault, VisitFault};
 use crate::line::{EntryLine, LongLine};
 use crate::options::{Peer, Target, Which};
 use crate::sending::send;
-use crate::tables::{Tables, tables_of};
-use command_files::{Cache, FileSystem, Left, Opening, Work, on_database};
+use command_files::{Cache, FileSystem, Holding, Left, Opening, Work, holding, on_database};
 use command_line::show;
 use key_string::KeyText;
 use outbox_core::{Entry, Outbox, OutboxFault, State};
@@ -140,11 +139,10 @@ fn outbox_of<S: Alter + Drop>(
     requires autocommit { conn.in_transaction ≡ false }
     requires unlimited { conn.step_limit ≡ None }
 {
-    let tables = tables_of(&conn);
     match errand {
-        Errand::Init { filer } => create(alloc, conn, tables, filer),
-        Errand::Migrate => migrate(alloc, conn, tables),
-        _ => open(alloc, conn, tables),
+        Errand::Init { filer } => create(alloc, conn, filer),
+        Errand::Migrate => migrate(alloc, conn),
+        _ => open(alloc, conn),
     }
 }
 
@@ -152,34 +150,30 @@ fn outbox_of<S: Alter + Drop>(
 fn create<S: Alter + Drop>(
     alloc: Global,
     conn: Connection<S>,
-    tables: Tables,
     filer: &str,
 ) -> Result<Outbox<S>, VisitFault>
     requires autocommit { conn.in_transaction ≡ false }
     requires unlimited { conn.step_limit ≡ None }
 {
-    if tables != Tables::Absent {
-        return Err(VisitFault::Taken(tables));
+    let held = holding(&conn);
+    if held != Holding::Nothing {
+        return Err(VisitFault::Taken(held));
     }
     match calls::create(alloc, conn, filer) {
         Ok(outbox) => Ok(outbox),
-        Err(fault) => Err(VisitFault::of_opening(fault, tables)),
+        Err((fault, back)) => Err(VisitFault::of_opening(fault, holding(&back))),
     }
 }
 
 /// Makes the outbox, which is one of an earlier version, one of this version.
-fn migrate<S: Alter + Drop>(
-    alloc: Global,
-    mut conn: Connection<S>,
-    tables: Tables,
-) -> Result<Outbox<S>, VisitFault>
+fn migrate<S: Alter + Drop>(alloc: Global, mut conn: Connection<S>) -> Result<Outbox<S>, VisitFault>
     requires autocommit { conn.in_transaction ≡ false }
     requires unlimited { conn.step_limit ≡ None }
 {
     match calls::read(alloc, &mut conn) {
         Ok(()) => Err(VisitFault::IsCurrent),
-        Err(OutboxFault::NotOurs) => migrate_earlier(alloc, conn, tables),
-        Err(fault) => Err(VisitFault::of_migrating(fault, tables)),
+        Err(OutboxFault::NotOurs) => migrate_earlier(alloc, conn),
+        Err(fault) => Err(VisitFault::of_migrating(fault, holding(&conn))),
     }
 }
 
@@ -187,29 +181,24 @@ fn migrate<S: Alter + Drop>(
 fn migrate_earlier<S: Alter + Drop>(
     alloc: Global,
     conn: Connection<S>,
-    tables: Tables,
 ) -> Result<Outbox<S>, VisitFault>
     requires autocommit { conn.in_transaction ≡ false }
     requires unlimited { conn.step_limit ≡ None }
 {
     match calls::migrate(alloc, conn) {
         Ok(outbox) => Ok(outbox),
-        Err(fault) => Err(VisitFault::of_migrating(fault, tables)),
+        Err((fault, back)) => Err(VisitFault::of_migrating(fault, holding(&back))),
     }
 }
 
 /// The outbox of a database that is there.
-fn open<S: Alter + Drop>(
-    alloc: Global,
-    conn: Connection<S>,
-    tables: Tables,
-) -> Result<Outbox<S>, VisitFault>
+fn open<S: Alter + Drop>(alloc: Global, conn: Connection<S>) -> Result<Outbox<S>, VisitFault>
     requires autocommit { conn.in_transaction ≡ false }
     requires unlimited { conn.step_limit ≡ None }
 {
     match calls::open(alloc, conn) {
         Ok(outbox) => Ok(outbox),
-        Err(fault) => Err(VisitFault::of_opening(fault, tables)),
+        Err((fault, back)) => Err(VisitFault::of_opening(fault, holding(&back))),
     }
 }
 

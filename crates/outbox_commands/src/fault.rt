@@ -1,7 +1,7 @@
 //! Why a task is not done, in words and as a status.
 
-use crate::tables::Tables;
-use command_files::{ReportFault, Verdict};
+use crate::held::{taken, unfit};
+use command_files::{Holding, ReportFault, Verdict};
 use command_line::{CommandFault, DatabaseFault};
 use filer_client::ExchangeFault;
 use http_wire::ReplyFault;
@@ -16,11 +16,11 @@ use thiserror::Error;
 #[derive(Clone, Copy, Debug, Error)]
 pub enum VisitFault {
     /// An outbox is made only in a database without tables.
-    #[error("{why}", why = .0.taken())]
-    Taken(Tables),
+    #[error("{why}", why = taken(*.0))]
+    Taken(Holding),
     /// The tables are not those of an outbox of this version.
-    #[error("{why}", why = .0.unfit())]
-    NotOurs(Tables),
+    #[error("{why}", why = unfit(*.0))]
+    NotOurs(Holding),
     /// The outbox that is to be migrated has this version.
     #[error("this outbox has this version already")]
     IsCurrent,
@@ -69,23 +69,25 @@ impl From<StoreFault> for VisitFault {
 }
 
 impl VisitFault {
-    /// Why a database with these tables was not opened or made an outbox.
-    pub fn of_opening(fault: OutboxFault, tables: Tables) -> VisitFault {
+    /// Why a database that holds this was not opened or made an outbox.
+    pub fn of_opening(fault: OutboxFault, held: Holding) -> VisitFault {
         match fault {
             OutboxFault::BadFiler => VisitFault::BadFiler,
-            OutboxFault::Taken => VisitFault::Taken(tables),
-            OutboxFault::NotOurs => VisitFault::NotOurs(tables),
+            OutboxFault::Taken => VisitFault::Taken(held),
+            OutboxFault::NotOurs => VisitFault::NotOurs(held),
             OutboxFault::Damaged { row } => VisitFault::Damaged { row },
             OutboxFault::Memory => VisitFault::Memory,
             OutboxFault::Disk => VisitFault::Database,
         }
     }
 
-    /// Why a database with these tables was not migrated.
-    pub fn of_migrating(fault: OutboxFault, tables: Tables) -> VisitFault {
-        match (fault, tables) {
-            (OutboxFault::NotOurs, Tables::OfOutbox) => VisitFault::NotEarlier,
-            _ => VisitFault::of_opening(fault, tables),
+    /// Why a database that holds this was not migrated.
+    pub fn of_migrating(fault: OutboxFault, held: Holding) -> VisitFault {
+        match (fault, held) {
+            (OutboxFault::NotOurs, Holding::Outbox | Holding::EarlierOutbox) => {
+                VisitFault::NotEarlier
+            }
+            _ => VisitFault::of_opening(fault, held),
         }
     }
 

@@ -7,10 +7,10 @@ mod answer;
 mod calls;
 mod errand;
 mod fault;
+mod held;
 mod line;
 mod options;
 mod sending;
-mod tables;
 mod tasks;
 
 pub use line::EntryLine;

@@ -1,0 +1,24 @@
+//! How a file is named that is no outbox of this version, by what its database holds.
+
+use command_files::Holding;
+
+/// Why it is no outbox of this version.
+pub fn unfit(held: Holding) -> &'static str {
+    match held {
+        Holding::Nothing => "it has no tables (outbox init makes an outbox)",
+        Holding::Outbox | Holding::EarlierOutbox => {
+            "this outbox has another version (outbox migrate upgrades an earlier one)"
+        }
+        Holding::Register | Holding::EarlierRegister => "this is a register",
+        Holding::Others => "not an outbox",
+    }
+}
+
+/// Why no outbox is made beside what it holds.
+pub fn taken(held: Holding) -> &'static str {
+    match held {
+        Holding::Outbox | Holding::EarlierOutbox => "it is an outbox already",
+        Holding::Register | Holding::EarlierRegister => "this is a register",
+        Holding::Nothing | Holding::Others => "the file has tables already",
+    }
+}
