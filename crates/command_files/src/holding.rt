@@ -33,7 +33,7 @@ pub enum Holding {
 }
 
 /// What this database holds.
-pub fn holding<S: Alter>(conn: &Connection<S>) -> Holding {
+pub fn held_in<S: Alter>(conn: &Connection<S>) -> Holding {
     match (has(conn, OF_REGISTERS), has(conn, OF_OUTBOXES)) {
         (true, _) if has(conn, OF_NEW_REGISTERS) => Holding::Register,
         (true, _) => Holding::EarlierRegister,

@@ -5,7 +5,7 @@ ghost use Rattle.std.specs.Prelude.{◌≡◌, None, false};
 use crate::calls;
 use crate::fault::{Fault, Refusal, VisitFault};
 use crate::progress::Progress;
-use command_files::{Cache, FileSystem, Holding, Left, Opening, Work, holding, on_database};
+use command_files::{Cache, FileSystem, Holding, Left, Opening, Work, held_in, on_database};
 use command_line::show;
 use gateway_server::fact_line;
 use intake_core::{FilingRow, Intake, list_reply};
@@ -79,7 +79,7 @@ pub fn create<S: Alter + Drop>(alloc: Global, conn: Connection<S>) -> Result<Sto
     requires autocommit { conn.in_transaction ≡ false }
     requires unlimited { conn.step_limit ≡ None }
 {
-    match holding(&conn) {
+    match held_in(&conn) {
         Holding::Nothing => match calls::create(alloc, conn) {
             Ok(register) => Ok(register),
             Err((fault, _back)) => Err(VisitFault::Create(fault)),
@@ -97,7 +97,7 @@ pub fn open<S: Alter + Drop>(alloc: Global, conn: Connection<S>) -> Result<Store
         Ok(register) => Ok(register),
         Err((fault, back)) => Err(VisitFault::Open(Refusal {
             fault,
-            holding: holding(&back),
+            holding: held_in(&back),
         })),
     }
 }
@@ -229,7 +229,7 @@ fn check<'a, S: Alter + Drop, O: Write>(
             name,
             VisitFault::Open(Refusal {
                 fault,
-                holding: holding(&conn),
+                holding: held_in(&conn),
             }),
         ),
     }
@@ -265,6 +265,6 @@ fn migrate<'a, S: Alter + Drop, O: Write>(
             let shown = show_migrated(output);
             (Left::Open(register.into_conn()), shown)
         }
-        Err((fault, back)) => refused(name, not_migrated(fault, holding(&back))),
+        Err((fault, back)) => refused(name, not_migrated(fault, held_in(&back))),
     }
 }

@@ -7,7 +7,7 @@ use crate::fault::{Fault, VisitFault};
 use crate::line::{EntryLine, LongLine};
 use crate::options::{Peer, Target, Which};
 use crate::sending::send;
-use command_files::{Cache, FileSystem, Holding, Left, Opening, Work, holding, on_database};
+use command_files::{Cache, FileSystem, Holding, Left, Opening, Work, held_in, on_database};
 use command_line::show;
 use key_string::KeyText;
 use outbox_core::{Entry, Outbox, OutboxFault, State};
@@ -155,13 +155,13 @@ fn create<S: Alter + Drop>(
     requires autocommit { conn.in_transaction ≡ false }
     requires unlimited { conn.step_limit ≡ None }
 {
-    let held = holding(&conn);
+    let held = held_in(&conn);
     if held != Holding::Nothing {
         return Err(VisitFault::Taken(held));
     }
     match calls::create(alloc, conn, filer) {
         Ok(outbox) => Ok(outbox),
-        Err((fault, back)) => Err(VisitFault::of_opening(fault, holding(&back))),
+        Err((fault, back)) => Err(VisitFault::of_opening(fault, held_in(&back))),
     }
 }
 
@@ -173,7 +173,7 @@ fn migrate<S: Alter + Drop>(alloc: Global, mut conn: Connection<S>) -> Result<Ou
     match calls::read(alloc, &mut conn) {
         Ok(()) => Err(VisitFault::IsCurrent),
         Err(OutboxFault::NotOurs) => migrate_earlier(alloc, conn),
-        Err(fault) => Err(VisitFault::of_migrating(fault, holding(&conn))),
+        Err(fault) => Err(VisitFault::of_migrating(fault, held_in(&conn))),
     }
 }
 
@@ -187,7 +187,7 @@ fn migrate_earlier<S: Alter + Drop>(
 {
     match calls::migrate(alloc, conn) {
         Ok(outbox) => Ok(outbox),
-        Err((fault, back)) => Err(VisitFault::of_migrating(fault, holding(&back))),
+        Err((fault, back)) => Err(VisitFault::of_migrating(fault, held_in(&back))),
     }
 }
 
@@ -198,7 +198,7 @@ fn open<S: Alter + Drop>(alloc: Global, conn: Connection<S>) -> Result<Outbox<S>
 {
     match calls::open(alloc, conn) {
         Ok(outbox) => Ok(outbox),
-        Err((fault, back)) => Err(VisitFault::of_opening(fault, holding(&back))),
+        Err((fault, back)) => Err(VisitFault::of_opening(fault, held_in(&back))),
     }
 }
 
