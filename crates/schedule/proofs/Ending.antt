@@ -30,7 +30,7 @@ module _ (first : World) (events : List Event) where
   ends_at number world event (NoSuch n) comes tells cannot asks closes = (world, event, subst (λ k. Comes first events k world event) (sym tells) comes, cannot n refl)
   ends_at number world event Memory comes tells cannot asks closes = tt
   ends_at number world event (Store n) comes tells cannot asks closes = inr (world, event, subst (λ k. Comes first events k world event) (sym tells) comes, asks n refl)
-  ends_at number world event (Reopen n) comes tells cannot asks closes = 
+  ends_at number world event (Reopen n) comes tells cannot asks closes =
       let stops = closes n refl in
       inr (world, event, subst (λ k. Comes first events k world event) (sym tells) comes, stops.0, stops.1)
 
