@@ -28,8 +28,8 @@ use table_rows::StoreFault;
 /// What a clause says of entries holds where the disk is clean as the call ends: where it gave back what was written.
 /// After a call was refused as Store, each later call that can be refused so is, until the database is opened again.
 ///
-/// An outbox's file is its own: if the database had a table before the outbox was made in it, no clause says what the rows stand
-/// for.
+/// An outbox's file is its own: if the database had a table before the outbox was made in it, no clause says what the
+/// rows stand for.
 pub struct Outbox<S: Alter> {
     pub(crate) alloc: Global,
     pub(crate) conn: Connection<S>,
@@ -67,8 +67,8 @@ impl<S: Alter + Drop> Drop for Outbox<S> {
 impl<S: Alter> Outbox<S> {
     ghost use Rattle.outbox_core.specs.HandedOut.{FindsOrGivesBack, MakesOrGivesBack, MigratesOrGivesBack};
 
-    /// Makes the tables of an outbox of this filer that has no entry, in one transaction. A refusal leaves the database as it
-    /// was, and gives the connection back, which may be used again.
+    /// Makes the tables of an outbox of this filer that has no entry, in one transaction. A refusal leaves the database
+    /// as it was, and gives the connection back, which may be used again.
     ///
     /// An outbox's file is its own: if the database had a table before, no clause says what the rows stand for.
     pub fn create_or_back(
@@ -96,8 +96,8 @@ impl<S: Alter> Outbox<S> {
         }
     }
 
-    /// Opens the outbox that the database holds. Nothing is written, whatever the answer is, and a refusal gives the connection
-    /// back, which may be used again. How the tables are declared is not tested.
+    /// Opens the outbox that the database holds. Nothing is written, whatever the answer is, and a refusal gives the
+    /// connection back, which may be used again. How the tables are declared is not tested.
     pub fn open_or_back(
         alloc: Global,
         conn: Connection<S>,
@@ -122,9 +122,9 @@ impl<S: Alter> Outbox<S> {
         }
     }
 
-    /// Brings the outbox that the database holds from the form before this one into this one, in one transaction, and opens
-    /// it: no entry has a target. A refusal leaves the rows as they were, and gives the connection back, which may be used
-    /// again. What is said of the new rows holds where the database has no other tables.
+    /// Brings the outbox that the database holds from the form before this one into this one, in one transaction, and
+    /// opens it: no entry has a target. A refusal leaves the rows as they were, and gives the connection back, which
+    /// may be used again. What is said of the new rows holds where the database has no other tables.
     pub fn migrate_or_back(
         alloc: Global,
         conn: Connection<S>,
@@ -153,8 +153,8 @@ impl<S: Alter> Outbox<S> {
 impl<S: Alter + Drop> Outbox<S> {
     ghost use Rattle.outbox_core.specs.HandedOut.{HandsOutFound, HandsOutMade, HandsOutMigrated};
 
-    /// As `create_or_back`, but a refusal gives the connection up. An outbox's file is its own: if the database had a table
-    /// before, no clause says what the rows stand for.
+    /// As `create_or_back`, but a refusal gives the connection up. An outbox's file is its own: if the database had a
+    /// table before, no clause says what the rows stand for.
     pub fn create(alloc: Global, conn: Connection<S>, filer: &str) -> Result<Outbox<S>, OutboxFault>
         requires autocommit { conn.in_transaction ≡ false }
         requires unlimited { conn.step_limit ≡ None }

@@ -26,8 +26,8 @@ use table_rows::StoreFault;
 ///
 /// What a clause says of rows holds where the disk is clean as the call ends: where it gave back what was written.
 ///
-/// A register's file is its own: if the database had a table before the register was made in it, no clause says what the rows
-/// stand for.
+/// A register's file is its own: if the database had a table before the register was made in it, no clause says what
+/// the rows stand for.
 pub struct Store<S: Alter> {
     pub(crate) alloc: Global,
     pub(crate) conn: Connection<S>,
@@ -61,8 +61,8 @@ impl<S: Alter + Drop> Drop for Store<S> {
 }
 
 impl<S: Alter> Store<S> {
-    /// Makes the tables of a register that has no request, in one transaction. A refusal leaves the database as it was, and gives
-    /// the connection back, which may be used again.
+    /// Makes the tables of a register that has no request, in one transaction. A refusal leaves the database as it was,
+    /// and gives the connection back, which may be used again.
     ///
     /// A register's file is its own: if the database had a table before, no clause says what the rows stand for.
     pub fn create_or_back(
@@ -85,8 +85,8 @@ impl<S: Alter> Store<S> {
         }
     }
 
-    /// Opens the register that the database holds. Nothing is written, whatever the answer is, and a refusal gives the connection
-    /// back, which may be used again. How the tables are declared is not tested.
+    /// Opens the register that the database holds. Nothing is written, whatever the answer is, and a refusal gives the
+    /// connection back, which may be used again. How the tables are declared is not tested.
     pub fn open_or_back(
         alloc: Global,
         conn: Connection<S>,
@@ -117,9 +117,9 @@ impl<S: Alter> Store<S> {
         }
     }
 
-    /// Brings the register that the database holds from an earlier form into the present one, in one transaction, and opens
-    /// it. A refusal leaves the rows as they were, and gives the connection back, which may be used again. What is said of the
-    /// new rows holds where the database has no other tables.
+    /// Brings the register that the database holds from an earlier form into the present one, in one transaction, and
+    /// opens it. A refusal leaves the rows as they were, and gives the connection back, which may be used again. What
+    /// is said of the new rows holds where the database has no other tables.
     pub fn migrate_or_back(
         alloc: Global,
         conn: Connection<S>,
@@ -149,8 +149,8 @@ impl<S: Alter> Store<S> {
 }
 
 impl<S: Alter + Drop> Store<S> {
-    /// As `create_or_back`, but a refusal gives the connection up. A register's file is its own: if the database had a table
-    /// before, no clause says what the rows stand for.
+    /// As `create_or_back`, but a refusal gives the connection up. A register's file is its own: if the database had a
+    /// table before, no clause says what the rows stand for.
     pub fn create(alloc: Global, conn: Connection<S>) -> Result<Store<S>, CreateFault>
         requires autocommit { conn.in_transaction ≡ false }
         requires unlimited { conn.step_limit ≡ None }

@@ -93,8 +93,8 @@ fn make<S: Alter>(conn: &mut Connection<S>, filer: &str) -> Result<(), Error>
     tx.commit()
 }
 
-/// Makes the tables of an outbox of this filer that has no entry, in one transaction, and answers the filer's code. An outbox's
-/// file is its own: if the database had a table before, no clause says what the rows stand for.
+/// Makes the tables of an outbox of this filer that has no entry, in one transaction, and answers the filer's code. An
+/// outbox's file is its own: if the database had a table before, no clause says what the rows stand for.
 pub fn make_outbox<S: Alter>(
     alloc: Global,
     conn: &mut Connection<S>,

@@ -119,8 +119,8 @@ fn make<S: Alter>(conn: &mut Connection<S>) -> Result<(), Error>
     tx.commit()
 }
 
-/// Makes the tables of a register that has no request, in one transaction. A register's file is its own: if the database had
-/// a table before, no clause says what the rows stand for.
+/// Makes the tables of a register that has no request, in one transaction. A register's file is its own: if the
+/// database had a table before, no clause says what the rows stand for.
 pub fn make_register<S: Alter>(conn: &mut Connection<S>) -> Result<(), CreateFault>
     requires autocommit { conn.old.in_transaction ≡ false }
     ensures makes { MakesRegister S.Store conn.old conn.new result }

@@ -205,8 +205,8 @@ impl<S: Alter> Store<S> {
         ensures durable { ForRequests S.Store self.old self.new (λ F.
             OnOk result (IsDurableAs S.Store self.new self.old.early F)) }
     {
-        // No filing has the number 0, and none a greater one than the number of filings. The database is asked in any case, since
-        // an answer says that it is open.
+        // No filing has the number 0, and none a greater one than the number of filings. The database is asked in any
+        // case, since an answer says that it is open.
         let number = if number > MAX_NUMBER { 0 } else { number };
         may_replace(&mut self.conn, filer, number)
     }
