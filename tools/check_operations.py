@@ -15,6 +15,7 @@ import fcntl
 import os
 import pathlib
 import shutil
+import signal
 import socket
 import sqlite3
 import subprocess
@@ -292,8 +293,37 @@ def check_rush(folder):
     paths = {**PATHS, "PATH": f"{programs}:{PATHS['PATH']}"}
     words = [DEPLOY / "register-snapshot", "register.db", "copy.db"]
     done = subprocess.run(words, capture_output=True, text=True, check=False, cwd=folder, env=paths, timeout=60)
-    hold("register-snapshot in a rush gives up", (done.returncode, done.stdout, "stop the intake" in done.stderr), (3, "", True))
+    hold("register-snapshot in a rush gives up", (done.returncode, done.stdout, "let the intake pause" in done.stderr), (3, "", True))
     hold("nothing is left of the copy", names(folder), before)
+
+
+def check_pause(folder):
+    """A plain copy of both files while the intake pauses and reports wait: it has whatever was answered before."""
+    database, copy, answered = folder / "register.db", folder / "copy.db", []
+    serving = Serving(database, 200, "--new")
+
+    def send(key):
+        for number in range(50):
+            answered.extend(statuses(exchange(serving.port, request(f"k-{key}-{number}", LARGE))))
+
+    senders = [threading.Thread(target=send, args=(key,)) for key in range(4)]
+    for sender in senders:
+        sender.start()
+    while len(answered) < 20:
+        time.sleep(0.01)
+    serving.process.send_signal(signal.SIGSTOP)
+    time.sleep(0.2)
+    before = len(answered)
+    for ending in ("", "-wal"):
+        shutil.copy(f"{database}{ending}", f"{copy}{ending}")
+    serving.process.send_signal(signal.SIGCONT)
+    for sender in senders:
+        sender.join()
+    serving.end()
+    hold("each report is answered", (len(answered), set(answered)), (200, {201}))
+    status, said = ask_register(copy)
+    kept = int(said.split()[1]) if status == 0 else -1
+    hold("the copy of a pause is sound, and has what was answered before it", (status, before <= kept <= before + 4), (0, True))
 
 
 # ---- a new register
@@ -510,6 +540,7 @@ TRIALS = [
     check_earlier_copies,
     check_served,
     check_rush,
+    check_pause,
     check_new,
     check_rounds,
     check_lost,

@@ -2,7 +2,7 @@
 
 use table_rows::Cause;
 
-/// Why no register was made. The database is as it was, and its connection is given up.
+/// Why no register was made. The database is as it was.
 #[derive(Clone, Copy, Debug, PartialEq, Eq, thiserror::Error)]
 pub enum CreateFault {
     /// A table, an index or a view has the name of one of our tables.
@@ -16,7 +16,7 @@ pub enum CreateFault {
     Disk,
 }
 
-/// Why a register was not opened or not migrated. The rows are as they were, and the connection is given up.
+/// Why a register was not opened or not migrated. The rows are as they were.
 #[derive(Clone, Copy, Debug, PartialEq, Eq, thiserror::Error)]
 pub enum OpenFault {
     /// The database is no register in a form that is read here, or the name of a table that a migration is to make is in use.
