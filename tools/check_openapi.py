@@ -30,7 +30,7 @@ FILE, PROTOCOL = ROOT / "docs" / "openapi.yaml", ROOT / "docs" / "PROTOCOL.md"
 # The filings of a filer, and one of them.
 PATH, NUMBERED = "/filings/{filer}", "/filings/{filer}/{number}"
 # What the server in front answers alone, and the one answer to a method that the file has not.
-IN_FRONT, OTHER_METHODS = {"no-certificate", "not-yours"}, {"no-method"}
+IN_FRONT, OTHER_METHODS = {"no-certificate", "not-yours", "wrong-host"}, {"no-method"}
 failures = []
 
 
