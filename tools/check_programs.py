@@ -522,7 +522,7 @@ def check_patience_of_a_round(folder):
             took = time.monotonic() - begun
             wanted = (3, lines, f"outbox: 127.0.0.1:{peer.port}: no reply within 1 s\n")
             hold(f"patience with {what}, {words[0]}", said(sent, folder), wanted)
-            tell("and it ends in time", None if 1 <= took < 5 else f"after {took:.1f} s")
+            tell("and it ends in time", None if 1 <= took < 15 else f"after {took:.1f} s")
     sent = run(OUTBOX, "send", "--db", outbox, "--port", Peer(answers(registered(3))).port, "--patience", 86400)
     hold("patience with a peer that answers", said(sent, folder), (0, "entry 1 confirmed 3\n", ""))
 
