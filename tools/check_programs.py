@@ -183,6 +183,14 @@ class SmallDisk:
 PAUSED = "intake: the database failed again: it is opened in %d s at the earliest, and until then a request gets 503 at once"
 
 
+def told_up_to(serving, line):
+    """What was told up to this line, which is waited for."""
+    found = ""
+    while f"{line}\n" not in found and (more := serving.process.stderr.readline().decode()):
+        found += more
+    return found
+
+
 def check_full_register(folder):
     with SmallDisk(folder / "disk", 4 << 20) as disk:
         if not disk.is_mounted:
@@ -195,15 +203,18 @@ def check_full_register(folder):
         large = SMALLEST.ljust(200_000)
         hold("a report for which there is no room", statuses(exchange(serving.port, request("k-2", large))), [503])
         hold("and the next one", statuses(exchange(serving.port, request("k-3", large))), [503])
-        time.sleep(2.5)
+        before = told_up_to(serving, PAUSED % 1)
+        time.sleep(1.2)
         hold("and the next one after the first pause", statuses(exchange(serving.port, request("k-3", large))), [503])
+        before += told_up_to(serving, PAUSED % 2)
         hold("anything in the second pause", statuses(exchange(serving.port, request("k-1", SMALLEST))), [503])
         filler.unlink()
-        time.sleep(4)
+        time.sleep(2.2)
         hold("once there is room", statuses(exchange(serving.port, request("k-2", large))), [201])
         hold("a repeat of the first", statuses(exchange(serving.port, request("k-1", SMALLEST))), [201])
         hold("another body under its key", statuses(exchange(serving.port, request("k-1", large))), [422])
-        status, _, errors = serving.end()
+        status, _, after = serving.end()
+        errors = before + after
         hold("serve ends", status, 0)
         failed, again = errors.count("the database failed,"), errors.count("the database is open again")
         tell("a failure is told, and that it is over", None if failed == 3 and again == failed else errors)
