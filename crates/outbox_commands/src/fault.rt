@@ -2,7 +2,7 @@
 
 use crate::held::{taken, unfit};
 use command_files::{Holding, ReportFault, Verdict};
-use command_line::{CommandFault, DatabaseFault};
+use command_line::CommandFault;
 use filer_client::ExchangeFault;
 use http_wire::ReplyFault;
 use key_string::KeyFault;
@@ -202,16 +202,11 @@ impl Fault<'_> {
         }
     }
 
-    /// What the fault says of the outbox, where it says something.
+    /// What the fault says of the outbox, if it says something.
     pub fn verdict(&self) -> Option<Verdict> {
         match self {
             Fault::Outbox { fault, .. } => fault.verdict(),
-            Fault::Command(
-                CommandFault::Database {
-                    fault: DatabaseFault::Missing | DatabaseFault::NotADatabase,
-                    ..
-                },
-            ) => Some(Verdict::NotOurs),
+            Fault::Command(CommandFault::Database { fault, .. }) => Verdict::of(*fault),
             _ => None,
         }
     }
