@@ -110,7 +110,8 @@ MIGRATED_OUTBOXES = [
     ("put --db @old.db --body @small --key k-3 --amend 1", 0, "entry 3\n", ""),
 ]
 
-# Files that have other tables, or none.
+WRONG_PAGE = "the sum or the structure of a page is wrong: keep the file and the log beside it, and restore a copy"
+# Files that have other tables, or none, or are damaged.
 OTHER_OUTBOXES = [
     ("init --db @foreign.db --filer ACME", 1, "", "foreign.db: the file has tables already"),
     ("status --db @foreign.db", 1, "", "foreign.db: not an outbox"),
@@ -121,6 +122,10 @@ OTHER_OUTBOXES = [
     ("init --db @old.db --filer ACME", 1, "", "old.db: it is an outbox already"),
     ("status --db @bare.db", 1, "", "bare.db: it has no tables (outbox init makes an outbox)"),
     ("migrate --db @bare.db", 1, "not an outbox\n", "bare.db: it has no tables (outbox init makes an outbox)"),
+    ("status --db @empty.db", 1, "", "empty.db: the file is empty"),
+    ("migrate --db @empty.db", 1, "not an outbox\n", "empty.db: the file is empty"),
+    ("status --db @changed.db", 1, "", f"changed.db: {WRONG_PAGE}"),
+    ("migrate --db @changed.db", 1, "damaged at row 0\n", f"changed.db: {WRONG_PAGE}"),
 ]
 
 # Ports are 1 to 65535, seconds 1 to 86400, and the numbers that `--amend` takes 1 to 9223372036854775807; limits, other numbers and ids
@@ -230,10 +235,16 @@ def check_files_of_others(folder):
     make_earlier_outbox(folder / "old.db")
     make_by_sql(folder / "foreign.db", "CREATE TABLE other (x);")
     make_by_sql(folder / "bare.db", "PRAGMA user_version = 1;")
+    (folder / "empty.db").touch()
+    run(OUTBOX, "init", "--db", folder / "changed.db", "--filer", "ACME")
+    data = bytearray((folder / "changed.db").read_bytes())
+    data[4095] ^= 1  # of the sum of the first page
+    (folder / "changed.db").write_bytes(data)
     before = sorted(it.name for it in folder.iterdir())
     hold_each(OUTBOX, OTHER_OUTBOXES, folder)
     hold("nothing is left beside them", sorted(it.name for it in folder.iterdir()), before)
-    hold("init in a database without tables", said(run(OUTBOX, "init", "--db", folder / "bare.db", "--filer", "ACME"), folder), (0, "", ""))
+    for name in ("bare.db", "empty.db"):
+        hold(f"init in {name}", said(run(OUTBOX, "init", "--db", folder / name, "--filer", "ACME"), folder), (0, "", ""))
 
 
 def check_ranges(folder):

@@ -44,7 +44,7 @@ pub enum VisitFault {
     #[error("out of memory")]
     Memory,
     /// The disk, or what the disk gave.
-    #[error("the database failed: the disk may be full")]
+    #[error("the disk failed, or is full")]
     Database,
 }
 
