@@ -527,6 +527,8 @@ def check_full_disk(folder):
         for what, given, wanted in FULL:
             hold(f"{what}, on a full disk", statuses(exchange(serving.port, given)), wanted)
         filler.unlink()
+        # The second failure was followed by a pause of a second, in which each request gets 503.
+        time.sleep(1.5)
         hold("a new report, once there is room", statuses(exchange(serving.port, request("k-5", LARGE))), [201])
         hold("serve ends", serving.end()[0], 0)
         hold("what was answered is kept", ask_register(database), (0, b"sound: 5 kept, 4 filings\n"))
