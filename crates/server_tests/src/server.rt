@@ -17,6 +17,7 @@ mod cut;
 mod facts;
 mod failing;
 mod memory;
+mod patience;
 mod stopping;
 mod targets;
 mod waiting;
