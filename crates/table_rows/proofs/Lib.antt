@@ -18,3 +18,4 @@ pub mod TextLemmas
 pub mod StopLemmas
 pub mod TakeLemmas
 pub mod BeforeLemmas
+pub mod LeavingLemmas

@@ -1,5 +1,5 @@
 -- A text that is a query writes nothing, whatever the tables are.
-use Rattle.std.proofs.Common.{◌≡◌, ◌∙◌, inl, inr, ℕ, ◌+◌, Bool, true, false, List, Option, Some, None, Ok, Err, Result, IfOk, IfErr, if◌then◌else◌, refl, sym, subst, true≢false}
+use Rattle.std.proofs.Common.{◌≡◌, ◌∙◌, inl, inr, ℕ, ◌+◌, true, false, List, Option, Some, None, Ok, Err, Result, IfOk, IfErr, if◌then◌else◌, refl, sym, subst, true≢false}
 use Rattle.sqlite.specs.Order.{Row}
 use Rattle.sqlite.specs.Tree.{Trees}
 use Rattle.sqlite.specs.Schema.{Schema}
@@ -18,19 +18,9 @@ use Rattle.sqlite_resolve.specs.declared.compiled.Compiled.{Compiled}
 use Rattle.sqlite_resolve.specs.declared.error.CompileError.TheVariants.{NoSuchTable}
 use Rattle.sqlite_resolve.specs.Lowering.{Checked, and_then}
 use Rattle.sqlite_resolve.specs.Compile.{first, compiled, planned, meaning, returning, command, small, timed as formats_for, with_command}
+pub use Rattle.table_rows.specs.Queries.{IsQueryText}
+use Rattle.table_rows.specs.Queries.{is_query, begins_with_query}
 use Rattle.table_rows.specs.Standing.{Keeps}
-
-abbrev is_query : Statement → Bool
-is_query (written.Select s) = true
-is_query _ = false
-
-abbrev pub begins_with_query : Checked Parsed → Bool
-begins_with_query (Ok p) = is_query p.statement
-begins_with_query (Err e) = false
-
--- its first statement is a SELECT
-abbrev pub IsQueryText : List ℕ → Type 0
-IsQueryText sql = begins_with_query (first sql) ≡ true
 
 abbrev returning_of : Checked Compiled → Option Returning
 returning_of (Ok c) = c.returning

@@ -5,3 +5,5 @@ pub mod Reading
 pub mod Standing
 pub mod Files
 pub mod Picking
+pub mod Queries
+pub mod Leaving

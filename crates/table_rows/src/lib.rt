@@ -1,6 +1,6 @@
 //! What one statement on one table does, said of rows as `SELECT *` shows them. What may live here: the
-//! refusals of `sqlite` by their cause, how a call on a store's rows is refused, the first row of a query, a count of
-//! rows, and what holds of every table that a store declares. It knows no table of ours, no text of SQL and no meaning
+//! refusals of `sqlite` by their cause, how a call on a store's rows is refused, the rows of a query, its first row, a count
+//! of rows, and what holds of every table that a store declares. It knows no table of ours, no text of SQL and no meaning
 //! of a row.
 #![tactic(auto)]
 
@@ -8,8 +8,10 @@ mod cause;
 mod count;
 mod fault;
 mod first;
+mod query;
 
 pub use cause::Cause;
 pub use count::count_in;
 pub use fault::StoreFault;
 pub use first::first_row;
+pub use query::select;

@@ -1,0 +1,57 @@
+-- What a call that only reads leaves of its connection.
+use Rattle.std.specs.Prelude.{◌≡◌, ◌⊎◌, false, Result, Ok, Err, IsTrue}
+use Rattle.sqlite.specs.Store.{Ghosts}
+use Rattle.sqlite.specs.Held.{Held, state}
+use Rattle.sqlite.specs.State.{State, HasCleanDisk, IsUnchanged, IsRolledBack, KeepsCounts}
+use Rattle.sqlite.specs.declared.error.Error.{Error}
+use Rattle.table_rows.specs.Picking.{IsStopped}
+use Rattle.table_rows.specs.Standing.{CommitsNothing}
+
+-- nothing was written; this holds of a connection that is shut too, if it is left alone
+pub record IsUntouched (old new : State) : Type 0 where
+  pub was_open : IsTrue new.is_open → IsTrue old.is_open
+  pub same : IsTrue old.is_open → IsUnchanged old new
+  pub counts : KeepsCounts old new
+
+-- How a call ended.
+pub data Ending : Type 0 where
+  -- the database answered
+  Asked : Ending
+  -- it did, or it was not asked
+  Passed : Ending
+  -- whatever came of it: nothing was written, or what the transaction had written is undone
+  Ended : Ending
+  -- the database refused a query for this reason
+  Stopped : Error → Ending
+
+abbrev pub IsLeft : Ending → State → State → Type 0
+IsLeft Asked old new = IsUnchanged old new
+IsLeft Passed old new = IsUntouched old new
+IsLeft Ended old new = IsUntouched old new ⊎ IsRolledBack old new
+IsLeft (Stopped error) old new = IsStopped old new error
+
+-- Where the disk is clean at the end, the call left the connection so. It begins no transaction and commits nothing: a crash inside it
+-- leaves what one before it could leave.
+pub record Leaves (ending : Ending) (old new : State) : Type 0 where
+  pub left : HasCleanDisk new → IsLeft ending old new
+  pub mode : old.in_transaction ≡ false → new.in_transaction ≡ false
+  pub survives : CommitsNothing old new
+
+abbrev pub ending_of : {X E : Type 0} → Ending → (E → Ending) → Result X E → Ending
+ending_of answered refused (Ok x) = answered
+ending_of answered refused (Err e) = refused e
+
+-- The call only reads, and an answer says that the store is open.
+abbrev pub OnlyReads : {S X E : Type 0} → Ghosts S → Held S → Held S → Result X E → Type 0
+OnlyReads g old new result = Leaves (ending_of Asked (λ _. Ended) result) (state g old) (state g new)
+
+-- So it does where it may answer without a query.
+abbrev pub MayRead : {S X E : Type 0} → Ghosts S → Held S → Held S → Result X E → Type 0
+MayRead g old new result = Leaves (ending_of Passed (λ _. Ended) result) (state g old) (state g new)
+
+-- The same of a call that hands on why the database refused.
+abbrev pub OnlyQueries : {S X : Type 0} → Ghosts S → Held S → Held S → Result X Error → Type 0
+OnlyQueries g old new result = Leaves (ending_of Asked Stopped result) (state g old) (state g new)
+
+abbrev pub MayQuery : {S X : Type 0} → Ghosts S → Held S → Held S → Result X Error → Type 0
+MayQuery g old new result = Leaves (ending_of Passed Stopped result) (state g old) (state g new)
