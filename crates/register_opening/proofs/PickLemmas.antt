@@ -1,5 +1,5 @@
 -- What the statements of a walk pick.
-use Rattle.std.proofs.Common.{◌≡◌, ℕ, ◌-◌, pos, Bool, List, [], ◌∷◌, map, filter, length, refl, subst, ◌∙◌, IsPermutation}
+use Rattle.std.proofs.Common.{◌≡◌, ℕ, pos, Bool, List, [], ◌∷◌, map, filter, length, refl, subst, ◌∙◌, IsPermutation}
 use Rattle.std.proofs.lemmas.List.Sorted.{IsPermutation-refl, length_permutation}
 use Rattle.sqlite.specs.declared.types.Value.TheVariants.{Int, Text}
 use Rattle.sqlite.specs.Order.{Row}

@@ -6,7 +6,6 @@ use Rattle.sqlite.specs.Effect.{Database, IsDatabase}
 use Rattle.sqlite.specs.State.{State}
 use Rattle.sqlite.specs.Tree.{Trees}
 use Rattle.filing_model.specs.Request.{Request}
-use Rattle.filing_model.specs.Register.{register}
 use Rattle.register_rows.specs.Register.{StandsFor}
 
 -- a database, as SQLite's files have one, whose rows stand for these requests, the first `early` of them kept before there were

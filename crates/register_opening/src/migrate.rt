@@ -141,16 +141,12 @@ pub fn migrate_register<S: Alter>(
     ensures { MigratesRegister S.Store conn.old conn.new result }
 {
     prove!(is_settled(conn));
-    match read_earlier(alloc, conn) {
-        Ok(found) => {
-            if names::is_blocked(conn.schema(), found.form) {
-                return Err(OpenFault::NotOurs);
-            }
-            match write(conn, found.form, found.counts.early) {
-                Ok(()) => Ok(found.counts),
-                Err(error) => Err(write_fault(error)),
-            }
-        }
-        Err(fault) => Err(fault),
+    let found = read_earlier(alloc, conn)?;
+    if names::is_blocked(conn.schema(), found.form) {
+        return Err(OpenFault::NotOurs);
+    }
+    match write(conn, found.form, found.counts.early) {
+        Ok(()) => Ok(found.counts),
+        Err(error) => Err(write_fault(error)),
     }
 }

@@ -4,9 +4,9 @@ ghost use Rattle.std.specs.Prelude.{◌≡◌, ◌≤◌, ◌<◌, ◌⊎◌, �
 ghost use Rattle.filing_model.specs.Register.{register};
 ghost use Rattle.sqlite.specs.Held.{state};
 ghost use Rattle.sqlite.specs.declared.types.Value.TheVariants.{Int};
-ghost use Rattle.sqlite.specs.State.{HasCleanDisk, IsLive, IsUnchanged};
+ghost use Rattle.sqlite.specs.State.{HasCleanDisk, IsLive};
+ghost use Rattle.table_rows.specs.Leaving.{OnlyQueries, OnlyReads};
 ghost use Rattle.table_rows.specs.Causes.{cause_of};
-ghost use Rattle.table_rows.specs.Standing.{CommitsNothing, StaysAutocommit, StaysOnOk};
 ghost use Rattle.register_rows.specs.Audit.{IsVerdict};
 ghost use Rattle.register_opening.specs.Faults.{meta_fault, table_fault};
 ghost use Rattle.register_opening.specs.Opening.{all_meta, row_texts, new_texts, IsRead, AreRead, StopsFor, SaysEarly, SaysNothing, AreDamaged, IsRefused, IsRefusedAfter, AreWithin, ReadsRegister};
@@ -70,8 +70,7 @@ fn read_meta<S: Alter>(conn: &mut Connection<S>) -> Result<(), OpenFault>
         → OnOk result (IsRead S.Store all_meta conn.old conn.new (meta_row ∷ [])) }
     ensures refused { HasCleanDisk (state S.Store conn.new)
         → IfErr result (λ fault. IsRefused S.Store fault conn.old conn.new) }
-    ensures mode { StaysAutocommit conn.old conn.new }
-    ensures survives { CommitsNothing (state S.Store conn.old) (state S.Store conn.new) }
+    ensures leaves { OnlyReads S.Store conn.old conn.new result }
 {
     match reads::meta_rows(conn) {
         Ok(rows) => {
@@ -101,27 +100,18 @@ pub(crate) fn read_tables<S: Alter>(conn: &mut Connection<S>) -> Result<Tables, 
         (tables.kept.items ∷ tables.findings.items ∷ tables.filings.items ∷ tables.facts.items ∷ [])) }
     ensures failed { HasCleanDisk (state S.Store conn.new)
         → IfErr result (λ error. StopsFor S.Store (cause_of error) row_texts conn.old conn.new) }
-    ensures mode { StaysAutocommit conn.old conn.new }
-    ensures survives { CommitsNothing (state S.Store conn.old) (state S.Store conn.new) }
+    ensures leaves { OnlyQueries S.Store conn.old conn.new result }
 {
-    match reads::kept_rows(conn) {
-        Ok(kept) => match reads::finding_rows(conn) {
-            Ok(findings) => match reads::filing_rows(conn) {
-                Ok(filings) => match reads::fact_rows(conn) {
-                    Ok(facts) => Ok(Tables {
-                        kept,
-                        findings,
-                        filings,
-                        facts,
-                    }),
-                    Err(error) => Err(error),
-                },
-                Err(error) => Err(error),
-            },
-            Err(error) => Err(error),
-        },
-        Err(error) => Err(error),
-    }
+    let kept = reads::kept_rows(conn)?;
+    let findings = reads::finding_rows(conn)?;
+    let filings = reads::filing_rows(conn)?;
+    let facts = reads::fact_rows(conn)?;
+    Ok(Tables {
+        kept,
+        findings,
+        filings,
+        facts,
+    })
 }
 
 /// The rows of the tables that an earlier form did not have, each in the order of its key.
@@ -137,16 +127,11 @@ fn read_later<S: Alter>(conn: &mut Connection<S>) -> Result<Later, Error>
         AreRead S.Store new_texts conn.old conn.new (later.migrated.items ∷ later.amends.items ∷ [])) }
     ensures failed { HasCleanDisk (state S.Store conn.new)
         → IfErr result (λ error. StopsFor S.Store (cause_of error) new_texts conn.old conn.new) }
-    ensures mode { StaysAutocommit conn.old conn.new }
-    ensures survives { CommitsNothing (state S.Store conn.old) (state S.Store conn.new) }
+    ensures leaves { OnlyQueries S.Store conn.old conn.new result }
 {
-    match reads::migrated_rows(conn) {
-        Ok(migrated) => match reads::amends_rows(conn) {
-            Ok(amends) => Ok(Later { migrated, amends }),
-            Err(error) => Err(error),
-        },
-        Err(error) => Err(error),
-    }
+    let migrated = reads::migrated_rows(conn)?;
+    let amends = reads::amends_rows(conn)?;
+    Ok(Later { migrated, amends })
 }
 
 /// How much a register holds: how many requests are kept, how many of them are registered, and how many were kept before
@@ -263,9 +248,7 @@ fn count_one_by_one<S: Alter, W: Watch>(
         → IfErr result (λ fault.
         (error : Error) × (fault ≡ table_fault error)
         × StopsFor S.Store (cause_of error) row_texts conn.old conn.new) }
-    ensures same { StaysOnOk (state S.Store conn.old) (state S.Store conn.new) result }
-    ensures mode { StaysAutocommit conn.old conn.new }
-    ensures survives { CommitsNothing (state S.Store conn.old) (state S.Store conn.new) }
+    ensures leaves { OnlyReads S.Store conn.old conn.new result }
 {
     match count_by_walk(alloc, conn, &later.amends, watch) {
         Ok(Some(totals)) => Ok(counts_of(totals, later)),
@@ -298,10 +281,9 @@ fn count_all<S: Alter, W: Watch>(
 ) -> Result<Counts, OpenFault>
     ensures counted { HasCleanDisk (state S.Store conn.new)
         → IfOk result (λ counts.
-        IsUnchanged (state S.Store conn.old) (state S.Store conn.new)
-        × (HasCommon (state S.Store conn.old).now.schema
+        HasCommon (state S.Store conn.old).now.schema
         → AreCounted counts (record { migrated = later.now.migrated.items; amends = later.now.amends.items })
-        (state S.Store conn.old).now)) }
+        (state S.Store conn.old).now) }
     ensures few { IfOk result AreWithin }
     ensures refused { HasCleanDisk (state S.Store conn.new)
         → IfErr result (λ fault.
@@ -309,23 +291,21 @@ fn count_all<S: Alter, W: Watch>(
           migrated = later.now.migrated.items;
           amends = later.now.amends.items;
         }) fault conn.old conn.new) }
-    ensures mode { StaysAutocommit conn.old conn.new }
-    ensures survives { CommitsNothing (state S.Store conn.old) (state S.Store conn.new) }
+    ensures leaves { OnlyReads S.Store conn.old conn.new result }
 {
-    match count_one_by_one(alloc, conn, later, watch) {
-        Ok(Some(counts)) => Ok(counts),
-        Ok(None) => match read_tables(conn) {
-            Ok(tables) => count(
-                alloc,
-                &tables.kept,
-                &tables.findings,
-                &tables.filings,
-                &tables.facts,
-                later,
-            ),
-            Err(error) => Err(table_fault(error)),
-        },
-        Err(fault) => Err(fault),
+    if let Some(counts) = count_one_by_one(alloc, conn, later, watch)? {
+        return Ok(counts);
+    }
+    match read_tables(conn) {
+        Ok(tables) => count(
+            alloc,
+            &tables.kept,
+            &tables.findings,
+            &tables.filings,
+            &tables.facts,
+            later,
+        ),
+        Err(error) => Err(table_fault(error)),
     }
 }
 
@@ -341,11 +321,9 @@ pub fn read_register<S: Alter, W: Watch>(
     ensures { ReadsRegister S.Store conn.old conn.new result }
 {
     prove!(is_settled(conn));
-    match read_meta(conn) {
-        Ok(()) => match read_later(conn) {
-            Ok(later) => count_all(alloc, conn, &later, watch),
-            Err(error) => Err(table_fault(error)),
-        },
-        Err(fault) => Err(fault),
+    read_meta(conn)?;
+    match read_later(conn) {
+        Ok(later) => count_all(alloc, conn, &later, watch),
+        Err(error) => Err(table_fault(error)),
     }
 }

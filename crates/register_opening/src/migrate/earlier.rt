@@ -8,7 +8,7 @@ ghost use Rattle.register_opening.specs.Earlier.{form_number};
 ghost use Rattle.register_opening.specs.Migrating.{AreTotals, IsCounted, IsSurveyed, IsNotSurveyed, HasNoForm, HasNoTotals, HasNoCounts, SaysNone};
 ghost use Rattle.register_opening.specs.Opening.{AreWithin, all_meta, IsRead};
 ghost use Rattle.register_rows.specs.Register.{form_row, migrated_row};
-ghost use Rattle.table_rows.specs.Standing.{CommitsNothing, StaysAutocommit, StaysOnOk};
+ghost use Rattle.table_rows.specs.Leaving.{OnlyReads};
 
 use crate::fault::OpenFault;
 use crate::opening::walk::{Totals, count_by_walk};
@@ -85,8 +85,7 @@ fn read_form<S: Alter>(conn: &mut Connection<S>) -> Result<Earlier, OpenFault>
         → IfOk result (λ form. IsRead S.Store all_meta conn.old conn.new (form_row (form_number form) ∷ [])) }
     ensures refused { HasCleanDisk (state S.Store conn.new)
         → IfErr result (λ fault. HasNoForm S.Store fault conn.old conn.new) }
-    ensures mode { StaysAutocommit conn.old conn.new }
-    ensures survives { CommitsNothing (state S.Store conn.old) (state S.Store conn.new) }
+    ensures leaves { OnlyReads S.Store conn.old conn.new result }
 {
     match reads::meta_rows(conn) {
         Ok(rows) => match form_in(&rows) {
@@ -135,8 +134,7 @@ fn count_whole<S: Alter>(alloc: Global, conn: &mut Connection<S>) -> Result<Tota
     ensures few { IfOk result (λ totals. (totals.kept ≤ 2 ^ 62) × (totals.filings ≤ totals.kept)) }
     ensures refused { HasCleanDisk (state S.Store conn.new)
         → IfErr result (λ fault. HasNoTotals S.Store fault conn.old conn.new) }
-    ensures mode { StaysAutocommit conn.old conn.new }
-    ensures survives { CommitsNothing (state S.Store conn.old) (state S.Store conn.new) }
+    ensures leaves { OnlyReads S.Store conn.old conn.new result }
 {
     match read_tables(conn) {
         Ok(tables) => totals_in(
@@ -162,9 +160,7 @@ fn count_walked<S: Alter>(
         IfSome found (λ totals. (totals.kept ≤ 2 ^ 62) × (totals.filings ≤ totals.kept))) }
     ensures refused { HasCleanDisk (state S.Store conn.new)
         → IfErr result (λ fault. HasNoTotals S.Store fault conn.old conn.new) }
-    ensures same { StaysOnOk (state S.Store conn.old) (state S.Store conn.new) result }
-    ensures mode { StaysAutocommit conn.old conn.new }
-    ensures survives { CommitsNothing (state S.Store conn.old) (state S.Store conn.new) }
+    ensures leaves { OnlyReads S.Store conn.old conn.new result }
 {
     match count_by_walk(alloc, conn, &[], &mut Unwatched) {
         Ok(found) => Ok(found),
@@ -183,13 +179,11 @@ fn count_four<S: Alter>(alloc: Global, conn: &mut Connection<S>) -> Result<Total
     ensures few { IfOk result (λ totals. (totals.kept ≤ 2 ^ 62) × (totals.filings ≤ totals.kept)) }
     ensures refused { HasCleanDisk (state S.Store conn.new)
         → IfErr result (λ fault. HasNoTotals S.Store fault conn.old conn.new) }
-    ensures mode { StaysAutocommit conn.old conn.new }
-    ensures survives { CommitsNothing (state S.Store conn.old) (state S.Store conn.new) }
+    ensures leaves { OnlyReads S.Store conn.old conn.new result }
 {
-    match count_walked(alloc, conn) {
-        Ok(Some(totals)) => Ok(totals),
-        Ok(None) => count_whole(alloc, conn),
-        Err(fault) => Err(fault),
+    match count_walked(alloc, conn)? {
+        Some(totals) => Ok(totals),
+        None => count_whole(alloc, conn),
     }
 }
 
@@ -211,17 +205,14 @@ fn count_second<S: Alter>(alloc: Global, conn: &mut Connection<S>) -> Result<Cou
     ensures few { IfOk result AreWithin }
     ensures refused { HasCleanDisk (state S.Store conn.new)
         → IfErr result (λ fault. HasNoCounts S.Store Earlier.Second fault conn.old conn.new) }
-    ensures mode { StaysAutocommit conn.old conn.new }
-    ensures survives { CommitsNothing (state S.Store conn.old) (state S.Store conn.new) }
+    ensures leaves { OnlyReads S.Store conn.old conn.new result }
 {
-    match count_four(alloc, conn) {
-        Ok(totals) => Ok(Counts {
-            kept: totals.kept,
-            filings: totals.filings,
-            early: totals.kept,
-        }),
-        Err(fault) => Err(fault),
-    }
+    let totals = count_four(alloc, conn)?;
+    Ok(Counts {
+        kept: totals.kept,
+        filings: totals.filings,
+        early: totals.kept,
+    })
 }
 
 /// So much is held in the third form, where the rows of `migrated` are these.
@@ -248,14 +239,13 @@ fn count_third<S: Alter>(alloc: Global, conn: &mut Connection<S>) -> Result<Coun
     ensures few { IfOk result AreWithin }
     ensures refused { HasCleanDisk (state S.Store conn.new)
         → IfErr result (λ fault. HasNoCounts S.Store Earlier.Third fault conn.old conn.new) }
-    ensures mode { StaysAutocommit conn.old conn.new }
-    ensures survives { CommitsNothing (state S.Store conn.old) (state S.Store conn.new) }
+    ensures leaves { OnlyReads S.Store conn.old conn.new result }
 {
     match reads::migrated_rows(conn) {
-        Ok(migrated) => match count_four(alloc, conn) {
-            Ok(totals) => counts_with(totals, &migrated),
-            Err(fault) => Err(fault),
-        },
+        Ok(migrated) => {
+            let totals = count_four(alloc, conn)?;
+            counts_with(totals, &migrated)
+        }
         Err(error) => Err(table_fault(error)),
     }
 }
@@ -277,8 +267,7 @@ fn count_in<S: Alter>(
     ensures few { IfOk result AreWithin }
     ensures refused { HasCleanDisk (state S.Store conn.new)
         → IfErr result (λ fault. HasNoCounts S.Store form fault conn.old conn.new) }
-    ensures mode { StaysAutocommit conn.old conn.new }
-    ensures survives { CommitsNothing (state S.Store conn.old) (state S.Store conn.new) }
+    ensures leaves { OnlyReads S.Store conn.old conn.new result }
 {
     match form {
         Earlier::Second => count_second(alloc, conn),
@@ -298,14 +287,9 @@ pub(crate) fn read_earlier<S: Alter>(
         × (found.counts.early ≤ found.counts.kept)) }
     ensures refused { HasCleanDisk (state S.Store conn.new)
         → IfErr result (λ fault. IsNotSurveyed S.Store fault conn.old conn.new) }
-    ensures mode { StaysAutocommit conn.old conn.new }
-    ensures survives { CommitsNothing (state S.Store conn.old) (state S.Store conn.new) }
+    ensures leaves { OnlyReads S.Store conn.old conn.new result }
 {
-    match read_form(conn) {
-        Ok(form) => match count_in(alloc, conn, form) {
-            Ok(counts) => Ok(Survey { form, counts }),
-            Err(fault) => Err(fault),
-        },
-        Err(fault) => Err(fault),
-    }
+    let form = read_form(conn)?;
+    let counts = count_in(alloc, conn, form)?;
+    Ok(Survey { form, counts })
 }

@@ -1,9 +1,10 @@
 //! Whether the rows of a register's tables stand for requests, found with one kept request in memory at a time.
 
-ghost use Rattle.std.specs.Prelude.{◌≡◌, ◌<◌, ◌≤◌, ◌^◌, ◌+◌, ◌++◌, ℕ, suc, pos, false, List, length, filter, [], ◌∷◌, Option, None, Some, IsTrue, IfOk, IfErr, IfSome, OnOk};
+ghost use Rattle.std.specs.Prelude.{◌≡◌, ◌<◌, ◌≤◌, ◌^◌, ◌+◌, ◌++◌, ℕ, suc, pos, false, List, length, filter, [], ◌∷◌, Option, None, Some, IsTrue, IfOk, IfSome};
 ghost use Rattle.sqlite.specs.Held.{state};
-ghost use Rattle.sqlite.specs.State.{HasCleanDisk, IsUnchanged};
+ghost use Rattle.sqlite.specs.State.{HasCleanDisk};
 ghost use Rattle.sqlite.specs.declared.types.Value.TheVariants.{Int};
+ghost use Rattle.table_rows.specs.Leaving.{MayQuery, OnlyQueries};
 ghost use Rattle.table_rows.specs.Rows.{counted_from};
 ghost use Rattle.xbrl_report.specs.ReportParts.{facts as facts_of};
 ghost use Rattle.xbrl_report.specs.Judgement.{HasFacts};
@@ -15,10 +16,9 @@ ghost use Rattle.register_rows.specs.Filed.{AreFiled};
 ghost use Rattle.register_opening.specs.Reads.{has_texts};
 ghost use Rattle.register_rows.specs.Outcomes.{outcome_of};
 ghost use Rattle.register_rows.specs.Register.{IsCompleted, kept_row, finding_row, fact_row, amends_rows_by};
-ghost use Rattle.table_rows.specs.Picking.{has_number, IsStopped, Picks, rows_in, StopsOnErr};
+ghost use Rattle.table_rows.specs.Picking.{has_number, Picks, rows_in};
 ghost use Rattle.register_rows.specs.Schema.{HasCommon, kept_table, finding_table, filing_table, fact_table};
 ghost use Rattle.register_opening.specs.Walk.{Amounts, Beyond, Passes, Walked};
-ghost use Rattle.table_rows.specs.Standing.{CommitsNothing, StaysAutocommit, StaysOnOk};
 
 use crate::opening::watch::Watch;
 use crate::select::picks;
@@ -74,15 +74,10 @@ fn has_findings<S: Alter>(
         IsTrue found
         → Picks finding_table (has_number seq) (counted_from (finding_row seq) 1 findings.now)
         (state S.Store conn.old).now) }
-    ensures same { StaysOnOk (state S.Store conn.old) (state S.Store conn.new) result }
-    ensures stopped { StopsOnErr (state S.Store conn.old) (state S.Store conn.new) result }
-    ensures mode { StaysAutocommit conn.old conn.new }
-    ensures survives { CommitsNothing (state S.Store conn.old) (state S.Store conn.new) }
+    ensures leaves { OnlyQueries S.Store conn.old conn.new result }
 {
-    match picks::findings_at(conn, seq) {
-        Ok(rows) => Ok(are_items(&rows, seq, findings)),
-        Err(error) => Err(error),
-    }
+    let rows = picks::findings_at(conn, seq)?;
+    Ok(are_items(&rows, seq, findings))
 }
 
 /// Whether the filing with this number is that of the request at this place.
@@ -94,15 +89,10 @@ fn has_filing<S: Alter>(conn: &mut Connection<S>, number: u64, seq: u64) -> Resu
         IsTrue found
         → Picks filing_table (has_number number) ((Int (pos number) ∷ Int (pos seq) ∷ []) ∷ [])
         (state S.Store conn.old).now) }
-    ensures same { StaysOnOk (state S.Store conn.old) (state S.Store conn.new) result }
-    ensures stopped { StopsOnErr (state S.Store conn.old) (state S.Store conn.new) result }
-    ensures mode { StaysAutocommit conn.old conn.new }
-    ensures survives { CommitsNothing (state S.Store conn.old) (state S.Store conn.new) }
+    ensures leaves { OnlyQueries S.Store conn.old conn.new result }
 {
-    match picks::filings_numbered(conn, number) {
-        Ok(rows) => Ok(is_filing(&rows, number, seq)),
-        Err(error) => Err(error),
-    }
+    let rows = picks::filings_numbered(conn, number)?;
+    Ok(is_filing(&rows, number, seq))
 }
 
 /// Whether the filing with this number has these facts.
@@ -113,15 +103,10 @@ fn has_facts<S: Alter>(conn: &mut Connection<S>, number: u64, facts: &[Fact]) ->
         IsTrue found
         → Picks fact_table (has_number number) (counted_from (fact_row number) 1 facts.now)
         (state S.Store conn.old).now) }
-    ensures same { StaysOnOk (state S.Store conn.old) (state S.Store conn.new) result }
-    ensures stopped { StopsOnErr (state S.Store conn.old) (state S.Store conn.new) result }
-    ensures mode { StaysAutocommit conn.old conn.new }
-    ensures survives { CommitsNothing (state S.Store conn.old) (state S.Store conn.new) }
+    ensures leaves { OnlyQueries S.Store conn.old conn.new result }
 {
-    match picks::facts_numbered(conn, number) {
-        Ok(rows) => Ok(are_items(&rows, number, facts)),
-        Err(error) => Err(error),
-    }
+    let rows = picks::facts_numbered(conn, number)?;
+    Ok(are_items(&rows, number, facts))
 }
 
 /// Whether no other kept row has the filer and key of this one.
@@ -132,15 +117,10 @@ fn is_alone<S: Alter>(conn: &mut Connection<S>, row: &Row) -> Result<bool, Error
         → length (filter (has_texts (request_in None row.now).filer (request_in None row.now).key)
         (rows_in (state S.Store conn.old).now kept_table))
         ≡ 1) }
-    ensures same { StaysOnOk (state S.Store conn.old) (state S.Store conn.new) result }
-    ensures stopped { StopsOnErr (state S.Store conn.old) (state S.Store conn.new) result }
-    ensures mode { StaysAutocommit conn.old conn.new }
-    ensures survives { CommitsNothing (state S.Store conn.old) (state S.Store conn.new) }
+    ensures leaves { OnlyQueries S.Store conn.old conn.new result }
 {
-    match picks::count_with_key(conn, text_at(row, 1), text_at(row, 2)) {
-        Ok(count) => Ok(count == 1),
-        Err(error) => Err(error),
-    }
+    let count = picks::count_with_key(conn, text_at(row, 1), text_at(row, 2))?;
+    Ok(count == 1)
 }
 
 /// What is left with so many findings less.
@@ -187,16 +167,12 @@ fn pass_refused<'a, S: Alter>(
         → Beyond seq k left.entry tail (state S.Store conn.old).now)) }
     ensures rest { IfOk result (λ passed.
         IfSome passed (λ tail. (tail.number ≤ left.entry.number + 1) × (tail.amends.now ≡ left.entry.amends.now))) }
-    ensures same { StaysOnOk (state S.Store conn.old) (state S.Store conn.new) result }
-    ensures stopped { StopsOnErr (state S.Store conn.old) (state S.Store conn.new) result }
-    ensures mode { StaysAutocommit conn.old conn.new }
-    ensures survives { CommitsNothing (state S.Store conn.old) (state S.Store conn.new) }
+    ensures leaves { OnlyQueries S.Store conn.old conn.new result }
 {
-    match has_findings(conn, seq, findings) {
-        Ok(true) => Ok(without_findings(left, findings.len() as u64)),
-        Ok(false) => Ok(None),
-        Err(error) => Err(error),
+    if !has_findings(conn, seq, findings)? {
+        return Ok(None);
     }
+    Ok(without_findings(left, findings.len() as u64))
 }
 
 /// What is left behind the filing of a registered request and its facts, if they are there.
@@ -215,20 +191,15 @@ fn pass_registered<'a, S: Alter>(
         → Beyond seq k left.entry tail (state S.Store conn.old).now)) }
     ensures rest { IfOk result (λ passed.
         IfSome passed (λ tail. (tail.number ≤ left.entry.number + 1) × (tail.amends.now ≡ left.entry.amends.now))) }
-    ensures same { StaysOnOk (state S.Store conn.old) (state S.Store conn.new) result }
-    ensures stopped { StopsOnErr (state S.Store conn.old) (state S.Store conn.new) result }
-    ensures mode { StaysAutocommit conn.old conn.new }
-    ensures survives { CommitsNothing (state S.Store conn.old) (state S.Store conn.new) }
+    ensures leaves { OnlyQueries S.Store conn.old conn.new result }
 {
-    match has_filing(conn, left.number, seq) {
-        Ok(true) => match has_facts(conn, left.number, facts) {
-            Ok(true) => Ok(without_filing(left, facts.len() as u64)),
-            Ok(false) => Ok(None),
-            Err(error) => Err(error),
-        },
-        Ok(false) => Ok(None),
-        Err(error) => Err(error),
+    if !has_filing(conn, left.number, seq)? {
+        return Ok(None);
     }
+    if !has_facts(conn, left.number, facts)? {
+        return Ok(None);
+    }
+    Ok(without_filing(left, facts.len() as u64))
 }
 
 /// What is left behind a kept row whose request was judged so, if its rows are those of that outcome.
@@ -255,11 +226,7 @@ fn pass_as<'a, S: Alter>(
         left.entry tail (state S.Store conn.old).now)) }
     ensures rest { IfOk result (λ passed.
         IfSome passed (λ tail. (tail.number ≤ left.entry.number + 1) × (tail.amends.now ≡ left.entry.amends.now))) }
-    ensures same { HasCleanDisk (state S.Store conn.new) → IsTrue (state S.Store conn.old).is_open
-        → OnOk result (IsUnchanged (state S.Store conn.old) (state S.Store conn.new)) }
-    ensures stopped { StopsOnErr (state S.Store conn.old) (state S.Store conn.new) result }
-    ensures mode { StaysAutocommit conn.old conn.new }
-    ensures survives { CommitsNothing (state S.Store conn.old) (state S.Store conn.new) }
+    ensures leaves { MayQuery S.Store conn.old conn.new result }
 {
     match judged {
         Judged::Valid(report) => {
@@ -307,22 +274,17 @@ fn pass_filed<'a, S: Alter>(
         (state S.Store conn.old).now)) }
     ensures rest { IfOk result (λ passed.
         IfSome passed (λ tail. (tail.number ≤ left.entry.number + 1) × (tail.amends.now ≡ left.entry.amends.now))) }
-    ensures same { HasCleanDisk (state S.Store conn.new) → IsTrue (state S.Store conn.old).is_open
-        → OnOk result (IsUnchanged (state S.Store conn.old) (state S.Store conn.new)) }
-    ensures stopped { StopsOnErr (state S.Store conn.old) (state S.Store conn.new) result }
-    ensures mode { StaysAutocommit conn.old conn.new }
-    ensures survives { CommitsNothing (state S.Store conn.old) (state S.Store conn.new) }
+    ensures leaves { MayQuery S.Store conn.old conn.new result }
 {
     let Ok(judged) = filed.judge(alloc, filer, target, bytes_at(row, 3)) else {
         return Ok(None);
     };
-    match pass_as(conn, row, seq, &judged, left) {
-        Ok(Some(tail)) => match filed.note(alloc, filer, target, &judged) {
-            Ok(()) => Ok(Some(tail)),
-            Err(_) => Ok(None),
-        },
-        Ok(None) => Ok(None),
-        Err(error) => Err(error),
+    let Some(tail) = pass_as(conn, row, seq, &judged, left)? else {
+        return Ok(None);
+    };
+    match filed.note(alloc, filer, target, &judged) {
+        Ok(()) => Ok(Some(tail)),
+        Err(_) => Ok(None),
     }
 }
 
@@ -348,11 +310,7 @@ fn pass_judged<'a, S: Alter>(
         → Beyond seq (judged (kept F) (request_in target row.now)) left.entry tail
         (state S.Store conn.old).now))) }
     ensures number { IfOk result (λ passed. IfSome passed (λ tail. tail.number ≤ left.entry.number + 1)) }
-    ensures same { HasCleanDisk (state S.Store conn.new) → IsTrue (state S.Store conn.old).is_open
-        → OnOk result (IsUnchanged (state S.Store conn.old) (state S.Store conn.new)) }
-    ensures stopped { StopsOnErr (state S.Store conn.old) (state S.Store conn.new) result }
-    ensures mode { StaysAutocommit conn.old conn.new }
-    ensures survives { CommitsNothing (state S.Store conn.old) (state S.Store conn.new) }
+    ensures leaves { MayQuery S.Store conn.old conn.new result }
 {
     let (target, amends) = target_of(left.amends, seq);
     if !is_target(target) {
@@ -382,21 +340,17 @@ fn pass<'a, S: Alter>(
         (r : Request) × Passes F seq left.entry tail (state S.Store conn.old).now r
         × AreFiled (filings (kept F ++ judged (kept F) r ∷ [])) filed.new)) }
     ensures number { IfOk result (λ passed. IfSome passed (λ tail. tail.number ≤ left.entry.number + 1)) }
-    ensures same { StaysOnOk (state S.Store conn.old) (state S.Store conn.new) result }
-    ensures stopped { StopsOnErr (state S.Store conn.old) (state S.Store conn.new) result }
-    ensures mode { StaysAutocommit conn.old conn.new }
-    ensures survives { CommitsNothing (state S.Store conn.old) (state S.Store conn.new) }
+    ensures leaves { OnlyQueries S.Store conn.old conn.new result }
 {
-    match picks::kept_at(conn, seq) {
-        Ok(rows) => match rows.as_slice() {
-            [row] => match is_alone(conn, row) {
-                Ok(true) => pass_judged(alloc, conn, filed, row, seq, left),
-                Ok(false) => Ok(None),
-                Err(error) => Err(error),
-            },
-            _ => Ok(None),
-        },
-        Err(error) => Err(error),
+    let rows = picks::kept_at(conn, seq)?;
+    match rows.as_slice() {
+        [row] => {
+            if !is_alone(conn, row)? {
+                return Ok(None);
+            }
+            pass_judged(alloc, conn, filed, row, seq, left)
+        }
+        _ => Ok(None),
     }
 }
 
@@ -417,24 +371,16 @@ fn walk<'a, S: Alter, W: Watch>(
         IfSome passed (λ tail.
         (F : List Request) × Walked start.entry.amends.now total total tail (state S.Store conn.old).now F)) }
     ensures number { IfOk result (λ passed. IfSome passed (λ tail. tail.number ≤ total + 1)) }
-    ensures same { HasCleanDisk (state S.Store conn.new) → IsTrue (state S.Store conn.old).is_open
-        → OnOk result (IsUnchanged (state S.Store conn.old) (state S.Store conn.new)) }
-    ensures stopped { HasCleanDisk (state S.Store conn.new) → IsTrue (state S.Store conn.old).is_open
-        → IfErr result (IsStopped (state S.Store conn.old) (state S.Store conn.new)) }
-    ensures mode { StaysAutocommit conn.old conn.new }
-    ensures survives { CommitsNothing (state S.Store conn.old) (state S.Store conn.new) }
+    ensures leaves { MayQuery S.Store conn.old conn.new result }
 {
     let mut filed = Filed::new(alloc);
     let mut left = start;
     for at in 0..total {
-        match pass(alloc, conn, &mut filed, at + 1, left) {
-            Ok(Some(tail)) => {
-                left = tail;
-                watch.passed(at + 1, total);
-            }
-            Ok(None) => return Ok(None),
-            Err(error) => return Err(error),
-        }
+        let Some(tail) = pass(alloc, conn, &mut filed, at + 1, left)? else {
+            return Ok(None);
+        };
+        left = tail;
+        watch.passed(at + 1, total);
     }
     Ok(Some(left))
 }
@@ -455,24 +401,13 @@ fn count_tables<'a, S: Alter>(
         IfSome sizes (λ s. Walked amends.now s.kept 0 s.others (state S.Store conn.old).now [])) }
     ensures first { IfOk result (λ sizes.
         IfSome sizes (λ s. (s.others.number ≡ 1) × (s.others.amends.now ≡ amends.now))) }
-    ensures same { StaysOnOk (state S.Store conn.old) (state S.Store conn.new) result }
-    ensures stopped { StopsOnErr (state S.Store conn.old) (state S.Store conn.new) result }
-    ensures mode { StaysAutocommit conn.old conn.new }
-    ensures survives { CommitsNothing (state S.Store conn.old) (state S.Store conn.new) }
+    ensures leaves { OnlyQueries S.Store conn.old conn.new result }
 {
-    match picks::count_kept(conn) {
-        Ok(kept) => match picks::count_findings(conn) {
-            Ok(findings) => match picks::count_filings(conn) {
-                Ok(filings) => match picks::count_facts(conn) {
-                    Ok(facts) => Ok(sizes_of(kept, findings, filings, facts, amends)),
-                    Err(error) => Err(error),
-                },
-                Err(error) => Err(error),
-            },
-            Err(error) => Err(error),
-        },
-        Err(error) => Err(error),
-    }
+    let kept = picks::count_kept(conn)?;
+    let findings = picks::count_findings(conn)?;
+    let filings = picks::count_filings(conn)?;
+    let facts = picks::count_facts(conn)?;
+    Ok(sizes_of(kept, findings, filings, facts, amends))
 }
 
 fn sizes_of<'a>(
@@ -537,24 +472,16 @@ pub(crate) fn count_by_walk<S: Alter, W: Watch>(
         → IfOk result (λ found. IfSome found (λ counts. Amounts counts amends.now (state S.Store conn.old).now)) }
     ensures few { IfOk result (λ found.
         IfSome found (λ counts. (counts.kept ≤ 2 ^ 62) × (counts.filings ≤ counts.kept))) }
-    ensures same { StaysOnOk (state S.Store conn.old) (state S.Store conn.new) result }
-    ensures stopped { StopsOnErr (state S.Store conn.old) (state S.Store conn.new) result }
-    ensures mode { StaysAutocommit conn.old conn.new }
-    ensures survives { CommitsNothing (state S.Store conn.old) (state S.Store conn.new) }
+    ensures leaves { OnlyQueries S.Store conn.old conn.new result }
 {
-    match count_tables(conn, amends) {
-        Ok(Some(sizes)) if sizes.kept <= MAX_KEPT => match walk(
-            alloc,
-            conn,
-            sizes.kept,
-            sizes.others,
-            watch,
-        ) {
-            Ok(Some(left)) => Ok(counts_of(sizes.kept, left)),
-            Ok(None) => Ok(None),
-            Err(error) => Err(error),
-        },
-        Ok(_) => Ok(None),
-        Err(error) => Err(error),
+    let Some(sizes) = count_tables(conn, amends)? else {
+        return Ok(None);
+    };
+    if sizes.kept > MAX_KEPT {
+        return Ok(None);
     }
+    let Some(left) = walk(alloc, conn, sizes.kept, sizes.others, watch)? else {
+        return Ok(None);
+    };
+    Ok(counts_of(sizes.kept, left))
 }

@@ -4,25 +4,23 @@ ghost use Rattle.std.specs.Prelude.{◌≡◌, ◌<◌, ◌^◌, ◌-◌, pos, l
 ghost use Rattle.sqlite.specs.Held.{state};
 ghost use Rattle.sqlite.specs.State.{HasCleanDisk};
 ghost use Rattle.register_opening.specs.Reads.{has_texts};
-ghost use Rattle.table_rows.specs.Picking.{has_number, CountsTo, Picks, rows_in, StopsOnErr};
+ghost use Rattle.table_rows.specs.Leaving.{OnlyQueries};
+ghost use Rattle.table_rows.specs.Picking.{has_number, CountsTo, Picks, rows_in};
 ghost use Rattle.register_rows.specs.Schema.{HasCommon, kept_table, finding_table, filing_table, fact_table};
-ghost use Rattle.table_rows.specs.Standing.{CommitsNothing, StaysAutocommit, StaysOnOk};
 
 use sqlite::types::ValueRef;
 use sqlite::{Alter, Connection, Error, Row, params};
-use table_rows::count_in;
+use table_rows::{count_in, select};
 
 /// The kept rows with this place.
 pub(crate) fn kept_at<S: Alter>(conn: &mut Connection<S>, seq: u64) -> Result<Vec<Row>, Error>
     requires { seq < 2 ^ 63 }
     ensures picks { HasCleanDisk (state S.Store conn.new) → HasCommon (state S.Store conn.old).now.schema
         → IfOk result (λ rows. Picks kept_table (has_number seq) rows.items (state S.Store conn.old).now) }
-    ensures same { StaysOnOk (state S.Store conn.old) (state S.Store conn.new) result }
-    ensures stopped { StopsOnErr (state S.Store conn.old) (state S.Store conn.new) result }
-    ensures mode { StaysAutocommit conn.old conn.new }
-    ensures survives { CommitsNothing (state S.Store conn.old) (state S.Store conn.new) }
+    ensures leaves { OnlyQueries S.Store conn.old conn.new result }
 {
-    conn.query_all(
+    select(
+        conn,
         "SELECT seq, filer, idem, body, number FROM kept WHERE seq = ?1 ORDER BY seq",
         params![seq as i64],
     )
@@ -33,12 +31,10 @@ pub(crate) fn findings_at<S: Alter>(conn: &mut Connection<S>, seq: u64) -> Resul
     requires { seq < 2 ^ 63 }
     ensures picks { HasCleanDisk (state S.Store conn.new) → HasCommon (state S.Store conn.old).now.schema
         → IfOk result (λ rows. Picks finding_table (has_number seq) rows.items (state S.Store conn.old).now) }
-    ensures same { StaysOnOk (state S.Store conn.old) (state S.Store conn.new) result }
-    ensures stopped { StopsOnErr (state S.Store conn.old) (state S.Store conn.new) result }
-    ensures mode { StaysAutocommit conn.old conn.new }
-    ensures survives { CommitsNothing (state S.Store conn.old) (state S.Store conn.new) }
+    ensures leaves { OnlyQueries S.Store conn.old conn.new result }
 {
-    conn.query_all(
+    select(
+        conn,
         "SELECT seq, pos, code, place FROM finding WHERE seq = ?1 ORDER BY pos",
         params![seq as i64],
     )
@@ -52,12 +48,10 @@ pub(crate) fn filings_numbered<S: Alter>(
     requires { number < 2 ^ 63 }
     ensures picks { HasCleanDisk (state S.Store conn.new) → HasCommon (state S.Store conn.old).now.schema
         → IfOk result (λ rows. Picks filing_table (has_number number) rows.items (state S.Store conn.old).now) }
-    ensures same { StaysOnOk (state S.Store conn.old) (state S.Store conn.new) result }
-    ensures stopped { StopsOnErr (state S.Store conn.old) (state S.Store conn.new) result }
-    ensures mode { StaysAutocommit conn.old conn.new }
-    ensures survives { CommitsNothing (state S.Store conn.old) (state S.Store conn.new) }
+    ensures leaves { OnlyQueries S.Store conn.old conn.new result }
 {
-    conn.query_all(
+    select(
+        conn,
         "SELECT number, seq FROM filing WHERE number = ?1 ORDER BY number",
         params![number as i64],
     )
@@ -71,12 +65,10 @@ pub(crate) fn facts_numbered<S: Alter>(
     requires { number < 2 ^ 63 }
     ensures picks { HasCleanDisk (state S.Store conn.new) → HasCommon (state S.Store conn.old).now.schema
         → IfOk result (λ rows. Picks fact_table (has_number number) rows.items (state S.Store conn.old).now) }
-    ensures same { StaysOnOk (state S.Store conn.old) (state S.Store conn.new) result }
-    ensures stopped { StopsOnErr (state S.Store conn.old) (state S.Store conn.new) result }
-    ensures mode { StaysAutocommit conn.old conn.new }
-    ensures survives { CommitsNothing (state S.Store conn.old) (state S.Store conn.new) }
+    ensures leaves { OnlyQueries S.Store conn.old conn.new result }
 {
-    conn.query_all(
+    select(
+        conn,
         "SELECT number, pos, id, concept, dimensions, value, decimals FROM fact WHERE number = ?1 ORDER BY pos",
         params![number as i64],
     )
@@ -91,76 +83,52 @@ pub(crate) fn count_with_key<S: Alter>(
     ensures counted { HasCleanDisk (state S.Store conn.new) → HasCommon (state S.Store conn.old).now.schema
         → IfOk result (λ count.
         count ≡ length (filter (has_texts filer.now key.now) (rows_in (state S.Store conn.old).now kept_table))) }
-    ensures same { StaysOnOk (state S.Store conn.old) (state S.Store conn.new) result }
-    ensures stopped { StopsOnErr (state S.Store conn.old) (state S.Store conn.new) result }
-    ensures mode { StaysAutocommit conn.old conn.new }
-    ensures survives { CommitsNothing (state S.Store conn.old) (state S.Store conn.new) }
+    ensures leaves { OnlyQueries S.Store conn.old conn.new result }
 {
-    match conn.query_all(
+    let rows = select(
+        conn,
         "SELECT seq FROM kept WHERE filer = ?1 AND idem = ?2 ORDER BY seq",
         &[ValueRef::Text(filer), ValueRef::Text(key)],
-    ) {
-        Ok(rows) => Ok(rows.len()),
-        Err(error) => Err(error),
-    }
+    )?;
+    Ok(rows.len())
 }
 
 /// How many rows `kept` has, or `None` where it has more than are counted.
 pub(crate) fn count_kept<S: Alter>(conn: &mut Connection<S>) -> Result<Option<u64>, Error>
     ensures counted { HasCleanDisk (state S.Store conn.new) → HasCommon (state S.Store conn.old).now.schema
         → IfOk result (λ found. IfSome found (λ count. CountsTo kept_table count (state S.Store conn.old).now)) }
-    ensures same { StaysOnOk (state S.Store conn.old) (state S.Store conn.new) result }
-    ensures stopped { StopsOnErr (state S.Store conn.old) (state S.Store conn.new) result }
-    ensures mode { StaysAutocommit conn.old conn.new }
-    ensures survives { CommitsNothing (state S.Store conn.old) (state S.Store conn.new) }
+    ensures leaves { OnlyQueries S.Store conn.old conn.new result }
 {
-    match conn.query_all("SELECT count(*) FROM kept", &[]) {
-        Ok(rows) => Ok(count_in(&rows)),
-        Err(error) => Err(error),
-    }
+    let rows = select(conn, "SELECT count(*) FROM kept", &[])?;
+    Ok(count_in(&rows))
 }
 
 /// How many rows `finding` has, or `None` where it has more than are counted.
 pub(crate) fn count_findings<S: Alter>(conn: &mut Connection<S>) -> Result<Option<u64>, Error>
     ensures counted { HasCleanDisk (state S.Store conn.new) → HasCommon (state S.Store conn.old).now.schema
         → IfOk result (λ found. IfSome found (λ count. CountsTo finding_table count (state S.Store conn.old).now)) }
-    ensures same { StaysOnOk (state S.Store conn.old) (state S.Store conn.new) result }
-    ensures stopped { StopsOnErr (state S.Store conn.old) (state S.Store conn.new) result }
-    ensures mode { StaysAutocommit conn.old conn.new }
-    ensures survives { CommitsNothing (state S.Store conn.old) (state S.Store conn.new) }
+    ensures leaves { OnlyQueries S.Store conn.old conn.new result }
 {
-    match conn.query_all("SELECT count(*) FROM finding", &[]) {
-        Ok(rows) => Ok(count_in(&rows)),
-        Err(error) => Err(error),
-    }
+    let rows = select(conn, "SELECT count(*) FROM finding", &[])?;
+    Ok(count_in(&rows))
 }
 
 /// How many rows `filing` has, or `None` where it has more than are counted.
 pub(crate) fn count_filings<S: Alter>(conn: &mut Connection<S>) -> Result<Option<u64>, Error>
     ensures counted { HasCleanDisk (state S.Store conn.new) → HasCommon (state S.Store conn.old).now.schema
         → IfOk result (λ found. IfSome found (λ count. CountsTo filing_table count (state S.Store conn.old).now)) }
-    ensures same { StaysOnOk (state S.Store conn.old) (state S.Store conn.new) result }
-    ensures stopped { StopsOnErr (state S.Store conn.old) (state S.Store conn.new) result }
-    ensures mode { StaysAutocommit conn.old conn.new }
-    ensures survives { CommitsNothing (state S.Store conn.old) (state S.Store conn.new) }
+    ensures leaves { OnlyQueries S.Store conn.old conn.new result }
 {
-    match conn.query_all("SELECT count(*) FROM filing", &[]) {
-        Ok(rows) => Ok(count_in(&rows)),
-        Err(error) => Err(error),
-    }
+    let rows = select(conn, "SELECT count(*) FROM filing", &[])?;
+    Ok(count_in(&rows))
 }
 
 /// How many rows `fact` has, or `None` where it has more than are counted.
 pub(crate) fn count_facts<S: Alter>(conn: &mut Connection<S>) -> Result<Option<u64>, Error>
     ensures counted { HasCleanDisk (state S.Store conn.new) → HasCommon (state S.Store conn.old).now.schema
         → IfOk result (λ found. IfSome found (λ count. CountsTo fact_table count (state S.Store conn.old).now)) }
-    ensures same { StaysOnOk (state S.Store conn.old) (state S.Store conn.new) result }
-    ensures stopped { StopsOnErr (state S.Store conn.old) (state S.Store conn.new) result }
-    ensures mode { StaysAutocommit conn.old conn.new }
-    ensures survives { CommitsNothing (state S.Store conn.old) (state S.Store conn.new) }
+    ensures leaves { OnlyQueries S.Store conn.old conn.new result }
 {
-    match conn.query_all("SELECT count(*) FROM fact", &[]) {
-        Ok(rows) => Ok(count_in(&rows)),
-        Err(error) => Err(error),
-    }
+    let rows = select(conn, "SELECT count(*) FROM fact", &[])?;
+    Ok(count_in(&rows))
 }

@@ -3,22 +3,26 @@
 ghost use Rattle.std.specs.Prelude.{[], IfOk};
 ghost use Rattle.sqlite.specs.Held.{state};
 ghost use Rattle.sqlite.specs.State.{HasCleanDisk, Shown};
-ghost use Rattle.table_rows.specs.Standing.{Keeps, CommitsNothing, StaysAutocommit};
+ghost use Rattle.table_rows.specs.Leaving.{OnlyQueries};
 ghost use Rattle.register_rows.specs.Schema.{kept_table, amends_table};
 ghost use Rattle.register_opening.specs.Opening.{all_meta, all_kept, all_findings, all_filings, all_facts, all_migrated, all_amends};
 ghost use Rattle.register_opening.specs.Reads.{Knows, KnowsAll, FailsOnErr, ReadsWhole};
 
 use sqlite::{Alter, Connection, Error, Row};
+use table_rows::select;
 
 /// The rows of `intake_meta`, by `id`.
 pub(crate) fn meta_rows<S: Alter>(conn: &mut Connection<S>) -> Result<Vec<Row>, Error>
     ensures shown { HasCleanDisk (state S.Store conn.new)
         → IfOk result (λ rows. Shown all_meta [] (state S.Store conn.old) (state S.Store conn.new) rows.items) }
     ensures failed { FailsOnErr all_meta (state S.Store conn.old) (state S.Store conn.new) result }
-    ensures mode { StaysAutocommit conn.old conn.new }
-    ensures survives { CommitsNothing (state S.Store conn.old) (state S.Store conn.new) }
+    ensures leaves { OnlyQueries S.Store conn.old conn.new result }
 {
-    conn.query_all("SELECT id, kind, form FROM intake_meta ORDER BY id", &[])
+    select(
+        conn,
+        "SELECT id, kind, form FROM intake_meta ORDER BY id",
+        &[],
+    )
 }
 
 /// All kept rows, by `seq`.
@@ -28,11 +32,10 @@ pub fn kept_rows<S: Alter>(conn: &mut Connection<S>) -> Result<Vec<Row>, Error>
     ensures failed { FailsOnErr all_kept (state S.Store conn.old) (state S.Store conn.new) result }
     ensures read { HasCleanDisk (state S.Store conn.new) → Knows (state S.Store conn.old)
         → IfOk result (λ rows. ReadsWhole kept_table rows.items (state S.Store conn.old) (state S.Store conn.new)) }
-    ensures keeps { HasCleanDisk (state S.Store conn.new) → Keeps (state S.Store conn.old) (state S.Store conn.new) }
-    ensures mode { StaysAutocommit conn.old conn.new }
-    ensures survives { CommitsNothing (state S.Store conn.old) (state S.Store conn.new) }
+    ensures leaves { OnlyQueries S.Store conn.old conn.new result }
 {
-    conn.query_all(
+    select(
+        conn,
         "SELECT seq, filer, idem, body, number FROM kept ORDER BY seq",
         &[],
     )
@@ -43,10 +46,10 @@ pub(crate) fn finding_rows<S: Alter>(conn: &mut Connection<S>) -> Result<Vec<Row
     ensures shown { HasCleanDisk (state S.Store conn.new)
         → IfOk result (λ rows. Shown all_findings [] (state S.Store conn.old) (state S.Store conn.new) rows.items) }
     ensures failed { FailsOnErr all_findings (state S.Store conn.old) (state S.Store conn.new) result }
-    ensures mode { StaysAutocommit conn.old conn.new }
-    ensures survives { CommitsNothing (state S.Store conn.old) (state S.Store conn.new) }
+    ensures leaves { OnlyQueries S.Store conn.old conn.new result }
 {
-    conn.query_all(
+    select(
+        conn,
         "SELECT seq, pos, code, place FROM finding ORDER BY seq, pos",
         &[],
     )
@@ -57,10 +60,9 @@ pub(crate) fn filing_rows<S: Alter>(conn: &mut Connection<S>) -> Result<Vec<Row>
     ensures shown { HasCleanDisk (state S.Store conn.new)
         → IfOk result (λ rows. Shown all_filings [] (state S.Store conn.old) (state S.Store conn.new) rows.items) }
     ensures failed { FailsOnErr all_filings (state S.Store conn.old) (state S.Store conn.new) result }
-    ensures mode { StaysAutocommit conn.old conn.new }
-    ensures survives { CommitsNothing (state S.Store conn.old) (state S.Store conn.new) }
+    ensures leaves { OnlyQueries S.Store conn.old conn.new result }
 {
-    conn.query_all("SELECT number, seq FROM filing ORDER BY number", &[])
+    select(conn, "SELECT number, seq FROM filing ORDER BY number", &[])
 }
 
 /// All facts, by `number` and `pos`.
@@ -68,10 +70,10 @@ pub(crate) fn fact_rows<S: Alter>(conn: &mut Connection<S>) -> Result<Vec<Row>, 
     ensures shown { HasCleanDisk (state S.Store conn.new)
         → IfOk result (λ rows. Shown all_facts [] (state S.Store conn.old) (state S.Store conn.new) rows.items) }
     ensures failed { FailsOnErr all_facts (state S.Store conn.old) (state S.Store conn.new) result }
-    ensures mode { StaysAutocommit conn.old conn.new }
-    ensures survives { CommitsNothing (state S.Store conn.old) (state S.Store conn.new) }
+    ensures leaves { OnlyQueries S.Store conn.old conn.new result }
 {
-    conn.query_all(
+    select(
+        conn,
         "SELECT number, pos, id, concept, dimensions, value, decimals FROM fact ORDER BY number, pos",
         &[],
     )
@@ -82,10 +84,9 @@ pub(crate) fn migrated_rows<S: Alter>(conn: &mut Connection<S>) -> Result<Vec<Ro
     ensures shown { HasCleanDisk (state S.Store conn.new)
         → IfOk result (λ rows. Shown all_migrated [] (state S.Store conn.old) (state S.Store conn.new) rows.items) }
     ensures failed { FailsOnErr all_migrated (state S.Store conn.old) (state S.Store conn.new) result }
-    ensures mode { StaysAutocommit conn.old conn.new }
-    ensures survives { CommitsNothing (state S.Store conn.old) (state S.Store conn.new) }
+    ensures leaves { OnlyQueries S.Store conn.old conn.new result }
 {
-    conn.query_all("SELECT id, last FROM migrated ORDER BY id", &[])
+    select(conn, "SELECT id, last FROM migrated ORDER BY id", &[])
 }
 
 /// The rows of `amends`, by `seq`.
@@ -95,9 +96,7 @@ pub fn amends_rows<S: Alter>(conn: &mut Connection<S>) -> Result<Vec<Row>, Error
     ensures failed { FailsOnErr all_amends (state S.Store conn.old) (state S.Store conn.new) result }
     ensures read { HasCleanDisk (state S.Store conn.new) → KnowsAll (state S.Store conn.old)
         → IfOk result (λ rows. ReadsWhole amends_table rows.items (state S.Store conn.old) (state S.Store conn.new)) }
-    ensures keeps { HasCleanDisk (state S.Store conn.new) → Keeps (state S.Store conn.old) (state S.Store conn.new) }
-    ensures mode { StaysAutocommit conn.old conn.new }
-    ensures survives { CommitsNothing (state S.Store conn.old) (state S.Store conn.new) }
+    ensures leaves { OnlyQueries S.Store conn.old conn.new result }
 {
-    conn.query_all("SELECT seq, target FROM amends ORDER BY seq", &[])
+    select(conn, "SELECT seq, target FROM amends ORDER BY seq", &[])
 }

@@ -1,4 +1,4 @@
-use Rattle.std.proofs.Common.{◌≡◌, ◌⊎◌, inl, inr, ℕ, List, ◌∷◌, [], refl, sym, subst, arith}
+use Rattle.std.proofs.Common.{◌≡◌, ◌⊎◌, inl, inr, ℕ, List, ◌∷◌, [], Err, rules, refl, sym, subst}
 use Rattle.std.proofs.lemmas.Result.{IfOk-weaker, IfErr-weaker}
 use Rattle.sqlite.specs.Order.{Row}
 use Rattle.sqlite.specs.Store.{Ghosts}
@@ -15,10 +15,10 @@ use Rattle.register_opening.specs.declared.fault.OpenFault.{OpenFault}
 use Rattle.register_opening.specs.declared.fault.OpenFault.TheVariants as fault
 use Rattle.register_opening.specs.declared.opening.Later.{Later}
 use Rattle.register_opening.specs.declared.opening.Tables.{Tables}
-use Rattle.register_opening.proofs.OpenLemmas.{got_four, reads_on}
-use Rattle.register_opening.proofs.ReadTexts.{query_kept, query_findings, query_filings, query_facts}
+use Rattle.register_opening.proofs.OpenLemmas.{got_four}
 use Rattle.register_opening.proofs.WalkOpens.{are_read_before, stops_before, counted_whole}
-use Rattle.table_rows.proofs.StepLemmas.{nothing_left}
+use Rattle.register_opening.proofs.Calls.{concluded}
+use Rattle.table_rows.proofs.LeavingLemmas.{asked_then, clean_before, ended}
 use Rattle.register_opening.proofs.opening.count_all.Goals as goal
 
 abbrev rows_of : Later → Rows
@@ -46,39 +46,36 @@ module _ {S : Type 0} (g : Ghosts S) (later : Rows) (a e : Held S) where
 
 pub returns-in-Ok-clause-counted : goal.returns-in-Ok-clause-counted
 returns-in-Ok-clause-counted g c clean =
-    let between : HasCleanDisk (state g.S.Store c.count_one_by_one.new.conn) = omega (arith, c.read_tables.ensures.survives.clean) in
+    let between : HasCleanDisk (state g.S.Store c.count_one_by_one.new.conn) = clean_before c.read_tables.ensures.leaves clean in
     let t = c.in-Ok.tables in
-    let same = c.in-Ok-None.ensures.same between in
-    let more = are_read_before g.S.Store c.args.conn.now c.count_one_by_one.new.conn c.read_tables.new.conn same c.count_one_by_one.ensures.survives.limit (rows_in t) (c.in-Ok.ensures.read clean) in
-    let after = reads_on g.S.Store row_texts (query_kept, (query_findings, (query_filings, (query_facts, tt)))) c.args.conn.now c.count_one_by_one.new.conn c.read_tables.new.conn same (rows_in t) (c.in-Ok.ensures.read clean) in
+    let same = c.in_ok-counts.ensures.leaves.left between in
+    let more = are_read_before g.S.Store c.args.conn.now c.count_one_by_one.new.conn c.read_tables.new.conn same c.count_one_by_one.ensures.leaves.survives.limit (rows_in t) (c.in-Ok.ensures.read clean) in
     let counted = rw (c.deref.ensures.value, c.deref-in-Ok.ensures.value, c.deref-in-Ok-2.ensures.value, c.deref-in-Ok-3.ensures.value) at c.count.ensures.counted in
-    IfOk-weaker c.count.result _ _ (λ counts h. (
-      after,
-      λ common. counted_whole counts (rows_of c.args.later.now) (state g.S.Store c.args.conn.now).now t.kept.items (others_in (rows_of c.args.later.now) t) refl
-          (got_four g.S.Store c.args.conn.now c.read_tables.new.conn t.kept.items (others_in (rows_of c.args.later.now) t) common more).1 h.0 h.1 h.2,
-    )) counted
+    IfOk-weaker c.count.result _ _ (λ counts h common. counted_whole counts (rows_of c.args.later.now) (state g.S.Store c.args.conn.now).now t.kept.items (others_in (rows_of c.args.later.now) t) refl
+    (got_four g.S.Store c.args.conn.now c.read_tables.new.conn t.kept.items (others_in (rows_of c.args.later.now) t) common more).1 h.0 h.1 h.2) counted
 
 pub returns-in-Ok-clause-refused : goal.returns-in-Ok-clause-refused
 returns-in-Ok-clause-refused g c clean =
-    let between : HasCleanDisk (state g.S.Store c.count_one_by_one.new.conn) = omega (arith, c.read_tables.ensures.survives.clean) in
+    let between : HasCleanDisk (state g.S.Store c.count_one_by_one.new.conn) = clean_before c.read_tables.ensures.leaves clean in
     let t = c.in-Ok.tables in
-    let more = are_read_before g.S.Store c.args.conn.now c.count_one_by_one.new.conn c.read_tables.new.conn (c.in-Ok-None.ensures.same between) c.count_one_by_one.ensures.survives.limit (rows_in t) (c.in-Ok.ensures.read clean) in
+    let more = are_read_before g.S.Store c.args.conn.now c.count_one_by_one.new.conn c.read_tables.new.conn (c.in_ok-counts.ensures.leaves.left between) c.count_one_by_one.ensures.leaves.survives.limit (rows_in t) (c.in-Ok.ensures.read clean) in
     let refused = rw (c.deref.ensures.value, c.deref-in-Ok.ensures.value, c.deref-in-Ok-2.ensures.value, c.deref-in-Ok-3.ensures.value) at c.count.ensures.refused in
     IfErr-weaker c.count.result _ _ (λ fault h. refused_by g.S.Store (rows_of c.args.later.now) c.args.conn.now c.read_tables.new.conn t.kept.items (others_in (rows_of c.args.later.now) t) refl more fault h) refused
 
-pub returns-in-Err-read_tables-clause-refused : goal.returns-in-Err-read_tables-clause-refused
-returns-in-Err-read_tables-clause-refused g c clean =
-    let between : HasCleanDisk (state g.S.Store c.count_one_by_one.new.conn) = omega (arith, c.read_tables.ensures.survives.clean) in
-    let stops = stops_before g.S.Store c.args.conn.now c.count_one_by_one.new.conn c.read_tables.new.conn (c.in-Ok-None.ensures.same between) c.count_one_by_one.ensures.survives.limit c.count_one_by_one.ensures.survives.counts _ (c.in-Err-read_tables.ensures.failed clean) in
-    rw c.table_fault.ensures (unread_after g.S.Store (rows_of c.args.later.now) c.args.conn.now c.read_tables.new.conn c.in-Err-read_tables.error stops)
-
 pub returns-in-Err-clause-refused : goal.returns-in-Err-clause-refused
 returns-in-Err-clause-refused g c clean =
-    let failed = c.in-Err.ensures.failed clean in
-    rw failed.1 (unread_after g.S.Store (rows_of c.args.later.now) c.args.conn.now c.count_one_by_one.new.conn failed.0 failed.2)
+    let between : HasCleanDisk (state g.S.Store c.count_one_by_one.new.conn) = clean_before c.read_tables.ensures.leaves clean in
+    let stops = stops_before g.S.Store c.args.conn.now c.count_one_by_one.new.conn c.read_tables.new.conn (c.in_ok-counts.ensures.leaves.left between) c.count_one_by_one.ensures.leaves.survives.limit c.count_one_by_one.ensures.leaves.survives.counts _ (c.in-Err.ensures.failed clean) in
+    rw c.table_fault.ensures (unread_after g.S.Store (rows_of c.args.later.now) c.args.conn.now c.read_tables.new.conn c.in-Err.error stops)
 
-pub returns-in-Ok-clause-survives : goal.returns-in-Ok-clause-survives
-returns-in-Ok-clause-survives g c = nothing_left _ _ _ c.count_one_by_one.ensures.survives c.read_tables.ensures.survives
+pub returns-in_err-counts-clause-refused : goal.returns-in_err-counts-clause-refused
+returns-in_err-counts-clause-refused g c clean =
+    let told : c.from_residual.result ≡ Err c.in_err-counts.field-0.0 = search rules in
+    let failed = c.in_err-counts.ensures.failed clean in
+    rw (told, failed.1) (unread_after g.S.Store (rows_of c.args.later.now) c.args.conn.now c.count_one_by_one.new.conn failed.0 failed.2)
 
-pub returns-in-Err-read_tables-clause-survives : goal.returns-in-Err-read_tables-clause-survives
-returns-in-Err-read_tables-clause-survives g c = nothing_left _ _ _ c.count_one_by_one.ensures.survives c.read_tables.ensures.survives
+pub returns-in-Ok-clause-leaves : goal.returns-in-Ok-clause-leaves
+returns-in-Ok-clause-leaves g c = concluded c.count.result (asked_then c.in_ok-counts.ensures.leaves c.in-Ok.ensures.leaves)
+
+pub returns-in-Err-clause-leaves : goal.returns-in-Err-clause-leaves
+returns-in-Err-clause-leaves g c = ended (asked_then c.in_ok-counts.ensures.leaves c.in-Err.ensures.leaves)

@@ -3,6 +3,7 @@ use Rattle.std.proofs.lemmas.Result.{IfOk-weaker, IfErr-weaker}
 use Rattle.register_rows.specs.Audit.{OtherRows}
 use Rattle.register_opening.specs.declared.opening.Tables.{Tables}
 use Rattle.register_opening.proofs.EarlierReads.{whole_totals, whole_refused, whole_unread}
+use Rattle.register_opening.proofs.Calls.{concluded}
 use Rattle.register_opening.proofs.migrate.earlier.count_whole.Goals as goal
 
 abbrev others_of : Tables → OtherRows
@@ -20,3 +21,6 @@ returns-in-Ok-clause-refused g c clean =
 
 pub returns-in-Err-clause-refused : goal.returns-in-Err-clause-refused
 returns-in-Err-clause-refused g c clean = rw c.table_fault.ensures (whole_unread g.S.Store c.args.conn.now c.read_tables.new.conn c.in-Err.error (c.in-Err.ensures.failed clean))
+
+pub returns-in-Ok-clause-leaves : goal.returns-in-Ok-clause-leaves
+returns-in-Ok-clause-leaves g c = concluded c.totals_in.result c.in-Ok.ensures.leaves

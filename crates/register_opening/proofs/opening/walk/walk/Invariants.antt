@@ -1,6 +1,8 @@
-use Rattle.std.proofs.Common.{◌≡◌, ◌≤◌, ◌+◌, List, [], false, IsTrue}
+use Rattle.std.proofs.Common.{◌≤◌, ◌+◌, List, [], IsTrue}
 use Rattle.sqlite.specs.Held.{state}
-use Rattle.sqlite.specs.State.{HasCleanDisk, IsUnchanged, Survives}
+use Rattle.sqlite.specs.State.{HasCleanDisk}
+use Rattle.table_rows.specs.Leaving.{Leaves}
+use Rattle.table_rows.specs.Leaving.Ending.{Passed}
 use Rattle.filing_model.specs.Request.{Request}
 use Rattle.filing_model.specs.Register.{register}
 use Rattle.register_rows.specs.Filed.{AreFiled}
@@ -15,8 +17,6 @@ invariant-loop-at g l =
     let rows = l.fn.start.amends.now in record {
       walked : HasCleanDisk now → HasCommon old.now.schema → IsTrue old.is_open → Walked rows l.total 0 l.fn.start old.now []
           → (F : List Request) × Walked rows l.total l.at l.left old.now F × AreFiled (register F) l.filed;
-      same : HasCleanDisk now → IsTrue old.is_open → IsUnchanged old now;
       number : l.left.number ≤ l.at + 1;
-      mode : l.fn.conn.in_transaction ≡ false → l.conn.in_transaction ≡ false;
-      survives : Survives old now (λ _. ⊥);
+      leaves : Leaves Passed old now;
     }

@@ -1,28 +1,16 @@
 use Rattle.std.proofs.Common.{pos, arith, w64}
-use Rattle.std.proofs.lemmas.Result.{IfOk-weaker, IfErr-weaker}
+use Rattle.std.proofs.lemmas.Result.{IfOk-weaker}
 use Rattle.std.proofs.lemmas.Int.{to_z-of_z}
 use Rattle.sqlite.specs.Held.{state}
-use Rattle.table_rows.proofs.TextLemmas.{query_same, query_survives}
-use Rattle.register_opening.proofs.PickTexts.{kept_at_text, query_kept_at}
-use Rattle.table_rows.proofs.StopLemmas.{query_stopped}
+use Rattle.register_opening.proofs.PickTexts.{query_kept_at}
 use Rattle.register_opening.proofs.PickLemmas.{picks_kept_at}
 use Rattle.register_opening.proofs.select.picks.kept_at.Goals as goal
 
 pub returns-clause-picks : goal.returns-clause-picks
-returns-clause-picks g c clean d = IfOk-weaker c.query_all.result _ _
-    (λ rows h. picks_kept_at (state g.S.Store c.args.conn.now) (state g.S.Store c.query_all.new.self) d rows.items c.args.seq
+returns-clause-picks g c clean d = IfOk-weaker c.select.result _ _
+    (λ rows h. picks_kept_at (state g.S.Store c.args.conn.now) (state g.S.Store c.select.new.conn) d rows.items c.args.seq
     (rw (c.params-to_sql.ensures, to_z-of_z w64 (pos c.args.seq) (record { sfits = omega (arith, c.requires) })) at h))
-    (c.query_all.ensures.ok clean)
+    (c.select.ensures.shown clean)
 
-pub returns-clause-same : goal.returns-clause-same
-returns-clause-same g c clean = IfOk-weaker c.query_all.result _ _
-    (λ rows h. query_same kept_at_text query_kept_at _ (state g.S.Store c.args.conn.now) (state g.S.Store c.query_all.new.self) rows.items h)
-    (c.query_all.ensures.ok clean)
-
-pub returns-clause-stopped : goal.returns-clause-stopped
-returns-clause-stopped g c clean = IfErr-weaker c.query_all.result _ _
-    (λ error h. query_stopped kept_at_text query_kept_at _ (state g.S.Store c.args.conn.now) (state g.S.Store c.query_all.new.self) error h)
-    (c.query_all.ensures.err clean)
-
-pub returns-clause-survives : goal.returns-clause-survives
-returns-clause-survives g c = query_survives kept_at_text query_kept_at _ (state g.S.Store c.args.conn.now) (state g.S.Store c.query_all.new.self) c.query_all.ensures.survives
+pub select-requires : goal.select-requires
+select-requires g c = query_kept_at
