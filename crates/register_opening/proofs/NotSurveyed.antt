@@ -8,12 +8,11 @@ use Rattle.sqlite.specs.State.{IsUnchanged}
 use Rattle.filing_model.specs.Request.{Request}
 use Rattle.filing_model.specs.Register.{kept}
 use Rattle.table_rows.specs.Causes.{cause_of}
-use Rattle.table_rows.specs.Standing.{Keeps}
 use Rattle.table_rows.specs.Tables.{BeginsWith}
 use Rattle.table_rows.specs.declared.cause.Cause.{Cause}
 use Rattle.table_rows.specs.declared.cause.Cause.TheVariants as cause
 use Rattle.table_rows.proofs.OrderLemmas.{counted_rise}
-use Rattle.table_rows.proofs.TextLemmas.{query_same, keeps_on}
+use Rattle.table_rows.proofs.TextLemmas.{query_same}
 use Rattle.register_opening.specs.declared.migrate.earlier.Earlier.{Earlier}
 use Rattle.register_opening.specs.declared.migrate.earlier.Earlier.TheVariants.{Second, Third}
 use Rattle.register_opening.specs.declared.fault.OpenFault.{OpenFault}
@@ -23,55 +22,18 @@ use Rattle.register_opening.specs.Earlier.{form_number, tables_of, HasEarly, IsE
 use Rattle.register_opening.specs.Faults.{table_fault_by}
 use Rattle.register_opening.specs.declared.opening.walk.Totals.{Totals}
 use Rattle.register_opening.specs.Migrating.{AreTotals, SaysNone, HasNoForm, HasNoTotals, HasNoCounts, IsNotSurveyed}
-use Rattle.register_opening.specs.Opening.{all_meta, all_kept, all_findings, all_filings, all_facts, all_migrated, row_texts}
+use Rattle.register_opening.specs.Opening.{all_migrated}
 use Rattle.register_opening.specs.Reads.{by_first}
 use Rattle.register_rows.specs.Register.{form_row, migrated_row, kept_row}
 use Rattle.register_rows.specs.Schema.{HasCommon}
 use Rattle.register_opening.specs.Walk.{AreAllOf}
 use Rattle.register_opening.proofs.FailLemmas.{meta_fails}
-use Rattle.register_opening.proofs.OpenLemmas.{AreQueries, Four, got_meta, got_four, all_read, stops_keep}
+use Rattle.register_opening.proofs.OpenLemmas.{Four, got_meta, got_four}
 use Rattle.register_opening.proofs.Opened.{four_stop}
-use Rattle.register_opening.proofs.ReadTexts.{query_meta, query_kept, query_findings, query_filings, query_facts, query_migrated}
+use Rattle.register_opening.proofs.ReadTexts.{query_migrated}
 use Rattle.register_opening.proofs.RisingLemmas.{findings_rise, filings_rise, facts_rise}
 use Rattle.register_opening.proofs.Surveyed.{common_in, same_form, same_number, got_third, third_fails}
 use Rattle.register_opening.proofs.WalkOpens.{only_these}
-
-abbrev behind : List (List ℕ)
-behind = all_findings ∷ all_filings ∷ all_facts ∷ []
-
-row_queries : AreQueries row_texts
-row_queries = (query_kept, (query_findings, (query_filings, (query_facts, tt))))
-
--- ---- nothing is written
-
-module _ {S : Type 0} (g : Ghosts S) where
-  no_form_keeps : (why : OpenFault) (a e : Held S) → HasNoForm g why a e → Keeps (state g a) (state g e)
-  no_form_keeps fault.NotOurs a e (inl stops) = stops_keep g cause.Other (all_meta ∷ []) (query_meta, tt) a e stops
-  no_form_keeps fault.NotOurs a e (inr h) = inl (query_same all_meta query_meta [] (state g a) (state g e) h.0 h.1.shown)
-  no_form_keeps (fault.Damaged row) a e h = absurd h
-  no_form_keeps fault.Memory a e stops = stops_keep g cause.Memory (all_meta ∷ []) (query_meta, tt) a e stops
-  no_form_keeps fault.Disk a e stops = stops_keep g cause.Disk (all_meta ∷ []) (query_meta, tt) a e stops
-
-  no_totals_keep : (why : OpenFault) (a e : Held S) → HasNoTotals g why a e → Keeps (state g a) (state g e)
-  no_totals_keep fault.NotOurs a e h = absurd h
-  no_totals_keep (fault.Damaged row) a e (inl stops) = stops_keep g cause.Other row_texts row_queries a e stops.1
-  no_totals_keep (fault.Damaged row) a e (inr found) = inl (all_read g all_kept behind row_queries a e (found.0 ∷ found.1.finding ∷ found.1.filing ∷ found.1.fact ∷ []) found.2)
-  no_totals_keep fault.Memory a e (inl stops) = stops_keep g cause.Memory row_texts row_queries a e stops
-  no_totals_keep fault.Memory a e (inr read) = inl (all_read g all_kept behind row_queries a e read.0 read.1)
-  no_totals_keep fault.Disk a e stops = stops_keep g cause.Disk row_texts row_queries a e stops
-
-  no_counts_keep : (form : Earlier) (why : OpenFault) (a e : Held S) → HasNoCounts g form why a e → Keeps (state g a) (state g e)
-  no_counts_keep Second why a e h = no_totals_keep why a e h
-  no_counts_keep Third why a e (inl h) = stops_keep g (cause_of h.0) (all_migrated ∷ []) (query_migrated, tt) a e h.2
-  no_counts_keep Third why a e (inr h) =
-      let b = h.0 in
-      let same = query_same all_migrated query_migrated [] (state g a) (state g b) h.1 h.2.shown in
-      elim h.3 [ inl none ↦ keeps_on (state g a) (state g b) (state g e) same (no_totals_keep why b e none) | inr none ↦ keeps_on (state g a) (state g b) (state g e) same (inl none.2.same) ]
-
-  pub not_surveyed_keeps : (why : OpenFault) (a e : Held S) → IsNotSurveyed g why a e → Keeps (state g a) (state g e)
-  not_surveyed_keeps why a e (inl h) = no_form_keeps why a e h
-  not_surveyed_keeps why a e (inr h) =
-      keeps_on (state g a) (state g h.1) (state g e) (query_same all_meta query_meta [] (state g a) (state g h.1) (form_row (form_number h.0) ∷ []) h.2.shown) (no_counts_keep h.0 why h.1 e h.3)
 
 -- ---- where the rows stand for requests, it is by memory or disk
 

@@ -1,5 +1,5 @@
 -- What an opening reads of a database, and what it says of one that stands.
-use Rattle.std.proofs.Common.{◌≡◌, inl, inr, ℕ, List, [], ◌∷◌, map, length, refl, sym, ap, subst, ◌∙◌, IsPermutation}
+use Rattle.std.proofs.Common.{◌≡◌, ℕ, List, [], ◌∷◌, map, length, refl, sym, ap, subst, ◌∙◌, IsPermutation}
 use Rattle.std.specs.List.{AllByRecursion}
 use Rattle.std.proofs.lemmas.List.Sorted.{IsPermutation-refl, IsPermutation-sym}
 use Rattle.sqlite.specs.Order.{Row}
@@ -14,21 +14,16 @@ use Rattle.filing_model.specs.Request.{Request, firsts}
 use Rattle.filing_model.specs.Register.{kept}
 use Rattle.table_rows.specs.Rows.{TableHas, shown, counted_from}
 use Rattle.table_rows.specs.Reading.{RisesBy, ReadsRows}
-use Rattle.table_rows.specs.Standing.{Keeps}
-use Rattle.table_rows.specs.declared.cause.Cause.{Cause}
-use Rattle.table_rows.specs.declared.cause.Cause.TheVariants as cause
-use Rattle.table_rows.proofs.TextLemmas.{IsQueryText, query_same, query_failed, keeps_on}
+use Rattle.table_rows.proofs.TextLemmas.{IsQueryText, query_same}
 use Rattle.table_rows.proofs.OrderLemmas.{counted_rise}
 use Rattle.table_rows.proofs.ReadingLemmas.{reads_rows}
 use Rattle.register_rows.specs.Audit.{OtherRows, AreRowsOf}
-use Rattle.register_opening.specs.declared.fault.OpenFault.{OpenFault}
-use Rattle.register_opening.specs.declared.fault.OpenFault.TheVariants as fault
-use Rattle.register_opening.specs.Opening.{all_meta, all_kept, all_findings, all_filings, all_facts, all_migrated, all_amends, row_texts, new_texts, table_texts, Later, SaysEarly, IsRead, AreRead, StopsFor, IsRefused}
+use Rattle.register_opening.specs.Opening.{all_meta, all_kept, all_findings, all_filings, all_facts, all_migrated, all_amends, row_texts, new_texts, Later, SaysEarly, IsRead, AreRead}
 use Rattle.register_rows.specs.Register.{meta_row, migrated_row, kept_row, amends_rows, joined_from}
 use Rattle.register_opening.specs.Registers.{IsRegisterOf}
 use Rattle.register_opening.specs.Reads.{Knows, every, whole, by_first}
 use Rattle.register_rows.specs.Schema.{IsDeclared, HasCommon, common_tables, register_tables, meta_table, kept_table, finding_table, filing_table, fact_table, migrated_table, amends_table}
-use Rattle.register_opening.proofs.ReadTexts.{columns, asks_meta, asks_findings, asks_filings, asks_facts, asks_migrated, asks_amends, query_meta, query_kept, query_findings, query_filings, query_facts, query_migrated, query_amends}
+use Rattle.register_opening.proofs.ReadTexts.{columns, asks_meta, asks_findings, asks_filings, asks_facts, asks_migrated, asks_amends}
 use Rattle.register_opening.proofs.ReadLemmas.{reads_kept}
 use Rattle.register_opening.proofs.ListLemmas.{filter_every, map_whole, amends_rise}
 use Rattle.register_rows.proofs.MoreRequests.{kept_length}
@@ -115,9 +110,6 @@ is_read g text old new rows shown limit = record { shown = shown; limit = limit 
 abbrev pub AreQueries : List (List ℕ) → Type 0
 AreQueries = AllByRecursion IsQueryText
 
-pub table_queries : AreQueries table_texts
-table_queries = (query_migrated, (query_amends, (query_kept, (query_findings, (query_filings, (query_facts, tt))))))
-
 module _ {S : Type 0} (g : Ghosts S) where
   pub reads_on : (texts : List (List ℕ)) → AreQueries texts → (a b e : Held S) → IsUnchanged (state g a) (state g b) → (rows : List (List Row)) → AreRead g texts b e rows → IsUnchanged (state g a) (state g e)
   reads_on [] q a b e same [] h = subst (λ x. IsUnchanged (state g a) (state g x)) h same
@@ -125,30 +117,6 @@ module _ {S : Type 0} (g : Ghosts S) where
   reads_on (t ∷ ts) q a b e same [] h = absurd h
   reads_on (t ∷ ts) q a b e same (r ∷ rs) h =
       reads_on ts q.1 a h.0 e (unchanged_then (state g a) (state g b) (state g h.0) same (query_same t q.0 [] (state g b) (state g h.0) r h.1.shown)) rs h.2
-
-  pub all_read : (text : List ℕ) (texts : List (List ℕ)) → AreQueries (text ∷ texts) → (a e : Held S) (rows : List (List Row)) → AreRead g (text ∷ texts) a e rows → IsUnchanged (state g a) (state g e)
-  all_read text texts q a e [] h = absurd h
-  all_read text texts q a e (r ∷ rs) h = reads_on texts q.1 a h.0 e (query_same text q.0 [] (state g a) (state g h.0) r h.1.shown) rs h.2
-
-  pub stops_keep : (why : Cause) (texts : List (List ℕ)) → AreQueries texts → (a e : Held S) → StopsFor g why texts a e → Keeps (state g a) (state g e)
-  stops_keep why [] q a e h = absurd h
-  stops_keep why (t ∷ ts) q a e (inl h) = query_failed t q.0 [] (state g a) (state g e) h.0 h.1
-  stops_keep why (t ∷ ts) q a e (inr h) = keeps_on (state g a) (state g h.0) (state g e) (query_same t q.0 [] (state g a) (state g h.0) h.1 h.2.shown) (stops_keep why ts q.1 h.0 e h.3)
-
-  -- so does a refusal
-  pub refused_keeps : (why : OpenFault) (a e : Held S) → IsRefused g why a e → Keeps (state g a) (state g e)
-  refused_keeps fault.NotOurs a e (inl stops) = stops_keep cause.Other (all_meta ∷ []) (query_meta, tt) a e stops
-  refused_keeps fault.NotOurs a e (inr h) = inl (query_same all_meta query_meta [] (state g a) (state g e) h.0 h.1.shown)
-  refused_keeps (fault.Damaged row) a e h =
-      let mid = h.0 in
-      let same = query_same all_meta query_meta [] (state g a) (state g mid) (meta_row ∷ []) h.1.shown in
-      elim h.2 [
-        | inl stops ↦ keeps_on (state g a) (state g mid) (state g e) same (stops_keep cause.Other table_texts table_queries mid e stops.1)
-        | inr found ↦ inl (reads_on table_texts table_queries a mid e same (found.0.migrated ∷ found.0.amends ∷ found.1 ∷ found.2.finding ∷ found.2.filing ∷ found.2.fact ∷ []) found.3)
-      ]
-  refused_keeps fault.Memory a e (inl stops) = stops_keep cause.Memory (all_meta ∷ table_texts) (query_meta, table_queries) a e stops
-  refused_keeps fault.Memory a e (inr h) = inl (all_read all_meta table_texts (query_meta, table_queries) a e h.0 h.1)
-  refused_keeps fault.Disk a e stops = stops_keep cause.Disk (all_meta ∷ table_texts) (query_meta, table_queries) a e stops
 
 -- ---- the four tables
 

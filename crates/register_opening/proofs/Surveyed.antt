@@ -11,7 +11,7 @@ use Rattle.sqlite.specs.Effect.{Database, IsDatabase}
 use Rattle.sqlite.specs.Store.{Ghosts}
 use Rattle.sqlite.specs.Held.{Held, state}
 use Rattle.sqlite.specs.Listing.{understood, listing_schema}
-use Rattle.sqlite.specs.State.{State, IsLive, IsUnchanged, Shown, FailsToQuery}
+use Rattle.sqlite.specs.State.{State, IsLive, IsUnchanged, Shown, FailsToQuery, HasCleanDisk}
 use Rattle.sqlite.specs.declared.error.Error.{Error}
 use Rattle.sqlite.proofs.Callers.{unchanged_then}
 use Rattle.sqlite_resolve.specs.declared.compiled.Compiled.{Compiled}
@@ -22,7 +22,10 @@ use Rattle.filing_model.specs.Request.{Request}
 use Rattle.filing_model.specs.Register.{register}
 use Rattle.table_rows.specs.Causes.{cause_of}
 use Rattle.table_rows.specs.declared.cause.Cause.TheVariants.{Other}
-use Rattle.table_rows.specs.Standing.{HasCommitted, Keeps}
+use Rattle.table_rows.specs.Leaving.{Ending, IsLeft, Leaves}
+use Rattle.table_rows.specs.Leaving.Ending.{Ended}
+use Rattle.table_rows.proofs.LeavingLemmas.{ended}
+use Rattle.table_rows.specs.Standing.{HasCommitted}
 use Rattle.table_rows.specs.Tables.{BeginsWith, schema_with}
 use Rattle.table_rows.proofs.FailLemmas.{IsWhole, failure_cause}
 use Rattle.table_rows.proofs.QueryLemmas.{Asks}
@@ -255,9 +258,12 @@ module _ {S : Type 0} (g : Ghosts S) (a : Held S) where
 
 -- ---- a call that wrote nothing
 
-pub adds_nothing : (old new : State) → (IsTrue old.is_open → old.now ≡ old.committed) → Keeps old new → AddsNothing old new
-adds_nothing old new settled (inl same) = record { was_open = λ _. same.0.was_open; now = λ _. same.0.now_is ∙ settled same.0.was_open; committed = λ _. same.0.committed_is }
-adds_nothing old new settled (inr back) = record { was_open = back.was_open; now = λ alive. (back.undone alive).0; committed = λ alive. (back.undone alive).1 }
+pub adds_nothing : {l : Ending} {old new : State} → (IsTrue old.is_open → old.now ≡ old.committed) → Leaves l old new → HasCleanDisk new → AddsNothing old new
+adds_nothing {l} {old} {new} settled p clean = go ((ended p).left clean)
+  where
+    go : IsLeft Ended old new → AddsNothing old new
+    go (inl u) = record { was_open = u.was_open; now = λ alive. (u.same (u.was_open alive)).0.now_is ∙ settled (u.was_open alive); committed = λ alive. (u.same (u.was_open alive)).0.committed_is }
+    go (inr back) = record { was_open = back.was_open; now = λ alive. (back.undone alive).0; committed = λ alive. (back.undone alive).1 }
 
 pub nothing_then : (a b e : State) → IsUnchanged a b → AddsNothing b e → AddsNothing a e
 nothing_then a b e same h = record {

@@ -6,7 +6,7 @@ use Rattle.register_opening.specs.declared.migrate.earlier.Earlier.{Earlier}
 use Rattle.register_opening.specs.Earlier.{is_blocked, ForEarlier}
 use Rattle.register_opening.specs.Migrating.{IsMigrated, MigratesTo}
 use Rattle.register_opening.specs.Opening.{IsCounted}
-use Rattle.register_opening.proofs.NotSurveyed.{not_surveyed_keeps, survey_sound}
+use Rattle.register_opening.proofs.NotSurveyed.{survey_sound}
 use Rattle.register_opening.proofs.Surveyed.{to_end, migrates, migrates_only, not_blocked, adds_nothing, nothing_then}
 use Rattle.register_opening.proofs.migrate.migrate_register.Goals as goal
 
@@ -25,8 +25,7 @@ returns-then-is_blocked g c = record {
       absurd (not_blocked g.S.Store c.args.conn.now c.read_earlier.new.conn c.in_ok-found.found.form c.in_ok-found.found.counts (c.in_ok-found.ensures.found clean) form early F is free used);
   neither = λ clean.
       let settled : IsTrue c.is_settled.result = c.is_settled.ensures.value ∙ ap not c.requires.autocommit in
-      adds_nothing (state g.S.Store c.args.conn.now) (state g.S.Store c.read_earlier.new.conn) (c.is_settled.ensures.settled settled)
-      (inl (to_end g.S.Store c.args.conn.now c.read_earlier.new.conn c.in_ok-found.found.form c.in_ok-found.found.counts (c.in_ok-found.ensures.found clean)));
+      adds_nothing (c.is_settled.ensures.settled settled) c.in_ok-found.ensures.leaves clean;
   crash = survives_weaker (state g.S.Store c.args.conn.now) (state g.S.Store c.read_earlier.new.conn) _ _ (λ _ db none. absurd none) c.read_earlier.ensures.leaves.survives;
   durable = λ clean. tt;
 }
@@ -99,7 +98,7 @@ returns-in_err-found g c =
       sound = λ clean form early F is free. survey_sound g.S.Store c.read_earlier.new.conn F c.args.conn.now c.requires.unlimited form early is c.in_err-found.field-0.0 (c.in_err-found.ensures.refused clean);
       neither = λ clean.
           let settled : IsTrue c.is_settled.result = c.is_settled.ensures.value ∙ ap not c.requires.autocommit in
-          adds_nothing (state g.S.Store c.args.conn.now) (state g.S.Store c.read_earlier.new.conn) (c.is_settled.ensures.settled settled) (not_surveyed_keeps g.S.Store c.in_err-found.field-0.0 c.args.conn.now c.read_earlier.new.conn (c.in_err-found.ensures.refused clean));
+          adds_nothing (c.is_settled.ensures.settled settled) c.in_err-found.ensures.leaves clean;
       crash = survives_weaker (state g.S.Store c.args.conn.now) (state g.S.Store c.read_earlier.new.conn) _ _ (λ _ db none. absurd none) c.read_earlier.ensures.leaves.survives;
       durable = λ clean. tt;
     })
