@@ -3,6 +3,7 @@
 //! open. What is done with an open outbox is not known here.
 #![tactic(auto)]
 
+pub mod columns;
 mod fault;
 mod migrate;
 mod opening;

@@ -6,6 +6,7 @@ ghost use Rattle.sqlite_value.specs.Value.{owned};
 ghost use Rattle.outbox_opening.specs.Audit.{is_int, is_absent, is_key_text, is_body, is_number, is_state, is_outbox, filer_text, filer_in, is_entry, is_sound, with_id, first_damaged, damaged_row};
 ghost use Rattle.outbox_opening.specs.Targets.{said_by};
 
+use crate::columns::{entry, meta};
 use crate::opening::targets::{Said, is_left_over, said_of};
 use http_messages::MAX_BODY_LEN;
 use key_string::{is_key, read_filer};
@@ -81,10 +82,10 @@ fn is_entry(id: u64, row: &Row) -> bool
     requires { id < 2 ^ 63 }
     ensures { result ≡ is_entry id row.now }
 {
-    is_int(value_at(row, 0), id)
-        && is_key_text(value_at(row, 1))
-        && is_body(value_at(row, 2))
-        && is_state(value_at(row, 3), value_at(row, 4))
+    is_int(value_at(row, entry::ID), id)
+        && is_key_text(value_at(row, entry::KEY))
+        && is_body(value_at(row, entry::BODY))
+        && is_state(value_at(row, entry::STATE), value_at(row, entry::NUMBER))
 }
 
 /// The value of `outbox_meta` that says what the database is.
@@ -115,11 +116,11 @@ pub(crate) fn filer_in<'a>(rows: &'a [Row], form: u64) -> Option<&'a str>
     let [row] = rows else {
         return None;
     };
-    if is_int(value_at(row, 0), 1)
-        && is_outbox(value_at(row, 1))
-        && is_int(value_at(row, 2), form)
+    if is_int(value_at(row, meta::ID), 1)
+        && is_outbox(value_at(row, meta::KIND))
+        && is_int(value_at(row, meta::FORM), form)
     {
-        filer_text(value_at(row, 3))
+        filer_text(value_at(row, meta::FILER))
     } else {
         None
     }

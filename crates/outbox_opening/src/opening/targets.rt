@@ -6,6 +6,7 @@ ghost use Rattle.sqlite.specs.declared.types.Value.TheVariants.{Int};
 ghost use Rattle.outbox_opening.specs.Audit.{is_number, is_id_to, is_left_over, with_id};
 ghost use Rattle.outbox_opening.specs.Targets.{said_by};
 
+use crate::columns::target;
 use crate::opening::audit::{is_number, value_at};
 use sqlite::Row;
 use sqlite::types::ValueRef;
@@ -39,7 +40,7 @@ fn place_of(row: &Row, count: usize) -> Option<usize>
     ensures { MatchOption result (is_id_to count (column row.now 0) ≡ false) (λ place.
         (place < count) × (column row.now 0 ≡ Int (pos (suc place)))) }
 {
-    match value_at(row, 0) {
+    match value_at(row, target::ID) {
         ValueRef::Int(id) => {
             if 1 <= id && id <= count as i64 {
                 Some(id as usize - 1)
@@ -63,7 +64,7 @@ pub(crate) fn said_of(alloc: Global, targets: &[Row], count: usize) -> Result<Ve
     for at in 0..targets.len() {
         let row = &targets[at];
         if let Some(place) = place_of(row, count) {
-            said[place] = after(said[place], is_number(value_at(row, 1)));
+            said[place] = after(said[place], is_number(value_at(row, target::NUMBER)));
         }
     }
     Ok(said)
