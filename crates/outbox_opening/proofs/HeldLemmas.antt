@@ -7,14 +7,14 @@ use Rattle.sqlite.specs.Schema.{Schema}
 use Rattle.sqlite.specs.Tree.{Trees}
 use Rattle.sqlite.specs.Program.{overlay}
 use Rattle.sqlite.specs.Query.{Output, output}
-use Rattle.sqlite.specs.State.{State, Shown, IsUnchanged}
+use Rattle.sqlite.specs.State.{State, Shown}
 use Rattle.sqlite.specs.Term.{Term}
 use Rattle.sqlite.proofs.Callers.{reads_as}
 use Rattle.sqlite_sql.specs.Query.{IsSureAnswer}
 use Rattle.sqlite_value.specs.declared.keys.Key.{Key}
 use Rattle.sqlite_keyed.proofs.ListLemmas.{filter_all, all_of, map_same, map-map}
 use Rattle.table_rows.specs.Rows.{shown, TableHas}
-use Rattle.table_rows.proofs.SelectLemmas.{one_table, selects, leaves}
+use Rattle.table_rows.proofs.SelectLemmas.{one_table, selects}
 use Rattle.outbox_opening.specs.Schema.{IsDeclared, HasCommon, meta_table, entry_table, target_table}
 use Rattle.outbox_opening.specs.Audit.{meta_text, targets_text, entries_text}
 use Rattle.outbox_opening.proofs.Texts.{meta_terms, meta_asks, target_terms, targets_asks, entry_columns, entries_asks, by_id}
@@ -31,26 +31,24 @@ whole table tree columns order show trees rows shows same answer =
     IsPermutation-sym _ _ (subst (λ l. IsPermutation l rows) (ap (map (λ w. (show w).1)) every ∙ told) some)
 
 module _ (old new : State) (d : HasCommon old.now.schema) (rows : List Row) where
-  pub meta_held : Shown meta_text [] old new rows → TableHas old.now meta_table rows × IsUnchanged old new
+  pub meta_held : Shown meta_text [] old new rows → TableHas old.now meta_table rows
   meta_held h =
       let it = meta_asks old.now.schema d in
       let answer = (reads_as meta_text [] old new old.now.schema refl _ it.is it.plain it.listing rows h).answer in
-      (whole meta_table 0 meta_terms [] (λ w. ([], column w 0 ∷ column w 1 ∷ column w 2 ∷ column w 3 ∷ [])) old.now.trees rows (λ r. refl) (λ r. refl) answer, leaves meta_text [] old new rows it.plain h)
+      whole meta_table 0 meta_terms [] (λ w. ([], column w 0 ∷ column w 1 ∷ column w 2 ∷ column w 3 ∷ [])) old.now.trees rows (λ r. refl) (λ r. refl) answer
 
-  pub entries_held : Shown entries_text [] old new rows → TableHas old.now entry_table rows × IsUnchanged old new
+  pub entries_held : Shown entries_text [] old new rows → TableHas old.now entry_table rows
   entries_held h =
       let it = entries_asks old.now.schema d in
-      let answer = (reads_as entries_text [] old new old.now.schema refl _ it.is it.plain it.listing rows h).answer in (
-        whole entry_table 1 entry_columns by_id (λ w. (column w 0 ∷ [], column w 0 ∷ column w 1 ∷ column w 2 ∷ column w 3 ∷ column w 4 ∷ [])) old.now.trees rows (λ r. refl) (λ r. refl) answer,
-        leaves entries_text [] old new rows it.plain h,
-      )
+      let answer = (reads_as entries_text [] old new old.now.schema refl _ it.is it.plain it.listing rows h).answer in
+      whole entry_table 1 entry_columns by_id (λ w. (column w 0 ∷ [], column w 0 ∷ column w 1 ∷ column w 2 ∷ column w 3 ∷ column w 4 ∷ [])) old.now.trees rows (λ r. refl) (λ r. refl) answer
 
 module _ (old new : State) (d : IsDeclared old.now.schema) (rows : List Row) where
-  pub targets_held : Shown targets_text [] old new rows → TableHas old.now target_table rows × IsUnchanged old new
+  pub targets_held : Shown targets_text [] old new rows → TableHas old.now target_table rows
   targets_held h =
       let it = targets_asks old.now.schema d in
       let answer = (reads_as targets_text [] old new old.now.schema refl _ it.is it.plain it.listing rows h).answer in
-      (whole target_table 3 target_terms [] (λ w. ([], column w 0 ∷ column w 1 ∷ [])) old.now.trees rows (λ r. refl) (λ r. refl) answer, leaves targets_text [] old new rows it.plain h)
+      whole target_table 3 target_terms [] (λ w. ([], column w 0 ∷ column w 1 ∷ [])) old.now.trees rows (λ r. refl) (λ r. refl) answer
 
 -- the tables of an outbox begin with those of every form
 pub has_common : (schema : Schema) → IsDeclared schema → HasCommon schema

@@ -114,7 +114,7 @@ filer_told form filer is = rw (own_id form, is) refl
 module _ (old new : State) (c : HasCommon old.now.schema) where
   pub filer_is : (form : ℕ) (filer : List ℕ) → TableHas old.now meta_table (form_row form filer ∷ []) → is_filer filer ≡ true → (rows : List Row) → Shown meta_text [] old new rows → filer_in form rows ≡ Some filer
   filer_is form filer held is rows h =
-      let found = (meta_held old new c rows h).0 in
+      let found = meta_held old new c rows h in
       ap (filer_in form) (one_permutation (form_row form filer) rows (IsPermutation-trans _ _ _ held (IsPermutation-sym rows _ found))) ∙ filer_told form filer is
 
   pub no_damage : (es : List Entry) (targets rows : List Row) → TableHas old.now entry_table (entry_rows es) → AllByRecursion IsKept es → IsPermutation (target_rows es) targets → Shown entries_text [] old new rows

@@ -5,8 +5,9 @@ ghost use Rattle.key_string.specs.Filer.{is_filer};
 ghost use Rattle.filing_model.specs.Outbox.{Entry as Item};
 ghost use Rattle.sqlite.specs.Effect.{IsDatabase};
 ghost use Rattle.sqlite.specs.Held.{state};
-ghost use Rattle.sqlite.specs.State.{HasCleanDisk, IsUnchanged, Survives};
-ghost use Rattle.table_rows.specs.Standing.{CommitsNothing, StaysAutocommit, StaysCommitted, IsCommitted, IsLasting, KeepsOnErr};
+ghost use Rattle.sqlite.specs.State.{HasCleanDisk, Survives};
+ghost use Rattle.table_rows.specs.Leaving.{OnlyReads};
+ghost use Rattle.table_rows.specs.Standing.{CommitsNothing, StaysCommitted, IsCommitted, IsLasting, KeepsOnErr};
 ghost use Rattle.outbox_opening.specs.Schema.{HasCommon};
 ghost use Rattle.outbox_opening.specs.Entries.{Contents, contents_of};
 ghost use Rattle.outbox_opening.specs.Rows.{IsOutboxOf};
@@ -31,7 +32,7 @@ fn read_earlier<S: Alter>(
         → IfOk result (λ found.
         (entries : List Item)
         × IsEarlierOf (contents_of (string_bytes found.filer) entries) (state S.Store conn.old).now
-        × (found.count ≡ length entries) × IsUnchanged (state S.Store conn.old) (state S.Store conn.new)) }
+        × (found.count ≡ length entries)) }
     ensures code { IfOk result (λ found. is_filer (string_bytes found.filer) ≡ true) }
     ensures few { IfOk result (λ found. found.count ≤ 2 ^ 62) }
     ensures read { HasCleanDisk (state S.Store conn.new) → OnOk result (IsFound S.Store conn.old conn.new) }
@@ -40,17 +41,11 @@ fn read_earlier<S: Alter>(
     ensures sound { HasCleanDisk (state S.Store conn.new)
         → (it : Contents) → IsEarlierOf it (state S.Store conn.old).now
         → (state S.Store conn.old).step_limit ≡ None → IfErr result IsFailure }
-    ensures kept { StaysCommitted S.Store conn.old conn.new }
-    ensures crash { CommitsNothing (state S.Store conn.old) (state S.Store conn.new) }
-    ensures mode { StaysAutocommit conn.old conn.new }
+    ensures leaves { OnlyReads S.Store conn.old conn.new result }
 {
-    match filer_of(conn, alloc, 1) {
-        Ok(filer) => match count_whole(alloc, conn, &[]) {
-            Ok(count) => Ok(FoundOutbox { filer, count }),
-            Err(fault) => Err(fault),
-        },
-        Err(fault) => Err(fault),
-    }
+    let filer = filer_of(conn, alloc, 1)?;
+    let count = count_whole(alloc, conn, &[])?;
+    Ok(FoundOutbox { filer, count })
 }
 
 /// Makes the table of the targets, and raises the form.
@@ -98,16 +93,10 @@ pub fn migrate_outbox<S: Alter>(
     ensures { MigratesOutbox S.Store conn.old conn.new result }
 {
     prove!(is_settled(conn));
-    match read_earlier(alloc, conn) {
-        Ok(found) => {
-            if is_used(conn.schema(), b"target") {
-                return Err(OutboxFault::NotOurs);
-            }
-            match write(conn) {
-                Ok(()) => Ok(found),
-                Err(error) => Err(OutboxFault::from(error)),
-            }
-        }
-        Err(fault) => Err(fault),
+    let found = read_earlier(alloc, conn)?;
+    if is_used(conn.schema(), b"target") {
+        return Err(OutboxFault::NotOurs);
     }
+    write(conn)?;
+    Ok(found)
 }

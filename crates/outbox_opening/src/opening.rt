@@ -6,9 +6,9 @@ ghost use Rattle.key_string.specs.Filer.{is_filer};
 ghost use Rattle.filing_model.specs.Outbox.{Entry as Item};
 ghost use Rattle.sqlite.specs.Held.{state};
 ghost use Rattle.sqlite.specs.Order.{Row as Stored};
-ghost use Rattle.sqlite.specs.State.{HasCleanDisk, IsLive, IsUnchanged, Shown};
+ghost use Rattle.sqlite.specs.State.{HasCleanDisk, IsLive, Shown};
 ghost use Rattle.table_rows.specs.Rows.{TableHas};
-ghost use Rattle.table_rows.specs.Standing.{CommitsNothing, StaysAutocommit, StaysCommitted, KeepsOnErr, StaysOnOk};
+ghost use Rattle.table_rows.specs.Leaving.{OnlyReads};
 ghost use Rattle.outbox_opening.specs.Schema.{IsDeclared, HasCommon, meta_table, entry_table, target_table};
 ghost use Rattle.outbox_opening.specs.Rows.{form_row, entry_rows, target_rows};
 ghost use Rattle.outbox_opening.specs.Faults.{meta_fault, entry_fault, IsFailure, IsDamageOrFailure};
@@ -60,8 +60,7 @@ pub(crate) fn filer_of<S: Alter>(
     requires { form < 2 ^ 63 }
     ensures found { HasCleanDisk (state S.Store conn.new) → HasCommon (state S.Store conn.old).now.schema
         → IfOk result (λ filer.
-        TableHas (state S.Store conn.old).now meta_table (form_row form (string_bytes filer) ∷ [])
-        × (is_filer (string_bytes filer) ≡ true) × IsUnchanged (state S.Store conn.old) (state S.Store conn.new)) }
+        TableHas (state S.Store conn.old).now meta_table (form_row form (string_bytes filer) ∷ [])) }
     ensures code { IfOk result (λ filer. is_filer (string_bytes filer) ≡ true) }
     ensures read { HasCleanDisk (state S.Store conn.new)
         → OnOk result (ReadsFiler form (state S.Store conn.old) (state S.Store conn.new)) }
@@ -74,11 +73,7 @@ pub(crate) fn filer_of<S: Alter>(
         → (filer : List ℕ) → HasCommon (state S.Store conn.old).now.schema
         → TableHas (state S.Store conn.old).now meta_table (form_row form filer ∷ [])
         → is_filer filer ≡ true → (state S.Store conn.old).step_limit ≡ None → IfErr result IsFailure }
-    ensures kept { StaysCommitted S.Store conn.old conn.new }
-    ensures limit { conn.new.step_limit ≡ conn.old.step_limit }
-    ensures crash { CommitsNothing (state S.Store conn.old) (state S.Store conn.new) }
-    ensures mode { StaysAutocommit conn.old conn.new }
-    ensures clean { HasCleanDisk (state S.Store conn.new) → HasCleanDisk (state S.Store conn.old) }
+    ensures leaves { OnlyReads S.Store conn.old conn.new result }
 {
     match rows::meta_rows(conn) {
         Ok(rows) => match filer_in(rows.as_slice(), form) {
@@ -91,10 +86,6 @@ pub(crate) fn filer_of<S: Alter>(
 
 /// The rows of `target`.
 fn read_targets<S: Alter>(conn: &mut Connection<S>) -> Result<Vec<Row>, OutboxFault>
-    ensures held { HasCleanDisk (state S.Store conn.new) → IsDeclared (state S.Store conn.old).now.schema
-        → IfOk result (λ targets.
-        TableHas (state S.Store conn.old).now target_table targets.items
-        × IsUnchanged (state S.Store conn.old) (state S.Store conn.new)) }
     ensures shown { HasCleanDisk (state S.Store conn.new)
         → IfOk result (λ targets.
         Shown targets_text [] (state S.Store conn.old) (state S.Store conn.new) targets.items) }
@@ -105,11 +96,7 @@ fn read_targets<S: Alter>(conn: &mut Connection<S>) -> Result<Vec<Row>, OutboxFa
     ensures others { IfErr result IsDamageOrFailure }
     ensures whole { ForOutbox S.Store conn.old conn.new (λ it.
         (state S.Store conn.old).step_limit ≡ None → IfErr result IsFailure) }
-    ensures kept { StaysCommitted S.Store conn.old conn.new }
-    ensures limit { conn.new.step_limit ≡ conn.old.step_limit }
-    ensures crash { CommitsNothing (state S.Store conn.old) (state S.Store conn.new) }
-    ensures mode { StaysAutocommit conn.old conn.new }
-    ensures clean { HasCleanDisk (state S.Store conn.new) → HasCleanDisk (state S.Store conn.old) }
+    ensures leaves { OnlyReads S.Store conn.old conn.new result }
 {
     match rows::target_rows(conn) {
         Ok(rows) => Ok(rows),
@@ -127,8 +114,8 @@ pub(crate) fn count_whole<S: Alter>(
         → AllByRecursion IsPair targets.now
         → IfOk result (λ count.
         (entries : List Item) × TableHas (state S.Store conn.old).now entry_table (entry_rows entries)
-        × IsPermutation (target_rows entries) targets.now × AllByRecursion IsKept entries × (count ≡ length entries)
-        × IsUnchanged (state S.Store conn.old) (state S.Store conn.new)) }
+        × IsPermutation (target_rows entries) targets.now × AllByRecursion IsKept entries
+        × (count ≡ length entries)) }
     ensures damaged { HasCleanDisk (state S.Store conn.new) → (row : _) → result ≡ Err (OutboxFault.Damaged row)
         → IsDamagedAt targets.now row (state S.Store conn.old) (state S.Store conn.new) }
     ensures read { HasCleanDisk (state S.Store conn.new)
@@ -144,11 +131,7 @@ pub(crate) fn count_whole<S: Alter>(
         → TableHas (state S.Store conn.old).now entry_table (entry_rows entries)
         → AllByRecursion IsKept entries → IsPermutation (target_rows entries) targets.now
         → (state S.Store conn.old).step_limit ≡ None → IfErr result IsFailure }
-    ensures kept { StaysCommitted S.Store conn.old conn.new }
-    ensures limit { conn.new.step_limit ≡ conn.old.step_limit }
-    ensures crash { CommitsNothing (state S.Store conn.old) (state S.Store conn.new) }
-    ensures mode { StaysAutocommit conn.old conn.new }
-    ensures clean { HasCleanDisk (state S.Store conn.new) → HasCleanDisk (state S.Store conn.old) }
+    ensures leaves { OnlyReads S.Store conn.old conn.new result }
 {
     match rows::all_rows(conn) {
         Ok(rows) => match damaged_row(alloc, targets, rows.as_slice())? {
@@ -172,10 +155,7 @@ fn count_one_by_one<S: Alter>(
     ensures disk { HasCleanDisk (state S.Store conn.new) → result ≡ Err OutboxFault.Disk
         → StopsFor cause.Disk entries_text (state S.Store conn.old) (state S.Store conn.new) }
     ensures others { IfErr result IsFailure }
-    ensures same { StaysOnOk (state S.Store conn.old) (state S.Store conn.new) result }
-    ensures kept { KeepsOnErr (state S.Store conn.old) (state S.Store conn.new) result }
-    ensures mode { StaysAutocommit conn.old conn.new }
-    ensures survives { CommitsNothing (state S.Store conn.old) (state S.Store conn.new) }
+    ensures leaves { OnlyReads S.Store conn.old conn.new result }
 {
     match count_by_walk(alloc, conn, targets) {
         Ok(found) => Ok(found),
@@ -198,8 +178,8 @@ fn count_entries<S: Alter>(
         → AllByRecursion IsPair targets.now
         → IfOk result (λ count.
         (entries : List Item) × TableHas (state S.Store conn.old).now entry_table (entry_rows entries)
-        × IsPermutation (target_rows entries) targets.now × AllByRecursion IsKept entries × (count ≡ length entries)
-        × IsUnchanged (state S.Store conn.old) (state S.Store conn.new)) }
+        × IsPermutation (target_rows entries) targets.now × AllByRecursion IsKept entries
+        × (count ≡ length entries)) }
     ensures damaged { HasCleanDisk (state S.Store conn.new) → (row : _) → result ≡ Err (OutboxFault.Damaged row)
         → IsDamagedAt targets.now row (state S.Store conn.old) (state S.Store conn.new) }
     ensures disk { HasCleanDisk (state S.Store conn.new) → result ≡ Err OutboxFault.Disk
@@ -211,16 +191,11 @@ fn count_entries<S: Alter>(
         → TableHas (state S.Store conn.old).now entry_table (entry_rows entries)
         → AllByRecursion IsKept entries → IsPermutation (target_rows entries) targets.now
         → (state S.Store conn.old).step_limit ≡ None → IfErr result IsFailure }
-    ensures kept { StaysCommitted S.Store conn.old conn.new }
-    ensures limit { conn.new.step_limit ≡ conn.old.step_limit }
-    ensures crash { CommitsNothing (state S.Store conn.old) (state S.Store conn.new) }
-    ensures mode { StaysAutocommit conn.old conn.new }
-    ensures clean { HasCleanDisk (state S.Store conn.new) → HasCleanDisk (state S.Store conn.old) }
+    ensures leaves { OnlyReads S.Store conn.old conn.new result }
 {
-    match count_one_by_one(alloc, conn, targets) {
-        Ok(Some(count)) => Ok(count),
-        Ok(None) => count_whole(alloc, conn, targets),
-        Err(fault) => Err(fault),
+    match count_one_by_one(alloc, conn, targets)? {
+        Some(count) => Ok(count),
+        None => count_whole(alloc, conn, targets),
     }
 }
 
@@ -230,7 +205,7 @@ fn count_all<S: Alter>(alloc: Global, conn: &mut Connection<S>) -> Result<u64, O
         → IfOk result (λ count.
         (entries : List Item) × TableHas (state S.Store conn.old).now entry_table (entry_rows entries)
         × TableHas (state S.Store conn.old).now target_table (target_rows entries) × AllByRecursion IsKept entries
-        × (count ≡ length entries) × IsUnchanged (state S.Store conn.old) (state S.Store conn.new)) }
+        × (count ≡ length entries)) }
     ensures damaged { HasCleanDisk (state S.Store conn.new) → (row : _) → result ≡ Err (OutboxFault.Damaged row)
         → AreDamaged S.Store row conn.old conn.new }
     ensures disk { HasCleanDisk (state S.Store conn.new) → result ≡ Err OutboxFault.Disk
@@ -239,15 +214,10 @@ fn count_all<S: Alter>(alloc: Global, conn: &mut Connection<S>) -> Result<u64, O
     ensures few { IfOk result (λ count. count ≤ 2 ^ 62) }
     ensures whole { ForOutbox S.Store conn.old conn.new (λ it.
         (state S.Store conn.old).step_limit ≡ None → IfErr result IsFailure) }
-    ensures kept { StaysCommitted S.Store conn.old conn.new }
-    ensures crash { CommitsNothing (state S.Store conn.old) (state S.Store conn.new) }
-    ensures mode { StaysAutocommit conn.old conn.new }
-    ensures clean { HasCleanDisk (state S.Store conn.new) → HasCleanDisk (state S.Store conn.old) }
+    ensures leaves { OnlyReads S.Store conn.old conn.new result }
 {
-    match read_targets(conn) {
-        Ok(targets) => count_entries(alloc, conn, targets.as_slice()),
-        Err(fault) => Err(fault),
-    }
+    let targets = read_targets(conn)?;
+    count_entries(alloc, conn, targets.as_slice())
 }
 
 /// Whether no transaction is under way.
@@ -279,11 +249,7 @@ pub fn read_outbox<S: Alter>(
     ensures { ReadsOutbox S.Store conn.old conn.new result }
 {
     prove!(is_settled(conn));
-    match filer_of(conn, alloc, 2) {
-        Ok(filer) => match count_all(alloc, conn) {
-            Ok(count) => Ok(FoundOutbox { filer, count }),
-            Err(fault) => Err(fault),
-        },
-        Err(fault) => Err(fault),
-    }
+    let filer = filer_of(conn, alloc, 2)?;
+    let count = count_all(alloc, conn)?;
+    Ok(FoundOutbox { filer, count })
 }

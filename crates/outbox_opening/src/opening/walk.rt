@@ -1,15 +1,15 @@
 //! Whether the rows of `entry` are those of entries, found with one of them in memory at a time.
 
-ghost use Rattle.std.specs.Prelude.{◌≡◌, ◌<◌, ◌≤◌, ◌^◌, ℕ, suc, false, true, List, [], ◌∷◌, length, get_or, IsTrue, IfOk, IfErr, IfSome, OnOk};
+ghost use Rattle.std.specs.Prelude.{◌≡◌, ◌<◌, ◌≤◌, ◌^◌, ℕ, suc, false, true, List, [], ◌∷◌, length, get_or, IsTrue, IfOk, IfSome};
 ghost use Rattle.sqlite.specs.Held.{state};
 ghost use Rattle.sqlite.specs.Order.{Row as Stored};
-ghost use Rattle.sqlite.specs.State.{HasCleanDisk, IsUnchanged};
-ghost use Rattle.table_rows.specs.Picking.{CountsTo, IsStopped, Picks, has_number, StopsOnErr};
+ghost use Rattle.sqlite.specs.State.{HasCleanDisk};
+ghost use Rattle.table_rows.specs.Leaving.{MayQuery, OnlyQueries};
+ghost use Rattle.table_rows.specs.Picking.{CountsTo, Picks, has_number};
 ghost use Rattle.outbox_opening.specs.Audit.{is_sound, with_id};
 ghost use Rattle.outbox_opening.specs.Schema.{HasCommon, entry_table};
 ghost use Rattle.outbox_opening.specs.Targets.{said_by};
 ghost use Rattle.outbox_opening.specs.Walk.{AreCounted, Walked};
-ghost use Rattle.table_rows.specs.Standing.{CommitsNothing, StaysAutocommit, StaysOnOk};
 
 use crate::opening::audit::is_sound;
 use crate::opening::picks;
@@ -41,15 +41,10 @@ fn has_sound<S: Alter>(conn: &mut Connection<S>, id: u64, said: Said) -> Result<
         IsTrue sound
         → (row : Stored) × Picks entry_table (has_number id) (row ∷ []) (state S.Store conn.old).now
         × (is_sound targets id row ≡ true)) }
-    ensures same { StaysOnOk (state S.Store conn.old) (state S.Store conn.new) result }
-    ensures stopped { StopsOnErr (state S.Store conn.old) (state S.Store conn.new) result }
-    ensures mode { StaysAutocommit conn.old conn.new }
-    ensures survives { CommitsNothing (state S.Store conn.old) (state S.Store conn.new) }
+    ensures leaves { OnlyQueries S.Store conn.old conn.new result }
 {
-    match picks::rows_at(conn, id) {
-        Ok(rows) => Ok(is_sound_one(&rows, id, said)),
-        Err(error) => Err(error),
-    }
+    let rows = picks::rows_at(conn, id)?;
+    Ok(is_sound_one(&rows, id, said))
 }
 
 /// Whether there is one entry of each id from 1 to the number of these, and it is sound.
@@ -64,18 +59,11 @@ fn walk<S: Alter>(conn: &mut Connection<S>, said: &[Said]) -> Result<bool, Error
         IsTrue sound
         → (rows : List Stored)
         × Walked targets (length said.now) (length said.now) (state S.Store conn.old).now rows) }
-    ensures same { HasCleanDisk (state S.Store conn.new) → IsTrue (state S.Store conn.old).is_open
-        → OnOk result (IsUnchanged (state S.Store conn.old) (state S.Store conn.new)) }
-    ensures stopped { HasCleanDisk (state S.Store conn.new) → IsTrue (state S.Store conn.old).is_open
-        → IfErr result (IsStopped (state S.Store conn.old) (state S.Store conn.new)) }
-    ensures mode { StaysAutocommit conn.old conn.new }
-    ensures survives { CommitsNothing (state S.Store conn.old) (state S.Store conn.new) }
+    ensures leaves { MayQuery S.Store conn.old conn.new result }
 {
     for at in 0..said.len() {
-        match has_sound(conn, at as u64 + 1, said[at]) {
-            Ok(true) => {}
-            Ok(false) => return Ok(false),
-            Err(error) => return Err(error),
+        if !has_sound(conn, at as u64 + 1, said[at])? {
+            return Ok(false);
         }
     }
     Ok(true)
@@ -93,20 +81,13 @@ fn are_sound<S: Alter>(
     ensures sound { HasCleanDisk (state S.Store conn.new) → HasCommon (state S.Store conn.old).now.schema
         → IsTrue (state S.Store conn.old).is_open → CountsTo entry_table count (state S.Store conn.old).now
         → IfOk result (λ sound. IsTrue sound → AreCounted targets.now count (state S.Store conn.old).now) }
-    ensures same { HasCleanDisk (state S.Store conn.new) → IsTrue (state S.Store conn.old).is_open
-        → OnOk result (IsUnchanged (state S.Store conn.old) (state S.Store conn.new)) }
-    ensures stopped { HasCleanDisk (state S.Store conn.new) → IsTrue (state S.Store conn.old).is_open
-        → IfErr result (IsStopped (state S.Store conn.old) (state S.Store conn.new)) }
-    ensures mode { StaysAutocommit conn.old conn.new }
-    ensures survives { CommitsNothing (state S.Store conn.old) (state S.Store conn.new) }
+    ensures leaves { MayQuery S.Store conn.old conn.new result }
 {
     let Ok(said) = said_of(alloc, targets, count as usize) else {
         return Ok(false);
     };
-    match walk(conn, said.as_slice()) {
-        Ok(sound) => Ok(sound && !is_left_over(targets, count as usize)),
-        Err(error) => Err(error),
-    }
+    let sound = walk(conn, said.as_slice())?;
+    Ok(sound && !is_left_over(targets, count as usize))
 }
 
 /// How many entries an outbox has whose rows are sound, where `target` has these. `None` says nothing of the rows.
@@ -118,18 +99,13 @@ pub(crate) fn count_by_walk<S: Alter>(
     ensures found { HasCleanDisk (state S.Store conn.new) → HasCommon (state S.Store conn.old).now.schema
         → IfOk result (λ found. IfSome found (λ count. AreCounted targets.now count (state S.Store conn.old).now)) }
     ensures few { IfOk result (λ found. IfSome found (λ count. count ≤ 2 ^ 62)) }
-    ensures same { StaysOnOk (state S.Store conn.old) (state S.Store conn.new) result }
-    ensures stopped { StopsOnErr (state S.Store conn.old) (state S.Store conn.new) result }
-    ensures mode { StaysAutocommit conn.old conn.new }
-    ensures survives { CommitsNothing (state S.Store conn.old) (state S.Store conn.new) }
+    ensures leaves { OnlyQueries S.Store conn.old conn.new result }
 {
-    match picks::count_rows(conn) {
-        Ok(Some(count)) if count <= MAX_ENTRIES => match are_sound(alloc, conn, targets, count) {
-            Ok(true) => Ok(Some(count)),
-            Ok(false) => Ok(None),
-            Err(error) => Err(error),
-        },
-        Ok(_) => Ok(None),
-        Err(error) => Err(error),
+    match picks::count_rows(conn)? {
+        Some(count) if count <= MAX_ENTRIES => {
+            let sound = are_sound(alloc, conn, targets, count)?;
+            Ok(sound.then_some(count))
+        }
+        _ => Ok(None),
     }
 }

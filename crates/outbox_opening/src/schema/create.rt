@@ -110,8 +110,6 @@ pub fn make_outbox<S: Alter>(
         return Err(OutboxFault::Taken);
     }
     let code = String::from_str(alloc, filer)?;
-    match make(conn, filer) {
-        Ok(()) => Ok(code),
-        Err(error) => Err(OutboxFault::from(error)),
-    }
+    make(conn, filer)?;
+    Ok(code)
 }

@@ -1,65 +1,65 @@
 use Rattle.std.proofs.Common.{◌≡◌, inl, inr, Err, sym, ap, subst, ◌∙◌}
-use Rattle.std.proofs.lemmas.Result.{IfOk-weaker}
+use Rattle.std.proofs.lemmas.Result.{IfOk-weaker, err_from_is_err_and}
 use Rattle.std.proofs.lemmas.List.Sorted.{IsPermutation-sym, IsPermutation-trans}
 use Rattle.sqlite.specs.Effect.{Database}
-use Rattle.sqlite.proofs.Callers.{unchanged_then}
 use Rattle.table_rows.specs.Rows.{TableHas}
-use Rattle.table_rows.proofs.StepLemmas.{keeps_then}
+use Rattle.table_rows.proofs.LeavingLemmas.{asked_then, clean_before}
 use Rattle.outbox_opening.specs.declared.fault.OutboxFault.TheVariants as fault
 use Rattle.outbox_opening.specs.Schema.{HasCommon, entry_table}
 use Rattle.outbox_opening.specs.Rows.{IsOutboxOf, entry_rows}
 use Rattle.outbox_opening.proofs.AuditLemmas.{targets_paired}
-use Rattle.outbox_opening.proofs.HeldLemmas.{has_common}
+use Rattle.outbox_opening.proofs.HeldLemmas.{has_common, targets_held}
 use Rattle.outbox_opening.proofs.SoundLemmas.{kept_entries}
 use Rattle.sqlite.specs.Held.{state}
-use Rattle.sqlite.specs.State.{HasCleanDisk}
 use Rattle.outbox_opening.proofs.opening.count_all.Goals as goal
 
-pub returns-in-Ok-clause-damaged : goal.returns-in-Ok-clause-damaged
-returns-in-Ok-clause-damaged g c clean row is =
-    let early : HasCleanDisk (state g.S.Store c.read_targets.new.conn) = c.count_entries.ensures.clean clean in
-    inr (c.read_targets.new.conn, c.in-Ok.targets.items, c.in-Ok.ensures.shown early, rw c.as_slice.ensures.value at (c.count_entries.ensures.damaged clean row is))
+pub returns-clause-damaged : goal.returns-clause-damaged
+returns-clause-damaged g c clean row is =
+    let early = clean_before c.count_entries.ensures.leaves clean in
+    inr (c.read_targets.new.conn, c.in_ok-targets.targets.items, c.in_ok-targets.ensures.shown early, rw c.as_slice.ensures.value at (c.count_entries.ensures.damaged clean row is))
 
-pub returns-in-Ok-clause-disk : goal.returns-in-Ok-clause-disk
-returns-in-Ok-clause-disk g c clean is =
-    let early : HasCleanDisk (state g.S.Store c.read_targets.new.conn) = c.count_entries.ensures.clean clean in
-    inr (c.read_targets.new.conn, c.in-Ok.targets.items, c.in-Ok.ensures.shown early, c.count_entries.ensures.disk clean is)
+pub returns-clause-disk : goal.returns-clause-disk
+returns-clause-disk g c clean is =
+    let early = clean_before c.count_entries.ensures.leaves clean in
+    inr (c.read_targets.new.conn, c.in_ok-targets.targets.items, c.in_ok-targets.ensures.shown early, c.count_entries.ensures.disk clean is)
 
-pub returns-in-Ok-clause-counted : goal.returns-in-Ok-clause-counted
-returns-in-Ok-clause-counted g c clean declared =
-    let old = (state g.S.Store c.args.conn.now).now in
-    let early : HasCleanDisk (state g.S.Store c.read_targets.new.conn) = c.count_entries.ensures.clean clean in
-    let held = c.in-Ok.ensures.held early declared in
-    let same = held.1.0.now_is in
-    let common : HasCommon (state g.S.Store c.read_targets.new.conn).now.schema = subst (λ (d : Database). HasCommon d.schema) (sym same) (has_common _ declared) in
+pub returns-clause-counted : goal.returns-clause-counted
+returns-clause-counted g c clean declared =
+    let old = state g.S.Store c.args.conn.now in
+    let mid = state g.S.Store c.read_targets.new.conn in
+    let early = clean_before c.count_entries.ensures.leaves clean in
+    let held = targets_held old mid declared c.in_ok-targets.targets.items (c.in_ok-targets.ensures.shown early) in
+    let same = (c.in_ok-targets.ensures.leaves.left early).0.now_is in
+    let common : HasCommon mid.now.schema = subst (λ (d : Database). HasCommon d.schema) (sym same) (has_common _ declared) in
     IfOk-weaker c.count_entries.result _ _ (λ count found. (
       found.0,
       subst (λ (d : Database). TableHas d entry_table (entry_rows found.0)) same found.1,
-      IsPermutation-trans _ _ _ (rw c.as_slice.ensures.value at found.2) held.0,
+      IsPermutation-trans _ _ _ (rw c.as_slice.ensures.value at found.2) held,
       found.3,
       found.4,
-      unchanged_then _ _ _ held.1 found.5,
-    )) (c.count_entries.ensures.counted clean common (rw c.as_slice.ensures.value (targets_paired old c.in-Ok.targets.items held.0)))
+    )) (c.count_entries.ensures.counted clean common (rw c.as_slice.ensures.value (targets_paired old.now c.in_ok-targets.targets.items held)))
 
-pub returns-in-Ok-clause-whole : goal.returns-in-Ok-clause-whole
-returns-in-Ok-clause-whole g c clean it is unlimited =
-    let early : HasCleanDisk (state g.S.Store c.read_targets.new.conn) = c.count_entries.ensures.clean clean in
-    let held = c.in-Ok.ensures.held early is.rows.declared in
-    let here : IsOutboxOf it (state g.S.Store c.read_targets.new.conn).now = subst (IsOutboxOf it) (sym held.1.0.now_is) is in
-    let targets = IsPermutation-trans _ _ _ is.rows.targets_are (IsPermutation-sym c.in-Ok.targets.items _ held.0) in
-    c.count_entries.ensures.whole clean it.entries (has_common _ here.rows.declared) here.rows.entries_are (kept_entries it is.list) (rw c.as_slice.ensures.value targets) (c.read_targets.ensures.limit ∙ unlimited)
+pub returns-clause-whole : goal.returns-clause-whole
+returns-clause-whole g c clean it is unlimited =
+    let early = clean_before c.count_entries.ensures.leaves clean in
+    let old = state g.S.Store c.args.conn.now in
+    let mid = state g.S.Store c.read_targets.new.conn in
+    let held = targets_held old mid is.rows.declared c.in_ok-targets.targets.items (c.in_ok-targets.ensures.shown early) in
+    let here : IsOutboxOf it mid.now = subst (IsOutboxOf it) (sym (c.in_ok-targets.ensures.leaves.left early).0.now_is) is in
+    let targets = IsPermutation-trans _ _ _ is.rows.targets_are (IsPermutation-sym c.in_ok-targets.targets.items _ held) in
+    c.count_entries.ensures.whole clean it.entries (has_common _ here.rows.declared) here.rows.entries_are (kept_entries it is.list) (rw c.as_slice.ensures.value targets) (c.in_ok-targets.ensures.leaves.survives.limit ∙ unlimited)
 
-pub returns-in-Ok-clause-kept : goal.returns-in-Ok-clause-kept
-returns-in-Ok-clause-kept g c clean =
-    let early : HasCleanDisk (state g.S.Store c.read_targets.new.conn) = c.count_entries.ensures.clean clean in
-    keeps_then (state g.S.Store c.args.conn.now) (state g.S.Store c.read_targets.new.conn) (state g.S.Store c.count_entries.new.conn) (c.read_targets.ensures.kept early) (c.count_entries.ensures.kept clean)
+pub returns-in_err-targets-clause-damaged : goal.returns-in_err-targets-clause-damaged
+returns-in_err-targets-clause-damaged g c clean row is =
+    let told = err_from_is_err_and c.from_residual.result c.from_residual.ensures.1 in
+    let same : c.in_err-targets.field-0.0 ≡ fault.Damaged row = cc (told.1, told.2) in
+    inl (c.in_err-targets.ensures.damaged clean row (ap Err same))
 
-pub returns-in-Err-clause-damaged : goal.returns-in-Err-clause-damaged
-returns-in-Err-clause-damaged g c clean row is =
-    let same : c.in-Err.fault ≡ fault.Damaged row = cc in
-    inl (c.in-Err.ensures.damaged clean row (ap Err same))
+pub returns-in_err-targets-clause-disk : goal.returns-in_err-targets-clause-disk
+returns-in_err-targets-clause-disk g c clean is =
+    let told = err_from_is_err_and c.from_residual.result c.from_residual.ensures.1 in
+    let same : c.in_err-targets.field-0.0 ≡ fault.Disk = cc (told.1, told.2) in
+    inl (c.in_err-targets.ensures.disk clean (ap Err same))
 
-pub returns-in-Err-clause-disk : goal.returns-in-Err-clause-disk
-returns-in-Err-clause-disk g c clean is =
-    let same : c.in-Err.fault ≡ fault.Disk = cc in
-    inl (c.in-Err.ensures.disk clean (ap Err same))
+pub returns-clause-leaves : goal.returns-clause-leaves
+returns-clause-leaves g c = asked_then c.in_ok-targets.ensures.leaves c.count_entries.ensures.leaves

@@ -4,17 +4,20 @@ use Rattle.outbox_opening.specs.Audit.{damaged_row}
 use Rattle.outbox_opening.proofs.AuditLemmas.{entries_found}
 use Rattle.table_rows.specs.Causes.{cause_of}
 use Rattle.outbox_opening.specs.declared.fault.OutboxFault.TheVariants as fault
+use Rattle.table_rows.proofs.LeavingLemmas.{ended}
+use Rattle.outbox_opening.proofs.HeldLemmas.{entries_held}
 use Rattle.outbox_opening.proofs.RefusalLemmas.{entry_other, entry_stopped}
 use Rattle.outbox_opening.proofs.SoundLemmas.{no_damage, entries_readable, unlisted}
 use Rattle.outbox_opening.proofs.opening.count_whole.Goals as goal
 
 pub returns-in-None-clause-counted : goal.returns-in-None-clause-counted
 returns-in-None-clause-counted g c clean common pairs =
-    let held = c.in-Ok.ensures.held clean common in
+    let old = state g.S.Store c.args.conn.now in
+    let held = entries_held old (state g.S.Store c.all_rows.new.conn) common c.in-Ok.rows.items (c.in-Ok.ensures.shown clean) in
     let none : damaged_row c.args.targets.now c.in-Ok.rows.items ≡ None = rw c.as_slice.ensures.value at (sym c.in_ok-damaged_row-in-Ok.ensures ∙ c.in-None.is) in
-    let found = entries_found (state g.S.Store c.args.conn.now).now c.args.targets.now c.in-Ok.rows.items held.0 pairs none in
+    let found = entries_found old.now c.args.targets.now c.in-Ok.rows.items held pairs none in
     let counted : c.len.result ≡ length c.in-Ok.rows.items = search rules in
-    (found.0, found.1, found.2, found.3, counted ∙ found.4, held.1)
+    (found.0, found.1, found.2, found.3, counted ∙ found.4)
 
 pub returns-in-Ok-clause-whole : goal.returns-in-Ok-clause-whole
 returns-in-Ok-clause-whole g c clean entries common held kept same unlimited =
@@ -47,3 +50,9 @@ pub returns-clause-disk : goal.returns-clause-disk
 returns-clause-disk g c clean is =
     let told : c.entry_fault.result ≡ fault.Disk = cc in
     (c.in-Err.error, c.in-Err.ensures.failed clean, entry_stopped (cause_of c.in-Err.error) (sym c.entry_fault.ensures ∙ told))
+
+pub returns-in-Ok-clause-leaves : goal.returns-in-Ok-clause-leaves
+returns-in-Ok-clause-leaves g c = ended c.in-Ok.ensures.leaves
+
+pub returns-clause-leaves : goal.returns-clause-leaves
+returns-clause-leaves g c = ended c.in-Err.ensures.leaves

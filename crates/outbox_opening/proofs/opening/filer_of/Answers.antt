@@ -8,18 +8,19 @@ use Rattle.outbox_opening.specs.Audit.{filer_in}
 use Rattle.outbox_opening.proofs.AuditLemmas.{filer_found, filer_code, is_some}
 use Rattle.table_rows.specs.Causes.{cause_of}
 use Rattle.outbox_opening.specs.declared.fault.OutboxFault.TheVariants as fault
+use Rattle.table_rows.proofs.LeavingLemmas.{ended}
+use Rattle.outbox_opening.proofs.HeldLemmas.{meta_held}
 use Rattle.outbox_opening.proofs.RefusalLemmas.{meta_other, meta_stopped}
 use Rattle.outbox_opening.proofs.SoundLemmas.{filer_is, meta_readable, unread}
 use Rattle.outbox_opening.proofs.opening.filer_of.Goals as goal
 
 pub returns-in-Some-clause-found : goal.returns-in-Some-clause-found
 returns-in-Some-clause-found g c clean declared =
-    let db = (state g.S.Store c.args.conn.now).now in
-    let held = c.in-Ok.ensures.held clean declared in
+    let old = state g.S.Store c.args.conn.now in
+    let held = meta_held old (state g.S.Store c.meta_rows.new.conn) declared c.in-Ok.rows.items (c.in-Ok.ensures.shown clean) in
     let some : filer_in c.args.form c.in-Ok.rows.items ≡ Some c.in-Some.filer.now = rw c.as_slice.ensures.value at (sym c.filer_in.ensures ∙ ap (option_map (λ f. f.now)) c.in-Some.is) in
-    let found = filer_found db c.args.form c.in-Ok.rows.items c.in-Some.filer.now held.0 some in
-    let name = c.in_ok-from_str-in-Some.ensures.ok in
-    (subst (λ f. TableHas db meta_table (form_row c.args.form f ∷ [])) (sym name) found.0, subst (λ f. is_filer f ≡ true) (sym name) found.1, held.1)
+    let found = filer_found old.now c.args.form c.in-Ok.rows.items c.in-Some.filer.now held some in
+    subst (λ f. TableHas old.now meta_table (form_row c.args.form f ∷ [])) (sym c.in_ok-from_str-in-Some.ensures.ok) found.0
 
 pub returns-in-Some-clause-code : goal.returns-in-Some-clause-code
 returns-in-Some-clause-code g c =
@@ -56,3 +57,9 @@ pub returns-in-Ok-clause-not_ours : goal.returns-in-Ok-clause-not_ours
 returns-in-Ok-clause-not_ours g c clean is =
     let none : filer_in c.args.form c.in-Ok.rows.items ≡ None = rw c.as_slice.ensures.value at (sym c.filer_in.ensures ∙ ap (option_map (λ f. f.now)) c.in-None.is) in
     inl (c.in-Ok.rows.items, c.in-Ok.ensures.shown clean, none)
+
+pub returns-in-Ok-clause-leaves : goal.returns-in-Ok-clause-leaves
+returns-in-Ok-clause-leaves g c = ended c.in-Ok.ensures.leaves
+
+pub returns-clause-leaves : goal.returns-clause-leaves
+returns-clause-leaves g c = ended c.in-Err.ensures.leaves

@@ -2,6 +2,7 @@ use Rattle.std.proofs.Common.{◌≡◌, sym, ◌∙◌}
 use Rattle.sqlite.specs.Held.{state}
 use Rattle.table_rows.specs.Causes.{cause_of}
 use Rattle.outbox_opening.specs.declared.fault.OutboxFault.TheVariants as fault
+use Rattle.table_rows.proofs.LeavingLemmas.{ended}
 use Rattle.outbox_opening.proofs.RefusalLemmas.{entry_other, entry_stopped}
 use Rattle.outbox_opening.proofs.SoundLemmas.{targets_readable, unlisted}
 use Rattle.outbox_opening.proofs.opening.read_targets.Goals as goal
@@ -21,3 +22,6 @@ pub returns-in-Err-clause-disk : goal.returns-in-Err-clause-disk
 returns-in-Err-clause-disk g c clean is =
     let told : c.entry_fault.result ≡ fault.Disk = cc in
     (c.in-Err.error, c.in-Err.ensures.failed clean, entry_stopped (cause_of c.in-Err.error) (sym c.entry_fault.ensures ∙ told))
+
+pub returns-in-Err-clause-leaves : goal.returns-in-Err-clause-leaves
+returns-in-Err-clause-leaves g c = ended c.in-Err.ensures.leaves

@@ -1,7 +1,9 @@
-use Rattle.std.proofs.Common.{◌≡◌, ◌<◌, ℕ, suc, List, length, get_or, false, IsTrue}
+use Rattle.std.proofs.Common.{◌≡◌, ◌<◌, ℕ, suc, List, length, get_or, IsTrue}
 use Rattle.sqlite.specs.Held.{state}
 use Rattle.sqlite.specs.Order.{Row}
-use Rattle.sqlite.specs.State.{HasCleanDisk, IsUnchanged, Survives}
+use Rattle.sqlite.specs.State.{HasCleanDisk}
+use Rattle.table_rows.specs.Leaving.{Leaves}
+use Rattle.table_rows.specs.Leaving.Ending.{Passed}
 use Rattle.outbox_opening.specs.declared.opening.targets.Said.{Said}
 use Rattle.outbox_opening.specs.Audit.{with_id}
 use Rattle.table_rows.specs.Picking.{CountsTo}
@@ -17,7 +19,5 @@ invariant-loop-at g l =
       walked : HasCleanDisk now → HasCommon old.now.schema → IsTrue old.is_open → (targets : List Row)
           → ((place : ℕ) (d : Said) → place < length l.said → get_or l.said place d ≡ said_by (with_id (suc place) targets)) → CountsTo entry_table (length l.said) old.now
           → (rows : List Row) × Walked targets (length l.said) l.at old.now rows;
-      same : HasCleanDisk now → IsTrue old.is_open → IsUnchanged old now;
-      mode : l.fn.conn.in_transaction ≡ false → l.conn.in_transaction ≡ false;
-      survives : Survives old now (λ _. ⊥);
+      leaves : Leaves Passed old now;
     }
