@@ -19,3 +19,4 @@ pub mod StopLemmas
 pub mod TakeLemmas
 pub mod BeforeLemmas
 pub mod LeavingLemmas
+pub mod OutcomeLemmas

@@ -1,5 +1,5 @@
 -- What a query reads of a database that stands.
-use Rattle.std.proofs.Common.{◌≡◌, ℕ, inl, inr, false, List, [], ◌∷◌, slice_get, Option, Some, None, Ok, Err, Result, IsTrue, IfOk, OnOk, refl}
+use Rattle.std.proofs.Common.{◌≡◌, ℕ, inl, inr, false, List, [], ◌∷◌, slice_get, Option, Some, None, Ok, Err, Result, IsTrue, IfOk, refl}
 use Rattle.sqlite.specs.Order.{Row}
 use Rattle.sqlite.specs.Program.{overlay}
 use Rattle.sqlite.specs.Query.{Query}
@@ -9,11 +9,11 @@ use Rattle.sqlite.specs.Command.TheVariants.{Select}
 use Rattle.sqlite.specs.Effect.{Database}
 use Rattle.sqlite.specs.declared.error.Error.{Error}
 use Rattle.sqlite.specs.Listing.{understood, reads_listing}
-use Rattle.sqlite.specs.State.{State, IsUnchanged, Shown, FailsToQuery, QueriesRow}
+use Rattle.sqlite.specs.State.{State, IsUnchanged, Shown, QueriesRow}
 use Rattle.sqlite.proofs.Callers.{IsPlain, command_of, reads_as, first_as}
 use Rattle.table_rows.specs.Rows.{row_or_none}
 use Rattle.table_rows.specs.Standing.{HasCommitted}
-use Rattle.table_rows.proofs.StandLemmas.{stands_on, shown_keeps, failure_keeps, row_found, row_keeps, failed_with_rows}
+use Rattle.table_rows.proofs.StandLemmas.{shown_keeps, row_found, failed_with_rows}
 
 -- under this schema the text is this query, which writes nothing
 pub record Asks (schema : Schema) (sql : List ℕ) (q : Query) : Type 0 where
@@ -40,12 +40,6 @@ module _ (Is : Database → Type 0) (sql : List ℕ) (q : Query) (asks : (db : D
       let it = asks old.now stood in
       record { stood = stood; answer = (reads_as sql params old new old.now.schema refl _ it.is it.plain it.listing rows h).answer }
 
-  pub shown_stands : (rows : List Row) → Shown sql params old new rows → HasCommitted Is new
-  shown_stands rows h = stands_on Is old new (inl (shown_same rows h)) was
-
-  pub failed_stands : (e : Error) → FailsToQuery sql params old new e → HasCommitted Is new
-  failed_stands e h = stands_on Is old new (failure_keeps sql params old new known e h) was
-
   -- the first row is that of an answer, and where there is none an answer has no row
   pub first_told : (r : Result (Option Row) Error) → QueriesRow sql params old new (row_or_none r) → IfOk r (λ row. (rows : List Row) × Tells Is q params old.now rows × (slice_get rows 0 ≡ row))
   unfolding QueriesRow
@@ -57,13 +51,3 @@ module _ (Is : Database → Type 0) (sql : List ℕ) (q : Query) (asks : (db : D
   first_told (Ok None) (inl failed) = absurd (failed_with_rows sql params old new known failed)
   first_told (Ok None) (inr none) = ([], all_told [] none.1, refl)
   first_told (Err e) h = tt
-
-  pub first_same : (r : Result (Option Row) Error) → QueriesRow sql params old new (row_or_none r) → OnOk r (IsUnchanged old new)
-  unfolding QueriesRow
-  first_same (Ok (Some row)) h = row_found sql params old new known row h
-  first_same (Ok None) (inl failed) = absurd (failed_with_rows sql params old new known failed)
-  first_same (Ok None) (inr none) = shown_same [] none.1
-  first_same (Err e) h = tt
-
-  pub first_stands : (r : Result (Option Row) Error) → QueriesRow sql params old new (row_or_none r) → HasCommitted Is new
-  first_stands r h = stands_on Is old new (row_keeps sql params old new known _ h) was

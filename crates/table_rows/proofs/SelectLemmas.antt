@@ -12,10 +12,6 @@ use Rattle.sqlite_sql.specs.Query.{IsSureAnswer}
 use Rattle.sqlite.specs.Tree.{Trees}
 use Rattle.sqlite_value.specs.declared.keys.Key.{Key}
 use Rattle.sqlite_trees.specs.Tree.{IsAscending}
-use Rattle.sqlite.specs.Listing.{understood}
-use Rattle.sqlite.specs.Clock.{timed}
-use Rattle.sqlite.specs.State.{State, Shown, ShowsRows, IsUnchanged}
-use Rattle.sqlite.proofs.Callers.{IsPlain}
 use Rattle.sqlite_sql.proofs.QueryLemmas.{output_cmp_total}
 use Rattle.sqlite_keyed.proofs.ListLemmas.{IsPermutation-filter}
 use Rattle.sqlite_keyed.proofs.SortLemmas.{sorted_unique}
@@ -105,10 +101,3 @@ module _ (tree : ℕ) (test project : List Term) (order : List (Term × Key)) (d
     selects_in_order rises =
         let ordered = sorted_unique (output_cmp q) (output_cmp_total q) _ a.ordered rises told a.sorted in
         a.shown ∙ ap (map (λ (o : Output). o.1)) ordered ∙ map-map show (λ (o : Output). o.1) (filter keep wanted)
-
--- a query leaves the connection as it was
-pub leaves : (sql : List ℕ) (params : Row) (old new : State) (rows : List Row) → IsPlain (understood old.now.schema sql) → Shown sql params old new rows → IsUnchanged old new
-unfolding Shown
-leaves sql params old new rows plain h =
-    let bare = (subst IsPlain h.1.is plain).0 in
-    (subst (ShowsRows old new sql h.0 (timed params h.0.formats h.1.now) rows) bare h.2).3

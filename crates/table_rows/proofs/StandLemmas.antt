@@ -1,5 +1,5 @@
 -- What the calls of a connection keep of its database.
-use Rattle.std.proofs.Common.{◌≡◌, inl, inr, ℕ, Option, Some, None, Ok, Err, Result, IsTrue, List, [], refl, sym, ap, subst, ◌∙◌}
+use Rattle.std.proofs.Common.{◌≡◌, inl, inr, ℕ, Option, Some, None, Ok, Err, IsTrue, List, refl, sym, ap, subst, ◌∙◌}
 use Rattle.sqlite.specs.Order.{Row}
 use Rattle.sqlite.specs.Tree.{Trees}
 use Rattle.sqlite.specs.Effect.{Database, RefusesToRead}
@@ -33,7 +33,7 @@ pub run_keeps : (sql : List ℕ) (old new : State) (c : Compiled) (full : Row) (
 run_keeps sql old new c full e (inl refused) = inl refused.1
 run_keeps sql old new c full e (inr failed) = inr failed.3
 
-store_errors : (cause : StoreError) → QueryReturnedNoRows ≡ store_error cause → ⊥
+pub store_errors : (cause : StoreError) → QueryReturnedNoRows ≡ store_error cause → ⊥
 store_errors OutOfMemory e = cc
 store_errors Io e = cc
 store_errors Corrupt e = cc
@@ -65,26 +65,10 @@ module _ (sql : List ℕ) (params : Row) (old new : State) (plain : IsTrue old.i
   unfolding Shown
   shown_keeps rows h = shows_keep h.0 h.1 (timed params h.0.formats h.1.now) rows h.0.returning refl h.2
 
-  fails_keep : (c : Compiled) (full : Row) (e : Error) (o : Option Returning) → FailsToShow old new sql c full e o → Keeps old new
-  fails_keep c full e None h = inl h.3
-  fails_keep c full e (Some what) h = run_keeps sql old new c full e h
-
-  pub failure_keeps : (e : Error) → FailsToQuery sql params old new e → Keeps old new
-  unfolding FailsToQuery IsNotRun
-  failure_keeps e (inl (inl none)) = inl none.1
-  failure_keeps e (inl (inr failed)) = inr failed.3
-  failure_keeps e (inr h) = fails_keep h.0 (timed params h.0.formats h.1.now) e h.0.returning h.2
-
   pub row_found : (row : Row) → QueriesRow sql params old new (Ok row) → IsUnchanged old new
   unfolding QueriesRow
   row_found row (inl h) = h.1
   row_found row (inr h) = shown_keeps h.0 h.1
-
-  pub row_keeps : (r : Result Row Error) → QueriesRow sql params old new r → Keeps old new
-  unfolding QueriesRow
-  row_keeps (Ok row) h = inl (row_found row h)
-  row_keeps (Err e) (inl failed) = failure_keeps e failed
-  row_keeps (Err e) (inr none) = inl (shown_keeps [] none.1)
 
   shows_errors : (c : Compiled) (it : IsStatement old sql params c) (full : Row) (o : Option Returning) → c.returning ≡ o → FailsToShow old new sql c full QueryReturnedNoRows o → ⊥
   shows_errors c it full None is h = reading_errors old.step_limit c.command h.0 full h.2

@@ -3,13 +3,15 @@
 ghost use Rattle.sqlite.specs.Held.{state};
 ghost use Rattle.sqlite.specs.State.{CommitsShowing, HasCleanDisk, QueriesRow, Survives};
 ghost use Rattle.sqlite.specs.Values.{bound};
+ghost use Rattle.table_rows.specs.Leaving.{OnlyQueries};
+ghost use Rattle.table_rows.specs.Queries.{IsQueryText};
 ghost use Rattle.table_rows.specs.Rows.{row_or_none};
 ghost use Rattle.table_rows.specs.Standing.{StaysAutocommit};
 
 use sqlite::types::ValueRef;
 use sqlite::{Alter, Connection, Error, Row};
 
-/// The first row that the query selects, or `None` where it selects none.
+/// The first row that the query selects, or `None` if it selects none.
 pub fn first_row<S: Alter>(
     conn: &mut Connection<S>,
     sql: &str,
@@ -20,6 +22,7 @@ pub fn first_row<S: Alter>(
     ensures mode { StaysAutocommit conn.old conn.new }
     ensures survives { Survives (state S.Store conn.old) (state S.Store conn.new)
         (CommitsShowing sql.now (bound params.now) (state S.Store conn.old)) }
+    ensures leaves { IsQueryText sql.now → OnlyQueries S.Store conn.old conn.new result }
 {
     match conn.query_row(sql, params) {
         Ok(row) => Ok(Some(row)),
