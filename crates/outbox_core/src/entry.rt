@@ -10,9 +10,11 @@ ghost use Rattle.outbox_opening.specs.Rows.{code_of, number_of};
 ghost use Rattle.filing_model.specs.Views.{view_state};
 ghost use Rattle.outbox_core.specs.Reading.{view_pair, state_told};
 
+use crate::columns::{state, states};
 use filing_model::State;
 use http_messages::MAX_BODY_LEN;
 use key_string::{KeyFault, KeyText};
+use outbox_opening::columns::entry;
 use sqlite::Row;
 use std::alloc::Global;
 use table_rows::StoreFault;
@@ -84,14 +86,14 @@ impl Entry {
         if !is_target(target) {
             return Err(StoreFault::Store);
         }
-        let id = row.get(0)?;
-        let text: String = row.get(1)?;
-        let body: Vec<u8> = row.get(2)?;
+        let id = row.get(entry::ID)?;
+        let text: String = row.get(entry::KEY)?;
+        let body: Vec<u8> = row.get(entry::BODY)?;
         if body.len() > MAX_BODY_LEN {
             return Err(StoreFault::Store);
         }
-        let code = row.get(3)?;
-        let number = row.get(4)?;
+        let code = row.get(entry::STATE)?;
+        let number = row.get(entry::NUMBER)?;
         let key = key_in(alloc, text.as_str())?;
         let state = state_of(code, number).ok_or(StoreFault::Store)?;
         Ok(Entry {
@@ -110,8 +112,8 @@ pub(crate) fn state_in(row: &Row) -> Result<State, StoreFault>
         (column row.now 0 ≡ Int (pos (code_of (view_state state))))
         × (column row.now 1 ≡ number_of (view_state state))) }
 {
-    let code = row.get(0)?;
-    let number = row.get(1)?;
+    let code = row.get(state::CODE)?;
+    let number = row.get(state::NUMBER)?;
     state_of(code, number).ok_or(StoreFault::Store)
 }
 
@@ -119,9 +121,9 @@ pub(crate) fn state_in(row: &Row) -> Result<State, StoreFault>
 fn read_state(row: &Row) -> Result<(u64, State), StoreFault>
     ensures { IfOk result (λ told. view_pair told ≡ state_told row.now) }
 {
-    let id = row.get(0)?;
-    let code = row.get(1)?;
-    let number = row.get(2)?;
+    let id = row.get(states::ID)?;
+    let code = row.get(states::CODE)?;
+    let number = row.get(states::NUMBER)?;
     let state = state_of(code, number).ok_or(StoreFault::Store)?;
     Ok((id, state))
 }

@@ -3,6 +3,7 @@
 //! opened is known by `outbox_opening`, and SQL to `rows` alone.
 #![tactic(auto)]
 
+mod columns;
 mod entries;
 mod entry;
 mod fault;
