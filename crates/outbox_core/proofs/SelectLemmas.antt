@@ -20,7 +20,7 @@ use Rattle.sqlite_typed.proofs.TestLemmas.{at_ints, at_texts, last_term}
 use Rattle.filing_model.specs.Outbox.{Entry, Open, Confirmed, Refused, Clashed}
 use Rattle.table_rows.specs.Rows.{shown, row_or_none}
 use Rattle.table_rows.specs.Standing.{HasCommitted}
-use Rattle.table_rows.proofs.QueryLemmas.{Asks, first_told, first_same, first_stands, shown_stands, failed_stands}
+use Rattle.table_rows.proofs.QueryLemmas.{Asks, first_told}
 use Rattle.outbox_opening.specs.Schema.{entry_table, IsDeclared}
 use Rattle.outbox_opening.specs.Entries.{Contents, numbered}
 use Rattle.outbox_core.specs.Entries.{has_id, has_text, is_open, is_open_state}
@@ -70,19 +70,3 @@ module _ (sql : List ℕ) (test columns : List Term) (asks : (schema : Schema) �
       let rows = selected test columns show keep p keeps it.entries old.now.trees params found.0 found.1.stood.rows.entries_are tests shows found.1.answer in
       sym found.2 ∙ ap (λ (l : List Row). slice_get l 0) rows ∙ slice_get-map row_of (filter p (numbered it.entries)) 0 ∙ ap (option_map row_of) (slice_get-filter p (numbered it.entries)))
       (first_told (IsOutboxOf it) sql (sorted test columns) asked params old new was r h)
-
-  pub row_open : (r : Result (Option Row) Error) → QueriesRow sql params old new (row_or_none r) → OnOk r (IsTrue new.is_open)
-  row_open r h = IfOk-weaker r _ _ (λ row same. same.0.is_open) (first_same (IsOutboxOf it) sql (sorted test columns) asked params old new was r h)
-
-  pub row_stands : (r : Result (Option Row) Error) → QueriesRow sql params old new (row_or_none r) → HasCommitted (IsOutboxOf it) new
-  row_stands r h = first_stands (IsOutboxOf it) sql (sorted test columns) asked params old new was r h
-
--- ---- all of them
-
-module _ (sql : List ℕ) (q : Query) (asks : (schema : Schema) → IsDeclared schema → Asks schema sql q) (params : Row) (old new : State) (it : Contents) (was : HasCommitted (IsOutboxOf it) old) where
-  asked_all : (db : Database) → IsOutboxOf it db → Asks db.schema sql q
-  asked_all db o = asks db.schema o.rows.declared
-
-  pub all_stand : {X : Type 0} (rows_of : X → List Row) (r : Result X Error) → IfOk r (λ x. Shown sql params old new (rows_of x)) → IfErr r (FailsToQuery sql params old new) → HasCommitted (IsOutboxOf it) new
-  all_stand rows_of (Ok x) shown failed = shown_stands (IsOutboxOf it) sql q asked_all params old new was (rows_of x) shown
-  all_stand rows_of (Err e) shown failed = failed_stands (IsOutboxOf it) sql q asked_all params old new was e failed

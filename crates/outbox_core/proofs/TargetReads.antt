@@ -15,7 +15,7 @@ use Rattle.filing_model.specs.Outbox.{Entry}
 use Rattle.table_rows.specs.Rows.{shown, row_or_none}
 use Rattle.table_rows.specs.Standing.{HasCommitted}
 use Rattle.table_rows.proofs.SelectLemmas.{selects}
-use Rattle.table_rows.proofs.QueryLemmas.{Asks, first_told, first_same, first_stands}
+use Rattle.table_rows.proofs.QueryLemmas.{Asks, first_told}
 use Rattle.outbox_opening.specs.Schema.{target_table}
 use Rattle.outbox_opening.specs.Entries.{Contents, target_at}
 use Rattle.outbox_opening.specs.Rows.{IsOutboxOf, target_row, target_rows_from, target_rows}
@@ -55,12 +55,6 @@ module _ (id : ℕ) (old new : State) (it : Contents) (was : HasCommitted (IsOut
       (matches 0 (Int (pos id))) (λ r. refl) (λ w. ([], number_column w)) (λ r. refl) in
       sym told.2 ∙ told_number id (target_at it.entries id) told.0 (subst (λ l. IsPermutation (map number_column l) told.0) (matching id 1 it.entries ∙ target_with id it.entries) picked))
       (first_told (IsOutboxOf it) target_text target_query asked (Int (pos id) ∷ []) old new was r h)
-
-  pub target_open : (r : Result (Option Row) Error) → QueriesRow target_text (Int (pos id) ∷ []) old new (row_or_none r) → OnOk r (IsTrue new.is_open)
-  target_open r h = IfOk-weaker r _ _ (λ row same. same.0.is_open) (first_same (IsOutboxOf it) target_text target_query asked (Int (pos id) ∷ []) old new was r h)
-
-  pub target_stands : (r : Result (Option Row) Error) → QueriesRow target_text (Int (pos id) ∷ []) old new (row_or_none r) → HasCommitted (IsOutboxOf it) new
-  target_stands r h = first_stands (IsOutboxOf it) target_text target_query asked (Int (pos id) ∷ []) old new was r h
 
 -- the number in the row that was read
 pub number_read : (o : Option ℕ) (row : Row) (n : ℕ) → Some row ≡ option_map (λ number. Int (pos number) ∷ []) o → column row 0 ≡ Int (pos n) → Some n ≡ o

@@ -1,5 +1,5 @@
 -- What calls on the connection of an open outbox promise.
-use Rattle.std.specs.Prelude.{Result, IsTrue, OnOk, OnErr}
+use Rattle.std.specs.Prelude.{Result, OnErr}
 use Rattle.sqlite.specs.Store.{Ghosts}
 use Rattle.sqlite.specs.Held.{Held, state}
 use Rattle.sqlite.specs.State.{State, HasCleanDisk}
@@ -11,14 +11,6 @@ use Rattle.outbox_opening.specs.Rows.{IsOutboxOf}
 abbrev pub ForContents : {S : Type 0} → Ghosts S → Held S → Held S → (Contents → Type 0) → Type 0
 ForContents g old new P = HasCleanDisk (state g new) → (it : Contents) → HasCommitted (IsOutboxOf it) (state g old) → P it
 
--- Where the disk is clean at the end, the outbox that stood in the rows stands in them still, and is committed.
-abbrev pub KeepsOutbox : State → State → Type 0
-KeepsOutbox old new = HasCleanDisk new → (it : Contents) → HasCommitted (IsOutboxOf it) old → HasCommitted (IsOutboxOf it) new
-
--- so it does where the call is refused
+-- Where the disk is clean at the end and the call is refused, the outbox that stood in the rows stands in them still, and is committed.
 abbrev pub KeepsOutboxOnRefusal : {X E : Type 0} → State → State → Result X E → Type 0
 KeepsOutboxOnRefusal old new result = HasCleanDisk new → (it : Contents) → HasCommitted (IsOutboxOf it) old → OnErr result (HasCommitted (IsOutboxOf it) new)
-
--- so an answer leaves the store open
-abbrev pub AnswersOpen : {X E : Type 0} → State → State → Result X E → Type 0
-AnswersOpen old new result = HasCleanDisk new → (it : Contents) → HasCommitted (IsOutboxOf it) old → OnOk result (IsTrue new.is_open)

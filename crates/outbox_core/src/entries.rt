@@ -8,14 +8,15 @@ ghost use Rattle.http_messages.specs.Head.{max_body_len};
 ghost use Rattle.http_messages.specs.Posting.{IsTarget};
 ghost use Rattle.http_messages.specs.Replies.{reply_parts};
 ghost use Rattle.filing_model.specs.Outbox.{Entry as Item, moved};
-ghost use Rattle.table_rows.specs.Standing.{HasCommitted, Commits, CommitsNothing};
+ghost use Rattle.table_rows.specs.Leaving.{MayRead, OnlyReads};
+ghost use Rattle.table_rows.specs.Standing.{HasCommitted, Commits};
 ghost use Rattle.outbox_opening.specs.Entries.{IsOutbox, numbered, entry_at};
 ghost use Rattle.outbox_core.specs.Entries.{opened, has_text, found_at, first_open, with_entry, with_state};
 ghost use Rattle.outbox_opening.specs.Rows.{IsOutboxOf, LeavesOutbox, entry_row};
 ghost use Rattle.filing_model.specs.Views.{view_state};
 ghost use Rattle.outbox_core.specs.Reading.{Finds, view_entry, view_pair, id_and_state};
 ghost use Rattle.outbox_core.specs.OutboxParts.{LeavesMoved};
-ghost use Rattle.outbox_core.specs.Promises.{ForContents, KeepsOutbox, KeepsOutboxOnRefusal, AnswersOpen};
+ghost use Rattle.outbox_core.specs.Promises.{ForContents, KeepsOutboxOnRefusal};
 
 use crate::entry::{Entry, read_states, state_in};
 use crate::fault::{PutFault, TakeFault};
@@ -25,6 +26,7 @@ use crate::write::keep_entry;
 use filing_model::State;
 use http_messages::Reply;
 use outbox_opening::MAX_ENTRIES;
+use outbox_opening::columns::entry;
 use sqlite::{Alter, Connection, Error, Row};
 use std::alloc::Global;
 use table_rows::StoreFault;
@@ -106,11 +108,9 @@ fn read_entry<S: Alter>(
         → row.now ≡ entry_row x → entry_at it.entries x.0 ≡ Some x.1 → IfOk result (λ entry. view_entry entry ≡ x)) }
     ensures short { IfOk result (λ entry. length entry.body.items ≤ max_body_len) }
     ensures within { IfOk result (λ entry. IsTarget entry.target) }
-    ensures kept { KeepsOutbox (state S.Store conn.old) (state S.Store conn.new) }
-    ensures open { AnswersOpen (state S.Store conn.old) (state S.Store conn.new) result }
-    ensures crash { CommitsNothing (state S.Store conn.old) (state S.Store conn.new) }
+    ensures leaves { OnlyReads S.Store conn.old conn.new result }
 {
-    let id = row.get(0)?;
+    let id = row.get(entry::ID)?;
     if id >= ID_LIMIT {
         return Err(StoreFault::Store);
     }
@@ -128,16 +128,10 @@ fn read_found<S: Alter>(
         → found ≡ option_map entry_row o → IfSome o (λ x. entry_at it.entries x.0 ≡ Some x.1) → Finds result o) }
     ensures short { IfOk result (λ entry. IfSome entry (λ e. length e.body.items ≤ max_body_len)) }
     ensures within { IfOk result (λ entry. IfSome entry (λ e. IsTarget e.target)) }
-    ensures kept { KeepsOutbox (state S.Store conn.old) (state S.Store conn.new) }
-    ensures open { ForContents S.Store conn.old conn.new (λ it.
-        IsTrue (state S.Store conn.old).is_open → OnOk result (IsTrue (state S.Store conn.new).is_open)) }
-    ensures crash { CommitsNothing (state S.Store conn.old) (state S.Store conn.new) }
+    ensures leaves { MayRead S.Store conn.old conn.new result }
 {
     match found {
-        Some(row) => match read_entry(conn, alloc, &row) {
-            Ok(entry) => Ok(Some(entry)),
-            Err(fault) => Err(fault),
-        },
+        Some(row) => Ok(Some(read_entry(conn, alloc, &row)?)),
         None => Ok(None),
     }
 }
@@ -151,14 +145,10 @@ pub(crate) fn entry_of<S: Alter>(
     ensures found { ForContents S.Store conn.old conn.new (λ it. Finds result (found_at it.entries id)) }
     ensures short { IfOk result (λ entry. IfSome entry (λ e. length e.body.items ≤ max_body_len)) }
     ensures within { IfOk result (λ entry. IfSome entry (λ e. IsTarget e.target)) }
-    ensures kept { KeepsOutbox (state S.Store conn.old) (state S.Store conn.new) }
-    ensures open { AnswersOpen (state S.Store conn.old) (state S.Store conn.new) result }
-    ensures crash { CommitsNothing (state S.Store conn.old) (state S.Store conn.new) }
+    ensures leaves { OnlyReads S.Store conn.old conn.new result }
 {
-    match rows::entry_with_id(conn, id) {
-        Ok(row) => read_found(conn, alloc, row),
-        Err(error) => Err(StoreFault::from(error)),
-    }
+    let row = rows::entry_with_id(conn, id)?;
+    read_found(conn, alloc, row)
 }
 
 pub(crate) fn open_entry<S: Alter>(
@@ -168,14 +158,10 @@ pub(crate) fn open_entry<S: Alter>(
     ensures found { ForContents S.Store conn.old conn.new (λ it. Finds result (first_open it.entries)) }
     ensures short { IfOk result (λ entry. IfSome entry (λ e. length e.body.items ≤ max_body_len)) }
     ensures within { IfOk result (λ entry. IfSome entry (λ e. IsTarget e.target)) }
-    ensures kept { KeepsOutbox (state S.Store conn.old) (state S.Store conn.new) }
-    ensures open { AnswersOpen (state S.Store conn.old) (state S.Store conn.new) result }
-    ensures crash { CommitsNothing (state S.Store conn.old) (state S.Store conn.new) }
+    ensures leaves { OnlyReads S.Store conn.old conn.new result }
 {
-    match rows::first_open_entry(conn) {
-        Ok(row) => read_found(conn, alloc, row),
-        Err(error) => Err(StoreFault::from(error)),
-    }
+    let row = rows::first_open_entry(conn)?;
+    read_found(conn, alloc, row)
 }
 
 /// The state of the entry of this id.
@@ -183,9 +169,7 @@ fn state_of_entry<S: Alter>(conn: &mut Connection<S>, id: u64) -> Result<Option<
     requires { id < 2 ^ 63 }
     ensures found { ForContents S.Store conn.old conn.new (λ it.
         IfOk result (λ state. option_map view_state state ≡ option_map (λ e. e.state) (entry_at it.entries id))) }
-    ensures kept { KeepsOutbox (state S.Store conn.old) (state S.Store conn.new) }
-    ensures open { AnswersOpen (state S.Store conn.old) (state S.Store conn.new) result }
-    ensures crash { CommitsNothing (state S.Store conn.old) (state S.Store conn.new) }
+    ensures leaves { OnlyReads S.Store conn.old conn.new result }
 {
     let row = rows::state_with_id(conn, id)?;
     match row {
@@ -201,13 +185,10 @@ pub(crate) fn states_of<S: Alter>(
 ) -> Result<Vec<(u64, State)>, StoreFault>
     ensures found { ForContents S.Store conn.old conn.new (λ it.
         IfOk result (λ states. map view_pair states.items ≡ map id_and_state (numbered it.entries))) }
-    ensures kept { KeepsOutbox (state S.Store conn.old) (state S.Store conn.new) }
-    ensures crash { CommitsNothing (state S.Store conn.old) (state S.Store conn.new) }
+    ensures leaves { OnlyReads S.Store conn.old conn.new result }
 {
-    match rows::state_rows(conn) {
-        Ok(rows) => read_states(alloc, rows.as_slice()),
-        Err(error) => Err(StoreFault::from(error)),
-    }
+    let rows = rows::state_rows(conn)?;
+    read_states(alloc, rows.as_slice())
 }
 
 /// Moves the entry, which is in this state.
@@ -260,9 +241,8 @@ pub(crate) fn take_entry<S: Alter>(
     ensures crash { Survives (state S.Store conn.old) (state S.Store conn.new)
         (Commits IsOutboxOf (state S.Store conn.old) (λ it. LeavesMoved it id (reply_parts reply.now))) }
 {
-    match state_of_entry(conn, id) {
-        Ok(Some(from)) => move_entry(conn, alloc, id, from, reply),
-        Ok(None) => Err(TakeFault::NoEntry),
-        Err(fault) => Err(TakeFault::from(fault)),
+    match state_of_entry(conn, id)? {
+        Some(from) => move_entry(conn, alloc, id, from, reply),
+        None => Err(TakeFault::NoEntry),
     }
 }

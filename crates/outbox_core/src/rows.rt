@@ -5,6 +5,7 @@ ghost use Rattle.sqlite.specs.Values.{or_null};
 ghost use Rattle.sqlite.specs.declared.types.Value.TheVariants.{Null, Int, Text, Blob};
 ghost use Rattle.sqlite.specs.State.{HasCleanDisk, Survives};
 ghost use Rattle.sqlite.specs.Held as held;
+ghost use Rattle.table_rows.specs.Leaving.{OnlyQueries, OnlyReads};
 ghost use Rattle.table_rows.specs.Standing.{HasCommitted, Commits, CommitsNothing, StaysCommitted};
 ghost use Rattle.outbox_opening.specs.Schema.{entry_table, target_table};
 ghost use Rattle.outbox_opening.specs.Entries.{numbered, entry_at, target_at, FitsNumber};
@@ -13,19 +14,17 @@ ghost use Rattle.outbox_core.specs.Changes.{GainsRows};
 ghost use Rattle.outbox_opening.specs.Rows.{IsOutboxOf, LeavesOutbox, code_of, number_of, entry_row};
 ghost use Rattle.outbox_core.specs.Rows.{id_row, state_row, bare_state_row};
 ghost use Rattle.filing_model.specs.Views.{view_state};
-ghost use Rattle.outbox_core.specs.Promises.{ForContents, KeepsOutbox, KeepsOutboxOnRefusal, AnswersOpen};
+ghost use Rattle.outbox_core.specs.Promises.{ForContents, KeepsOutboxOnRefusal};
 
 use filing_model::State;
 use sqlite::{Alter, Connection, Error, Row, Transaction, params};
-use table_rows::first_row;
+use table_rows::{first_row, select};
 
 /// The row of the id of the entry that has the key.
 fn id_row_of_key<S: Alter>(conn: &mut Connection<S>, key: &str) -> Result<Option<Row>, Error>
     ensures found { ForContents S.Store conn.old conn.new (λ it.
         IfOk result (λ row. row ≡ option_map id_row (find (has_text key.now) (numbered it.entries)))) }
-    ensures kept { KeepsOutbox (held.state S.Store conn.old) (held.state S.Store conn.new) }
-    ensures open { AnswersOpen (held.state S.Store conn.old) (held.state S.Store conn.new) result }
-    ensures crash { CommitsNothing (held.state S.Store conn.old) (held.state S.Store conn.new) }
+    ensures leaves { OnlyQueries S.Store conn.old conn.new result }
 {
     first_row(
         conn,
@@ -38,9 +37,7 @@ fn id_row_of_key<S: Alter>(conn: &mut Connection<S>, key: &str) -> Result<Option
 pub(crate) fn id_of_key<S: Alter>(conn: &mut Connection<S>, key: &str) -> Result<Option<u64>, Error>
     ensures found { ForContents S.Store conn.old conn.new (λ it.
         IfOk result (λ id. id ≡ option_map (λ x. x.0) (find (has_text key.now) (numbered it.entries)))) }
-    ensures kept { KeepsOutbox (held.state S.Store conn.old) (held.state S.Store conn.new) }
-    ensures open { AnswersOpen (held.state S.Store conn.old) (held.state S.Store conn.new) result }
-    ensures crash { CommitsNothing (held.state S.Store conn.old) (held.state S.Store conn.new) }
+    ensures leaves { OnlyReads S.Store conn.old conn.new result }
 {
     let row = id_row_of_key(conn, key)?;
     match row {
@@ -57,9 +54,7 @@ pub(crate) fn entry_with_id<S: Alter>(
     requires { id < 2 ^ 63 }
     ensures found { ForContents S.Store conn.old conn.new (λ it.
         IfOk result (λ row. row ≡ option_map entry_row (find (has_id id) (numbered it.entries)))) }
-    ensures kept { KeepsOutbox (held.state S.Store conn.old) (held.state S.Store conn.new) }
-    ensures open { AnswersOpen (held.state S.Store conn.old) (held.state S.Store conn.new) result }
-    ensures crash { CommitsNothing (held.state S.Store conn.old) (held.state S.Store conn.new) }
+    ensures leaves { OnlyQueries S.Store conn.old conn.new result }
 {
     first_row(
         conn,
@@ -76,9 +71,7 @@ pub(crate) fn state_with_id<S: Alter>(
     requires { id < 2 ^ 63 }
     ensures found { ForContents S.Store conn.old conn.new (λ it.
         IfOk result (λ row. row ≡ option_map bare_state_row (find (has_id id) (numbered it.entries)))) }
-    ensures kept { KeepsOutbox (held.state S.Store conn.old) (held.state S.Store conn.new) }
-    ensures open { AnswersOpen (held.state S.Store conn.old) (held.state S.Store conn.new) result }
-    ensures crash { CommitsNothing (held.state S.Store conn.old) (held.state S.Store conn.new) }
+    ensures leaves { OnlyQueries S.Store conn.old conn.new result }
 {
     first_row(
         conn,
@@ -91,9 +84,7 @@ pub(crate) fn state_with_id<S: Alter>(
 pub(crate) fn first_open_entry<S: Alter>(conn: &mut Connection<S>) -> Result<Option<Row>, Error>
     ensures found { ForContents S.Store conn.old conn.new (λ it.
         IfOk result (λ row. row ≡ option_map entry_row (first_open it.entries))) }
-    ensures kept { KeepsOutbox (held.state S.Store conn.old) (held.state S.Store conn.new) }
-    ensures open { AnswersOpen (held.state S.Store conn.old) (held.state S.Store conn.new) result }
-    ensures crash { CommitsNothing (held.state S.Store conn.old) (held.state S.Store conn.new) }
+    ensures leaves { OnlyQueries S.Store conn.old conn.new result }
 {
     first_row(
         conn,
@@ -106,10 +97,9 @@ pub(crate) fn first_open_entry<S: Alter>(conn: &mut Connection<S>) -> Result<Opt
 pub(crate) fn state_rows<S: Alter>(conn: &mut Connection<S>) -> Result<Vec<Row>, Error>
     ensures found { ForContents S.Store conn.old conn.new (λ it.
         IfOk result (λ rows. rows.items ≡ map state_row (numbered it.entries))) }
-    ensures kept { KeepsOutbox (held.state S.Store conn.old) (held.state S.Store conn.new) }
-    ensures crash { CommitsNothing (held.state S.Store conn.old) (held.state S.Store conn.new) }
+    ensures leaves { OnlyQueries S.Store conn.old conn.new result }
 {
-    conn.query_all("SELECT id, state, number FROM entry ORDER BY id", &[])
+    select(conn, "SELECT id, state, number FROM entry ORDER BY id", &[])
 }
 
 /// The row of the target of the entry that has the id.
@@ -117,9 +107,7 @@ fn target_with_id<S: Alter>(conn: &mut Connection<S>, id: u64) -> Result<Option<
     requires { id < 2 ^ 63 }
     ensures found { ForContents S.Store conn.old conn.new (λ it.
         IfOk result (λ row. row ≡ option_map (λ number. Int (pos number) ∷ []) (target_at it.entries id))) }
-    ensures kept { KeepsOutbox (held.state S.Store conn.old) (held.state S.Store conn.new) }
-    ensures open { AnswersOpen (held.state S.Store conn.old) (held.state S.Store conn.new) result }
-    ensures crash { CommitsNothing (held.state S.Store conn.old) (held.state S.Store conn.new) }
+    ensures leaves { OnlyQueries S.Store conn.old conn.new result }
 {
     first_row(
         conn,
@@ -133,9 +121,7 @@ pub(crate) fn target_of<S: Alter>(conn: &mut Connection<S>, id: u64) -> Result<O
     requires { id < 2 ^ 63 }
     ensures found { ForContents S.Store conn.old conn.new (λ it.
         IfOk result (λ target. target ≡ target_at it.entries id)) }
-    ensures kept { KeepsOutbox (held.state S.Store conn.old) (held.state S.Store conn.new) }
-    ensures open { AnswersOpen (held.state S.Store conn.old) (held.state S.Store conn.new) result }
-    ensures crash { CommitsNothing (held.state S.Store conn.old) (held.state S.Store conn.new) }
+    ensures leaves { OnlyReads S.Store conn.old conn.new result }
 {
     let row = target_with_id(conn, id)?;
     match row {

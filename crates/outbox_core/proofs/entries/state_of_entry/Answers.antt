@@ -1,4 +1,5 @@
-use Rattle.std.proofs.Common.{sym, ◌∙◌, ap, option_map}
+use Rattle.std.proofs.Common.{sym, ◌∙◌, ap, option_map, rules}
+use Rattle.table_rows.proofs.LeavingLemmas.{ended}
 use Rattle.outbox_opening.specs.Entries.{entry_at}
 use Rattle.outbox_core.specs.Rows.{bare_state_row}
 use Rattle.outbox_core.proofs.EntryLemmas.{find_id}
@@ -13,3 +14,9 @@ returns-in_ok-state_in-in-Some-clause-found g c clean it was =
 pub returns-in-None-clause-found : goal.returns-in-None-clause-found
 returns-in-None-clause-found g c clean it was =
     no_state (entry_at it.entries c.args.id) c.args.id (sym c.in-None.is ∙ c.in_ok-row.ensures.found clean it was ∙ ap (option_map bare_state_row) (find_id c.args.id it.entries))
+
+pub returns-in_err-row-clause-leaves : goal.returns-in_err-row-clause-leaves
+returns-in_err-row-clause-leaves g c = let left = ended c.in_err-row.ensures.leaves in search rules
+
+pub returns-in_err-state_in-in-Some-clause-leaves : goal.returns-in_err-state_in-in-Some-clause-leaves
+returns-in_err-state_in-in-Some-clause-leaves g c = let left = ended c.in_ok-row.ensures.leaves in search rules

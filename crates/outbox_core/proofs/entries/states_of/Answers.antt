@@ -1,11 +1,19 @@
-use Rattle.std.proofs.Common.{map, ◌∙◌, ap}
+use Rattle.std.proofs.Common.{map, ◌∙◌, ap, rules}
+use Rattle.table_rows.proofs.LeavingLemmas.{ended}
+use Rattle.table_rows.proofs.OutcomeLemmas.{answered}
 use Rattle.table_rows.proofs.ResultLemmas.{if_ok}
 use Rattle.outbox_opening.specs.Entries.{numbered}
 use Rattle.outbox_core.specs.Reading.{state_told}
 use Rattle.outbox_core.proofs.ReadLemmas.{told_rows}
 use Rattle.outbox_core.proofs.entries.states_of.Goals as goal
 
-pub returns-in-Ok-clause-found : goal.returns-in-Ok-clause-found
-returns-in-Ok-clause-found g c clean it was =
-    let rows = c.in-Ok.ensures.found clean it was in
+pub returns-clause-found : goal.returns-clause-found
+returns-clause-found g c clean it was =
+    let rows = c.in_ok-rows.ensures.found clean it was in
     if_ok c.read_states.result _ _ (λ states told. told ∙ rw c.as_slice.ensures.value (ap (map state_told) rows ∙ told_rows (numbered it.entries))) c.read_states.ensures
+
+pub returns-clause-leaves : goal.returns-clause-leaves
+returns-clause-leaves g c = answered c.read_states.result c.in_ok-rows.ensures.leaves
+
+pub returns-in_err-rows-clause-leaves : goal.returns-in_err-rows-clause-leaves
+returns-in_err-rows-clause-leaves g c = let left = ended c.in_err-rows.ensures.leaves in search rules

@@ -4,11 +4,10 @@ use Rattle.sqlite.specs.declared.types.Value.TheVariants.{Int}
 use Rattle.sqlite.specs.Held.{state}
 use Rattle.sqlite.specs.State.{QueriesRow}
 use Rattle.table_rows.specs.Rows.{row_or_none}
-use Rattle.table_rows.proofs.TextLemmas.{query_survives}
 use Rattle.outbox_core.specs.Entries.{has_id}
 use Rattle.outbox_opening.proofs.Texts.{equals}
 use Rattle.outbox_core.proofs.Texts.{bare_state_terms, state_text, state_asks, state_reads}
-use Rattle.outbox_core.proofs.SelectLemmas.{bare_state_columns, id_matches, row_selected, row_open, row_stands}
+use Rattle.outbox_core.proofs.SelectLemmas.{bare_state_columns, id_matches, row_selected}
 use Rattle.outbox_opening.proofs.SelectLemmas.{matches}
 use Rattle.outbox_core.proofs.rows.state_with_id.Goals as goal
 
@@ -20,17 +19,5 @@ returns-clause-found g c clean it was =
     let ran = subst (λ (n : ℤ). QueriesRow state_text (Int n ∷ []) old new (row_or_none c.first_row.result)) id (rw c.params-to_sql.ensures at (c.first_row.ensures.row clean)) in
     row_selected state_text (equals 0) bare_state_terms state_asks _ old new it was bare_state_columns (λ r. refl) (matches 0 (Int (pos c.args.id))) (has_id c.args.id) (id_matches c.args.id) (λ r. refl) c.first_row.result ran
 
-pub returns-clause-kept : goal.returns-clause-kept
-returns-clause-kept g c clean it was =
-    let old = state g.S.Store c.args.conn.now in
-    let new = state g.S.Store c.first_row.new.conn in
-    row_stands state_text (equals 0) bare_state_terms state_asks _ old new it was c.first_row.result (c.first_row.ensures.row clean)
-
-pub returns-clause-open : goal.returns-clause-open
-returns-clause-open g c clean it was =
-    let old = state g.S.Store c.args.conn.now in
-    let new = state g.S.Store c.first_row.new.conn in
-    row_open state_text (equals 0) bare_state_terms state_asks _ old new it was c.first_row.result (c.first_row.ensures.row clean)
-
-pub returns-clause-crash : goal.returns-clause-crash
-returns-clause-crash g c = query_survives state_text state_reads _ (state g.S.Store c.args.conn.now) (state g.S.Store c.first_row.new.conn) c.first_row.ensures.survives
+pub returns-clause-leaves : goal.returns-clause-leaves
+returns-clause-leaves g c = c.first_row.ensures.leaves state_reads

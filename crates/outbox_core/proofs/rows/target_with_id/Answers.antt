@@ -4,9 +4,8 @@ use Rattle.sqlite.specs.declared.types.Value.TheVariants.{Int}
 use Rattle.sqlite.specs.Held.{state}
 use Rattle.sqlite.specs.State.{QueriesRow}
 use Rattle.table_rows.specs.Rows.{row_or_none}
-use Rattle.table_rows.proofs.TextLemmas.{query_survives}
 use Rattle.outbox_core.proofs.Texts.{target_text, target_reads}
-use Rattle.outbox_core.proofs.TargetReads.{target_selected, target_open, target_stands}
+use Rattle.outbox_core.proofs.TargetReads.{target_selected}
 use Rattle.outbox_core.proofs.rows.target_with_id.Goals as goal
 
 pub returns-clause-found : goal.returns-clause-found
@@ -17,21 +16,5 @@ returns-clause-found g c clean it was =
     let ran = subst (λ (n : ℤ). QueriesRow target_text (Int n ∷ []) old new (row_or_none c.first_row.result)) id (rw c.params-to_sql.ensures at (c.first_row.ensures.row clean)) in
     target_selected c.args.id old new it was c.first_row.result ran
 
-pub returns-clause-kept : goal.returns-clause-kept
-returns-clause-kept g c clean it was =
-    let old = state g.S.Store c.args.conn.now in
-    let new = state g.S.Store c.first_row.new.conn in
-    let id : to_z w64 c.args.id ≡ pos c.args.id = omega (arith, ints) in
-    let ran = subst (λ (n : ℤ). QueriesRow target_text (Int n ∷ []) old new (row_or_none c.first_row.result)) id (rw c.params-to_sql.ensures at (c.first_row.ensures.row clean)) in
-    target_stands c.args.id old new it was c.first_row.result ran
-
-pub returns-clause-open : goal.returns-clause-open
-returns-clause-open g c clean it was =
-    let old = state g.S.Store c.args.conn.now in
-    let new = state g.S.Store c.first_row.new.conn in
-    let id : to_z w64 c.args.id ≡ pos c.args.id = omega (arith, ints) in
-    let ran = subst (λ (n : ℤ). QueriesRow target_text (Int n ∷ []) old new (row_or_none c.first_row.result)) id (rw c.params-to_sql.ensures at (c.first_row.ensures.row clean)) in
-    target_open c.args.id old new it was c.first_row.result ran
-
-pub returns-clause-crash : goal.returns-clause-crash
-returns-clause-crash g c = query_survives target_text target_reads _ (state g.S.Store c.args.conn.now) (state g.S.Store c.first_row.new.conn) c.first_row.ensures.survives
+pub returns-clause-leaves : goal.returns-clause-leaves
+returns-clause-leaves g c = c.first_row.ensures.leaves target_reads
