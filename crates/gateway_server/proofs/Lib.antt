@@ -10,3 +10,4 @@ pub mod Whole
 pub mod Ending
 pub mod Stopping
 pub mod Transitions
+pub mod Written

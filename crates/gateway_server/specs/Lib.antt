@@ -2,3 +2,4 @@ pub mod Progress
 pub mod Stopping
 pub mod Decided
 pub mod Answered
+pub mod Written

@@ -1,5 +1,5 @@
 -- How far a connection was served, and what serving it to its end does.
-use Rattle.std.specs.Prelude.{◌≡◌, ℕ, ◌+◌, ◌≤◌, true, false, List, [], ◌∷◌, ◌++◌, length, take, drop, map, Option}
+use Rattle.std.specs.Prelude.{◌≡◌, ℕ, ◌+◌, ◌≤◌, true, false, List, [], ◌∷◌, ◌++◌, length, take, drop, map, Option, Some}
 use Rattle.std.specs.Io.KnownBytes.{Consumes, Appends, IsAtEnd}
 use Rattle.sqlite.specs.Store.{Ghosts}
 use Rattle.http_wire.specs.declared.inbox.Inbox.{Inbox}
@@ -24,6 +24,7 @@ use Rattle.intake_core.specs.declared.intake.Intake.{Intake}
 use Rattle.intake_core.specs.Held.{limit_of, IsClean, IsTransition}
 use Rattle.gateway_server.specs.declared.serving.Served.{Served}
 use Rattle.gateway_server.specs.Answered.{IsReplyFault}
+use Rattle.gateway_server.specs.Written.{WritesTexts}
 
 -- The two streams of a connection, where they are known: what the reader has left, and what the writer has written.
 pub record Streams : Type 0 where
@@ -111,6 +112,8 @@ pub record ServesToEnd {R W S : Type 0} (left : R → Option (List ℕ)) (read_f
   -- why it ended, whatever the disk did
   pub fault : IsEndedBy (read_failures reader) (read_failures reader') (write_failures writer) (write_failures writer') result.ended
   pub limited : IsLimited (left reader) (left reader') result.ended
+  -- what went out, whatever the disk did
+  pub texts : WritesTexts (written writer) (written writer') (Some result.ended)
 
 -- ---- of a part of a connection, with its inbox; no public clause cites what follows
 

@@ -19,6 +19,7 @@ use Rattle.gateway_server.specs.declared.serving.Turn.TheVariants.{On, Stopped, 
 use Rattle.gateway_server.specs.declared.stop.Stop.{Stop}
 use Rattle.gateway_server.specs.declared.stop.Stop.TheVariants as stop
 use Rattle.gateway_server.specs.Answered.{WritesPart}
+use Rattle.gateway_server.specs.Written.{WritesTexts}
 use Rattle.gateway_server.specs.Progress.{Streams, streams, GoesOn, FailsWithin, ServesConnection, IsEndedBy, IsLimited, IsEndedByReply, TellsLimit}
 
 -- the stop as the model has it
@@ -66,6 +67,8 @@ pub record ServesUpTo {R W S : Type 0} (left : R → Option (List ℕ)) (read_fa
   -- why it ended, whatever the disk did
   pub fault : IsEndedOrStoppedBy (read_failures reader) (read_failures reader') (write_failures writer) (write_failures writer') result.ended
   pub limited : IfSome result.ended (IsLimited (left reader) (left reader'))
+  -- what went out, whatever the disk did
+  pub texts : WritesTexts (written writer) (written writer') result.ended
   -- so many marks there are, whatever the disk did; and where no stop is asked for, it ended
   pub counted : IsCountUntil (view_stop at) (length result.marks.items) result.ended
   pub never : at ≡ stop.Never → IsSome result.ended
@@ -91,6 +94,12 @@ pub record StopsConnection (requests : Keeping) (old new : Streams) (crash : Cra
   pub read : Consumes old.left new.left got
   pub wrote : Appends old.written new.written sent
   pub stopped : IsStopped requests got crash marks sent
+
+-- how it ended, if it did
+abbrev pub end_of : Turn → Option Ended
+end_of On = None
+end_of Stopped = None
+end_of (Ends ended) = Some ended
 
 -- it goes on, or was stopped, or has ended so
 abbrev pub Continues : Keeping → Streams → Streams → Inbox → Crash → List Mark → Turn → Type 0

@@ -11,7 +11,8 @@ ghost use Rattle.filing_model.specs.Stopping.{ComeBefore};
 ghost use Rattle.intake_core.specs.Held.{limit_of, IsClean, IsTransition};
 ghost use Rattle.gateway_server.specs.Decided.{IsPhrased};
 ghost use Rattle.gateway_server.specs.Progress.{Streams, streams, GoesOn, HasMessage, HasRefusal, ReadsSome, TellsLimit, ServesToEnd};
-ghost use Rattle.gateway_server.specs.Stopping.{view_stop, ServesUpTo, IsCountUntil, IsEndedOrStoppedBy, Continues, StopsOrEnds, IsCountAt, IsTurnBy, IsTurnByReply, TellsTurn, Replies, IsStoppedAfter};
+ghost use Rattle.gateway_server.specs.Stopping.{view_stop, ServesUpTo, IsCountUntil, IsEndedOrStoppedBy, Continues, StopsOrEnds, IsCountAt, IsTurnBy, IsTurnByReply, TellsTurn, Replies, IsStoppedAfter, end_of};
+ghost use Rattle.gateway_server.specs.Written.{WritesTexts};
 
 use crate::answer::{mark, mark_refusal, write_decided};
 use crate::decide::Decided;
@@ -118,6 +119,7 @@ fn serve_arrivals<R: Source, W: Sink, S: Alter>(
     ensures limit { limit_of intake.new ≡ limit_of intake.old }
     ensures fault { IsEndedOrStoppedBy (R.read_failures reader.old) (R.read_failures reader.new)
         (W.write_failures writer.old) (W.write_failures writer.new) result }
+    ensures texts { WritesTexts (W.written writer.old) (W.written writer.new) result }
     ensures read { ReadsSome (R.left reader.old) (R.left reader.new) inbox.old inbox.new }
     ensures told { IfSome result (TellsLimit inbox.new) }
 {
@@ -155,6 +157,7 @@ fn serve_arrival<R: Source, W: Sink, S: Alter>(
     ensures limit { limit_of intake.new ≡ limit_of intake.old }
     ensures fault { IsTurnBy (R.read_failures reader.old) (R.read_failures reader.new) (W.write_failures writer.old)
         (W.write_failures writer.new) result }
+    ensures texts { WritesTexts (W.written writer.old) (W.written writer.new) (end_of result) }
     ensures read { ReadsSome (R.left reader.old) (R.left reader.new) inbox.old inbox.new }
     ensures told { TellsTurn inbox.new result }
 {
@@ -189,6 +192,7 @@ fn serve_message<W: Sink, S: Alter>(
     ensures clean { IsClean S.Store intake.new → IsClean S.Store intake.old }
     ensures limit { limit_of intake.new ≡ limit_of intake.old }
     ensures fault { IsTurnByReply (W.write_failures writer.old) (W.write_failures writer.new) result }
+    ensures texts { WritesTexts (W.written writer.old) (W.written writer.new) (end_of result) }
 {
     let number = marks.len() + 1;
     if stop.is_before(number) {
@@ -218,6 +222,7 @@ fn serve_refusal<W: Sink>(
     ensures closes { result ≢ Turn.On }
     ensures counted { IsCountAt (view_stop stop) (vec_len marks.new) result }
     ensures fault { IsTurnByReply (W.write_failures writer.old) (W.write_failures writer.new) result }
+    ensures texts { WritesTexts (W.written writer.old) (W.written writer.new) (end_of result) }
 {
     let number = marks.len() + 1;
     if stop.is_before(number) {

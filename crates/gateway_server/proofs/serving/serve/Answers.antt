@@ -5,6 +5,7 @@ use Rattle.filing_model.specs.Stopping.{No}
 use Rattle.intake_core.specs.Held.{limit_of, early_in}
 use Rattle.gateway_server.specs.Progress.{streams}
 use Rattle.gateway_server.specs.Stopping.{ServesConnectionUntil}
+use Rattle.gateway_server.specs.Written.{WritesTexts}
 use Rattle.gateway_server.proofs.Stopping.{ServesConnection-ended}
 use Rattle.gateway_server.proofs.serving.serve.Goals as goal
 
@@ -22,4 +23,5 @@ returns g c = record {
   limit = search rules;
   fault = search rules;
   limited = search rules;
+  texts = subst (λ (how : Option Ended). WritesTexts (g.W.Sink.written c.args.writer.now) (g.W.Sink.written c.serve_until-partly.new.writer) how) c.unwrap.ensures c.serve_until-partly.ensures.texts;
 }

@@ -1,13 +1,16 @@
-use Rattle.std.proofs.Common.{true≢false, refl, sym, ◌∙◌, inl, inr}
+use Rattle.std.proofs.Common.{Some, None, true≢false, refl, sym, ◌∙◌, inl, inr}
 use Rattle.std.specs.Io.KnownBytes.{IsAtEnd}
 use Rattle.http_wire.specs.Calls.{WritesAsked}
-use Rattle.http_wire.specs.Inbox.{held, reads}
+use Rattle.http_wire.specs.Inbox.{held, reads, lent_awaits}
 use Rattle.http_messages.specs.Message.{IsRest}
+use Rattle.filing_model.specs.declared.served.Ended.TheVariants.{InputEnded}
 use Rattle.filing_model.specs.Serving.{keeping}
 use Rattle.intake_core.specs.Held.{limit_of, early_in}
 use Rattle.gateway_server.specs.Progress.{streams}
+use Rattle.gateway_server.specs.Stopping.{end_of}
 use Rattle.gateway_server.proofs.Continuing.{HasMessage-next, HasRefusal-next, Serves-end, Serves-fault, is_limit}
 use Rattle.gateway_server.proofs.Ending.{TellsLimit-fault}
+use Rattle.gateway_server.proofs.Written.{WritesTexts-none, WritesTexts-join, WritesTexts-interim, WritesTexts-asked, WritesTexts-fault}
 use Rattle.gateway_server.proofs.serving.serve_arrival.Goals as goal
 
 pub returns-in-Ok-Message-clause-serves : goal.returns-in-Ok-Message-clause-serves
@@ -62,3 +65,28 @@ returns-in-Err-clause-serves g c = λ clean now kept. (
 
 pub returns-in-Err-clause-told : goal.returns-in-Err-clause-told
 returns-in-Err-clause-told g c = TellsLimit-fault _ _ _ _ c.next.new.self c.in-Err.fault c.in-Err.ensures.fault
+
+-- ---- what went out
+
+pub returns-in-Ok-Message-clause-texts : goal.returns-in-Ok-Message-clause-texts
+returns-in-Ok-Message-clause-texts g c =
+    let interim = rw c.in-Ok-Message.field-0-is at c.in-Ok-Message.ensures.interim in
+    WritesTexts-join (g.W.Sink.written c.args.writer.now) (g.W.Sink.written c.next.new.writer) (g.W.Sink.written c.serve_message.new.writer) (end_of c.serve_message.result)
+    (WritesTexts-interim _ _ None (lent_awaits c.next.new.self) refl interim) c.serve_message.ensures.texts
+
+pub returns-in-Ok-Refuse-clause-texts : goal.returns-in-Ok-Refuse-clause-texts
+returns-in-Ok-Refuse-clause-texts g c =
+    let interim = rw c.in-Ok-Refuse.field-0-is at c.in-Ok-Refuse.ensures.interim in
+    WritesTexts-join (g.W.Sink.written c.args.writer.now) (g.W.Sink.written c.next.new.writer) (g.W.Sink.written c.serve_refusal.new.writer) (end_of c.serve_refusal.result)
+    (WritesTexts-none _ _ None refl interim) c.serve_refusal.ensures.texts
+
+pub returns-in-Ok-End-clause-texts : goal.returns-in-Ok-End-clause-texts
+returns-in-Ok-End-clause-texts g c =
+    let interim = rw c.in-Ok-End.field-0-is at c.in-Ok-End.ensures.interim in
+    elim interim [
+      | inl over ↦ WritesTexts-none _ _ (Some InputEnded) refl over.1
+      | inr asked ↦ WritesTexts-asked _ _ (held c.next.new.self) (Some InputEnded) refl asked
+    ]
+
+pub returns-in-Err-clause-texts : goal.returns-in-Err-clause-texts
+returns-in-Err-clause-texts g c = WritesTexts-fault _ _ (held c.next.new.self) c.in-Err.fault c.in-Err.ensures.part

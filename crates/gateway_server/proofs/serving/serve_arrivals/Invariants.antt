@@ -1,4 +1,4 @@
-use Rattle.std.proofs.Common.{◌≡◌, ◌-◌, ◌^◌, false, List, vec_len}
+use Rattle.std.proofs.Common.{◌≡◌, ◌-◌, ◌^◌, false, List, None, vec_len}
 use Rattle.http_wire.specs.Inbox.{is_over}
 use Rattle.filing_model.specs.Request.{Request}
 use Rattle.filing_model.specs.Serving.{keeping}
@@ -6,6 +6,7 @@ use Rattle.filing_model.specs.Stopping.{ComeBefore}
 use Rattle.intake_core.specs.Held.{limit_of, IsClean, IsTransition}
 use Rattle.gateway_server.specs.Progress.{Streams, streams, GoesOn, ReadsSome}
 use Rattle.gateway_server.specs.Stopping.{view_stop}
+use Rattle.gateway_server.specs.Written.{WritesTexts}
 use Rattle.gateway_server.proofs.serving.serve_arrivals.Given as goal
 
 abbrev pub invariant-arrivals : goal.invariant-arrivals
@@ -15,6 +16,7 @@ invariant-arrivals g l = record {
   reads : g.R.Source.read_failures l.reader ≡ g.R.Source.read_failures l.fn.reader;
   writes : g.W.Sink.write_failures l.writer ≡ g.W.Sink.write_failures l.fn.writer;
   read : ReadsSome (g.R.Source.left l.fn.reader) (g.R.Source.left l.reader) l.fn.inbox l.inbox;
+  texts : WritesTexts (g.W.Sink.written l.fn.writer) (g.W.Sink.written l.writer) None;
   limit : limit_of l.intake ≡ limit_of l.fn.intake;
   clean : IsClean g.S.Store l.intake → IsClean g.S.Store l.fn.intake;
   goes : IsTransition g.S.Store l.fn.intake l.intake (λ early now after. (before : List Request) (first : Streams) → GoesOn (keeping (limit_of l.fn.intake) early before now) first (streams (g.R.Source.left l.fn.reader) (g.W.Sink.written l.fn.writer)) l.fn.inbox l.fn.marks.items → GoesOn (keeping (limit_of l.fn.intake) early before after) first (streams (g.R.Source.left l.reader) (g.W.Sink.written l.writer)) l.inbox l.marks.items);

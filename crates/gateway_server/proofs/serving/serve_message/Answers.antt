@@ -1,4 +1,6 @@
-use Rattle.std.proofs.Common.{refl, ◌≡◌, ◌+◌, ◌≤◌, ◌∙◌, length, ap, sym, subst, IfOk, Bool, vec_len, arith}
+use Rattle.std.proofs.Common.{Some, None, refl, ◌≡◌, ◌+◌, ◌≤◌, ◌∙◌, length, ap, sym, subst, IfOk, Bool, vec_len, arith}
+use Rattle.http_messages.specs.declared.refusal.ConnFault.TheVariants.{Memory}
+use Rattle.filing_model.specs.declared.served.Ended.TheVariants.{Fault}
 use Rattle.http_messages.specs.Head.{closes, max_body_len}
 use Rattle.http_wire.specs.Inbox.{held, lent_len}
 use Rattle.http_messages.specs.Message.{Read}
@@ -15,6 +17,7 @@ use Rattle.gateway_server.specs.Stopping.{IsBefore, IsStoppedAfter, view_stop}
 use Rattle.gateway_server.proofs.Lent.{lent_is, body_short}
 use Rattle.gateway_server.proofs.Stopping.{IsCountAt-next}
 use Rattle.gateway_server.proofs.Transitions.{message_before, message_unmarked, message_replied}
+use Rattle.gateway_server.proofs.Written.{WritesTexts-same, WritesTexts-reply}
 use Rattle.gateway_server.proofs.serving.serve_message.Goals as goal
 
 pub mark-requires : goal.mark-requires
@@ -67,3 +70,14 @@ returns-in-Err-clause-serves g c = λ clean now kept.
           message_unmarked (keeping (limit_of c.args.intake.now) (early_in c.args.intake.now now) before now) first left (g.W.Sink.written c.args.writer.now) c.args.inbox.now c.args.marks.now.items h (view_stop c.args.stop)
           decided.0 c.mark.new.marks.items decided.3.0 decided.3.1,
     )
+
+-- ---- what went out
+
+pub returns-then-is_before-clause-texts : goal.returns-then-is_before-clause-texts
+returns-then-is_before-clause-texts g c = WritesTexts-same (g.W.Sink.written c.args.writer.now) None refl
+
+pub returns-in-Err-clause-texts : goal.returns-in-Err-clause-texts
+returns-in-Err-clause-texts g c = WritesTexts-same (g.W.Sink.written c.args.writer.now) (Some (Fault Memory)) refl
+
+pub returns-clause-texts : goal.returns-clause-texts
+returns-clause-texts g c = WritesTexts-reply (g.W.Sink.written c.args.writer.now) (g.W.Sink.written c.reply.new.writer) c.in-Ok.decided.reply c.closes.result c.reply.result c.reply.ensures.written

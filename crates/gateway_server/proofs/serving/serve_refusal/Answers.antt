@@ -1,8 +1,11 @@
-use Rattle.std.proofs.Common.{true≢false, ◌+◌, ◌∙◌, subst}
+use Rattle.std.proofs.Common.{true, Some, None, refl, true≢false, ◌+◌, ◌∙◌, subst}
+use Rattle.http_messages.specs.declared.refusal.ConnFault.TheVariants.{Memory}
+use Rattle.filing_model.specs.declared.served.Ended.TheVariants.{Fault}
 use Rattle.http_messages.specs.Message.{Refused}
 use Rattle.filing_model.specs.Text.{reply_text_with}
 use Rattle.gateway_server.specs.Stopping.{IsBefore, IsStoppedAfter, view_stop}
 use Rattle.gateway_server.proofs.Transitions.{refusal_before, refusal_unmarked, refusal_replied}
+use Rattle.gateway_server.proofs.Written.{WritesTexts-same, WritesTexts-reply}
 use Rattle.gateway_server.proofs.serving.serve_refusal.Goals as goal
 
 pub returns-then-is_before-clause-serves : goal.returns-then-is_before-clause-serves
@@ -24,3 +27,14 @@ returns-in-Err-clause-serves g c = λ requests first left inbox h.
 
 pub returns-clause-closes : goal.returns-clause-closes
 returns-clause-closes g c = λ on. true≢false (c.reply.ensures.goes_on on)
+
+-- ---- what went out
+
+pub returns-then-is_before-clause-texts : goal.returns-then-is_before-clause-texts
+returns-then-is_before-clause-texts g c = WritesTexts-same (g.W.Sink.written c.args.writer.now) None refl
+
+pub returns-in-Err-clause-texts : goal.returns-in-Err-clause-texts
+returns-in-Err-clause-texts g c = WritesTexts-same (g.W.Sink.written c.args.writer.now) (Some (Fault Memory)) refl
+
+pub returns-clause-texts : goal.returns-clause-texts
+returns-clause-texts g c = WritesTexts-reply (g.W.Sink.written c.args.writer.now) (g.W.Sink.written c.reply.new.writer) c.in-Ok.decided.reply true c.reply.result c.reply.ensures.written

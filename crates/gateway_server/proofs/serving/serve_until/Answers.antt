@@ -8,6 +8,7 @@ use Rattle.gateway_server.specs.Progress.{streams}
 use Rattle.gateway_server.specs.Stopping.{IsCountUntil, view_stop}
 use Rattle.gateway_server.proofs.Continuing.{GoesOn-new, Serves-none}
 use Rattle.gateway_server.proofs.Stopping.{ComeBefore-none, ServesConnectionUntil-either}
+use Rattle.gateway_server.proofs.Written.{WritesTexts-same}
 use Rattle.gateway_server.proofs.serving.serve_until.Goals as goal
 
 pub returns-in-Ok : goal.returns-in-Ok
@@ -28,6 +29,7 @@ returns-in-Ok g c = record {
   limit = search rules;
   fault = search rules;
   limited = search rules;
+  texts = c.serve_arrivals-ended.ensures.texts;
   counted = search rules;
   never = search rules;
 }
@@ -47,6 +49,7 @@ returns-in-Err g c = record {
   limit = search rules;
   fault = search rules;
   limited = search rules;
+  texts = WritesTexts-same (g.W.Sink.written c.args.writer.now) (Some (Fault Memory)) refl;
   counted = search rules;
   never = search rules;
 }
