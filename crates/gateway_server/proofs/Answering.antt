@@ -15,6 +15,7 @@ use Rattle.filing_model.specs.declared.served.Mark.{Mark}
 use Rattle.filing_model.specs.declared.served.Mark.TheVariants.{Done, Unavailable, NotFiled}
 use Rattle.filing_model.specs.Request.{Request}
 use Rattle.filing_model.specs.Text.{Route, route, reply_text_with, refusal_reply}
+use Rattle.http_wire.specs.declared.device.Sink.{Ghosts as Writes}
 use Rattle.http_wire.specs.Write.{IsWriteFault}
 use Rattle.gateway_server.specs.Answered.{IsMarked, IsDecided, WritesPart, WritesText}
 use Rattle.gateway_server.specs.declared.decide.Decided.{Decided}
@@ -61,12 +62,13 @@ pub record IsPartly (limit : ℕ) (early before after : List Request) (arrival :
   pub written : WritesPart from to (reply_text_with early before arrival marked.mark) fault
 
 -- what `write_reply` says of the text is what is wanted of it
-pub WritesText-reply : (from to : Option (List ℕ)) (w w' : ℕ) (text own : List ℕ) (r : Result (Unit {0}) ConnFault) → own ≡ text → OnOk r (Appends from to own) → IfErr r (IsWriteFault from to w w' own) → WritesText from to text r
-WritesText-reply from to w w' text own (Ok done) same ok err = subst (Appends from to) same ok
-WritesText-reply from to w w' text own (Err ReadFault) same ok err = absurd err
-WritesText-reply from to w w' text own (Err (Write sent)) same ok err = subst (λ t. (sent ≤ length t) × Appends from to (take sent t)) same (err.1, err.2)
-WritesText-reply from to w w' text own (Err ReadLimit) same ok err = absurd err
-WritesText-reply from to w w' text own (Err Memory) same ok err = err.1
+pub WritesText-reply : {W : Type 0} (w : Writes W) (from to : W) (text own : List ℕ) (r : Result (Unit {0}) ConnFault) → own ≡ text → OnOk r (Appends (w.written from) (w.written to) own) → IfErr r (IsWriteFault w from to own)
+    → WritesText (w.written from) (w.written to) text r
+WritesText-reply w from to text own (Ok done) same ok err = subst (Appends (w.written from) (w.written to)) same ok
+WritesText-reply w from to text own (Err ReadFault) same ok err = absurd err
+WritesText-reply w from to text own (Err (Write sent)) same ok err = subst (λ t. (sent ≤ length t) × Appends (w.written from) (w.written to) (take sent t)) same (err.1, err.2)
+WritesText-reply w from to text own (Err ReadLimit) same ok err = absurd err
+WritesText-reply w from to text own (Err Memory) same ok err = err.1
 
 -- nothing was marked, kept or written
 pub record IsUntouched (before after : List Request) (old new : List Mark) (from to : Option (List ℕ)) : Type 0 where

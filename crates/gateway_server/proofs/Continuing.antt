@@ -4,6 +4,7 @@ use Rattle.std.proofs.KnownBytes.{Appends-nil, Appends-trans, Consumes-nil, Cons
 use Rattle.std.proofs.lemmas.List.{length-append}
 use Rattle.std.specs.Io.KnownBytes.{Consumes, Appends, IsAtEnd}
 use Rattle.http_wire.specs.declared.inbox.Inbox.{Inbox}
+use Rattle.http_wire.specs.Wire.{Wire}
 use Rattle.http_messages.specs.declared.refusal.ConnFault.{ConnFault}
 use Rattle.http_messages.specs.declared.refusal.ConnFault.TheVariants.{Write, ReadLimit, Memory}
 use Rattle.http_messages.specs.declared.refusal.ConnFault.TheVariants as fault
@@ -22,7 +23,7 @@ use Rattle.filing_model.specs.Serving.{Keeping, keeping, IsServed, IsCutShort}
 use Rattle.filing_model.specs.Text.{interim_of, reply_text_with, next_interim}
 use Rattle.filing_model.proofs.Lists.{append_nil}
 use Rattle.gateway_server.specs.Answered.{IsMarked}
-use Rattle.gateway_server.specs.Progress.{Streams, streams, HasServed, FailsWithin, GoesOn, HasMessage, HasRefusal, ServesConnection}
+use Rattle.gateway_server.specs.Progress.{with_written, HasServed, FailsWithin, GoesOn, HasMessage, HasRefusal, ServesConnection}
 use Rattle.gateway_server.proofs.Answering.{IsAnswered, IsPartly, IsUntouched}
 use Rattle.gateway_server.proofs.Progress.{HasServed-none, HasServed-more, HasServed-end}
 use Rattle.gateway_server.proofs.Arrivals.{served_last, served_push, served_part, served_read, served_asked, served_nothing, served_rest}
@@ -30,15 +31,15 @@ use Rattle.gateway_server.proofs.Arrivals.{served_last, served_push, served_part
 -- ---- the limit of reads
 
 -- it is reached where the fault says so
-pub is_limit : (r r' w w' count : ℕ) (bytes : List ℕ) (f : ConnFault) → IsFault r r' w w' count bytes f → f ≡ ReadLimit → count ≡ max_reads
-is_limit r r' w w' count bytes fault.Read why e = absurd (cc)
-is_limit r r' w w' count bytes (Write sent) why e = absurd (cc)
-is_limit r r' w w' count bytes ReadLimit why e = why.1
-is_limit r r' w w' count bytes Memory why e = absurd (cc)
+pub is_limit : (from to : Wire) (count : ℕ) (bytes : List ℕ) (f : ConnFault) → IsFault from to count bytes f → f ≡ ReadLimit → count ≡ max_reads
+is_limit from to count bytes fault.Read why e = absurd (cc)
+is_limit from to count bytes (Write sent) why e = absurd (cc)
+is_limit from to count bytes ReadLimit why e = why.1
+is_limit from to count bytes Memory why e = absurd (cc)
 
 -- ---- what was read
 
-module _ (requests : Keeping) (first from to : Streams) (old new : Inbox) (marks : List Mark) (h : GoesOn requests first from old marks) (r : ReadsOn from.left to.left old new) where
+module _ (requests : Keeping) (first from to : Wire) (old new : Inbox) (marks : List Mark) (h : GoesOn requests first from old marks) (r : ReadsOn from.left to.left old new) where
   abbrev read_since : List ℕ
   read_since = h.got ++ got old new
 
@@ -121,7 +122,7 @@ module _ (requests : Keeping) (first from to : Streams) (old new : Inbox) (marks
 -- ---- what was answered
 
 -- an arrival that was answered, after an interim response
-module _ (requests : Keeping) (first : Streams) (left written : Option (List ℕ)) (inbox : Inbox) (marks : List Mark) (h : HasMessage requests first (streams left written) inbox marks) where
+module _ (requests : Keeping) (first beside : Wire) (written : Option (List ℕ)) (inbox : Inbox) (marks : List Mark) (h : HasMessage requests first (with_written beside written) inbox marks) where
   abbrev lent : Message
   lent = h.lends.request
 
@@ -134,7 +135,7 @@ module _ (requests : Keeping) (first : Streams) (left written : Option (List ℕ
       (Appends-trans first.written written written' (h.sent ++ interim_if (lent_awaits inbox)) text h.wrote w)
 
   -- the message was answered, and the connection closes
-  pub Serves-closed : (after : List Request) (new : List Mark) (written' : Option (List ℕ)) → closes lent.head ≡ true → IsAnswered requests.limit requests.early requests.after after (Read lent) marks new written written' → ServesConnection (record requests { after = after }) first (streams left written') new Closed
+  pub Serves-closed : (after : List Request) (new : List Mark) (written' : Option (List ℕ)) → closes lent.head ≡ true → IsAnswered requests.limit requests.early requests.after after (Read lent) marks new written written' → ServesConnection (record requests { after = after }) first (with_written beside written') new Closed
   Serves-closed after new written' closed a = record {
     got = h.got;
     sent = h.sent ++ (interim_of (Read lent) ++ reply_text_with requests.early requests.after (Read lent) a.marked.mark);
@@ -148,7 +149,7 @@ module _ (requests : Keeping) (first : Streams) (left written : Option (List ℕ
   }
 
   -- the message was answered, and more may come
-  pub GoesOn-answered : (after : List Request) (new : List Mark) (written' : Option (List ℕ)) → closes lent.head ≡ false → IsAnswered requests.limit requests.early requests.after after (Read lent) marks new written written' → GoesOn (record requests { after = after }) first (streams left written') inbox new
+  pub GoesOn-answered : (after : List Request) (new : List Mark) (written' : Option (List ℕ)) → closes lent.head ≡ false → IsAnswered requests.limit requests.early requests.after after (Read lent) marks new written written' → GoesOn (record requests { after = after }) first (with_written beside written') inbox new
   GoesOn-answered after new written' open' a = record {
     got = h.got;
     sent = h.sent ++ (interim_of (Read lent) ++ reply_text_with requests.early requests.after (Read lent) a.marked.mark);
@@ -161,7 +162,7 @@ module _ (requests : Keeping) (first : Streams) (left written : Option (List ℕ
   }
 
   -- memory ran out before it was marked
-  pub Serves-unmarked : (after : List Request) (new : List Mark) (written' : Option (List ℕ)) → IsUntouched requests.after after marks new written written' → ServesConnection (record requests { after = after }) first (streams left written') new (Fault Memory)
+  pub Serves-unmarked : (after : List Request) (new : List Mark) (written' : Option (List ℕ)) → IsUntouched requests.after after marks new written written' → ServesConnection (record requests { after = after }) first (with_written beside written') new (Fault Memory)
   Serves-unmarked after new written' u = record {
     got = h.got;
     sent = h.sent ++ (interim_of (Read lent) ++ []);
@@ -197,7 +198,7 @@ module _ (requests : Keeping) (first : Streams) (left written : Option (List ℕ
   -- so much of its reply was written
   part : (after : List Request) (new : List Mark) (written' : Option (List ℕ)) (f : ConnFault) (m : IsMarked requests.limit requests.after after (Read lent) marks new) (sent : ℕ) → f ≢ ReadLimit
       → ((n : ℕ) → f ≡ Write n → FailsWithin (record requests { after = after }) h.got new (h.sent ++ (interim_of (Read lent) ++ take sent (reply_text_with requests.early requests.after (Read lent) m.mark))) n)
-      → Appends written written' (take sent (reply_text_with requests.early requests.after (Read lent) m.mark)) → ServesConnection (record requests { after = after }) first (streams left written') new (Fault f)
+      → Appends written written' (take sent (reply_text_with requests.early requests.after (Read lent) m.mark)) → ServesConnection (record requests { after = after }) first (with_written beside written') new (Fault f)
   part after new written' f m sent other told w = record {
     got = h.got;
     sent = h.sent ++ (interim_of (Read lent) ++ take sent (reply_text_with requests.early requests.after (Read lent) m.mark));
@@ -211,7 +212,7 @@ module _ (requests : Keeping) (first : Streams) (left written : Option (List ℕ
   }
 
   -- a fault came within its reply
-  pub Serves-unanswered : (after : List Request) (new : List Mark) (written' : Option (List ℕ)) (f : ConnFault) → IsPartly requests.limit requests.early requests.after after (Read lent) marks new written written' f → ServesConnection (record requests { after = after }) first (streams left written') new (Fault f)
+  pub Serves-unanswered : (after : List Request) (new : List Mark) (written' : Option (List ℕ)) (f : ConnFault) → IsPartly requests.limit requests.early requests.after after (Read lent) marks new written written' f → ServesConnection (record requests { after = after }) first (with_written beside written') new (Fault f)
   Serves-unanswered after new written' fault.Read p = absurd p.written
   Serves-unanswered after new written' (Write sent) p =
       part after new written' (Write sent) p.marked sent (λ e. absurd (cc)) (λ n is. let same : sent ≡ n = cc in subst (FailsWithin (record requests { after = after }) h.got new (h.sent ++ (interim_of (Read lent) ++ take sent (reply_text_with requests.early requests.after (Read lent) p.marked.mark)))) same (cut_answer after new p.marked sent p.written.0)) p.written.1
@@ -220,12 +221,12 @@ module _ (requests : Keeping) (first : Streams) (left written : Option (List ℕ
 
 -- ---- what was refused
 
-module _ (requests : Keeping) (first : Streams) (left written : Option (List ℕ)) (inbox : Inbox) (refusal : Refusal) (marks : List Mark) (h : HasRefusal requests first (streams left written) inbox refusal marks) where
+module _ (requests : Keeping) (first beside : Wire) (written : Option (List ℕ)) (inbox : Inbox) (refusal : Refusal) (marks : List Mark) (h : HasRefusal requests first (with_written beside written) inbox refusal marks) where
   wrote_refusal : (written' : Option (List ℕ)) (text : List ℕ) → Appends written written' text → Appends first.written written' (h.sent ++ text)
   wrote_refusal written' text w = Appends-trans first.written written written' h.sent text h.wrote w
 
   -- it was answered
-  pub Serves-refused : (new : List Mark) (written' : Option (List ℕ)) → IsAnswered requests.limit requests.early requests.after requests.after (Refused refusal) marks new written written' → ServesConnection requests first (streams left written') new Closed
+  pub Serves-refused : (new : List Mark) (written' : Option (List ℕ)) → IsAnswered requests.limit requests.early requests.after requests.after (Refused refusal) marks new written written' → ServesConnection requests first (with_written beside written') new Closed
   Serves-refused new written' a = record {
     got = h.got;
     sent = h.sent ++ reply_text_with requests.early requests.after (Refused refusal) a.marked.mark;
@@ -239,7 +240,7 @@ module _ (requests : Keeping) (first : Streams) (left written : Option (List ℕ
   }
 
   -- memory ran out before it was marked
-  pub Serves-unnoted : (new : List Mark) (written' : Option (List ℕ)) → IsUntouched requests.after requests.after marks new written written' → ServesConnection requests first (streams left written') new (Fault Memory)
+  pub Serves-unnoted : (new : List Mark) (written' : Option (List ℕ)) → IsUntouched requests.after requests.after marks new written written' → ServesConnection requests first (with_written beside written') new (Fault Memory)
   Serves-unnoted new written' u = record {
     got = h.got;
     sent = h.sent ++ [];
@@ -272,7 +273,7 @@ module _ (requests : Keeping) (first : Streams) (left written : Option (List ℕ
   -- so much of its reply was written
   part_refusal : (new : List Mark) (written' : Option (List ℕ)) (f : ConnFault) (m : IsMarked requests.limit requests.after requests.after (Refused refusal) marks new) (sent : ℕ) → f ≢ ReadLimit
       → ((n : ℕ) → f ≡ Write n → FailsWithin requests h.got new (h.sent ++ take sent (reply_text_with requests.early requests.after (Refused refusal) m.mark)) n)
-      → Appends written written' (take sent (reply_text_with requests.early requests.after (Refused refusal) m.mark)) → ServesConnection requests first (streams left written') new (Fault f)
+      → Appends written written' (take sent (reply_text_with requests.early requests.after (Refused refusal) m.mark)) → ServesConnection requests first (with_written beside written') new (Fault f)
   part_refusal new written' f m sent other told w = record {
     got = h.got;
     sent = h.sent ++ take sent (reply_text_with requests.early requests.after (Refused refusal) m.mark);
@@ -286,7 +287,7 @@ module _ (requests : Keeping) (first : Streams) (left written : Option (List ℕ
   }
 
   -- a fault came within its reply
-  pub Serves-unrefused : (new : List Mark) (written' : Option (List ℕ)) (f : ConnFault) → IsPartly requests.limit requests.early requests.after requests.after (Refused refusal) marks new written written' f → ServesConnection requests first (streams left written') new (Fault f)
+  pub Serves-unrefused : (new : List Mark) (written' : Option (List ℕ)) (f : ConnFault) → IsPartly requests.limit requests.early requests.after requests.after (Refused refusal) marks new written written' f → ServesConnection requests first (with_written beside written') new (Fault f)
   Serves-unrefused new written' fault.Read p = absurd p.written
   Serves-unrefused new written' (Write sent) p =
       part_refusal new written' (Write sent) p.marked sent (λ e. absurd (cc)) (λ n is. let same : sent ≡ n = cc in subst (FailsWithin requests h.got new (h.sent ++ take sent (reply_text_with requests.early requests.after (Refused refusal) p.marked.mark))) same (cut_refusal new p.marked sent p.written.0)) p.written.1
@@ -299,7 +300,7 @@ unread-new : (inbox : Inbox) → IsNew inbox → unread inbox ≡ []
 unread-new inbox is = ap (drop (lent_len inbox)) is.empty ∙ drop-nil (lent_len inbox)
 
 -- a new inbox, and nothing marked
-pub GoesOn-new : (limit : ℕ) (early before : List Request) (first : Streams) (inbox : Inbox) (marks : List Mark) → IsNew inbox → marks ≡ [] → GoesOn (keeping limit early before before) first first inbox marks
+pub GoesOn-new : (limit : ℕ) (early before : List Request) (first : Wire) (inbox : Inbox) (marks : List Mark) → IsNew inbox → marks ≡ [] → GoesOn (keeping limit early before before) first first inbox marks
 GoesOn-new limit early before first inbox marks is none = record {
   got = [];
   sent = [];
@@ -312,7 +313,7 @@ GoesOn-new limit early before first inbox marks is none = record {
 }
 
 -- no memory for an inbox
-pub Serves-none : (limit : ℕ) (early before : List Request) (first : Streams) (marks : List Mark) → marks ≡ [] → ServesConnection (keeping limit early before before) first first marks (Fault Memory)
+pub Serves-none : (limit : ℕ) (early before : List Request) (first : Wire) (marks : List Mark) → marks ≡ [] → ServesConnection (keeping limit early before before) first first marks (Fault Memory)
 Serves-none limit early before first marks none = record {
   got = [];
   sent = [];

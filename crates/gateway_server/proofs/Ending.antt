@@ -8,15 +8,16 @@ use Rattle.http_messages.specs.declared.refusal.ConnFault.TheVariants.{Write, Re
 use Rattle.http_messages.specs.declared.refusal.ConnFault.TheVariants as fault
 use Rattle.http_wire.specs.Calls.{IsFault}
 use Rattle.http_wire.specs.Inbox.{held, reads}
+use Rattle.http_wire.specs.Wire.{Wire}
 use Rattle.filing_model.specs.declared.served.Ended.TheVariants.{Fault}
 use Rattle.gateway_server.specs.Progress.{ReadsSome, TellsLimit}
 
 -- which fault it is
-pub TellsLimit-fault : (r r' w w' : ℕ) (inbox : Inbox) (f : ConnFault) → IsFault r r' w w' (reads inbox) (held inbox) f → TellsLimit inbox (Fault f)
-TellsLimit-fault r r' w w' inbox fault.Read why = tt
-TellsLimit-fault r r' w w' inbox (Write sent) why = tt
-TellsLimit-fault r r' w w' inbox ReadLimit why = (why.1, why.2)
-TellsLimit-fault r r' w w' inbox Memory why = λ all u. let block = why.1 all in u.unended block.1.0 block.1.1.short block.1.1.ends
+pub TellsLimit-fault : (from to : Wire) (inbox : Inbox) (f : ConnFault) → IsFault from to (reads inbox) (held inbox) f → TellsLimit inbox (Fault f)
+TellsLimit-fault from to inbox fault.Read why = tt
+TellsLimit-fault from to inbox (Write sent) why = tt
+TellsLimit-fault from to inbox ReadLimit why = (why.1, why.2)
+TellsLimit-fault from to inbox Memory why = λ all u. let block = why.1 all in u.unended block.1.0 block.1.1.short block.1.1.ends
 
 -- ---- what was read
 

@@ -5,6 +5,7 @@ use Rattle.std.proofs.lemmas.Grind.{common_steps}
 use Rattle.std.proofs.lemmas.List.{length-append, length-map}
 use Rattle.std.specs.Io.KnownBytes.{Consumes, Appends}
 use Rattle.http_messages.specs.Message.{Arrival, Read, Ending}
+use Rattle.http_wire.specs.Wire.{Wire}
 use Rattle.http_messages.specs.Request.{Request as Message}
 use Rattle.filing_model.specs.declared.served.Ended.{Ended}
 use Rattle.filing_model.specs.declared.served.Mark.{Mark}
@@ -16,7 +17,7 @@ use Rattle.filing_model.proofs.Lists.{append_nil}
 use Rattle.gateway_server.specs.declared.serving.Turn.{Turn}
 use Rattle.gateway_server.specs.declared.serving.Turn.TheVariants.{On, Stopped, Ended as Ends}
 use Rattle.gateway_server.specs.Answered.{IsMarked}
-use Rattle.gateway_server.specs.Progress.{Streams, HasServed, ServesConnection}
+use Rattle.gateway_server.specs.Progress.{HasServed, ServesConnection}
 use Rattle.gateway_server.specs.Stopping.{IsBefore, IsAfter, IsStoppedAfter, IsCountAtStop, IsCountAt, StopsConnection, StopsOrEnds, ServesConnectionUntil, IsCountUntil}
 use Rattle.gateway_server.proofs.Arrivals.{marked-one, completed-one}
 use Rattle.gateway_server.proofs.Progress.{MayBegin, begins-after, begins-last, marked_on, written_on, kept_on}
@@ -81,7 +82,7 @@ take-first marks mark n all = grind (arith, common_steps, all)
 take-whole : (marks : List Mark) (n : ℕ) → length marks ≡ n → take n marks ≡ marks
 take-whole marks n all = grind (arith, common_steps, all)
 
-module _ (requests : Keeping) (first last : Streams) (got sent rest : List ℕ) (marks : List Mark) (arrival : Arrival) (read : Consumes first.left last.left got) (wrote : Appends first.written last.written (sent ++ interim_of arrival)) (h : HasServed requests got rest marks sent) (begins : MayBegin rest (arrival ∷ [])) (crash : Crash) where
+module _ (requests : Keeping) (first last : Wire) (got sent rest : List ℕ) (marks : List Mark) (arrival : Arrival) (read : Consumes first.left last.left got) (wrote : Appends first.written last.written (sent ++ interim_of arrival)) (h : HasServed requests got rest marks sent) (begins : MayBegin rest (arrival ∷ [])) (crash : Crash) where
   count : length marks ≡ length h.messages
   count = h.marked.all ∙ length-map h.messages (λ m. Read m)
 
@@ -151,7 +152,7 @@ module _ (requests : Keeping) (first last : Streams) (got sent rest : List ℕ) 
 -- ---- the whole connection
 
 -- it was stopped, or has ended before the arrival to stop at
-pub ServesConnectionUntil-either : (requests : Keeping) (old new : Streams) (crash : Crash) (marks : List Mark) (ended : Option Ended) → IsCountUntil crash (length marks) ended → StopsOrEnds requests old new crash marks ended → ServesConnectionUntil requests old new crash marks ended
+pub ServesConnectionUntil-either : (requests : Keeping) (old new : Wire) (crash : Crash) (marks : List Mark) (ended : Option Ended) → IsCountUntil crash (length marks) ended → StopsOrEnds requests old new crash marks ended → ServesConnectionUntil requests old new crash marks ended
 ServesConnectionUntil-either requests old new crash marks None count s = record {
   got = s.got;
   sent = s.sent;
@@ -174,7 +175,7 @@ ServesConnectionUntil-either requests old new crash marks (Some ended) count s =
 }
 
 -- where it ended, it was served to its end
-pub ServesConnection-ended : (requests : Keeping) (old new : Streams) (crash : Crash) (marks : List Mark) (ended : Ended) → ServesConnectionUntil requests old new crash marks (Some ended) → ServesConnection requests old new marks ended
+pub ServesConnection-ended : (requests : Keeping) (old new : Wire) (crash : Crash) (marks : List Mark) (ended : Ended) → ServesConnectionUntil requests old new crash marks (Some ended) → ServesConnection requests old new marks ended
 ServesConnection-ended requests old new crash marks ended s = record {
   got = s.got;
   sent = s.sent;

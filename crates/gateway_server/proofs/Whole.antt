@@ -3,6 +3,7 @@ use Rattle.std.proofs.Common.{◌≡◌, ◌≢◌, ℕ, ◌-◌, ◌^◌, ◌<�
 use Rattle.std.proofs.lemmas.Bool.Decides.{nat_tests}
 use Rattle.http_messages.specs.declared.refusal.ConnFault.TheVariants.{Read as ReadFault, Write, ReadLimit, Memory}
 use Rattle.http_wire.specs.Device.{HasFailed}
+use Rattle.http_wire.specs.Wire.{Wire}
 use Rattle.http_messages.specs.Message.{Arrival, Ending}
 use Rattle.http_messages.specs.Reads.{max_reads}
 use Rattle.filing_model.specs.declared.served.Ended.{Ended}
@@ -14,7 +15,6 @@ use Rattle.filing_model.specs.Stopping.{Crash, No, Before, After, IsEndOrStopOf,
 use Rattle.filing_model.specs.Text.{completed}
 use Rattle.filing_model.proofs.Serving.{carried_until}
 use Rattle.filing_model.proofs.Stopping.{serves_begin}
-use Rattle.gateway_server.specs.Progress.{streams}
 use Rattle.gateway_server.specs.Stopping.{ServesConnectionUntil, IsEndedOrStoppedBy}
 
 -- a count that stands tells no failure, as long as it counts
@@ -22,25 +22,30 @@ no_failure : (count : ℕ) → count < 2 ^ 64 - 1 → ¬ (HasFailed count count)
 no_failure count low (inl less) = omega (arith, less)
 no_failure count low (inr full) = omega (arith, low, full)
 
-end_until : (r w w' : ℕ) (got left : List ℕ) (ended : Option Ended) → r < 2 ^ 64 - 1 → ((sent : ℕ) → ended ≢ Some (Fault (Write sent))) → (ended ≡ Some InputEnded → left ≡ []) → (ended ≡ Some (Fault ReadLimit) → max_reads ≤ length got) → IsEndedOrStoppedBy r r w w' ended → IsEndOrStopOf got left ended
-end_until r w w' got left None low written at_end limited fine = tt
-end_until r w w' got left (Some Closed) low written at_end limited fine = tt
-end_until r w w' got left (Some InputEnded) low written at_end limited fine = at_end refl
-end_until r w w' got left (Some (Fault ReadFault)) low written at_end limited fine = absurd (no_failure r low fine.0)
-end_until r w w' got left (Some (Fault (Write sent))) low written at_end limited fine = absurd (written sent refl)
-end_until r w w' got left (Some (Fault ReadLimit)) low written at_end limited fine = limited refl
-end_until r w w' got left (Some (Fault Memory)) low written at_end limited fine = tt
+end_until : (from to : Wire) (got left : List ℕ) (ended : Option Ended) → from.read_failures < 2 ^ 64 - 1 → to.read_failures ≡ from.read_failures
+    → ((sent : ℕ) → ended ≢ Some (Fault (Write sent))) → (ended ≡ Some InputEnded → left ≡ []) → (ended ≡ Some (Fault ReadLimit) → max_reads ≤ length got)
+    → IsEndedOrStoppedBy from to ended → IsEndOrStopOf got left ended
+end_until from to got left None low none written at_end limited why = tt
+end_until from to got left (Some Closed) low none written at_end limited why = tt
+end_until from to got left (Some InputEnded) low none written at_end limited why = at_end refl
+end_until from to got left (Some (Fault ReadFault)) low none written at_end limited why = absurd (no_failure from.read_failures low (subst (HasFailed from.read_failures) none why.0))
+end_until from to got left (Some (Fault (Write sent))) low none written at_end limited why = absurd (written sent refl)
+end_until from to got left (Some (Fault ReadLimit)) low none written at_end limited why = limited refl
+end_until from to got left (Some (Fault Memory)) low none written at_end limited why = tt
 
 -- after any requests whose firsts were kept, where no read failed and it didn't end by a write
-pub serves_until_whole : (limit r w w' : ℕ) (done before after : List Request) (bytes left out : List ℕ) (crash : Crash) (marks : List Mark) (ended : Option Ended) → before ≡ firsts done
-    → ServesConnectionUntil (keeping limit [] before after) (streams (Some bytes) (Some [])) (streams (Some left) (Some out)) crash marks ended
-    → r < 2 ^ 64 - 1 → ((sent : ℕ) → ended ≢ Some (Fault (Write sent))) → IsEndedOrStoppedBy r r w w' ended
+pub serves_until_whole : (limit : ℕ) (from to : Wire) (done before after : List Request) (bytes left out : List ℕ) (crash : Crash) (marks : List Mark) (ended : Option Ended) → before ≡ firsts done
+    → from.left ≡ Some bytes → from.written ≡ Some [] → to.left ≡ Some left → to.written ≡ Some out
+    → from.read_failures < 2 ^ 64 - 1 → to.read_failures ≡ from.read_failures
+    → ((sent : ℕ) → ended ≢ Some (Fault (Write sent))) → ServesConnectionUntil (keeping limit [] before after) from to crash marks ended → IsEndedOrStoppedBy from to ended
     → (arrivals : List Arrival) × ServesUntil limit done bytes crash arrivals marks ended out × (after ≡ firsts (done ++ completed arrivals marks))
-serves_until_whole limit r w w' done before after bytes left out crash marks ended kept served low written fine =
-    let end = end_until r w w' served.got left ended low written served.at_end served.limited fine in
+serves_until_whole limit from to done before after bytes left out crash marks ended kept begins none ends all low fine written served why =
+    let read : bytes ≡ served.got ++ left = rw (begins, ends) at served.read in
+    let wrote : out ≡ served.sent = rw (none, all) at served.wrote in
+    let end = end_until from to served.got left ended low fine written (λ e. rw ends at (served.at_end e)) served.limited why in
     let whole = carried_until limit done before after kept served.got left crash marks ended served.sent end served.serves in (
       whole.0,
-      subst (λ bs. ServesUntil limit done bs crash whole.0 marks ended out) (sym served.read) (subst (λ text. ServesUntil limit done (served.got ++ left) crash whole.0 marks ended text) (sym served.wrote) whole.1),
+      subst (λ bs. ServesUntil limit done bs crash whole.0 marks ended out) (sym read) (subst (λ text. ServesUntil limit done (served.got ++ left) crash whole.0 marks ended text) (sym wrote) whole.1),
       whole.2,
     )
 

@@ -8,8 +8,8 @@ use Rattle.http_messages.specs.declared.refusal.ConnFault.TheVariants as fault
 use Rattle.http_messages.specs.declared.refusal.Refusal.{Refusal}
 use Rattle.http_messages.specs.Block.{IsUnended}
 use Rattle.http_wire.specs.Calls.{HoldsArrival, interim_if}
-use Rattle.http_wire.specs.Device.{ReaderFailed, WriterFailed, NoneFailed}
 use Rattle.http_wire.specs.Inbox.{held, unread, reads, is_over, lent_awaits, LendsFirst}
+use Rattle.http_wire.specs.Wire.{Wire, ReaderFailed, WriterFailed, NoneFailed}
 use Rattle.http_messages.specs.Head.{closes}
 use Rattle.http_messages.specs.Message.{Arrival, Read, Ending, Asks, BeginsRequest, IsRefused, interim}
 use Rattle.http_messages.specs.Reads.{max_reads}
@@ -25,14 +25,6 @@ use Rattle.intake_core.specs.Held.{limit_of, IsClean, IsTransition}
 use Rattle.gateway_server.specs.declared.serving.Served.{Served}
 use Rattle.gateway_server.specs.Answered.{IsReplyFault}
 use Rattle.gateway_server.specs.Written.{WritesTexts}
-
--- The two streams of a connection, where they are known: what the reader has left, and what the writer has written.
-pub record Streams : Type 0 where
-  pub left : Option (List ℕ)
-  pub written : Option (List ℕ)
-
-abbrev pub streams : Option (List ℕ) → Option (List ℕ) → Streams
-streams left written = record { left = left; written = written }
 
 -- the bytes begin with these messages, none of which closes, and the rest follows
 abbrev pub GoesThrough : List ℕ → List Message → List ℕ → Type 0
@@ -72,7 +64,7 @@ pub record FailsWithin (requests : Keeping) (bytes : List ℕ) (marks : List Mar
 
 -- What a connection came to: some bytes were read and some text was written, and that is what serving these bytes may mark, write,
 -- keep and end with. A failed write says how many bytes it took of the text in which it failed.
-pub record ServesConnection (requests : Keeping) (old new : Streams) (marks : List Mark) (ended : Ended) : Type 0 where
+pub record ServesConnection (requests : Keeping) (old new : Wire) (marks : List Mark) (ended : Ended) : Type 0 where
   pub got : List ℕ
   pub sent : List ℕ
   pub read : Consumes old.left new.left got
@@ -82,43 +74,41 @@ pub record ServesConnection (requests : Keeping) (old new : Streams) (marks : Li
   pub limited : ended ≡ Fault fault.ReadLimit → max_reads ≤ length got
   pub failed : (n : ℕ) → ended ≡ Fault (fault.Write n) → FailsWithin requests got marks sent n
 
--- why a connection ended by a fault, by the failures of the reader and of the writer before and after: the one failed, and the other
--- didn't; or neither did
-abbrev pub IsEndedByFault : ℕ → ℕ → ℕ → ℕ → ConnFault → Type 0
-IsEndedByFault read read' write write' fault.Read = ReaderFailed read read' write write'
-IsEndedByFault read read' write write' (fault.Write sent) = WriterFailed read read' write write'
-IsEndedByFault read read' write write' fault.ReadLimit = NoneFailed read read' write write'
-IsEndedByFault read read' write write' fault.Memory = NoneFailed read read' write write'
+-- why a connection ended by a fault: the reader or the writer failed, and the other didn't; or neither did
+abbrev pub IsEndedByFault : Wire → Wire → ConnFault → Type 0
+IsEndedByFault old new fault.Read = ReaderFailed old new
+IsEndedByFault old new (fault.Write sent) = WriterFailed old new
+IsEndedByFault old new fault.ReadLimit = NoneFailed old new
+IsEndedByFault old new fault.Memory = NoneFailed old new
 
 -- why it ended: where it was not by a fault, neither failed
-abbrev pub IsEndedBy : ℕ → ℕ → ℕ → ℕ → Ended → Type 0
-IsEndedBy read read' write write' Closed = NoneFailed read read' write write'
-IsEndedBy read read' write write' InputEnded = NoneFailed read read' write write'
-IsEndedBy read read' write write' (Fault fault) = IsEndedByFault read read' write write' fault
+abbrev pub IsEndedBy : Wire → Wire → Ended → Type 0
+IsEndedBy old new Closed = NoneFailed old new
+IsEndedBy old new InputEnded = NoneFailed old new
+IsEndedBy old new (Fault fault) = IsEndedByFault old new fault
 
 -- The limit of reads is said by bytes, since a reader names its bytes and not its reads: so many reads gave at least a byte each.
-abbrev pub IsLimited : Option (List ℕ) → Option (List ℕ) → Ended → Type 0
-IsLimited left left' ended = ended ≡ Fault fault.ReadLimit → (bytes : List ℕ) × Consumes left left' bytes × (max_reads ≤ length bytes)
+abbrev pub IsLimited : Wire → Wire → Ended → Type 0
+IsLimited old new ended = ended ≡ Fault fault.ReadLimit → (bytes : List ℕ) × Consumes old.left new.left bytes × (max_reads ≤ length bytes)
 
--- What serving a connection to its end does with a reader, a writer and an intake, and what it came to. First comes what contracts see
--- of the three, and then each before and after.
-pub record ServesToEnd {R W S : Type 0} (left : R → Option (List ℕ)) (read_failures : R → ℕ) (written : W → Option (List ℕ)) (write_failures : W → ℕ) (g : Ghosts S) (reader reader' : R) (writer writer' : W) (old new : Intake S) (result : Served) : Type 0 where
+-- What serving a connection to its end does with its wire and an intake, and what it came to.
+pub record ServesToEnd {S : Type 0} (g : Ghosts S) (from to : Wire) (old new : Intake S) (result : Served) : Type 0 where
   -- where the disk is clean at the end, all that was read and written, marked and kept is what serving these bytes does
-  pub serves : IsTransition g old new (λ early before after. ServesConnection (keeping (limit_of old) early before after) (streams (left reader) (written writer)) (streams (left reader') (written writer')) result.marks.items result.ended)
+  pub serves : IsTransition g old new (λ early before after. ServesConnection (keeping (limit_of old) early before after) from to result.marks.items result.ended)
   -- a disk that is clean at the end was clean before
   pub clean : IsClean g new → IsClean g old
   -- as many keys may be kept as before
   pub limit : limit_of new ≡ limit_of old
   -- why it ended, whatever the disk did
-  pub fault : IsEndedBy (read_failures reader) (read_failures reader') (write_failures writer) (write_failures writer') result.ended
-  pub limited : IsLimited (left reader) (left reader') result.ended
+  pub fault : IsEndedBy from to result.ended
+  pub limited : IsLimited from to result.ended
   -- what went out, whatever the disk did
-  pub texts : WritesTexts (written writer) (written writer') (Some result.ended)
+  pub texts : WritesTexts from.written to.written (Some result.ended)
 
 -- ---- of a part of a connection, with its inbox; no public clause cites what follows
 
 -- Since the connection began, so much was read and written, and so far that is served. Each read that is counted gave a byte.
-pub record GoesOn (requests : Keeping) (old new : Streams) (inbox : Inbox) (marks : List Mark) : Type 0 where
+pub record GoesOn (requests : Keeping) (old new : Wire) (inbox : Inbox) (marks : List Mark) : Type 0 where
   pub got : List ℕ
   pub sent : List ℕ
   pub read : Consumes old.left new.left got
@@ -128,7 +118,7 @@ pub record GoesOn (requests : Keeping) (old new : Streams) (inbox : Inbox) (mark
   pub more : is_over inbox ≡ false
 
 -- The same, where a message is lent that is neither answered nor marked. Its interim response was written.
-pub record HasMessage (requests : Keeping) (old new : Streams) (inbox : Inbox) (marks : List Mark) : Type 0 where
+pub record HasMessage (requests : Keeping) (old new : Wire) (inbox : Inbox) (marks : List Mark) : Type 0 where
   pub got : List ℕ
   pub sent : List ℕ
   pub read : Consumes old.left new.left got
@@ -138,13 +128,17 @@ pub record HasMessage (requests : Keeping) (old new : Streams) (inbox : Inbox) (
   pub lends : LendsFirst inbox
 
 -- the same, where the bytes that are held begin with what is refused
-pub record HasRefusal (requests : Keeping) (old new : Streams) (inbox : Inbox) (refusal : Refusal) (marks : List Mark) : Type 0 where
+pub record HasRefusal (requests : Keeping) (old new : Wire) (inbox : Inbox) (refusal : Refusal) (marks : List Mark) : Type 0 where
   pub got : List ℕ
   pub sent : List ℕ
   pub read : Consumes old.left new.left got
   pub wrote : Appends old.written new.written sent
   pub served : HasServed requests got (held inbox) marks sent
   pub refused : IsRefused (held inbox) refusal
+
+-- the same but for what is written
+abbrev pub with_written : Wire → Option (List ℕ) → Wire
+with_written wire written = record wire { written = written }
 
 -- how an answer ends it: the writer's failures before and after
 abbrev pub IsEndedByReply : ℕ → ℕ → Ended → Type 0

@@ -4,7 +4,7 @@ use Rattle.std.specs.Io.KnownBytes.{Consumes, Appends, IsAtEnd}
 use Rattle.sqlite.specs.Store.{Ghosts}
 use Rattle.http_wire.specs.declared.inbox.Inbox.{Inbox}
 use Rattle.http_messages.specs.declared.refusal.ConnFault.TheVariants as fault
-use Rattle.http_wire.specs.Device.{NoneFailed}
+use Rattle.http_wire.specs.Wire.{Wire, NoneFailed}
 use Rattle.http_messages.specs.Reads.{max_reads}
 use Rattle.filing_model.specs.declared.served.Ended.{Ended}
 use Rattle.filing_model.specs.declared.served.Ended.TheVariants as how
@@ -20,7 +20,7 @@ use Rattle.gateway_server.specs.declared.stop.Stop.{Stop}
 use Rattle.gateway_server.specs.declared.stop.Stop.TheVariants as stop
 use Rattle.gateway_server.specs.Answered.{WritesPart}
 use Rattle.gateway_server.specs.Written.{WritesTexts}
-use Rattle.gateway_server.specs.Progress.{Streams, streams, GoesOn, FailsWithin, ServesConnection, IsEndedBy, IsLimited, IsEndedByReply, TellsLimit}
+use Rattle.gateway_server.specs.Progress.{GoesOn, FailsWithin, ServesConnection, IsEndedBy, IsLimited, IsEndedByReply, TellsLimit}
 
 -- the stop as the model has it
 abbrev pub view_stop : Stop → Crash
@@ -29,7 +29,7 @@ view_stop (stop.Before number) = Before number
 view_stop (stop.After number) = After number
 
 -- what the connection came to, up to its end or to the stop; a failed write says how many bytes it took of the text in which it failed
-pub record ServesConnectionUntil (requests : Keeping) (old new : Streams) (crash : Crash) (marks : List Mark) (ended : Option Ended) : Type 0 where
+pub record ServesConnectionUntil (requests : Keeping) (old new : Wire) (crash : Crash) (marks : List Mark) (ended : Option Ended) : Type 0 where
   pub got : List ℕ
   pub sent : List ℕ
   pub read : Consumes old.left new.left got
@@ -51,24 +51,23 @@ IsCountUntil crash count None = IsCountAtStop crash count
 IsCountUntil crash count (Some ended) = ComeBefore crash count
 
 -- why it ended; where it was stopped, neither the reader nor the writer failed
-abbrev pub IsEndedOrStoppedBy : ℕ → ℕ → ℕ → ℕ → Option Ended → Type 0
-IsEndedOrStoppedBy read read' write write' None = NoneFailed read read' write write'
-IsEndedOrStoppedBy read read' write write' (Some ended) = IsEndedBy read read' write write' ended
+abbrev pub IsEndedOrStoppedBy : Wire → Wire → Option Ended → Type 0
+IsEndedOrStoppedBy old new None = NoneFailed old new
+IsEndedOrStoppedBy old new (Some ended) = IsEndedBy old new ended
 
--- What serving a connection up to its end or to a stop does with a reader, a writer and an intake, and what it came to. First comes what
--- contracts see of the three, and then each before and after.
-pub record ServesUpTo {R W S : Type 0} (left : R → Option (List ℕ)) (read_failures : R → ℕ) (written : W → Option (List ℕ)) (write_failures : W → ℕ) (g : Ghosts S) (reader reader' : R) (writer writer' : W) (old new : Intake S) (at : Stop) (result : Partly) : Type 0 where
+-- What serving a connection up to its end or to a stop does with its wire and an intake, and what it came to.
+pub record ServesUpTo {S : Type 0} (g : Ghosts S) (from to : Wire) (old new : Intake S) (at : Stop) (result : Partly) : Type 0 where
   -- where the disk is clean at the end, all that was read and written, marked and kept is what serving these bytes up to the stop does
-  pub serves : IsTransition g old new (λ early before after. ServesConnectionUntil (keeping (limit_of old) early before after) (streams (left reader) (written writer)) (streams (left reader') (written writer')) (view_stop at) result.marks.items result.ended)
+  pub serves : IsTransition g old new (λ early before after. ServesConnectionUntil (keeping (limit_of old) early before after) from to (view_stop at) result.marks.items result.ended)
   -- a disk that is clean at the end was clean before
   pub clean : IsClean g new → IsClean g old
   -- as many keys may be kept as before
   pub limit : limit_of new ≡ limit_of old
   -- why it ended, whatever the disk did
-  pub fault : IsEndedOrStoppedBy (read_failures reader) (read_failures reader') (write_failures writer) (write_failures writer') result.ended
-  pub limited : IfSome result.ended (IsLimited (left reader) (left reader'))
+  pub fault : IsEndedOrStoppedBy from to result.ended
+  pub limited : IfSome result.ended (IsLimited from to)
   -- what went out, whatever the disk did
-  pub texts : WritesTexts (written writer) (written writer') result.ended
+  pub texts : WritesTexts from.written to.written result.ended
   -- so many marks there are, whatever the disk did; and where no stop is asked for, it ended
   pub counted : IsCountUntil (view_stop at) (length result.marks.items) result.ended
   pub never : at ≡ stop.Never → IsSome result.ended
@@ -88,7 +87,7 @@ IsAfter (Before j) number = ⊥
 IsAfter (After j) number = number ≡ max 1 j
 
 -- what a connection came to that was stopped
-pub record StopsConnection (requests : Keeping) (old new : Streams) (crash : Crash) (marks : List Mark) : Type 0 where
+pub record StopsConnection (requests : Keeping) (old new : Wire) (crash : Crash) (marks : List Mark) : Type 0 where
   pub got : List ℕ
   pub sent : List ℕ
   pub read : Consumes old.left new.left got
@@ -102,13 +101,13 @@ end_of Stopped = None
 end_of (Ends ended) = Some ended
 
 -- it goes on, or was stopped, or has ended so
-abbrev pub Continues : Keeping → Streams → Streams → Inbox → Crash → List Mark → Turn → Type 0
+abbrev pub Continues : Keeping → Wire → Wire → Inbox → Crash → List Mark → Turn → Type 0
 Continues requests old new inbox crash marks On = GoesOn requests old new inbox marks
 Continues requests old new inbox crash marks Stopped = StopsConnection requests old new crash marks
 Continues requests old new inbox crash marks (Ends ended) = ServesConnection requests old new marks ended
 
 -- it was stopped, or has ended so
-abbrev pub StopsOrEnds : Keeping → Streams → Streams → Crash → List Mark → Option Ended → Type 0
+abbrev pub StopsOrEnds : Keeping → Wire → Wire → Crash → List Mark → Option Ended → Type 0
 StopsOrEnds requests old new crash marks None = StopsConnection requests old new crash marks
 StopsOrEnds requests old new crash marks (Some ended) = ServesConnection requests old new marks ended
 
@@ -118,11 +117,11 @@ IsCountAt crash count On = ComeBefore crash count
 IsCountAt crash count Stopped = IsCountAtStop crash count
 IsCountAt crash count (Ends ended) = ComeBefore crash count
 
--- by the failures of the reader and of the writer before and after: neither failed, unless it ended so
-abbrev pub IsTurnBy : ℕ → ℕ → ℕ → ℕ → Turn → Type 0
-IsTurnBy read read' write write' On = NoneFailed read read' write write'
-IsTurnBy read read' write write' Stopped = NoneFailed read read' write write'
-IsTurnBy read read' write write' (Ends ended) = IsEndedBy read read' write write' ended
+-- neither the reader nor the writer failed, unless it ended so
+abbrev pub IsTurnBy : Wire → Wire → Turn → Type 0
+IsTurnBy old new On = NoneFailed old new
+IsTurnBy old new Stopped = NoneFailed old new
+IsTurnBy old new (Ends ended) = IsEndedBy old new ended
 
 -- the same of an answer, by the failures of the writer
 abbrev pub IsTurnByReply : ℕ → ℕ → Turn → Type 0

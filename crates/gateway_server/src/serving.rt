@@ -1,7 +1,8 @@
 //! Serving a connection: its arrivals are read one after another and answered.
 
-ghost use Rattle.std.specs.Prelude.{◌≡◌, ◌≢◌, ◌+◌, ℕ, List, Option, Some, None, IfOk, IfSome, false, vec_len};
+ghost use Rattle.std.specs.Prelude.{◌≡◌, ◌≢◌, ◌+◌, ℕ, List, Some, None, IfOk, IfSome, false, vec_len};
 ghost use Rattle.http_wire.specs.Inbox.{LendsFirst, is_over};
+ghost use Rattle.http_wire.specs.Wire.{Wire, wire};
 ghost use Rattle.http_messages.specs.Replies.{reply_parts};
 ghost use Rattle.http_messages.specs.Reply.{render};
 ghost use Rattle.http_wire.specs.declared.inbox.Inbox.{Inbox};
@@ -10,7 +11,7 @@ ghost use Rattle.filing_model.specs.Serving.{Keeping, keeping};
 ghost use Rattle.filing_model.specs.Stopping.{ComeBefore};
 ghost use Rattle.intake_core.specs.Held.{limit_of, IsClean, IsTransition};
 ghost use Rattle.gateway_server.specs.Decided.{IsPhrased};
-ghost use Rattle.gateway_server.specs.Progress.{Streams, streams, GoesOn, HasMessage, HasRefusal, ReadsSome, TellsLimit, ServesToEnd};
+ghost use Rattle.gateway_server.specs.Progress.{with_written, GoesOn, HasMessage, HasRefusal, ReadsSome, TellsLimit, ServesToEnd};
 ghost use Rattle.gateway_server.specs.Stopping.{view_stop, ServesUpTo, IsCountUntil, IsEndedOrStoppedBy, Continues, StopsOrEnds, IsCountAt, IsTurnBy, IsTurnByReply, TellsTurn, Replies, IsStoppedAfter, end_of};
 ghost use Rattle.gateway_server.specs.Written.{WritesTexts};
 
@@ -59,8 +60,8 @@ pub fn serve<R: Source, W: Sink, S: Alter>(
     writer: &mut W,
     intake: &mut Intake<S>,
 ) -> Served
-    ensures { ServesToEnd R.left R.read_failures W.written W.write_failures S.Store reader.old reader.new writer.old
-        writer.new intake.old intake.new result }
+    ensures { ServesToEnd S.Store (wire R.Source W.Sink reader.old writer.old)
+        (wire R.Source W.Sink reader.new writer.new) intake.old intake.new result }
 {
     let partly = serve_until(alloc, reader, writer, intake, Stop::Never);
     Served {
@@ -80,8 +81,8 @@ pub fn serve_until<R: Source, W: Sink, S: Alter>(
     intake: &mut Intake<S>,
     stop: Stop,
 ) -> Partly
-    ensures { ServesUpTo R.left R.read_failures W.written W.write_failures S.Store reader.old reader.new writer.old
-        writer.new intake.old intake.new stop result }
+    ensures { ServesUpTo S.Store (wire R.Source W.Sink reader.old writer.old)
+        (wire R.Source W.Sink reader.new writer.new) intake.old intake.new stop result }
 {
     let mut marks = Vec::new(alloc);
     match Inbox::new(alloc) {
@@ -109,16 +110,16 @@ fn serve_arrivals<R: Source, W: Sink, S: Alter>(
     requires over { is_over inbox.old ≡ false }
     requires count { ComeBefore (view_stop stop) (vec_len marks.old) }
     ensures serves { IsTransition S.Store intake.old intake.new (λ early now after.
-        (before : List Request) (first : Streams)
+        (before : List Request) (first : Wire)
         → GoesOn (keeping (limit_of intake.old) early before now) first
-        (streams (R.left reader.old) (W.written writer.old)) inbox.old marks.old.items
+        (wire R.Source W.Sink reader.old writer.old) inbox.old marks.old.items
         → StopsOrEnds (keeping (limit_of intake.old) early before after) first
-        (streams (R.left reader.new) (W.written writer.new)) (view_stop stop) marks.new.items result) }
+        (wire R.Source W.Sink reader.new writer.new) (view_stop stop) marks.new.items result) }
     ensures counted { IsCountUntil (view_stop stop) (vec_len marks.new) result }
     ensures clean { IsClean S.Store intake.new → IsClean S.Store intake.old }
     ensures limit { limit_of intake.new ≡ limit_of intake.old }
-    ensures fault { IsEndedOrStoppedBy (R.read_failures reader.old) (R.read_failures reader.new)
-        (W.write_failures writer.old) (W.write_failures writer.new) result }
+    ensures fault { IsEndedOrStoppedBy (wire R.Source W.Sink reader.old writer.old)
+        (wire R.Source W.Sink reader.new writer.new) result }
     ensures texts { WritesTexts (W.written writer.old) (W.written writer.new) result }
     ensures read { ReadsSome (R.left reader.old) (R.left reader.new) inbox.old inbox.new }
     ensures told { IfSome result (TellsLimit inbox.new) }
@@ -145,18 +146,18 @@ fn serve_arrival<R: Source, W: Sink, S: Alter>(
     requires over { is_over inbox.old ≡ false }
     requires count { ComeBefore (view_stop stop) (vec_len marks.old) }
     ensures serves { IsTransition S.Store intake.old intake.new (λ early now after.
-        (before : List Request) (first : Streams)
+        (before : List Request) (first : Wire)
         → GoesOn (keeping (limit_of intake.old) early before now) first
-        (streams (R.left reader.old) (W.written writer.old)) inbox.old marks.old.items
+        (wire R.Source W.Sink reader.old writer.old) inbox.old marks.old.items
         → Continues (keeping (limit_of intake.old) early before after) first
-        (streams (R.left reader.new) (W.written writer.new)) inbox.new (view_stop stop) marks.new.items result) }
+        (wire R.Source W.Sink reader.new writer.new) inbox.new (view_stop stop) marks.new.items result) }
     ensures more { result ≡ Turn.On → is_over inbox.new ≡ false }
     ensures one { result ≡ Turn.On → vec_len marks.new ≡ vec_len marks.old + 1 }
     ensures counted { IsCountAt (view_stop stop) (vec_len marks.new) result }
     ensures clean { IsClean S.Store intake.new → IsClean S.Store intake.old }
     ensures limit { limit_of intake.new ≡ limit_of intake.old }
-    ensures fault { IsTurnBy (R.read_failures reader.old) (R.read_failures reader.new) (W.write_failures writer.old)
-        (W.write_failures writer.new) result }
+    ensures fault { IsTurnBy (wire R.Source W.Sink reader.old writer.old)
+        (wire R.Source W.Sink reader.new writer.new) result }
     ensures texts { WritesTexts (W.written writer.old) (W.written writer.new) (end_of result) }
     ensures read { ReadsSome (R.left reader.old) (R.left reader.new) inbox.old inbox.new }
     ensures told { TellsTurn inbox.new result }
@@ -181,11 +182,11 @@ fn serve_message<W: Sink, S: Alter>(
     requires lends { LendsFirst inbox.now }
     requires count { ComeBefore (view_stop stop) (vec_len marks.old) }
     ensures serves { IsTransition S.Store intake.old intake.new (λ early now after.
-        (before : List Request) (first : Streams) (left : Option (List ℕ))
+        (before : List Request) (first beside : Wire)
         → HasMessage (keeping (limit_of intake.old) early before now) first
-        (streams left (W.written writer.old)) inbox.now marks.old.items
+        (with_written beside (W.written writer.old)) inbox.now marks.old.items
         → Continues (keeping (limit_of intake.old) early before after) first
-        (streams left (W.written writer.new)) inbox.now (view_stop stop) marks.new.items result) }
+        (with_written beside (W.written writer.new)) inbox.now (view_stop stop) marks.new.items result) }
     ensures more { result ≡ Turn.On → is_over inbox.now ≡ false }
     ensures one { result ≡ Turn.On → vec_len marks.new ≡ vec_len marks.old + 1 }
     ensures counted { IsCountAt (view_stop stop) (vec_len marks.new) result }
@@ -215,9 +216,9 @@ fn serve_refusal<W: Sink>(
     marks: &mut Vec<Mark>,
 ) -> Turn
     requires { ComeBefore (view_stop stop) (vec_len marks.old) }
-    ensures serves { (requests : Keeping) (first : Streams) (left : Option (List ℕ)) (inbox : Inbox)
-        → HasRefusal requests first (streams left (W.written writer.old)) inbox refusal marks.old.items
-        → Continues requests first (streams left (W.written writer.new)) inbox (view_stop stop) marks.new.items
+    ensures serves { (requests : Keeping) (first beside : Wire) (inbox : Inbox)
+        → HasRefusal requests first (with_written beside (W.written writer.old)) inbox refusal marks.old.items
+        → Continues requests first (with_written beside (W.written writer.new)) inbox (view_stop stop) marks.new.items
         result }
     ensures closes { result ≢ Turn.On }
     ensures counted { IsCountAt (view_stop stop) (vec_len marks.new) result }

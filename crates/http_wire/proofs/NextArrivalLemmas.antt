@@ -13,6 +13,9 @@ use Rattle.http_wire.specs.Calls.{HoldsArrival, interim_if, WritesUpTo, IsFault}
 use Rattle.http_wire.specs.NextArrival.{IsHeadOf, framing_awaits, IsSendFault}
 use Rattle.http_wire.specs.declared.arrival.Parsed.{Parsed}
 use Rattle.http_wire.specs.declared.received.Received.{Received}
+use Rattle.http_wire.specs.declared.device.Source.{Ghosts as Reads}
+use Rattle.http_wire.specs.declared.device.Sink.{Ghosts as Writes}
+use Rattle.http_wire.specs.Wire.{Wire, wire}
 use Rattle.http_messages.specs.declared.refusal.Refusal.TheVariants.{HeadTooLarge, Head}
 use Rattle.http_messages.specs.declared.refusal.ConnFault.{ConnFault}
 use Rattle.http_messages.specs.declared.refusal.ConnFault.TheVariants.{Read, Write, ReadLimit, Memory}
@@ -115,18 +118,20 @@ WritesUpTo-read before after bytes asks ReadLimit a b r asked wrote f = (interim
 WritesUpTo-read before after bytes asks Memory a b r asked wrote f = inl (interim_if asks, (asks, asked, refl), wrote)
 
 -- why a read that was wanted gave nothing is why the call failed
-pub IsFault-read : (a b w w' : ℕ) (r : Received) (fault : ConnFault) → w' ≡ w → ¬ (HoldsArrival (held_bytes r)) → IsReadFault a b r fault → IsFault a b w w' (read_count r) (held_bytes r) fault
-IsFault-read a b w w' r Read same none f = ((f, same), none)
-IsFault-read a b w w' r (Write sent) same none f = absurd f
-IsFault-read a b w w' r ReadLimit same none f = ((f.0, same), f.1, none)
-IsFault-read a b w w' r Memory same none f = ((f.0, same), λ all. absurd (omega (arith, all, f.1)))
+pub IsFault-read : (before after : Wire) (r : Received) (fault : ConnFault) → after.write_failures ≡ before.write_failures → ¬ (HoldsArrival (held_bytes r))
+    → IsReadFault before.read_failures after.read_failures r fault → IsFault before after (read_count r) (held_bytes r) fault
+IsFault-read before after r Read same none f = ((f, same), none)
+IsFault-read before after r (Write sent) same none f = absurd f
+IsFault-read before after r ReadLimit same none f = ((f.0, same), f.1, none)
+IsFault-read before after r Memory same none f = ((f.0, same), λ all. absurd (omega (arith, all, f.1)))
 
 -- and so is why the interim response wasn't written
-pub IsFault-send : (before after : Option (List ℕ)) (asked : Bool) (r w w' reads : ℕ) (held : List ℕ) (fault : ConnFault) → IsSendFault before after w w' asked fault → IsFault r r w w' reads held fault
-IsFault-send before after asked r w w' reads held Read f = absurd f
-IsFault-send before after asked r w w' reads held (Write sent) f = (refl, f.1)
-IsFault-send before after asked r w w' reads held ReadLimit f = absurd f
-IsFault-send before after asked r w w' reads held Memory f = absurd f
+pub IsFault-send : {R W : Type 0} (r : Reads R) (w : Writes W) (reader : R) (before after : W) (asked : Bool) (reads : ℕ) (held : List ℕ) (fault : ConnFault) → IsSendFault w before after asked fault
+    → IsFault (wire r w reader before) (wire r w reader after) reads held fault
+IsFault-send r w reader before after asked reads held Read f = absurd f
+IsFault-send r w reader before after asked reads held (Write sent) f = (refl, f.1)
+IsFault-send r w reader before after asked reads held ReadLimit f = absurd f
+IsFault-send r w reader before after asked reads held Memory f = absurd f
 
 -- bytes without a block ask for nothing
 pub Asks-unended : (bytes : List ℕ) → IsUnended bytes → Asks bytes false
@@ -139,9 +144,9 @@ HoldsArrival-ended bytes (inr (HeadTooLarge, refused)) u = omega (arith, refused
 HoldsArrival-ended bytes (inr (Head fault, refused)) u = u.unended refused.1.0 refused.1.1.short refused.1.1.ends
 
 -- what went out of the interim response, where a write of it failed
-pub WritesUpTo-send : (before after : Option (List ℕ)) (bytes : List ℕ) (asks : Bool) (fault : ConnFault) (w w' : ℕ)
-    → Asks bytes asks → IsSendFault before after w w' asks fault → WritesUpTo before after bytes fault
-WritesUpTo-send before after bytes asks Read w w' asked f = absurd f
-WritesUpTo-send before after bytes asks (Write sent) w w' asked f = (subst (Asks bytes) f.0 asked, f.2, f.3)
-WritesUpTo-send before after bytes asks ReadLimit w w' asked f = absurd f
-WritesUpTo-send before after bytes asks Memory w w' asked f = absurd f
+pub WritesUpTo-send : {W : Type 0} (w : Writes W) (before after : W) (bytes : List ℕ) (asks : Bool) (fault : ConnFault)
+    → Asks bytes asks → IsSendFault w before after asks fault → WritesUpTo (w.written before) (w.written after) bytes fault
+WritesUpTo-send w before after bytes asks Read asked f = absurd f
+WritesUpTo-send w before after bytes asks (Write sent) asked f = (subst (Asks bytes) f.0 asked, f.2, f.3)
+WritesUpTo-send w before after bytes asks ReadLimit asked f = absurd f
+WritesUpTo-send w before after bytes asks Memory asked f = absurd f

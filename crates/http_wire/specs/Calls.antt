@@ -5,10 +5,10 @@ use Rattle.http_messages.specs.declared.refusal.ConnFault.{ConnFault}
 use Rattle.http_messages.specs.declared.refusal.ConnFault.TheVariants.{Read, Write, ReadLimit, Memory}
 use Rattle.http_messages.specs.declared.refusal.Refusal.{Refusal}
 use Rattle.http_messages.specs.Block.{HoldsBlock}
-use Rattle.http_wire.specs.Device.{ReaderFailed, WriterFailed, NoneFailed}
 use Rattle.http_messages.specs.Message.{BeginsRequest, IsRefused, Asks, IsInterimFor, interim}
 use Rattle.http_messages.specs.Reads.{max_reads}
 use Rattle.http_messages.specs.Request.{Request}
+use Rattle.http_wire.specs.Wire.{Wire, ReaderFailed, WriterFailed, NoneFailed}
 
 -- the bytes begin with a request or a refusal
 abbrev pub HoldsArrival : List ℕ → Type 0
@@ -30,11 +30,11 @@ WritesUpTo before after bytes (Write sent) = Asks bytes true × (sent ≤ length
 WritesUpTo before after bytes ReadLimit = WritesAsked before after bytes
 WritesUpTo before after bytes Memory = WritesAsked before after bytes ⊎ Appends before after []
 
--- Why a call failed, by the failures of the reader and of the writer before and after, the reads that are counted, and the bytes that are
--- held: a read that was wanted failed, or a write did; or neither failed, and all reads were made that may give bytes where one more was
--- wanted, or there was no memory. Where no read may give bytes any more, memory is wanted for the head of a block that is held.
-abbrev pub IsFault : ℕ → ℕ → ℕ → ℕ → ℕ → List ℕ → ConnFault → Type 0
-IsFault read read' write write' reads held Read = ReaderFailed read read' write write' × ¬ (HoldsArrival held)
-IsFault read read' write write' reads held (Write sent) = WriterFailed read read' write write'
-IsFault read read' write write' reads held ReadLimit = NoneFailed read read' write write' × (reads ≡ max_reads) × ¬ (HoldsArrival held)
-IsFault read read' write write' reads held Memory = NoneFailed read read' write write' × (reads ≡ max_reads → HoldsBlock held)
+-- Why a call failed, by the reader and the writer before and after, the reads that are counted, and the bytes that are held: a read that
+-- was wanted failed, or a write did; or neither failed, and all reads were made that may give bytes where one more was wanted, or there was
+-- no memory. Where no read may give bytes any more, memory is wanted for the head of a block that is held.
+abbrev pub IsFault : Wire → Wire → ℕ → List ℕ → ConnFault → Type 0
+IsFault before after reads held Read = ReaderFailed before after × ¬ (HoldsArrival held)
+IsFault before after reads held (Write sent) = WriterFailed before after
+IsFault before after reads held ReadLimit = NoneFailed before after × (reads ≡ max_reads) × ¬ (HoldsArrival held)
+IsFault before after reads held Memory = NoneFailed before after × (reads ≡ max_reads → HoldsBlock held)

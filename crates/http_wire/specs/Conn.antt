@@ -1,7 +1,8 @@
 -- What contracts see of a connection, and what a reply does to it.
-use Rattle.std.specs.Prelude.{◌≡◌, ◌||◌, ℕ, Bool, true, false, List, Option, Result, Err, IfErr, OnOk, OnErr, is_err}
+use Rattle.std.specs.Prelude.{◌≡◌, ◌||◌, Bool, true, false, Result, Err, IfErr, OnOk, OnErr, is_err}
 use Rattle.std.specs.Io.KnownBytes.{Appends}
 use Rattle.http_wire.specs.declared.conn.Conn.{Conn}
+use Rattle.http_wire.specs.declared.device.Sink.{Ghosts as Writes}
 use Rattle.http_wire.specs.declared.inbox.Inbox.{Inbox}
 use Rattle.http_messages.specs.declared.refusal.ConnFault.{ConnFault}
 use Rattle.http_messages.specs.declared.refusal.ConnFault.TheVariants.{Write}
@@ -21,13 +22,13 @@ conn_writer c = c.writer
 abbrev pub conn_inbox : {R W : Type 0} → Conn R W → Inbox
 conn_inbox c = c.inbox
 
--- What `reply` does to a connection. First comes what contracts see of its writer.
-pub record WritesReply {R W : Type 0} (written : W → Option (List ℕ)) (write_failures : W → ℕ) (old new : Conn R W) (reply : ReplyParts) (close : Bool) (result : Result (Unit {0}) ConnFault) : Type 0 where
+-- What `reply` does to a connection.
+pub record WritesReply {R W : Type 0} (w : Writes W) (old new : Conn R W) (reply : ReplyParts) (close : Bool) (result : Result (Unit {0}) ConnFault) : Type 0 where
   -- the reply was written, and the writer didn't fail
-  pub ok : OnOk result (Appends (written (conn_writer old)) (written (conn_writer new)) (render reply close))
-  pub fine : OnOk result (write_failures (conn_writer new) ≡ write_failures (conn_writer old))
+  pub ok : OnOk result (Appends (w.written (conn_writer old)) (w.written (conn_writer new)) (render reply close))
+  pub fine : OnOk result (w.write_failures (conn_writer new) ≡ w.write_failures (conn_writer old))
   -- or this is why it wasn't; after a fault, of `next` too, nothing is written
-  pub fault : is_failed (conn_inbox old) ≡ false → IfErr result (IsWriteFault (written (conn_writer old)) (written (conn_writer new)) (write_failures (conn_writer old)) (write_failures (conn_writer new)) (render reply close))
+  pub fault : is_failed (conn_inbox old) ≡ false → IfErr result (IsWriteFault w (conn_writer old) (conn_writer new) (render reply close))
   pub after_fault : is_failed (conn_inbox old) ≡ true → (result ≡ Err (Write 0)) × (conn_writer new ≡ conn_writer old)
   -- whether anything may arrive then
   pub over : OnOk result (is_over (conn_inbox new) ≡ (close || is_over (conn_inbox old)))

@@ -13,18 +13,6 @@ Counts old new r = new ≡ (if is_ok r then old else one_more old)
 abbrev pub HasFailed : ℕ → ℕ → Type 0
 HasFailed old new = (old < new) ⊎ (new ≡ 2 ^ 64 - 1)
 
--- Of a reader, the failures before and after, and then those of a writer: the reader failed, and the writer didn't.
-abbrev pub ReaderFailed : ℕ → ℕ → ℕ → ℕ → Type 0
-ReaderFailed read read' write write' = HasFailed read read' × (write' ≡ write)
-
--- the writer failed, and the reader didn't
-abbrev pub WriterFailed : ℕ → ℕ → ℕ → ℕ → Type 0
-WriterFailed read read' write write' = (read' ≡ read) × HasFailed write write'
-
--- neither failed
-abbrev pub NoneFailed : ℕ → ℕ → ℕ → ℕ → Type 0
-NoneFailed read read' write write' = (read' ≡ read) × (write' ≡ write)
-
 -- a write takes some of a text that isn't empty
 abbrev pub TakesSome : {E : Type 0} → Result ℕ E → List ℕ → Type 0
 TakesSome r text = IfOk r (λ n. n ≡ 0 → length text ≡ 0)

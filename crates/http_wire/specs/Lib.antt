@@ -11,4 +11,5 @@ pub mod ReadingOn
 pub mod Received
 pub mod ReplyFaults
 pub mod ReplyReading
+pub mod Wire
 pub mod Write

@@ -1,17 +1,22 @@
 -- What stands first in the bytes that are held, and where.
-use Rattle.std.specs.Prelude.{◌≡◌, ◌&&◌, ◌≤◌, ℕ, Bool, true, List, [], length, take, Option, slice_range, nat_lt}
+use Rattle.std.specs.Prelude.{◌≡◌, ◌&&◌, ◌≤◌, ℕ, Bool, true, List, [], length, take, Option, Result, slice_range, nat_lt, IfOk, IfErr, OnOk}
 use Rattle.std.specs.Io.KnownBytes.{Appends, IsAtEnd}
 use Rattle.http_messages.specs.declared.head.Framing.{Framing}
 use Rattle.http_wire.specs.declared.arrival.NextArrival.{NextArrival}
 use Rattle.http_wire.specs.declared.arrival.NextArrival.TheVariants.{Request, Refused, Rest}
 use Rattle.http_wire.specs.declared.arrival.Parsed.{Parsed}
+use Rattle.http_wire.specs.declared.device.Source.{Ghosts as Reads}
+use Rattle.http_wire.specs.declared.device.Sink.{Ghosts as Writes}
+use Rattle.http_wire.specs.declared.received.Received.{Received}
 use Rattle.http_messages.specs.declared.refusal.ConnFault.{ConnFault}
 use Rattle.http_messages.specs.declared.refusal.ConnFault.TheVariants.{Read, Write, ReadLimit, Memory}
 use Rattle.http_messages.specs.Block.{skipped_len}
-use Rattle.http_wire.specs.Calls.{interim_if, WritesAsked}
+use Rattle.http_wire.specs.Calls.{HoldsArrival, interim_if, IsFault, WritesAsked, WritesUpTo}
 use Rattle.http_wire.specs.Device.{HasFailed}
 use Rattle.http_messages.specs.Message.{BeginsHead, BeginsRequest, IsRefused, IsRest, awaits, interim}
 use Rattle.http_wire.specs.Parsed.{parsed_end, parsed_request, IsParsed}
+use Rattle.http_wire.specs.Received.{held_bytes, read_count, Receives, ReceivesNothing}
+use Rattle.http_wire.specs.Wire.{wire, NoneFailed}
 use Rattle.http_messages.specs.Spans.{parts_at, IsHeadAt}
 
 -- a head begins the bytes
@@ -32,13 +37,26 @@ WritesFor before after bytes (Request p) = Appends before after (interim_if (awa
 WritesFor before after bytes (Refused refusal) = Appends before after []
 WritesFor before after bytes Rest = WritesAsked before after bytes
 
+-- What reading on to the next arrival does with a reader, a writer and the bytes that are held, and what it finds.
+pub record FindsArrival {R W : Type 0} (r : Reads R) (w : Writes W) (reader reader' : R) (writer writer' : W) (old new : Received) (result : Result NextArrival ConnFault) : Type 0 where
+  -- what was read follows what was held, and nothing is read where an arrival is there already
+  pub reads : Receives (r.left reader) (r.left reader') old new
+  pub lazy : HoldsArrival (held_bytes old) → ReceivesNothing reader reader' old new
+  pub found : IfOk result (IsNextArrival (r.left reader') (held_bytes new))
+  -- what was written: the interim response that is asked for, or a part of it
+  pub interim : IfOk result (WritesFor (w.written writer) (w.written writer') (held_bytes new))
+  pub part : IfErr result (WritesUpTo (w.written writer) (w.written writer') (held_bytes new))
+  -- neither failed where there is an answer, and otherwise this is why there is none
+  pub fine : OnOk result (NoneFailed (wire r w reader writer) (wire r w reader' writer'))
+  pub fault : IfErr result (IsFault (wire r w reader writer) (wire r w reader' writer') (read_count new) (held_bytes new))
+
 -- the head asks for an interim response before the body
 abbrev pub framing_awaits : Framing → Bool
 framing_awaits framing = framing.expects && nat_lt 0 framing.body_len
 
--- a write failed after a part of the interim response that was asked for: the writer's failures before and after
-abbrev pub IsSendFault : Option (List ℕ) → Option (List ℕ) → ℕ → ℕ → Bool → ConnFault → Type 0
-IsSendFault before after failures failures' asked Read = ⊥
-IsSendFault before after failures failures' asked (Write sent) = (asked ≡ true) × HasFailed failures failures' × (sent ≤ length interim) × Appends before after (take sent interim)
-IsSendFault before after failures failures' asked ReadLimit = ⊥
-IsSendFault before after failures failures' asked Memory = ⊥
+-- a write failed after a part of the interim response that was asked for
+abbrev pub IsSendFault : {W : Type 0} → Writes W → W → W → Bool → ConnFault → Type 0
+IsSendFault w before after asked Read = ⊥
+IsSendFault w before after asked (Write sent) = (asked ≡ true) × HasFailed (w.write_failures before) (w.write_failures after) × (sent ≤ length interim) × Appends (w.written before) (w.written after) (take sent interim)
+IsSendFault w before after asked ReadLimit = ⊥
+IsSendFault w before after asked Memory = ⊥

@@ -1,6 +1,7 @@
 -- What reads do to the bytes that are held.
-use Rattle.std.specs.Prelude.{◌≡◌, ℕ, ◌+◌, ◌<◌, ◌≤◌, List, ◌++◌, length, drop, Option}
+use Rattle.std.specs.Prelude.{◌≡◌, ℕ, ◌+◌, ◌<◌, ◌≤◌, List, ◌++◌, length, drop, Option, Result, IfErr, OnOk}
 use Rattle.std.specs.Io.KnownBytes.{Consumes}
+use Rattle.http_wire.specs.declared.device.Source.{Ghosts as Reads}
 use Rattle.http_wire.specs.declared.received.Received.{Received}
 use Rattle.http_messages.specs.declared.refusal.ConnFault.{ConnFault}
 use Rattle.http_messages.specs.declared.refusal.ConnFault.TheVariants.{Read, Write, ReadLimit, Memory}
@@ -42,3 +43,10 @@ IsReadFault failures failures' new Read = HasFailed failures failures'
 IsReadFault failures failures' new (Write sent) = ⊥
 IsReadFault failures failures' new ReadLimit = (failures' ≡ failures) × (read_count new ≡ max_reads)
 IsReadFault failures failures' new Memory = (failures' ≡ failures) × (read_count new < max_reads)
+
+-- What a call that reads does with a reader and the bytes that are held.
+pub record ReadsFrom {R X : Type 0} (r : Reads R) (before after : R) (old new : Received) (result : Result X ConnFault) : Type 0 where
+  pub receives : Receives (r.left before) (r.left after) old new
+  -- the reader didn't fail where there is an answer, and otherwise this is why there is none
+  pub fine : OnOk result (r.read_failures after ≡ r.read_failures before)
+  pub fault : IfErr result (IsReadFault (r.read_failures before) (r.read_failures after) new)

@@ -3,10 +3,10 @@
 ghost use Rattle.std.specs.Prelude.{◌≡◌, ◌<◌, Err, IfOk, IfErr, OnOk, slice_range};
 ghost use Rattle.std.specs.Io.KnownBytes.{Appends};
 ghost use Rattle.http_messages.specs.Block.{IsBlockEnd, skipped_len};
-ghost use Rattle.http_wire.specs.Calls.{HoldsArrival, interim_if, IsFault, WritesUpTo};
-ghost use Rattle.http_wire.specs.NextArrival.{IsHeadOf, IsNextArrival, WritesFor, framing_awaits, IsSendFault};
+ghost use Rattle.http_wire.specs.Calls.{interim_if};
+ghost use Rattle.http_wire.specs.NextArrival.{IsHeadOf, FindsArrival, framing_awaits, IsSendFault};
 ghost use Rattle.http_messages.specs.Head.{IsHeadFault};
-ghost use Rattle.http_wire.specs.Received.{held_bytes, read_count, Receives, ReceivesNothing};
+ghost use Rattle.http_wire.specs.Received.{held_bytes, read_count};
 ghost use Rattle.http_messages.specs.Reads.{max_reads};
 
 use crate::device::{Sink, Source};
@@ -46,17 +46,8 @@ pub(crate) fn find_arrival<R: Source, W: Sink>(
     reader: &mut R,
     writer: &mut W,
 ) -> Result<NextArrival, ConnFault>
-    ensures reads { Receives (R.left reader.old) (R.left reader.new) received.old received.new }
-    ensures lazy { HoldsArrival (held_bytes received.old)
-        → ReceivesNothing reader.old reader.new received.old received.new }
-    ensures found { IfOk result (IsNextArrival (R.left reader.new) (held_bytes received.new)) }
-    ensures interim { IfOk result (WritesFor (W.written writer.old) (W.written writer.new) (held_bytes received.new)) }
-    ensures part { IfErr result (WritesUpTo (W.written writer.old) (W.written writer.new) (held_bytes received.new)) }
-    ensures fine { OnOk result ((R.read_failures reader.new ≡ R.read_failures reader.old)
-        × (W.write_failures writer.new ≡ W.write_failures writer.old)) }
-    ensures fault { IfErr result
-        (IsFault (R.read_failures reader.old) (R.read_failures reader.new) (W.write_failures writer.old)
-        (W.write_failures writer.new) (read_count received.new) (held_bytes received.new)) }
+    ensures { FindsArrival R.Source W.Sink reader.old reader.new writer.old writer.new received.old received.new
+        result }
 {
     let end = match received.read_block(reader)? {
         Block::End(end) => end,
@@ -94,17 +85,8 @@ fn read_request<R: Source, W: Sink>(
     parsed: Parsed,
 ) -> Result<NextArrival, ConnFault>
     requires { IsHeadOf (held_bytes received.old) parsed }
-    ensures reads { Receives (R.left reader.old) (R.left reader.new) received.old received.new }
-    ensures lazy { HoldsArrival (held_bytes received.old)
-        → ReceivesNothing reader.old reader.new received.old received.new }
-    ensures found { IfOk result (IsNextArrival (R.left reader.new) (held_bytes received.new)) }
-    ensures interim { IfOk result (WritesFor (W.written writer.old) (W.written writer.new) (held_bytes received.new)) }
-    ensures part { IfErr result (WritesUpTo (W.written writer.old) (W.written writer.new) (held_bytes received.new)) }
-    ensures fine { OnOk result ((R.read_failures reader.new ≡ R.read_failures reader.old)
-        × (W.write_failures writer.new ≡ W.write_failures writer.old)) }
-    ensures fault { IfErr result
-        (IsFault (R.read_failures reader.old) (R.read_failures reader.new) (W.write_failures writer.old)
-        (W.write_failures writer.new) (read_count received.new) (held_bytes received.new)) }
+    ensures found { FindsArrival R.Source W.Sink reader.old reader.new writer.old writer.new received.old received.new
+        result }
     ensures memory { result ≡ Err ConnFault.Memory → read_count received.new < max_reads }
 {
     send_interim(writer, parsed.framing)?;
@@ -120,9 +102,7 @@ fn send_interim<W: Sink>(writer: &mut W, framing: Framing) -> Result<(), ConnFau
     ensures ok { OnOk result
         (Appends (W.written writer.old) (W.written writer.new) (interim_if (framing_awaits framing))) }
     ensures fine { OnOk result (W.write_failures writer.new ≡ W.write_failures writer.old) }
-    ensures fault { IfErr result
-        (IsSendFault (W.written writer.old) (W.written writer.new) (W.write_failures writer.old)
-        (W.write_failures writer.new) (framing_awaits framing)) }
+    ensures fault { IfErr result (IsSendFault W.Sink writer.old writer.new (framing_awaits framing)) }
 {
     if framing.expects && framing.body_len > 0 {
         write_all(writer, INTERIM).map_err(|sent| ConnFault::Write { sent })?;

@@ -36,9 +36,8 @@ impl<R: Source + Drop, W: Sink + Drop> Conn<R, W> {
 
     /// Reads on to the next request or refusal, as `Inbox::next` does.
     pub fn next(&mut self) -> Result<Next, ConnFault>
-        ensures { FindsNext R.left R.read_failures W.written W.write_failures (conn_reader self.old)
-            (conn_reader self.new) (conn_writer self.old) (conn_writer self.new) (conn_inbox self.old)
-            (conn_inbox self.new) result }
+        ensures { FindsNext R.Source W.Sink (conn_reader self.old) (conn_reader self.new) (conn_writer self.old)
+            (conn_writer self.new) (conn_inbox self.old) (conn_inbox self.new) result }
     {
         self.inbox.next(&mut self.reader, &mut self.writer)
     }
@@ -55,7 +54,7 @@ impl<R: Source + Drop, W: Sink + Drop> Conn<R, W> {
     /// is lent stays. After a fault, of `next` too, nothing is written any more.
     pub fn reply(&mut self, reply: &Reply, close: bool) -> Result<(), ConnFault>
         requires { IsSome (phrase reply.now.status) }
-        ensures { WritesReply W.written W.write_failures self.old self.new (reply_parts reply.now) close result }
+        ensures { WritesReply W.Sink self.old self.new (reply_parts reply.now) close result }
     {
         if self.inbox.has_failed() {
             return Err(ConnFault::Write { sent: 0 });

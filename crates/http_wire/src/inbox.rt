@@ -75,8 +75,7 @@ impl Inbox {
         reader: &mut R,
         writer: &mut W,
     ) -> Result<Next, ConnFault>
-        ensures { FindsNext R.left R.read_failures W.written W.write_failures reader.old reader.new writer.old
-            writer.new self.old self.new result }
+        ensures { FindsNext R.Source W.Sink reader.old reader.new writer.old writer.new self.old self.new result }
     {
         self.drop_message();
         if self.phase != Phase::Open {

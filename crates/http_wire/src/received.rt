@@ -1,5 +1,5 @@
 //! The bytes of a connection that were read and not yet dropped, and the loops that read more.
-ghost use Rattle.std.specs.Prelude.{◌≡◌, ◌↔◌, ◌+◌, ◌<◌, ◌≤◌, ℕ, List, ◌++◌, [], length, drop, IsTrue, true, false, IfOk, IfErr, OnOk, OnErr, Ok};
+ghost use Rattle.std.specs.Prelude.{◌≡◌, ◌↔◌, ◌+◌, ◌<◌, ◌≤◌, ℕ, List, ◌++◌, [], length, drop, IsTrue, true, false, IfOk, OnErr, Ok};
 ghost use Rattle.std.specs.Io.KnownBytes.{IsAtEnd};
 ghost use Rattle.http_messages.specs.Block.{from_block, HasNoEndUpTo, IsBlock, IsUnended};
 ghost use Rattle.http_wire.specs.Buffer.{buffered};
@@ -23,7 +23,7 @@ pub(crate) struct Received {
 }
 
 impl Received {
-    ghost use Rattle.http_wire.specs.Received.{held_bytes, held_memory, read_count, Receives, ReceivesNothing, IsReadFault};
+    ghost use Rattle.http_wire.specs.Received.{held_bytes, held_memory, read_count, ReadsFrom, ReceivesNothing};
 
     /// Nothing yet.
     pub(crate) fn new(alloc: Global) -> Result<Received, AllocError>
@@ -61,13 +61,11 @@ impl Received {
     /// Reads until a block stands at the front or what is too long for one, or the input ends. Each
     /// search goes on where the last one stopped.
     pub(crate) fn read_block<R: Source>(&mut self, reader: &mut R) -> Result<Block, ConnFault>
-        ensures reads { Receives (R.left reader.old) (R.left reader.new) self.old self.new }
+        ensures reads { ReadsFrom R.Source reader.old reader.new self.old self.new result }
         ensures lazy { ¬ (IsUnended (held_bytes self.old)) → ReceivesNothing reader.old reader.new self.old self.new }
         ensures block { IfOk result (IsBlock (held_bytes self.new)) }
         ensures end { result ≡ Ok Block.More → IsAtEnd (R.left reader.new) }
         ensures unended { OnErr result (IsUnended (held_bytes self.new)) }
-        ensures fine { OnOk result (R.read_failures reader.new ≡ R.read_failures reader.old) }
-        ensures fault { IfErr result (IsReadFault (R.read_failures reader.old) (R.read_failures reader.new) self.new) }
     {
         let mut searched = 0;
         loop {
@@ -89,13 +87,11 @@ impl Received {
         len: usize,
     ) -> Result<bool, ConnFault>
         requires { len ≤ MAX_HELD }
-        ensures reads { Receives (R.left reader.old) (R.left reader.new) self.old self.new }
+        ensures reads { ReadsFrom R.Source reader.old reader.new self.old self.new result }
         ensures lazy { len ≤ length (held_bytes self.old) → ReceivesNothing reader.old reader.new self.old self.new }
         ensures filled { IfOk result (λ whole. IsTrue whole ↔ (len ≤ length (held_bytes self.new))) }
         ensures end { result ≡ Ok false → IsAtEnd (R.left reader.new) }
         ensures unfilled { OnErr result (length (held_bytes self.new) < len) }
-        ensures fine { OnOk result (R.read_failures reader.new ≡ R.read_failures reader.old) }
-        ensures fault { IfErr result (IsReadFault (R.read_failures reader.old) (R.read_failures reader.new) self.new) }
     {
         while self.bytes.len() < len {
             if !self.read_more(reader)? {
@@ -109,12 +105,10 @@ impl Received {
     /// gave bytes is counted.
     pub(crate) fn read_more<R: Source>(&mut self, reader: &mut R) -> Result<bool, ConnFault>
         requires { length (held_bytes self.old) < MAX_HELD }
-        ensures reads { Receives (R.left reader.old) (R.left reader.new) self.old self.new }
+        ensures reads { ReadsFrom R.Source reader.old reader.new self.old self.new result }
         ensures counted { result ≡ Ok true → read_count self.new ≡ read_count self.old + 1 }
         ensures end { result ≡ Ok false → (held_bytes self.new ≡ held_bytes self.old) × IsAtEnd (R.left reader.new) }
         ensures same { OnErr result (held_bytes self.new ≡ held_bytes self.old) }
-        ensures fine { OnOk result (R.read_failures reader.new ≡ R.read_failures reader.old) }
-        ensures fault { IfErr result (IsReadFault (R.read_failures reader.old) (R.read_failures reader.new) self.new) }
     {
         if self.reads == MAX_READS {
             return Err(ConnFault::ReadLimit);

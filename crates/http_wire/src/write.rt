@@ -41,8 +41,7 @@ pub fn write_reply<W: Sink>(
         (Appends (W.written writer.old) (W.written writer.new) (render (reply_parts reply.now) close)) }
     ensures fine { OnOk result (W.write_failures writer.new ≡ W.write_failures writer.old) }
     ensures fault { IfErr result
-        (IsWriteFault (W.written writer.old) (W.written writer.new) (W.write_failures writer.old)
-        (W.write_failures writer.new) (render (reply_parts reply.now) close)) }
+        (IsWriteFault W.Sink writer.old writer.new (render (reply_parts reply.now) close)) }
 {
     let text = reply_text(alloc, reply, close)?;
     write_all(writer, &text).map_err(|sent| ConnFault::Write { sent })

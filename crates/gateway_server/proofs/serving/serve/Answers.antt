@@ -3,7 +3,7 @@ use Rattle.filing_model.specs.declared.served.Ended.{Ended}
 use Rattle.filing_model.specs.Serving.{keeping}
 use Rattle.filing_model.specs.Stopping.{No}
 use Rattle.intake_core.specs.Held.{limit_of, early_in}
-use Rattle.gateway_server.specs.Progress.{streams}
+use Rattle.http_wire.specs.Wire.{wire}
 use Rattle.gateway_server.specs.Stopping.{ServesConnectionUntil}
 use Rattle.gateway_server.specs.Written.{WritesTexts}
 use Rattle.gateway_server.proofs.Stopping.{ServesConnection-ended}
@@ -12,8 +12,8 @@ use Rattle.gateway_server.proofs.serving.serve.Goals as goal
 pub returns : goal.returns
 returns g c = record {
   serves = λ clean before h.
-      let old = streams (g.R.Source.left c.args.reader.now) (g.W.Sink.written c.args.writer.now) in
-      let new = streams (g.R.Source.left c.serve_until-partly.new.reader) (g.W.Sink.written c.serve_until-partly.new.writer) in
+      let old = wire g.R.Source g.W.Sink c.args.reader.now c.args.writer.now in
+      let new = wire g.R.Source g.W.Sink c.serve_until-partly.new.reader c.serve_until-partly.new.writer in
       let marks = c.serve_until-partly.result.marks.items in
       let served = c.serve_until-partly.ensures.serves clean before h in
       let requests = keeping (limit_of c.args.intake.now) (early_in c.args.intake.now before) before served.0 in

@@ -6,7 +6,8 @@ use Rattle.http_messages.specs.Message.{IsRest}
 use Rattle.filing_model.specs.declared.served.Ended.TheVariants.{InputEnded}
 use Rattle.filing_model.specs.Serving.{keeping}
 use Rattle.intake_core.specs.Held.{limit_of, early_in}
-use Rattle.gateway_server.specs.Progress.{streams}
+use Rattle.http_wire.specs.Wire.{wire}
+use Rattle.gateway_server.specs.Progress.{with_written}
 use Rattle.gateway_server.specs.Stopping.{end_of}
 use Rattle.gateway_server.proofs.Continuing.{HasMessage-next, HasRefusal-next, Serves-end, Serves-fault, is_limit}
 use Rattle.gateway_server.proofs.Ending.{TellsLimit-fault}
@@ -20,10 +21,11 @@ returns-in-Ok-Message-clause-serves g c = λ clean now kept.
       served.1,
       served.2,
       λ before first h.
+          let ended = wire g.R.Source g.W.Sink c.next.new.reader c.serve_message.new.writer in
           let arrival = rw c.in-Ok-Message.field-0-is at c.in-Ok-Message.ensures.arrival in
           let interim = rw c.in-Ok-Message.field-0-is at c.in-Ok-Message.ensures.interim in
-          served.3 before first (g.R.Source.left c.next.new.reader)
-          (HasMessage-next (keeping (limit_of c.args.intake.now) (early_in c.args.intake.now now) before now) first (streams (g.R.Source.left c.args.reader.now) (g.W.Sink.written c.args.writer.now)) (streams (g.R.Source.left c.next.new.reader) (g.W.Sink.written c.next.new.writer)) c.args.inbox.now c.next.new.self c.args.marks.now.items h c.next.ensures.reads arrival.1 interim),
+          served.3 before first ended
+          (HasMessage-next (keeping (limit_of c.args.intake.now) (early_in c.args.intake.now now) before now) first (wire g.R.Source g.W.Sink c.args.reader.now c.args.writer.now) (with_written ended (g.W.Sink.written c.next.new.writer)) c.args.inbox.now c.next.new.self c.args.marks.now.items h c.next.ensures.reads arrival.1 interim),
     )
 
 pub returns-in-Ok-Refuse-clause-serves : goal.returns-in-Ok-Refuse-clause-serves
@@ -32,10 +34,11 @@ returns-in-Ok-Refuse-clause-serves g c = λ clean now kept. (
   kept,
   refl,
   λ before first h.
+      let ended = wire g.R.Source g.W.Sink c.next.new.reader c.serve_refusal.new.writer in
       let arrival = rw c.in-Ok-Refuse.field-0-is at c.in-Ok-Refuse.ensures.arrival in
       let interim = rw c.in-Ok-Refuse.field-0-is at c.in-Ok-Refuse.ensures.interim in
-      c.serve_refusal.ensures.serves (keeping (limit_of c.args.intake.now) (early_in c.args.intake.now now) before now) first (g.R.Source.left c.next.new.reader) c.next.new.self
-      (HasRefusal-next (keeping (limit_of c.args.intake.now) (early_in c.args.intake.now now) before now) first (streams (g.R.Source.left c.args.reader.now) (g.W.Sink.written c.args.writer.now)) (streams (g.R.Source.left c.next.new.reader) (g.W.Sink.written c.next.new.writer)) c.args.inbox.now c.next.new.self c.args.marks.now.items h c.next.ensures.reads c.in-Ok-Refuse.refusal arrival.2 interim),
+      c.serve_refusal.ensures.serves (keeping (limit_of c.args.intake.now) (early_in c.args.intake.now now) before now) first ended c.next.new.self
+      (HasRefusal-next (keeping (limit_of c.args.intake.now) (early_in c.args.intake.now now) before now) first (wire g.R.Source g.W.Sink c.args.reader.now c.args.writer.now) (with_written ended (g.W.Sink.written c.next.new.writer)) c.args.inbox.now c.next.new.self c.args.marks.now.items h c.next.ensures.reads c.in-Ok-Refuse.refusal arrival.2 interim),
 )
 
 pub returns-in-Ok-End-clause-serves : goal.returns-in-Ok-End-clause-serves
@@ -49,7 +52,7 @@ returns-in-Ok-End-clause-serves g c = λ clean now kept. (
       let rest : IsRest (held c.next.new.self) = elim arrival.1 [ inl over ↦ absurd (true≢false (sym over ∙ c.requires.over)) | inr r ↦ r.0 ] in
       let ended : IsAtEnd (g.R.Source.left c.next.new.reader) = elim arrival.1 [ inl over ↦ absurd (true≢false (sym over ∙ c.requires.over)) | inr r ↦ r.1 ] in
       let asked : WritesAsked (g.W.Sink.written c.args.writer.now) (g.W.Sink.written c.next.new.writer) (held c.next.new.self) = elim interim [ inl over ↦ absurd (true≢false (sym over.0 ∙ c.requires.over)) | inr w ↦ w ] in
-      Serves-end (keeping (limit_of c.args.intake.now) (early_in c.args.intake.now now) before now) first (streams (g.R.Source.left c.args.reader.now) (g.W.Sink.written c.args.writer.now)) (streams (g.R.Source.left c.next.new.reader) (g.W.Sink.written c.next.new.writer)) c.args.inbox.now c.next.new.self c.args.marks.now.items h c.next.ensures.reads ended rest asked,
+      Serves-end (keeping (limit_of c.args.intake.now) (early_in c.args.intake.now now) before now) first (wire g.R.Source g.W.Sink c.args.reader.now c.args.writer.now) (wire g.R.Source g.W.Sink c.next.new.reader c.next.new.writer) c.args.inbox.now c.next.new.self c.args.marks.now.items h c.next.ensures.reads ended rest asked,
 )
 
 pub returns-in-Err-clause-serves : goal.returns-in-Err-clause-serves
@@ -58,13 +61,13 @@ returns-in-Err-clause-serves g c = λ clean now kept. (
   kept,
   refl,
   λ before first h.
-      Serves-fault (keeping (limit_of c.args.intake.now) (early_in c.args.intake.now now) before now) first (streams (g.R.Source.left c.args.reader.now) (g.W.Sink.written c.args.writer.now)) (streams (g.R.Source.left c.next.new.reader) (g.W.Sink.written c.next.new.writer)) c.args.inbox.now c.next.new.self c.args.marks.now.items h c.next.ensures.reads c.in-Err.fault
-      (is_limit (g.R.Source.read_failures c.args.reader.now) (g.R.Source.read_failures c.next.new.reader) (g.W.Sink.write_failures c.args.writer.now) (g.W.Sink.write_failures c.next.new.writer) (reads c.next.new.self) (held c.next.new.self) c.in-Err.fault c.in-Err.ensures.fault)
+      Serves-fault (keeping (limit_of c.args.intake.now) (early_in c.args.intake.now now) before now) first (wire g.R.Source g.W.Sink c.args.reader.now c.args.writer.now) (wire g.R.Source g.W.Sink c.next.new.reader c.next.new.writer) c.args.inbox.now c.next.new.self c.args.marks.now.items h c.next.ensures.reads c.in-Err.fault
+      (is_limit (wire g.R.Source g.W.Sink c.args.reader.now c.args.writer.now) (wire g.R.Source g.W.Sink c.next.new.reader c.next.new.writer) (reads c.next.new.self) (held c.next.new.self) c.in-Err.fault c.in-Err.ensures.fault)
       c.in-Err.ensures.part,
 )
 
 pub returns-in-Err-clause-told : goal.returns-in-Err-clause-told
-returns-in-Err-clause-told g c = TellsLimit-fault _ _ _ _ c.next.new.self c.in-Err.fault c.in-Err.ensures.fault
+returns-in-Err-clause-told g c = TellsLimit-fault (wire g.R.Source g.W.Sink c.args.reader.now c.args.writer.now) (wire g.R.Source g.W.Sink c.next.new.reader c.next.new.writer) c.next.new.self c.in-Err.fault c.in-Err.ensures.fault
 
 -- ---- what went out
 

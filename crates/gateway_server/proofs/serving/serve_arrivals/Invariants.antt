@@ -1,10 +1,11 @@
 use Rattle.std.proofs.Common.{◌≡◌, ◌-◌, ◌^◌, false, List, None, vec_len}
 use Rattle.http_wire.specs.Inbox.{is_over}
+use Rattle.http_wire.specs.Wire.{Wire, wire}
 use Rattle.filing_model.specs.Request.{Request}
 use Rattle.filing_model.specs.Serving.{keeping}
 use Rattle.filing_model.specs.Stopping.{ComeBefore}
 use Rattle.intake_core.specs.Held.{limit_of, IsClean, IsTransition}
-use Rattle.gateway_server.specs.Progress.{Streams, streams, GoesOn, ReadsSome}
+use Rattle.gateway_server.specs.Progress.{GoesOn, ReadsSome}
 use Rattle.gateway_server.specs.Stopping.{view_stop}
 use Rattle.gateway_server.specs.Written.{WritesTexts}
 use Rattle.gateway_server.proofs.serving.serve_arrivals.Given as goal
@@ -19,7 +20,7 @@ invariant-arrivals g l = record {
   texts : WritesTexts (g.W.Sink.written l.fn.writer) (g.W.Sink.written l.writer) None;
   limit : limit_of l.intake ≡ limit_of l.fn.intake;
   clean : IsClean g.S.Store l.intake → IsClean g.S.Store l.fn.intake;
-  goes : IsTransition g.S.Store l.fn.intake l.intake (λ early now after. (before : List Request) (first : Streams) → GoesOn (keeping (limit_of l.fn.intake) early before now) first (streams (g.R.Source.left l.fn.reader) (g.W.Sink.written l.fn.writer)) l.fn.inbox l.fn.marks.items → GoesOn (keeping (limit_of l.fn.intake) early before after) first (streams (g.R.Source.left l.reader) (g.W.Sink.written l.writer)) l.inbox l.marks.items);
+  goes : IsTransition g.S.Store l.fn.intake l.intake (λ early now after. (before : List Request) (first : Wire) → GoesOn (keeping (limit_of l.fn.intake) early before now) first (wire g.R.Source g.W.Sink l.fn.reader l.fn.writer) l.fn.inbox l.fn.marks.items → GoesOn (keeping (limit_of l.fn.intake) early before after) first (wire g.R.Source g.W.Sink l.reader l.writer) l.inbox l.marks.items);
 }
 
 abbrev pub decreases-arrivals : goal.decreases-arrivals

@@ -31,8 +31,8 @@ returns-then-is_before-clause-serves g c = λ clean now kept. (
   now,
   kept,
   refl,
-  λ before first left h.
-      message_before (keeping (limit_of c.args.intake.now) (early_in c.args.intake.now now) before now) first left (g.W.Sink.written c.args.writer.now) c.args.inbox.now c.args.marks.now.items h (view_stop c.args.stop)
+  λ before first beside h.
+      message_before (keeping (limit_of c.args.intake.now) (early_in c.args.intake.now now) before now) first beside (g.W.Sink.written c.args.writer.now) c.args.inbox.now c.args.marks.now.items h (view_stop c.args.stop)
       (subst (λ n. IsBefore (view_stop c.args.stop) (n + 1)) (c.len-number.ensures ∙ c.args.marks.now.ok.0) c.if-is_before.ensures),
 )
 
@@ -42,14 +42,14 @@ returns-clause-serves g c = λ clean now kept.
       decided.0,
       decided.1,
       decided.2,
-      λ before first left h.
+      λ before first beside h.
           let m : Message = view_message c.message-message.result in
           let old = c.args.marks.now.items in
           let new = c.mark.new.marks.items in
           let same : m ≡ h.lends.request = sym (lent_is c.args.inbox.now h.lends m c.message-message.ensures) in
           let close : c.closes.result ≡ closes h.lends.request.head = c.closes.ensures ∙ ap (λ (r : Message). closes r.head) same in
           let is = subst (λ (r : Message). IsDecided (limit_of c.args.intake.now) (early_in c.args.intake.now now) now decided.0 (Read r) old new c.in-Ok.decided) same decided.3 in
-          message_replied (keeping (limit_of c.args.intake.now) (early_in c.args.intake.now now) before now) first left (g.W.Sink.written c.args.writer.now) c.args.inbox.now old h (view_stop c.args.stop)
+          message_replied (keeping (limit_of c.args.intake.now) (early_in c.args.intake.now now) before now) first beside (g.W.Sink.written c.args.writer.now) c.args.inbox.now old h (view_stop c.args.stop)
           decided.0 new (g.W.Sink.written c.reply.new.writer) c.closes.result c.reply.result
           close is.marked
           (c.reply.ensures.written (reply_text_with (early_in c.args.intake.now now) now (Read h.lends.request) is.marked.mark) (subst (λ (b : Bool). IfOk c.in-Ok.decided.reply (λ r. render (reply_parts r) b ≡ reply_text_with (early_in c.args.intake.now now) now (Read h.lends.request) is.marked.mark)) (sym close) is.reply))
@@ -66,8 +66,8 @@ returns-in-Err-clause-serves g c = λ clean now kept.
       decided.0,
       decided.1,
       decided.2,
-      λ before first left h.
-          message_unmarked (keeping (limit_of c.args.intake.now) (early_in c.args.intake.now now) before now) first left (g.W.Sink.written c.args.writer.now) c.args.inbox.now c.args.marks.now.items h (view_stop c.args.stop)
+      λ before first beside h.
+          message_unmarked (keeping (limit_of c.args.intake.now) (early_in c.args.intake.now now) before now) first beside (g.W.Sink.written c.args.writer.now) c.args.inbox.now c.args.marks.now.items h (view_stop c.args.stop)
           decided.0 c.mark.new.marks.items decided.3.0 decided.3.1,
     )
 

@@ -4,7 +4,7 @@ use Rattle.std.proofs.Common.{Some, length, refl, sym, subst, rules}
 use Rattle.filing_model.specs.Serving.{keeping}
 use Rattle.filing_model.specs.Stopping.{ComeBefore}
 use Rattle.intake_core.specs.Held.{limit_of, early_in}
-use Rattle.gateway_server.specs.Progress.{streams}
+use Rattle.http_wire.specs.Wire.{wire}
 use Rattle.gateway_server.specs.Stopping.{IsCountUntil, view_stop}
 use Rattle.gateway_server.proofs.Continuing.{GoesOn-new, Serves-none}
 use Rattle.gateway_server.proofs.Stopping.{ComeBefore-none, ServesConnectionUntil-either}
@@ -14,8 +14,8 @@ use Rattle.gateway_server.proofs.serving.serve_until.Goals as goal
 pub returns-in-Ok : goal.returns-in-Ok
 returns-in-Ok g c = record {
   serves = λ clean before h.
-      let old = streams (g.R.Source.left c.args.reader.now) (g.W.Sink.written c.args.writer.now) in
-      let new = streams (g.R.Source.left c.serve_arrivals-ended.new.reader) (g.W.Sink.written c.serve_arrivals-ended.new.writer) in
+      let old = wire g.R.Source g.W.Sink c.args.reader.now c.args.writer.now in
+      let new = wire g.R.Source g.W.Sink c.serve_arrivals-ended.new.reader c.serve_arrivals-ended.new.writer in
       let served = c.serve_arrivals-ended.ensures.serves clean before h in
       let requests = keeping (limit_of c.args.intake.now) (early_in c.args.intake.now before) before served.0 in
       let came = served.3 before old (GoesOn-new (limit_of c.args.intake.now) (early_in c.args.intake.now before) before old c.in-Ok.inbox c.new-marks.result.items c.in-Ok.ensures c.new-marks.ensures.items) in (
@@ -37,7 +37,7 @@ returns-in-Ok g c = record {
 pub returns-in-Err : goal.returns-in-Err
 returns-in-Err g c = record {
   serves = λ clean before h.
-      let old = streams (g.R.Source.left c.args.reader.now) (g.W.Sink.written c.args.writer.now) in
+      let old = wire g.R.Source g.W.Sink c.args.reader.now c.args.writer.now in
       let requests = keeping (limit_of c.args.intake.now) (early_in c.args.intake.now before) before before in (
         before,
         h,

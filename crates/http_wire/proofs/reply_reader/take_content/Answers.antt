@@ -35,8 +35,8 @@ returns-in_err-read_more-clause-fault g c =
     let items = c.extend_from_slice.new.self.items in
     let least = c.min-count.ensures ∙ ap (λ n. min (length held) (c.args.len - n)) (c.len.ensures ∙ c.loop-content.content.ok.0) in
     let other : length items ≢ c.args.len = λ same. c.if-len.false (c.len-in-loop-content.ensures ∙ c.extend_from_slice.new.self.ok.0 ∙ same) in
-    let turn = Turn-of _ _ _ c.args.received.now c.loop-content.received c.drop_front.new.self c.read_more.new.self _ items held c.min-count.result c.args.len c.loop-content.invariant.takes c.loop-content.invariant.short c.bytes-held.ensures.value least c.in_ok-extend_from_slice.ensures.items other c.drop_front.ensures.bytes c.drop_front.ensures.reads c.read_more.ensures.reads in
-    let failure = content_failure _ _ _ _ _ _ c.args.received.now c.read_more.new.self items c.args.len c.in_err-read_more.field-0.0 turn.takes (c.in_err-read_more.ensures.same ∙ turn.empty) turn.short c.loop-content.invariant.fine c.in_err-read_more.ensures.fault refl in
+    let turn = Turn-of _ _ _ c.args.received.now c.loop-content.received c.drop_front.new.self c.read_more.new.self _ items held c.min-count.result c.args.len c.loop-content.invariant.takes c.loop-content.invariant.short c.bytes-held.ensures.value least c.in_ok-extend_from_slice.ensures.items other c.drop_front.ensures.bytes c.drop_front.ensures.reads c.read_more.ensures.reads.receives in
+    let failure = content_failure _ _ _ _ _ _ c.args.received.now c.read_more.new.self items c.args.len c.in_err-read_more.field-0.0 turn.takes (c.in_err-read_more.ensures.same ∙ turn.empty) turn.short c.loop-content.invariant.fine c.in_err-read_more.ensures.reads.fault refl in
     let gives = err_from_is_err_and c.from_residual-in_err-read_more.result c.from_residual-in_err-read_more.ensures.1 in
     rw gives.1 (subst (IsContentFailure _ _ _ _ c.args.received.now c.read_more.new.self c.args.len) (sym gives.2) failure)
 
@@ -46,9 +46,9 @@ returns-then-not-branch-clause-fault g c =
     let items = c.extend_from_slice.new.self.items in
     let least = c.min-count.ensures ∙ ap (λ n. min (length held) (c.args.len - n)) (c.len.ensures ∙ c.loop-content.content.ok.0) in
     let other : length items ≢ c.args.len = λ same. c.if-len.false (c.len-in-loop-content.ensures ∙ c.extend_from_slice.new.self.ok.0 ∙ same) in
-    let turn = Turn-of _ _ _ c.args.received.now c.loop-content.received c.drop_front.new.self c.read_more.new.self _ items held c.min-count.result c.args.len c.loop-content.invariant.takes c.loop-content.invariant.short c.bytes-held.ensures.value least c.in_ok-extend_from_slice.ensures.items other c.drop_front.ensures.bytes c.drop_front.ensures.reads c.read_more.ensures.reads in
+    let turn = Turn-of _ _ _ c.args.received.now c.loop-content.received c.drop_front.new.self c.read_more.new.self _ items held c.min-count.result c.args.len c.loop-content.invariant.takes c.loop-content.invariant.short c.bytes-held.ensures.value least c.in_ok-extend_from_slice.ensures.items other c.drop_front.ensures.bytes c.drop_front.ensures.reads c.read_more.ensures.reads.receives in
     let end = c.read_more.ensures.end (c.in_ok-read_more.was ∙ ap Ok c.if-not-branch.true) in
-    (c.in_ok-read_more.ensures.fine ∙ c.loop-content.invariant.fine, (items, turn.takes, end.0 ∙ turn.empty, turn.short), end.1)
+    (c.in_ok-read_more.ensures.reads.fine ∙ c.loop-content.invariant.fine, (items, turn.takes, end.0 ∙ turn.empty, turn.short), end.1)
 
 pub loop-content-preserved : goal.loop-content-preserved
 loop-content-preserved g c =
@@ -56,8 +56,8 @@ loop-content-preserved g c =
     let items = c.extend_from_slice.new.self.items in
     let least = c.min-count.ensures ∙ ap (λ n. min (length held) (c.args.len - n)) (c.len.ensures ∙ c.loop-content.content.ok.0) in
     let other : length items ≢ c.args.len = λ same. c.if-len.false (c.len-in-loop-content.ensures ∙ c.extend_from_slice.new.self.ok.0 ∙ same) in
-    let turn = Turn-of _ _ _ c.args.received.now c.loop-content.received c.drop_front.new.self c.read_more.new.self _ items held c.min-count.result c.args.len c.loop-content.invariant.takes c.loop-content.invariant.short c.bytes-held.ensures.value least c.in_ok-extend_from_slice.ensures.items other c.drop_front.ensures.bytes c.drop_front.ensures.reads c.read_more.ensures.reads in
-    record { takes = turn.takes; fine = c.in_ok-read_more.ensures.fine ∙ c.loop-content.invariant.fine; short = omega (arith, turn.short) }
+    let turn = Turn-of _ _ _ c.args.received.now c.loop-content.received c.drop_front.new.self c.read_more.new.self _ items held c.min-count.result c.args.len c.loop-content.invariant.takes c.loop-content.invariant.short c.bytes-held.ensures.value least c.in_ok-extend_from_slice.ensures.items other c.drop_front.ensures.bytes c.drop_front.ensures.reads c.read_more.ensures.reads.receives in
+    record { takes = turn.takes; fine = c.in_ok-read_more.ensures.reads.fine ∙ c.loop-content.invariant.fine; short = omega (arith, turn.short) }
 
 -- where the input ends before it, no content is given
 pub returns-then-not-branch-clause-content : goal.returns-then-not-branch-clause-content

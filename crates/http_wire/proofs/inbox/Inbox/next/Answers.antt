@@ -1,6 +1,8 @@
-use Rattle.std.proofs.Common.{◌≡◌, ℕ, true, List, Option, Result, IfOk, IfErr, OnOk, OnErr, is_err, refl, sym, ◌∙◌, inl, inr}
+use Rattle.std.proofs.Common.{◌≡◌, true, Result, IfOk, IfErr, OnOk, OnErr, is_err, refl, sym, ◌∙◌, inl, inr}
 use Rattle.std.proofs.KnownBytes.{Appends-nil}
 use Rattle.std.proofs.lemmas.Bool.{false≢true}
+use Rattle.http_wire.specs.declared.device.Source.{Ghosts as Reads}
+use Rattle.http_wire.specs.declared.device.Sink.{Ghosts as Writes}
 use Rattle.http_wire.specs.declared.inbox.Inbox.{Inbox}
 use Rattle.http_messages.specs.declared.refusal.ConnFault.{ConnFault}
 use Rattle.http_wire.specs.declared.inbox.Next.{Next}
@@ -8,18 +10,19 @@ use Rattle.http_wire.specs.Calls.{HoldsArrival, WritesUpTo, IsFault}
 use Rattle.http_wire.specs.Inbox.{held, unread, reads, is_over, is_failed, ReadsNothing, IsNext, WritesInterim}
 use Rattle.http_wire.specs.ReadingOn.{FindsNext}
 use Rattle.http_wire.specs.Received.{Receives, ReceivesNothing}
+use Rattle.http_wire.specs.Wire.{wire, NoneFailed}
 use Rattle.http_wire.proofs.InboxLemmas.{ReadsNothing-after, ReadsOn-after, LendsFirst-found, WasOpen, WasOpen-tested, is_over-tested, or-none}
 use Rattle.http_wire.proofs.ReceivedLemmas.{Receives-nil}
 use Rattle.http_wire.proofs.inbox.Inbox.next.Goals as goal
 
 -- what a call on an inbox that was open comes to
-opened : {R W : Type 0} {left : R → Option (List ℕ)} {read_failures : R → ℕ} {written : W → Option (List ℕ)} {write_failures : W → ℕ} {r r' : R} {w w' : W} {old : Inbox} (mid : Inbox) {new : Inbox} {result : Result Next ConnFault}
-    → WasOpen old mid → held mid ≡ unread old → reads mid ≡ reads old → Receives (left r) (left r') mid.received new.received → (HoldsArrival (held mid) → ReceivesNothing r r' mid.received new.received)
-    → IfOk result (IsNext (left r') old new) → IfOk result (WritesInterim (written w) (written w') old new) → IfErr result (WritesUpTo (written w) (written w') (held new))
-    → OnOk result ((read_failures r' ≡ read_failures r) × (write_failures w' ≡ write_failures w))
-    → IfErr result (IsFault (read_failures r) (read_failures r') (write_failures w) (write_failures w') (reads new) (held new))
+opened : {R W : Type 0} {r : Reads R} {w : Writes W} {reader reader' : R} {writer writer' : W} {old : Inbox} (mid : Inbox) {new : Inbox} {result : Result Next ConnFault}
+    → WasOpen old mid → held mid ≡ unread old → reads mid ≡ reads old → Receives (r.left reader) (r.left reader') mid.received new.received → (HoldsArrival (held mid) → ReceivesNothing reader reader' mid.received new.received)
+    → IfOk result (IsNext (r.left reader') old new) → IfOk result (WritesInterim (w.written writer) (w.written writer') old new) → IfErr result (WritesUpTo (w.written writer) (w.written writer') (held new))
+    → OnOk result (NoneFailed (wire r w reader writer) (wire r w reader' writer'))
+    → IfErr result (IsFault (wire r w reader writer) (wire r w reader' writer') (reads new) (held new))
     → is_failed new ≡ is_err result → OnErr result (is_over new ≡ true)
-    → FindsNext left read_failures written write_failures r r' w w' old new result
+    → FindsNext r w reader reader' writer writer' old new result
 opened {old = old} mid {new} was held_is count read lazy arrival interim part fine fault failed closed = record {
   reads = ReadsOn-after _ _ old mid new held_is count read;
   lazy = ReadsNothing-after _ _ old mid new held_is count lazy;

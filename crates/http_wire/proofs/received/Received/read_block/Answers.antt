@@ -25,13 +25,15 @@ pub returns-then-ne : goal.returns-then-ne
 returns-then-ne g c =
     let before = c.loop-block.invariant in
     record {
-      reads = before.reads;
+      reads = record {
+        receives = before.reads;
+        fine = before.fine;
+        fault = tt;
+      };
       lazy = λ ended. elim before.lazy [ inl same ↦ same | inr first ↦ absurd (ended first) ];
       block = subst (λ bytes. IsBlock bytes c.find_block_from-block.result) c.bytes.ensures.value c.find_block_from-block.ensures;
       end = λ more. absurd (false≢true (sym (rw (one_answer refl more) at c.if-ne.ensures)));
       unended = tt;
-      fine = before.fine;
-      fault = tt;
     }
 
 pub returns-in_err-read_more : goal.returns-in_err-read_more
@@ -42,13 +44,15 @@ returns-in_err-read_more g c =
     let first = first-unended _ _ c.args.self.now c.loop-block.self before.lazy unended in
     let gives = err_from_is_err_and c.from_residual.result c.from_residual.ensures.1 in
     record {
-      reads = Receives-join _ _ _ c.args.self.now c.loop-block.self new before.reads c.read_more.ensures.reads;
+      reads = record {
+        receives = Receives-join _ _ _ c.args.self.now c.loop-block.self new before.reads c.read_more.ensures.reads.receives;
+        fine = rw gives.1 tt;
+        fault = rw gives.1 (subst₂ (λ count fault. IsReadFault count (g.R.Source.read_failures c.read_more.new.reader) new fault) before.fine (sym gives.2) c.in_err-read_more.ensures.reads.fault);
+      };
       lazy = λ ended. absurd (ended first);
       block = rw gives.1 tt;
       end = λ same. absurd (no_answer gives.1 same);
       unended = rw gives.1 (subst IsUnended (sym c.in_err-read_more.ensures.same) unended);
-      fine = rw gives.1 tt;
-      fault = rw gives.1 (subst₂ (λ count fault. IsReadFault count (g.R.Source.read_failures c.read_more.new.reader) new fault) before.fine (sym gives.2) c.in_err-read_more.ensures.fault);
     }
 
 pub returns-then-not-branch : goal.returns-then-not-branch
@@ -58,13 +62,15 @@ returns-then-not-branch g c =
     let first = first-unended _ _ c.args.self.now c.loop-block.self before.lazy unended in
     let ended = c.read_more.ensures.end (c.in_ok-read_more.was ∙ ap Ok c.if-not-branch.true) in
     record {
-      reads = Receives-join _ _ _ c.args.self.now c.loop-block.self c.read_more.new.self before.reads c.read_more.ensures.reads;
+      reads = record {
+        receives = Receives-join _ _ _ c.args.self.now c.loop-block.self c.read_more.new.self before.reads c.read_more.ensures.reads.receives;
+        fine = c.in_ok-read_more.ensures.reads.fine ∙ before.fine;
+        fault = tt;
+      };
       lazy = λ ended. absurd (ended first);
       block = subst IsUnended (sym ended.0) unended;
       end = λ _. ended.1;
       unended = tt;
-      fine = c.in_ok-read_more.ensures.fine ∙ before.fine;
-      fault = tt;
     }
 
 pub loop-block-preserved : goal.loop-block-preserved
@@ -74,8 +80,8 @@ loop-block-preserved g c =
     let searched = subst (λ bytes. (more : List ℕ) → HasNoEndUpTo (from_block (bytes ++ more)) c.searched_len-searched.result) c.bytes-in-loop-block.ensures.value c.searched_len-searched.ensures.unended in
     let unended : IsUnended (held_bytes here) = search rules in
     record {
-      searched = subst (λ bytes. HasNoEndUpTo (from_block bytes) c.searched_len-searched.result) (sym c.read_more.ensures.reads.bytes) (searched (drop (length (held_bytes here)) (held_bytes c.read_more.new.self)));
-      reads = Receives-join _ _ _ c.args.self.now here c.read_more.new.self before.reads c.read_more.ensures.reads;
-      fine = c.in_ok-read_more.ensures.fine ∙ before.fine;
+      searched = subst (λ bytes. HasNoEndUpTo (from_block bytes) c.searched_len-searched.result) (sym c.read_more.ensures.reads.receives.bytes) (searched (drop (length (held_bytes here)) (held_bytes c.read_more.new.self)));
+      reads = Receives-join _ _ _ c.args.self.now here c.read_more.new.self before.reads c.read_more.ensures.reads.receives;
+      fine = c.in_ok-read_more.ensures.reads.fine ∙ before.fine;
       lazy = inr (first-unended _ _ c.args.self.now here before.lazy unended);
     }

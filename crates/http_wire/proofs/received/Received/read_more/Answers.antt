@@ -7,12 +7,14 @@ use Rattle.http_wire.proofs.received.Received.read_more.Goals as goal
 
 pub returns-then-self-eq-MAX_READS : goal.returns-then-self-eq-MAX_READS
 returns-then-self-eq-MAX_READS g c = record {
-  reads = Receives-nil _ c.args.self.now;
+  reads = record {
+    receives = Receives-nil _ c.args.self.now;
+    fine = tt;
+    fault = (refl, c.if-self-eq-MAX_READS.true);
+  };
   counted = λ same. absurd (no_answer refl same);
   end = λ same. absurd (no_answer refl same);
   same = refl;
-  fine = tt;
-  fault = (refl, c.if-self-eq-MAX_READS.true);
 }
 
 pub returns-in_err-count : goal.returns-in_err-count
@@ -23,12 +25,14 @@ returns-in_err-count g c =
     let fault = IsReadFault-fill _ _ old c.in_err-count.field-0.0 low c.in_err-count.ensures.fault in
     let gives = err_from_is_err_and c.from_residual.result c.from_residual.ensures.1 in
     record {
-      reads = Receives-kept _ _ old _ kept.0 refl kept.1;
+      reads = record {
+        receives = Receives-kept _ _ old _ kept.0 refl kept.1;
+        fine = rw gives.1 tt;
+        fault = rw gives.1 (subst (IsReadFault _ _ old) (sym gives.2) fault);
+      };
       counted = λ same. absurd (no_answer gives.1 same);
       end = λ same. absurd (no_answer gives.1 same);
       same = rw gives.1 kept.0;
-      fine = rw gives.1 tt;
-      fault = rw gives.1 (subst (IsReadFault _ _ old) (sym gives.2) fault);
     }
 
 pub returns-then-count-eq0 : goal.returns-then-count-eq0
@@ -38,12 +42,14 @@ returns-then-count-eq0 g c =
     let none = c.if-count-eq0.true in
     let reads = Receives-count _ _ old _ c.in_ok-count.count c.fill.ensures.kept told.given told.count (omega arith) (omega arith) (λ _. none) in
     record {
-      reads = reads;
+      reads = record {
+        receives = reads;
+        fine = told.fine;
+        fault = tt;
+      };
       counted = λ same. absurd (no_more refl same);
       end = λ _. (reads.idle refl, c.fill.ensures.end (c.in_ok-count.was ∙ ap Ok none));
       same = tt;
-      fine = told.fine;
-      fault = tt;
     }
 
 pub returns : goal.returns
@@ -52,10 +58,12 @@ returns g c =
     let told = c.in_ok-count.ensures in
     let some = c.if-count-eq0.false in
     record {
-      reads = Receives-count _ _ old _ c.in_ok-count.count c.fill.ensures.kept told.given told.count (omega arith) (omega (arith, some)) (λ same. absurd (omega (arith, same)));
+      reads = record {
+        receives = Receives-count _ _ old _ c.in_ok-count.count c.fill.ensures.kept told.given told.count (omega arith) (omega (arith, some)) (λ same. absurd (omega (arith, same)));
+        fine = told.fine;
+        fault = tt;
+      };
       counted = λ _. refl;
       end = λ same. absurd (no_more same refl);
       same = tt;
-      fine = told.fine;
-      fault = tt;
     }
