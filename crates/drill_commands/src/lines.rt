@@ -7,6 +7,7 @@ ghost use Rattle.intake_core.specs.declared.intake.Unavailable.TheVariants.{Down
 ghost use Rattle.drill_commands.specs.Refusals.{AreNotShown, IsNotShown};
 ghost use Rattle.drill_commands.specs.Shown.{filing_shown, entry_shown, world_shown};
 ghost use Rattle.world_events.specs.Listed.{view_listed, are_up};
+ghost use Rattle.world_events.specs.Played.{IsSame};
 
 use crate::fault::Fault;
 use event_script::{append_done, append_entry, append_filing};
@@ -50,7 +51,7 @@ pub fn shown<D: Honest>(alloc: Global, world: &mut World<D>) -> Result<Vec<u8>, 
     ensures refusal { IfErr result (IsNotShown world.old.world) }
     ensures down { world.old.world.up ≡ false → result ≡ Err (Fault.Register Down) }
     ensures outbox_down { are_up world.old.world.outboxes ≡ false → IsErr result }
-    ensures same { world.new ≡ world.old }
+    ensures same { IsSame world.old world.new }
 {
     let filings = world.register()?;
     let entries = world.states()?;

@@ -1,1 +1,2 @@
+pub mod Filers
 pub mod Served

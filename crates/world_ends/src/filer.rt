@@ -37,12 +37,15 @@ pub struct Filer<D: Honest> {
 
 impl<D: Honest> Model for Filer<D> {
     ghost use Rattle.std.specs.Prelude.{string_bytes};
-    ghost use Rattle.filing_world.specs.World.{Outbox as Box};
-    ghost use Rattle.filing_ends.specs.OutboxProcess.{Keeps, is_up};
+    ghost use Rattle.filing_ends.specs.OutboxProcess.{Keeps, is_up, is_asleep};
+    ghost use Rattle.world_ends.specs.Filers.{FilerParts};
 
-    ghost Value = { Box };
+    ghost Value = { FilerParts };
 
-    ghost view = { λ f. record { filer = string_bytes f.code; entries = f.entries.items; up = is_up f.process } };
+    ghost view = { λ f. record {
+      box = record { filer = string_bytes f.code; entries = f.entries.items; up = is_up f.process };
+      asleep = is_asleep f.process;
+    } };
 
     ghost invariant = { λ f. Keeps f.process (string_bytes f.code) f.entries.items };
 }
@@ -63,7 +66,7 @@ impl<D: Honest> Filer<D> {
     /// where its files were not opened, and `Store` where its tables were not made.
     pub fn new(alloc: Global, code: &str) -> Result<Filer<D>, Cause>
         requires { is_filer code.now ≡ true }
-        ensures made { IfOk result (λ f. f ≡ new_outbox code.now) }
+        ensures made { IfOk result (λ f. f.box ≡ new_outbox code.now) }
         ensures other { result ≢ Err Cause.NoSuch }
     {
         Ok(Filer {
@@ -76,7 +79,7 @@ impl<D: Honest> Filer<D> {
 
     /// Whether the outbox is up.
     pub fn is_up(&self) -> bool
-        ensures { result ≡ self.now.up }
+        ensures { result ≡ self.now.box.up }
     {
         matches!(self.process, OutboxProcess::Up(_))
     }
@@ -84,9 +87,9 @@ impl<D: Honest> Filer<D> {
     /// Puts a report into the outbox. One whose body is too long, or whose key is used, is not taken, and
     /// that is no error. `Store` comes where the outbox refused for another cause than memory.
     pub fn put(&mut self, key: &KeyText, target: Option<u64>, body: &[u8]) -> Result<(), Cause>
-        requires up { self.old.up ≡ true }
+        requires up { self.old.box.up ≡ true }
         requires target { IsTarget target }
-        ensures put { OnOk result (self.new ≡ with_entry self.old (opened key.now target body.now)) }
+        ensures put { OnOk result (self.new.box ≡ with_entry self.old.box (opened key.now target body.now)) }
         ensures key { OnOk result (IsKey key.now) }
         ensures other { result ≢ Err Cause.NoSuch }
         ensures reopen { result ≢ Err Cause.Reopen }
@@ -103,10 +106,10 @@ impl<D: Honest> Filer<D> {
     /// The bytes of the request of the entry of this number, whatever its state. `NoSuch` comes where
     /// there is none, and `Store` where the outbox refused for another cause than memory.
     pub fn request(&mut self, entry: u64) -> Result<Vec<u8>, Cause>
-        requires { self.old.up ≡ true }
-        ensures bytes { IfOk result (λ text. IsRequest self.old.filer self.old.entries entry text.items) }
-        ensures same { OnOk result (self.new ≡ self.old) }
-        ensures no_such { result ≡ Err Cause.NoSuch → numbered self.old.entries entry ≡ None }
+        requires { self.old.box.up ≡ true }
+        ensures bytes { IfOk result (λ text. IsRequest self.old.box.filer self.old.box.entries entry text.items) }
+        ensures same { OnOk result (self.new.box ≡ self.old.box) }
+        ensures no_such { result ≡ Err Cause.NoSuch → numbered self.old.box.entries entry ≡ None }
         ensures reopen { result ≢ Err Cause.Reopen }
     {
         self.process.request(self.alloc, entry)
@@ -116,10 +119,10 @@ impl<D: Honest> Filer<D> {
     /// move nothing, and are no error. Before a stop nothing is read of them. For another cause than memory,
     /// `Store` comes where the outbox did not take the reply, and `Reopen` where it did not give its files.
     pub fn hand(&mut self, entry: u64, bytes: &[u8], crash: Crash) -> Result<(), Cause>
-        requires { self.old.up ≡ true }
-        ensures heard { OnOk result ((what : Item) → numbered self.old.entries entry ≡ Some what
+        requires { self.old.box.up ≡ true }
+        ensures heard { OnOk result ((what : Item) → numbered self.old.box.entries entry ≡ Some what
             → (heard : Option ReplyParts) × Hears bytes.now (view_crash crash) heard
-            × (self.new ≡ box_after self.old entry what heard (view_crash crash))) }
+            × (self.new.box ≡ box_after self.old.box entry what heard (view_crash crash))) }
         ensures other { result ≢ Err Cause.NoSuch }
         ensures store { result ≡ Err Cause.Store → (j : ℕ) → view_crash crash ≢ Before j }
         ensures reopen { result ≡ Err Cause.Reopen → is_no (view_crash crash) ≡ false }
@@ -136,10 +139,10 @@ impl<D: Honest> Filer<D> {
 
     /// The same without a stop.
     fn hear(&mut self, entry: u64, bytes: &[u8]) -> Result<(), Cause>
-        requires { self.old.up ≡ true }
-        ensures heard { OnOk result ((what : Item) → numbered self.old.entries entry ≡ Some what
+        requires { self.old.box.up ≡ true }
+        ensures heard { OnOk result ((what : Item) → numbered self.old.box.entries entry ≡ Some what
             → (heard : Option ReplyParts) × Hears bytes.now No heard
-            × (self.new ≡ box_after self.old entry what heard No)) }
+            × (self.new.box ≡ box_after self.old.box entry what heard No)) }
         ensures other { result ≢ Err Cause.NoSuch }
         ensures reopen { result ≢ Err Cause.Reopen }
     {
@@ -152,7 +155,7 @@ impl<D: Honest> Filer<D> {
     /// Takes the files, where it is up. `Reopen` comes where they were not given for another cause than
     /// memory.
     fn stop(&mut self) -> Result<(), Cause>
-        ensures down { OnOk result (self.new ≡ record self.old { up = false }) }
+        ensures down { OnOk result (self.new.box ≡ record self.old.box { up = false }) }
         ensures other { result ≢ Err Cause.NoSuch }
         ensures store { result ≢ Err Cause.Store }
     {
@@ -164,7 +167,7 @@ impl<D: Honest> Filer<D> {
     /// Takes the files, where it is up, and opens them. The outbox then has the entries that it had.
     /// `Reopen` comes where it was not closed or opened for another cause than memory.
     pub fn restart(&mut self) -> Result<(), Cause>
-        ensures restarted { OnOk result (self.new ≡ record self.old { up = true }) }
+        ensures restarted { OnOk result (self.new.box ≡ record self.old.box { up = true }) }
         ensures other { result ≢ Err Cause.NoSuch }
         ensures store { result ≢ Err Cause.Store }
     {
@@ -173,21 +176,23 @@ impl<D: Honest> Filer<D> {
         Ok(())
     }
 
-    /// The number and the state of each entry, in the order of the numbers. `Store` comes where it is down.
+    /// The number and the state of each entry, in the order of the numbers. `Store` comes if the outbox is down, and else
+    /// only if its database refused.
     pub fn states(&mut self) -> Result<Vec<(u64, State)>, StoreFault>
-        ensures same { self.new ≡ self.old }
+        ensures same { self.new.box ≡ self.old.box }
         ensures list { IfOk result (λ s.
-            (number : ℕ) → map (listed number) s.items ≡ states_of number 1 self.old.entries) }
-        ensures down { self.old.up ≡ false → result ≡ Err StoreFault.Store }
+            (number : ℕ) → map (listed number) s.items ≡ states_of number 1 self.old.box.entries) }
+        ensures down { self.old.box.up ≡ false → result ≡ Err StoreFault.Store }
+        ensures store { result ≡ Err StoreFault.Store → self.new.asleep ≡ true }
     {
         self.process.states(self.alloc)
     }
 
     /// The outbox, where it is up.
     pub fn outbox(&self) -> Option<&Outbox<FileStore<D>>>
-        ensures lent { IsSome result ↔ (self.now.up ≡ true) }
+        ensures lent { IsSome result ↔ (self.now.box.up ≡ true) }
         ensures keeps { IfSome result (λ b.
-            HasEntries over_files b.now self.now.entries × (b.now.filer ≡ self.now.filer)) }
+            HasEntries over_files b.now self.now.box.entries × (b.now.filer ≡ self.now.box.filer)) }
     {
         match &self.process {
             OutboxProcess::Up(outbox) => Some(outbox),

@@ -2,7 +2,7 @@
 use Rattle.std.proofs.Common.{◌≡◌, ℕ, zero, suc, ◌<◌, Bool, true, List, [], ◌∷◌, ◌++◌, Some, length, take, drop, map, filter_map, slice_get, slice_index_or, refl, sym, ap, ◌∙◌, append_assoc, arith}
 use Rattle.std.specs.List.{list_all}
 use Rattle.std.proofs.Math.Seq.{take-suc, drop-cons}
-use Rattle.std.proofs.lemmas.List.{map-append}
+use Rattle.std.proofs.lemmas.List.{length-map, map-append}
 use Rattle.std.proofs.lemmas.Option.{slice_get_within, get_or_from_slice_get}
 use Rattle.std.proofs.lemmas.List.Elements.{filter_map-append}
 use Rattle.xbrl_values.proofs.Bools.{left_of, right_of}
@@ -21,6 +21,10 @@ pub there_is : {X : Type 0} (xs : List X) (at : ℕ) → at < length xs → (x :
 there_is [] at within = absurd (omega (arith, within))
 there_is (x ∷ xs) zero within = (x, refl)
 there_is (x ∷ xs) (suc at) within = there_is xs at (omega (arith, within))
+
+-- lists that a function has as the same are of one length
+pub same_length : {X Y : Type 0} (f : X → Y) (xs ys : List X) → map f xs ≡ map f ys → length xs ≡ length ys
+same_length f xs ys same = sym (length-map xs f) ∙ ap length same ∙ length-map ys f
 
 -- ---- entries
 

@@ -2,8 +2,9 @@
 
 ghost use Rattle.std.specs.Prelude.{◌≡◌, ◌≢◌, List, OnOk, Err, false};
 ghost use Rattle.event_script.specs.Events.{view_crash};
-ghost use Rattle.filing_world.specs.World.{Outbox, Deliver};
+ghost use Rattle.filing_world.specs.World.{Deliver};
 ghost use Rattle.filing_world.specs.Step.{is_no, Delivers, CannotPlay};
+ghost use Rattle.world_ends.specs.Filers.{FilerParts};
 ghost use Rattle.world_events.specs.Played.{world_of};
 
 use crate::element::{first, index_of};
@@ -20,14 +21,14 @@ pub(crate) fn deliver<D: Honest>(
     bytes: usize,
     crash: Crash,
 ) -> Result<(), Cause>
-    ensures step { OnOk result ((outboxes : List Outbox)
-        → Delivers (world_of server.old sent.now outputs.old.items outboxes) item bytes (view_crash crash)
-        (world_of server.new sent.now outputs.new.items outboxes)) }
-    ensures no_such { result ≡ Err Cause.NoSuch → (outboxes : List Outbox)
-        → CannotPlay (world_of server.old sent.now outputs.old.items outboxes) (Deliver item bytes (view_crash crash)) }
+    ensures step { OnOk result ((filers : List FilerParts)
+        → Delivers (world_of server.old sent.now outputs.old.items filers) item bytes (view_crash crash)
+        (world_of server.new sent.now outputs.new.items filers)) }
+    ensures no_such { result ≡ Err Cause.NoSuch → (filers : List FilerParts)
+        → CannotPlay (world_of server.old sent.now outputs.old.items filers) (Deliver item bytes (view_crash crash)) }
     ensures store { result ≢ Err Cause.Store }
-    ensures reopen { result ≡ Err Cause.Reopen → (is_no (view_crash crash) ≡ false) × ((outboxes : List Outbox)
-        → ¬ CannotPlay (world_of server.old sent.now outputs.old.items outboxes)
+    ensures reopen { result ≡ Err Cause.Reopen → (is_no (view_crash crash) ≡ false) × ((filers : List FilerParts)
+        → ¬ CannotPlay (world_of server.old sent.now outputs.old.items filers)
         (Deliver item bytes (view_crash crash))) }
 {
     if !server.is_up() {

@@ -1,8 +1,9 @@
 //! What has a number in a list, counted from 1.
 
 ghost use Rattle.std.specs.Prelude.{◌≡◌, ◌≢◌, ◌<◌, ◌⊎◌, suc, Some, None, IfSome, IfOk, Err, length, slice_get, take, true};
-ghost use Rattle.filing_world.specs.World.{Outbox as Ours, Sent as Item, numbered};
+ghost use Rattle.filing_world.specs.World.{Sent as Item, numbered};
 ghost use Rattle.filing_world.specs.Step.{IsAway};
+ghost use Rattle.world_ends.specs.Filers.{FilerParts, boxes};
 ghost use Rattle.world_events.specs.Played.{IsLent};
 
 use crate::lists::Sent;
@@ -26,8 +27,8 @@ pub(crate) fn index_of(number: u64, count: usize) -> Option<usize>
 /// The index of the outbox of this number, where it is up.
 pub(crate) fn up_at<D: Honest>(filers: &[Filer<D>], outbox: u64) -> Option<usize>
     ensures some { IfSome result (λ at. (outbox ≡ suc at)
-        × (box : Ours) × (slice_get filers.now at ≡ Some box) × (box.up ≡ true) × (at < length filers.now)) }
-    ensures none { result ≡ None → IsAway filers.now outbox }
+        × (it : FilerParts) × (slice_get filers.now at ≡ Some it) × (it.box.up ≡ true) × (at < length filers.now)) }
+    ensures none { result ≡ None → IsAway (boxes filers.now) outbox }
 {
     let at = index_of(outbox, filers.len())?;
     if filers[at].is_up() { Some(at) } else { None }
@@ -38,8 +39,8 @@ pub(crate) fn outbox_at<D: Honest>(
     filers: &[Filer<D>],
     outbox: u64,
 ) -> Option<&Outbox<FileStore<D>>>
-    ensures lent { IfSome result (λ it. IsLent filers.now outbox it.now) }
-    ensures none { result ≡ None → IsAway filers.now outbox }
+    ensures lent { IfSome result (λ it. IsLent (boxes filers.now) outbox it.now) }
+    ensures none { result ≡ None → IsAway (boxes filers.now) outbox }
 {
     let at = index_of(outbox, filers.len())?;
     let filer = &filers[at];

@@ -5,6 +5,7 @@ ghost use Rattle.event_script.specs.Events.{view_crash};
 ghost use Rattle.filing_world.specs.World.{Hand};
 ghost use Rattle.filing_world.specs.Step.{is_no, Hands, CannotPlay};
 ghost use Rattle.filing_world.specs.Invariant.{AllOwn, Keeps};
+ghost use Rattle.world_ends.specs.Filers.{boxes};
 ghost use Rattle.world_ends.specs.Served.{Served};
 ghost use Rattle.world_events.specs.Played.{world_of};
 ghost use Rattle.world_events.specs.Playing.{AsksOutbox};
@@ -24,7 +25,7 @@ pub(crate) fn hand<D: Honest>(
     bytes: usize,
     crash: Crash,
 ) -> Result<(), Cause>
-    ensures step { OnOk result ((server : Served) → AllOwn filers.old.items sent.now
+    ensures step { OnOk result ((server : Served) → AllOwn (boxes filers.old.items) sent.now
         → Hands (world_of server sent.now outputs.now filers.old.items) output bytes (view_crash crash)
         (world_of server sent.now outputs.now filers.new.items)) }
     ensures no_such { result ≡ Err Cause.NoSuch → (server : Served)

@@ -1,10 +1,11 @@
 //! The entries of all outboxes in one list.
 
-ghost use Rattle.std.specs.Prelude.{◌≡◌, ◌<◌, ◌++◌, ◌∷◌, [], suc, length, map, filter_map, slice_get, false, Some, IfOk, OnOk, Err};
-ghost use Rattle.filing_world.specs.World.{Outbox as Box};
+ghost use Rattle.std.specs.Prelude.{◌≡◌, ◌≢◌, ◌<◌, ◌⊎◌, ◌++◌, ◌∷◌, [], suc, length, map, filter_map, slice_get, false, Some, IfOk, OnOk, Err};
 ghost use Rattle.filing_world.specs.Headline.{states_of, states_from, number_in};
 ghost use Rattle.filing_ends.specs.Listed.{listed};
+ghost use Rattle.world_ends.specs.Filers.{FilerParts, boxes, sleepers};
 ghost use Rattle.world_events.specs.Listed.{view_listed, are_up};
+ghost use Rattle.world_events.specs.Played.{HasSleeper};
 
 use filing_ends::Honest;
 use outbox_core::{State, StoreFault};
@@ -12,7 +13,7 @@ use std::alloc::{AllocError, Global};
 use world_ends::Filer;
 
 fn are_up<D: Honest>(filers: &[Filer<D>]) -> bool
-    ensures { result ≡ are_up filers.now }
+    ensures { result ≡ are_up (boxes filers.now) }
 {
     filers.iter().all(|filer| filer.is_up())
 }
@@ -23,8 +24,9 @@ fn append(
     outbox: u64,
     states: &[(u64, State)],
 ) -> Result<(), StoreFault>
-    ensures { OnOk result
+    ensures list { OnOk result
         (map view_listed list.new.items ≡ map view_listed list.old.items ++ map (listed outbox) states.now) }
+    ensures memory { result ≢ Err StoreFault.Store }
 {
     for &(entry, state) in states {
         match list.reserve(1) {
@@ -42,9 +44,10 @@ fn append_states<D: Honest>(
     list: &mut Vec<(u64, u64, State)>,
 ) -> Result<(), StoreFault>
     requires { at < length filers.old.items }
-    ensures list { OnOk result ((box : Box) → slice_get filers.old.items at ≡ Some box
-        → map view_listed list.new.items ≡ map view_listed list.old.items ++ states_of (suc at) 1 box.entries) }
-    ensures same { filers.new.items ≡ filers.old.items }
+    ensures list { OnOk result ((it : FilerParts) → slice_get filers.old.items at ≡ Some it
+        → map view_listed list.new.items ≡ map view_listed list.old.items ++ states_of (suc at) 1 it.box.entries) }
+    ensures same { boxes filers.new.items ≡ boxes filers.old.items }
+    ensures store { result ≡ Err StoreFault.Store → HasSleeper (sleepers filers.new.items) }
 {
     let states = filers[at].states()?;
     append(list, at as u64 + 1, states.as_slice())
@@ -56,8 +59,9 @@ fn states_of_all<D: Honest>(
     alloc: Global,
     filers: &mut Vec<Filer<D>>,
 ) -> Result<Vec<(u64, u64, State)>, StoreFault>
-    ensures list { IfOk result (λ list. map view_listed list.items ≡ states_from 1 filers.old.items) }
-    ensures same { filers.new.items ≡ filers.old.items }
+    ensures list { IfOk result (λ list. map view_listed list.items ≡ states_from 1 (boxes filers.old.items)) }
+    ensures same { boxes filers.new.items ≡ boxes filers.old.items }
+    ensures store { result ≡ Err StoreFault.Store → HasSleeper (sleepers filers.new.items) }
 {
     let mut list = Vec::new(alloc);
     for at in 0..filers.len() {
@@ -67,14 +71,16 @@ fn states_of_all<D: Honest>(
 }
 
 /// Every entry of every outbox with its state, by the numbers of the outbox and the entry. No outbox changes. `Store`
-/// comes where one is down.
+/// comes if one is down, and else only if the database of one refused.
 pub(crate) fn all_states<D: Honest>(
     alloc: Global,
     filers: &mut Vec<Filer<D>>,
 ) -> Result<Vec<(u64, u64, State)>, StoreFault>
-    ensures list { IfOk result (λ list. map view_listed list.items ≡ states_from 1 filers.old.items) }
-    ensures down { are_up filers.old.items ≡ false → result ≡ Err StoreFault.Store }
-    ensures same { filers.new.items ≡ filers.old.items }
+    ensures list { IfOk result (λ list. map view_listed list.items ≡ states_from 1 (boxes filers.old.items)) }
+    ensures down { are_up (boxes filers.old.items) ≡ false → result ≡ Err StoreFault.Store }
+    ensures store { result ≡ Err StoreFault.Store
+        → (are_up (boxes filers.old.items) ≡ false) ⊎ HasSleeper (sleepers filers.new.items) }
+    ensures same { boxes filers.new.items ≡ boxes filers.old.items }
 {
     if are_up(filers.as_slice()) {
         states_of_all(alloc, filers)

@@ -5,6 +5,7 @@ ghost use Rattle.http_messages.specs.Posting.{IsTarget};
 ghost use Rattle.filing_world.specs.World.{Sent as Item, Output as Left, Put};
 ghost use Rattle.filing_world.specs.Step.{Puts, CannotPlay};
 ghost use Rattle.outbox_core.specs.Entries.{opened};
+ghost use Rattle.world_ends.specs.Filers.{boxes};
 ghost use Rattle.world_ends.specs.Served.{Served};
 ghost use Rattle.world_events.specs.Played.{world_of};
 ghost use Rattle.world_events.specs.Playing.{IsUp};
@@ -27,7 +28,7 @@ pub(crate) fn put<D: Honest>(
         (world_of server sent outputs filers.new.items)) }
     ensures no_such { result ≡ Err Cause.NoSuch → (server : Served) (sent : List Item) (outputs : List Left)
         → CannotPlay (world_of server sent outputs filers.old.items) (Put outbox key.now target body.now) }
-    ensures store { result ≡ Err Cause.Store → IsUp filers.old.items outbox }
+    ensures store { result ≡ Err Cause.Store → IsUp (boxes filers.old.items) outbox }
     ensures reopen { result ≢ Err Cause.Reopen }
 {
     let Some(at) = up_at(filers.as_slice(), outbox) else {

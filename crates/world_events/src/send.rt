@@ -3,6 +3,7 @@
 ghost use Rattle.std.specs.Prelude.{◌≡◌, ◌≢◌, ◌∷◌, ◌++◌, [], List, OnOk, Err, None};
 ghost use Rattle.filing_world.specs.World.{Output as Left, Send};
 ghost use Rattle.filing_world.specs.Step.{Sends, CannotPlay};
+ghost use Rattle.world_ends.specs.Filers.{boxes};
 ghost use Rattle.world_ends.specs.Served.{Served};
 ghost use Rattle.world_events.specs.Played.{world_of};
 ghost use Rattle.world_events.specs.Playing.{IsUp};
@@ -24,7 +25,7 @@ pub(crate) fn send<D: Honest>(
         (world_of server sent.new.items outputs filers.new.items)) }
     ensures no_such { result ≡ Err Cause.NoSuch → (server : Served) (outputs : List Left)
         → CannotPlay (world_of server sent.old.items outputs filers.old.items) (Send outbox entry) }
-    ensures store { result ≡ Err Cause.Store → IsUp filers.old.items outbox }
+    ensures store { result ≡ Err Cause.Store → IsUp (boxes filers.old.items) outbox }
     ensures reopen { result ≢ Err Cause.Reopen }
 {
     let Some(at) = up_at(filers.as_slice(), outbox) else {

@@ -1,6 +1,6 @@
 //! The world: the intake, the outboxes, and what was sent and written so far.
 
-ghost use Rattle.std.specs.Prelude.{◌≡◌, ◌≢◌, ◌≤◌, ◌^◌, ◌++◌, ◌∷◌, [], ℕ, map, true, false, Some, None, Err, IsSome, IfOk, IfErr, IfSome, OnOk, ◌↔◌};
+ghost use Rattle.std.specs.Prelude.{◌≡◌, ◌≢◌, ◌≤◌, ◌^◌, ◌++◌, ◌∷◌, ◌⊎◌, [], ℕ, map, true, false, Some, None, Err, IsSome, IfOk, IfErr, IfSome, OnOk, ◌↔◌};
 ghost use Rattle.key_string.specs.Filer.{is_filer};
 ghost use Rattle.event_script.specs.Events.{view_event, HasTarget};
 ghost use Rattle.filing_model.specs.Request.{firsts};
@@ -11,7 +11,8 @@ ghost use Rattle.filing_world.specs.Invariant.{AllOwn, Keeps};
 ghost use Rattle.filing_world.specs.Headline.{AreFilers, start, states, confirmed};
 ghost use Rattle.sqlite.specs.Files.{over_files};
 ghost use Rattle.intake_core.specs.Held.{HoldsRequests as Lends};
-ghost use Rattle.world_events.specs.Played.{world_of, Tells, IsLent};
+ghost use Rattle.world_ends.specs.Filers.{boxes};
+ghost use Rattle.world_events.specs.Played.{world_of, HasSleeper, IsLent, IsSame, Tells};
 ghost use Rattle.world_events.specs.Playing.{AsksOutbox, Closes, Plays};
 ghost use Rattle.world_events.specs.Listed.{view_listed, are_up};
 
@@ -49,6 +50,7 @@ pub struct World<D: Honest> {
 impl<D: Honest> Model for World<D> {
     ghost use Rattle.std.specs.Prelude.{◌≡◌, None};
     ghost use Rattle.filing_world.specs.Invariant.{Keeps};
+    ghost use Rattle.world_ends.specs.Filers.{sleepers};
     ghost use Rattle.world_events.specs.Played.{Played, world_of};
 
     ghost Value = { Played };
@@ -57,6 +59,7 @@ impl<D: Honest> Model for World<D> {
       world = world_of w.server w.sent.items w.outputs.items w.filers.items;
       events = w.events;
       fault = w.fault;
+      asleep = sleepers w.filers.items;
     } };
 
     ghost invariant = { λ w. w.fault ≡ None → Keeps (world_of w.server w.sent.items w.outputs.items w.filers.items) };
@@ -86,7 +89,7 @@ fn play_on<D: Honest>(
     event: &Event,
 ) -> Result<(), Cause>
     requires { HasTarget (view_event event.now) }
-    ensures step { OnOk result (AllOwn filers.old.items sent.old.items
+    ensures step { OnOk result (AllOwn (boxes filers.old.items) sent.old.items
         → Step (world_of server.old sent.old.items outputs.old.items filers.old.items) (view_event event.now)
         (world_of server.new sent.new.items outputs.new.items filers.new.items)) }
     ensures no_such { result ≡ Err Cause.NoSuch
@@ -133,7 +136,7 @@ fn append_outbox<D: Honest>(
     code: &str,
 ) -> Result<(), Cause>
     requires { is_filer code.now ≡ true }
-    ensures new { OnOk result (list.new.items ≡ list.old.items ++ new_outbox code.now ∷ []) }
+    ensures new { OnOk result (boxes list.new.items ≡ boxes list.old.items ++ new_outbox code.now ∷ []) }
     ensures other { result ≢ Err Cause.NoSuch }
 {
     list.reserve(1)?;
@@ -144,7 +147,7 @@ fn append_outbox<D: Honest>(
 /// An empty outbox for each of these filer codes, in order.
 fn outboxes<D: Honest>(alloc: Global, filers: &[&str]) -> Result<Vec<Filer<D>>, Cause>
     requires { AreFilers (map (λ f. f.now) filers.now) }
-    ensures new { IfOk result (λ list. list.items ≡ map new_outbox (map (λ f. f.now) filers.now)) }
+    ensures new { IfOk result (λ list. boxes list.items ≡ map new_outbox (map (λ f. f.now) filers.now)) }
     ensures other { result ≢ Err Cause.NoSuch }
 {
     let mut list = Vec::new(alloc);
@@ -233,21 +236,26 @@ impl<D: Honest> World<D> {
         self.server.register()
     }
 
-    /// Every entry of every outbox, by the number of the outbox and its own, with its state, ascending. `Store` comes
-    /// where one is down.
+    /// Every entry of every outbox, by the number of the outbox and its own, with its state, ascending. `Store` comes if an
+    /// outbox is down, and else only if the database of one refused.
     pub fn states(&mut self) -> Result<Vec<(u64, u64, State)>, StoreFault>
         ensures list { IfOk result (λ list. map view_listed list.items ≡ states self.old.world) }
         ensures down { are_up self.old.world.outboxes ≡ false → result ≡ Err StoreFault.Store }
-        ensures same { self.new ≡ self.old }
+        ensures store { result ≡ Err StoreFault.Store
+            → (are_up self.old.world.outboxes ≡ false) ⊎ HasSleeper self.new.asleep }
+        ensures same { IsSame self.old self.new }
     {
         all_states(self.alloc, &mut self.filers)
     }
 
-    /// The confirmed ones among them, with their numbers in the register. `Store` comes where an outbox is down.
+    /// The confirmed ones among them, with their numbers in the register. `Store` comes if an outbox is down, and else only
+    /// if the database of one refused.
     pub fn confirmed(&mut self) -> Result<Vec<(u64, u64, u64)>, StoreFault>
         ensures list { IfOk result (λ list. list.items ≡ confirmed self.old.world) }
         ensures down { are_up self.old.world.outboxes ≡ false → result ≡ Err StoreFault.Store }
-        ensures same { self.new ≡ self.old }
+        ensures store { result ≡ Err StoreFault.Store
+            → (are_up self.old.world.outboxes ≡ false) ⊎ HasSleeper self.new.asleep }
+        ensures same { IsSame self.old self.new }
     {
         let states = all_states(self.alloc, &mut self.filers)?;
         match confirmed_of(self.alloc, states.as_slice()) {

@@ -3,6 +3,7 @@ use Rattle.event_script.specs.Events.{view_crash}
 use Rattle.filing_world.specs.World.{Output, numbered}
 use Rattle.filing_world.specs.Step.{IsAway}
 use Rattle.world_ends.proofs.Entries.{element_at}
+use Rattle.world_ends.specs.Filers.{boxes}
 use Rattle.world_events.proofs.Steps.{element_is, named, up_there, can_hand, hand_step}
 use Rattle.world_events.proofs.hand.hand.Goals as goal
 
@@ -11,18 +12,18 @@ some-none x e = cc
 
 pub returns-clause-step : goal.returns-clause-step
 returns-clause-step g c =
-    let boxes = c.args.filers.now.items in
+    let filers = c.args.filers.now.items in
     let from = c.index-outputs-at.result in
     let sender = c.in_ok-outbox.ensures.some in
     let up = c.in-Some-up_at.ensures.some in
-    let there : slice_get boxes c.in-Some-up_at.index ≡ Some up.1 = subst (λ bs. slice_get bs c.in-Some-up_at.index ≡ Some up.1) c.as_slice.ensures.value up.2 in
-    let box = c.index_mut.result.now in
-    let same : box ≡ up.1 = element_is boxes c.in-Some-up_at.index up.1 box there c.index_mut.ensures.value in
+    let there : slice_get filers c.in-Some-up_at.index ≡ Some up.1 = subst (λ bs. slice_get bs c.in-Some-up_at.index ≡ Some up.1) c.as_slice.ensures.value up.2 in
+    let filer = c.index_mut.result.now in
+    let same : filer ≡ up.1 = element_is filers c.in-Some-up_at.index up.1 filer there c.index_mut.ensures.value in
     let here = named c.args.outputs.now c.args.output c.in-Some.at from c.in-Some.ensures.some.0 (element_at c.args.outputs.now c.in-Some.at from c.in-Some.ensures.some.1 c.index-outputs-at.is) in
     let given : c.first.result.now ≡ take c.args.bytes from.bytes = c.first.ensures ∙ ap (take c.args.bytes) (c.as_slice-2.ensures.value ∙ ap (λ (o : Output). o.bytes) c.from.view_is) in
     let item_is : c.from.inside.item ≡ from.item = ap (λ (o : Output). o.item) c.from.view_is in
     let item_here = subst (λ n. numbered c.args.sent.now n ≡ Some sender.0) item_is sender.1 in
-    hand_step boxes c.in-Some-up_at.index c.in_ok-outbox.outbox up.0 box (rw same there) (rw same up.3) c.args.sent.now c.args.outputs.now c.args.output c.args.bytes c.in_ok-outbox.entry (view_crash c.args.crash) from sender.0 here item_here sender.2
+    hand_step filers c.in-Some-up_at.index c.in_ok-outbox.outbox up.0 filer (rw same there) (rw same up.3) c.args.sent.now c.args.outputs.now c.args.output c.args.bytes c.in_ok-outbox.entry (view_crash c.args.crash) from sender.0 here item_here sender.2
     c.hand.new.self c.hand.result (rw given at c.hand.ensures.heard)
 
 pub index_mut-requires : goal.index_mut-requires
@@ -30,10 +31,10 @@ index_mut-requires g c = subst (λ n. c.in-Some-up_at.index < n) c.as_slice.ensu
 
 pub hand-requires : goal.hand-requires
 hand-requires g c =
-    let boxes = c.args.filers.now.items in
+    let filers = c.args.filers.now.items in
     let up = c.in-Some-up_at.ensures.some in
-    let there : slice_get boxes c.in-Some-up_at.index ≡ Some up.1 = subst (λ bs. slice_get bs c.in-Some-up_at.index ≡ Some up.1) c.as_slice.ensures.value up.2 in
-    let same : c.index_mut.result.now ≡ up.1 = element_is boxes c.in-Some-up_at.index up.1 c.index_mut.result.now there c.index_mut.ensures.value in
+    let there : slice_get filers c.in-Some-up_at.index ≡ Some up.1 = subst (λ bs. slice_get bs c.in-Some-up_at.index ≡ Some up.1) c.as_slice.ensures.value up.2 in
+    let same : c.index_mut.result.now ≡ up.1 = element_is filers c.in-Some-up_at.index up.1 c.index_mut.result.now there c.index_mut.ensures.value in
     rw same up.3
 
 pub returns-in_default-up_at-clause-no_such : goal.returns-in_default-up_at-clause-no_such
@@ -43,31 +44,31 @@ returns-in_default-up_at-clause-no_such g c = λ e server.
     let sender = c.in_ok-outbox.ensures.some in
     let item_is : c.from.inside.item ≡ from.item = ap (λ (o : Output). o.item) c.from.view_is in
     let item_here = subst (λ n. numbered c.args.sent.now n ≡ Some sender.0) item_is sender.1 in
-    inr (from, sender.0, here, item_here, inr (c.in_ok-outbox.outbox, c.in_ok-outbox.entry, sender.2, subst (λ bs. IsAway bs c.in_ok-outbox.outbox) c.as_slice.ensures.value (c.in_default-up_at.ensures.none refl)))
+    inr (from, sender.0, here, item_here, inr (c.in_ok-outbox.outbox, c.in_ok-outbox.entry, sender.2, subst (λ fs. IsAway (boxes fs) c.in_ok-outbox.outbox) c.as_slice.ensures.value (c.in_default-up_at.ensures.none refl)))
 
 pub returns-clause-reopen : goal.returns-clause-reopen
 returns-clause-reopen g c = λ e.
-    let boxes = c.args.filers.now.items in
+    let filers = c.args.filers.now.items in
     let from = c.index-outputs-at.result in
     let sender = c.in_ok-outbox.ensures.some in
     let up = c.in-Some-up_at.ensures.some in
-    let there : slice_get boxes c.in-Some-up_at.index ≡ Some up.1 = subst (λ bs. slice_get bs c.in-Some-up_at.index ≡ Some up.1) c.as_slice.ensures.value up.2 in
+    let there : slice_get filers c.in-Some-up_at.index ≡ Some up.1 = subst (λ bs. slice_get bs c.in-Some-up_at.index ≡ Some up.1) c.as_slice.ensures.value up.2 in
     let here = named c.args.outputs.now c.args.output c.in-Some.at from c.in-Some.ensures.some.0 (element_at c.args.outputs.now c.in-Some.at from c.in-Some.ensures.some.1 c.index-outputs-at.is) in
     let item_is : c.from.inside.item ≡ from.item = ap (λ (o : Output). o.item) c.from.view_is in
     let item_here = subst (λ n. numbered c.args.sent.now n ≡ Some sender.0) item_is sender.1 in
-    (c.hand.ensures.reopen e, can_hand c.args.sent.now c.args.outputs.now boxes c.args.output c.args.bytes c.in_ok-outbox.outbox c.in_ok-outbox.entry (view_crash c.args.crash) from sender.0 here item_here sender.2 (up_there boxes c.in_ok-outbox.outbox c.in-Some-up_at.index up.1 up.0 there up.3))
+    (c.hand.ensures.reopen e, can_hand c.args.sent.now c.args.outputs.now filers c.args.output c.args.bytes c.in_ok-outbox.outbox c.in_ok-outbox.entry (view_crash c.args.crash) from sender.0 here item_here sender.2 (up_there filers c.in_ok-outbox.outbox c.in-Some-up_at.index up.1 up.0 there up.3))
 
 pub returns-clause-store : goal.returns-clause-store
 returns-clause-store g c = λ e server keeps.
-    let boxes = c.args.filers.now.items in
+    let filers = c.args.filers.now.items in
     let from = c.index-outputs-at.result in
     let sender = c.in_ok-outbox.ensures.some in
     let up = c.in-Some-up_at.ensures.some in
-    let there : slice_get boxes c.in-Some-up_at.index ≡ Some up.1 = subst (λ bs. slice_get bs c.in-Some-up_at.index ≡ Some up.1) c.as_slice.ensures.value up.2 in
+    let there : slice_get filers c.in-Some-up_at.index ≡ Some up.1 = subst (λ bs. slice_get bs c.in-Some-up_at.index ≡ Some up.1) c.as_slice.ensures.value up.2 in
     let here = named c.args.outputs.now c.args.output c.in-Some.at from c.in-Some.ensures.some.0 (element_at c.args.outputs.now c.in-Some.at from c.in-Some.ensures.some.1 c.index-outputs-at.is) in
     let item_is : c.from.inside.item ≡ from.item = ap (λ (o : Output). o.item) c.from.view_is in
     let item_here = subst (λ n. numbered c.args.sent.now n ≡ Some sender.0) item_is sender.1 in
-    (c.hand.ensures.store e, (c.in_ok-outbox.outbox, (from, sender.0, c.in_ok-outbox.entry, here, item_here, sender.2), up_there boxes c.in_ok-outbox.outbox c.in-Some-up_at.index up.1 up.0 there up.3))
+    (c.hand.ensures.store e, (c.in_ok-outbox.outbox, (from, sender.0, c.in_ok-outbox.entry, here, item_here, sender.2), up_there filers c.in_ok-outbox.outbox c.in-Some-up_at.index up.1 up.0 there up.3))
 
 pub returns-in_err-outbox-clause-store : goal.returns-in_err-outbox-clause-store
 returns-in_err-outbox-clause-store g c = λ e server keeps.

@@ -15,5 +15,5 @@ loop-entry-preserved c =
     (listed_next c.args.outbox c.args.states.now c.loop-entry.entry-index _ c.args.list.now.items c.loop-entry.list.items c.push_reserved.new.self.items c.loop-entry-test.true c.loop-entry.invariant
     (rw c.reserve.ensures.items at c.push_reserved.ensures.items))
 
-pub returns : goal.returns
-returns c = c.loop-entry.invariant ∙ ap (λ l. map view_listed c.args.list.now.items ++ map (listed c.args.outbox) l) (take_all c.loop-entry.entry-index c.args.states.now c.loop-entry-test.false)
+pub returns-clause-list : goal.returns-clause-list
+returns-clause-list c = c.loop-entry.invariant ∙ ap (λ l. map view_listed c.args.list.now.items ++ map (listed c.args.outbox) l) (take_all c.loop-entry.entry-index c.args.states.now c.loop-entry-test.false)

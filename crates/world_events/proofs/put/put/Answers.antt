@@ -1,17 +1,18 @@
 use Rattle.std.proofs.Common.{◌≡◌, subst, Some, slice_get, ◌<◌, refl}
 use Rattle.outbox_core.specs.Entries.{opened}
 use Rattle.filing_world.specs.Step.{IsAway}
+use Rattle.world_ends.specs.Filers.{boxes}
 use Rattle.world_events.proofs.Steps.{up_there, element_is, put_step}
 use Rattle.world_events.proofs.put.put.Goals as goal
 
 pub returns-clause-step : goal.returns-clause-step
 returns-clause-step g c =
-    let boxes = c.args.filers.now.items in
+    let filers = c.args.filers.now.items in
     let up = c.in-Some.ensures.some in
-    let there : slice_get boxes c.in-Some.at ≡ Some up.1 = subst (λ bs. slice_get bs c.in-Some.at ≡ Some up.1) c.as_slice.ensures.value up.2 in
-    let box = c.index_mut.result.now in
-    let same : box ≡ up.1 = element_is boxes c.in-Some.at up.1 box there c.index_mut.ensures.value in
-    put_step boxes c.in-Some.at c.args.outbox up.0 box (rw same there) (rw same up.3) (opened c.args.key.now c.args.target c.args.body.now) c.put.new.self c.put.result c.put.ensures.put c.put.ensures.key c.requires
+    let there : slice_get filers c.in-Some.at ≡ Some up.1 = subst (λ bs. slice_get bs c.in-Some.at ≡ Some up.1) c.as_slice.ensures.value up.2 in
+    let filer = c.index_mut.result.now in
+    let same : filer ≡ up.1 = element_is filers c.in-Some.at up.1 filer there c.index_mut.ensures.value in
+    put_step filers c.in-Some.at c.args.outbox up.0 filer (rw same there) (rw same up.3) (opened c.args.key.now c.args.target c.args.body.now) c.put.new.self c.put.result c.put.ensures.put c.put.ensures.key c.requires
 
 pub returns-clause-no_such : goal.returns-clause-no_such
 returns-clause-no_such g c = λ e. absurd (c.put.ensures.other e)
@@ -21,22 +22,22 @@ returns-clause-reopen g c = c.put.ensures.reopen
 
 pub returns-in_default-clause-no_such : goal.returns-in_default-clause-no_such
 returns-in_default-clause-no_such g c = λ e server sent outputs.
-    subst (λ bs. IsAway bs c.args.outbox) c.as_slice.ensures.value (c.in_default.ensures.none refl)
+    subst (λ fs. IsAway (boxes fs) c.args.outbox) c.as_slice.ensures.value (c.in_default.ensures.none refl)
 
 pub index_mut-requires : goal.index_mut-requires
 index_mut-requires g c = subst (λ n. c.in-Some.at < n) c.as_slice.ensures.len c.in-Some.ensures.some.4
 
 pub put-requires : goal.put-requires
 put-requires g c =
-    let boxes = c.args.filers.now.items in
+    let filers = c.args.filers.now.items in
     let up = c.in-Some.ensures.some in
-    let there : slice_get boxes c.in-Some.at ≡ Some up.1 = subst (λ bs. slice_get bs c.in-Some.at ≡ Some up.1) c.as_slice.ensures.value up.2 in
-    let same : c.index_mut.result.now ≡ up.1 = element_is boxes c.in-Some.at up.1 c.index_mut.result.now there c.index_mut.ensures.value in
+    let there : slice_get filers c.in-Some.at ≡ Some up.1 = subst (λ bs. slice_get bs c.in-Some.at ≡ Some up.1) c.as_slice.ensures.value up.2 in
+    let same : c.index_mut.result.now ≡ up.1 = element_is filers c.in-Some.at up.1 c.index_mut.result.now there c.index_mut.ensures.value in
     record { up = rw same up.3; target = c.requires }
 
 pub returns-clause-store : goal.returns-clause-store
 returns-clause-store g c = λ e.
-    let boxes = c.args.filers.now.items in
+    let filers = c.args.filers.now.items in
     let up = c.in-Some.ensures.some in
-    let there : slice_get boxes c.in-Some.at ≡ Some up.1 = subst (λ bs. slice_get bs c.in-Some.at ≡ Some up.1) c.as_slice.ensures.value up.2 in
-    up_there boxes c.args.outbox c.in-Some.at up.1 up.0 there up.3
+    let there : slice_get filers c.in-Some.at ≡ Some up.1 = subst (λ bs. slice_get bs c.in-Some.at ≡ Some up.1) c.as_slice.ensures.value up.2 in
+    up_there filers c.args.outbox c.in-Some.at up.1 up.0 there up.3

@@ -4,6 +4,7 @@ use Rattle.filing_world.specs.World.{Sent, Output, Deliver, Hand}
 use Rattle.filing_world.specs.Step.{CannotPlay, Puts, Delivers, Hands}
 use Rattle.filing_world.specs.Invariant.{AllOwn, Keeps}
 use Rattle.outbox_core.specs.Entries.{opened}
+use Rattle.world_ends.specs.Filers.{boxes}
 use Rattle.world_events.specs.Played.{world_of}
 use Rattle.world_events.specs.Playing.{AsksOutbox}
 use Rattle.world_ends.proofs.Entries.{then_ok}
@@ -37,15 +38,15 @@ returns-in-Deliver-clause-step g c =
 pub returns-in-Hand-clause-step : goal.returns-in-Hand-clause-step
 returns-in-Hand-clause-step g c =
     let server = c.args.server.now in
-    let boxes = c.args.filers.now.items in
+    let filers = c.args.filers.now.items in
     let given = c.in-Hand in
-    let old = λ (sent : List Sent) (outputs : List Output). world_of server sent outputs boxes in
+    let old = λ (sent : List Sent) (outputs : List Output). world_of server sent outputs filers in
     let new = λ (sent : List Sent) (outputs : List Output). world_of server sent outputs c.hand.new.filers.items in
     let answered = c.as_slice-in-Hand-2.result.now in
     let sent_is = c.as_slice-in-Hand.ensures.value in
     rw c.in-Hand.is
     (then_ok c.hand.result (λ hands own.
-    let its = hands server (subst (λ sent. AllOwn boxes sent) (sym sent_is) own) in
+    let its = hands server (subst (λ sent. AllOwn (boxes filers) sent) (sym sent_is) own) in
     let first = subst (λ sent. Hands (old sent answered) given.output given.bytes (view_crash given.crash) (new sent answered)) sent_is its in
     subst (λ outputs. Hands (old c.args.sent.now.items outputs) given.output given.bytes (view_crash given.crash) (new c.args.sent.now.items outputs)) c.as_slice-in-Hand-2.ensures.value first)
     c.hand.ensures.step)

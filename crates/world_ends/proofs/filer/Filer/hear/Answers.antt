@@ -2,6 +2,7 @@ use Rattle.std.proofs.Common.{◌∙◌, ap, Some, None, refl}
 use Rattle.std.specs.String.{string_bytes}
 use Rattle.filing_world.specs.World.{Outbox}
 use Rattle.filing_ends.specs.OutboxProcess.{is_up}
+use Rattle.world_ends.specs.Filers.{FilerParts}
 use Rattle.world_ends.proofs.Entries.{box_heard}
 use Rattle.world_ends.proofs.filer.Filer.hear.Goals as goal
 
@@ -9,7 +10,7 @@ pub returns-in-Some-clause-heard : goal.returns-in-Some-clause-heard
 returns-in-Some-clause-heard g c =
     let inside = c.self.inside in
     let box : Outbox = record { filer = string_bytes inside.code; entries = inside.entries.items; up = is_up inside.process } in
-    let still = c.hear.ensures.up ∙ ap (λ (b : Outbox). b.up) c.self.view_is ∙ c.requires in
+    let still = c.hear.ensures.up ∙ ap (λ (f : FilerParts). f.box.up) c.self.view_is ∙ c.requires in
     rw (← c.self.view_is)
     (λ what here.
     let heard = c.in_ok-state.ensures.heard (string_bytes inside.code) inside.entries.items c.self.invariant what here in
@@ -19,7 +20,7 @@ pub returns-in_default-clause-heard : goal.returns-in_default-clause-heard
 returns-in_default-clause-heard g c =
     let inside = c.self.inside in
     let box : Outbox = record { filer = string_bytes inside.code; entries = inside.entries.items; up = is_up inside.process } in
-    let still = c.hear.ensures.up ∙ ap (λ (b : Outbox). b.up) c.self.view_is ∙ c.requires in
+    let still = c.hear.ensures.up ∙ ap (λ (f : FilerParts). f.box.up) c.self.view_is ∙ c.requires in
     rw (← c.self.view_is)
     (λ what here.
     let heard = c.in_ok-state.ensures.heard (string_bytes inside.code) inside.entries.items c.self.invariant what here in
