@@ -7,7 +7,7 @@ ghost use Rattle.sqlite.specs.Effect.{IsDatabase};
 ghost use Rattle.sqlite.specs.Held.{state};
 ghost use Rattle.sqlite.specs.State.{HasCleanDisk, Survives};
 ghost use Rattle.table_rows.specs.Leaving.{OnlyReads};
-ghost use Rattle.table_rows.specs.Standing.{CommitsNothing, StaysCommitted, IsCommitted, IsLasting, KeepsOnErr};
+ghost use Rattle.table_rows.specs.Standing.{CommitsNothing, StaysCommitted, IsCommitted, IsLasting, KeepsOnErr, IsAtRest};
 ghost use Rattle.outbox_opening.specs.Schema.{HasCommon};
 ghost use Rattle.outbox_opening.specs.Entries.{Contents, contents_of};
 ghost use Rattle.outbox_opening.specs.Rows.{IsOutboxOf};
@@ -88,8 +88,7 @@ pub fn migrate_outbox<S: Alter>(
     alloc: Global,
     conn: &mut Connection<S>,
 ) -> Result<FoundOutbox, OutboxFault>
-    requires autocommit { conn.old.in_transaction ≡ false }
-    requires unlimited { conn.old.step_limit ≡ None }
+    requires { IsAtRest conn.old }
     ensures { MigratesOutbox S.Store conn.old conn.new result }
 {
     prove!(is_settled(conn));

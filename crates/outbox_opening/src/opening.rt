@@ -17,6 +17,7 @@ ghost use Rattle.outbox_opening.specs.Walk.{AreCounted};
 ghost use Rattle.table_rows.specs.declared.cause.Cause.TheVariants as cause;
 ghost use Rattle.outbox_opening.specs.Promises.{ForOutbox};
 ghost use Rattle.outbox_opening.specs.Opening.{ReadsOutbox};
+ghost use Rattle.table_rows.specs.Standing.{IsAtRest};
 
 pub(crate) mod audit;
 pub(crate) mod picks;
@@ -244,8 +245,7 @@ pub fn read_outbox<S: Alter>(
     alloc: Global,
     conn: &mut Connection<S>,
 ) -> Result<FoundOutbox, OutboxFault>
-    requires autocommit { conn.old.in_transaction ≡ false }
-    requires unlimited { conn.old.step_limit ≡ None }
+    requires { IsAtRest conn.old }
     ensures { ReadsOutbox S.Store conn.old conn.new result }
 {
     prove!(is_settled(conn));

@@ -5,7 +5,7 @@ ghost use Rattle.sqlite.specs.Held.{state};
 ghost use Rattle.sqlite.specs.declared.error.Error.{Error};
 ghost use Rattle.sqlite.specs.declared.types.Value.TheVariants.{Int};
 ghost use Rattle.sqlite.specs.State.{HasCleanDisk, Survives, ExecutesInside};
-ghost use Rattle.table_rows.specs.Standing.{CommitsNothing, IsLasting, StaysCommitted};
+ghost use Rattle.table_rows.specs.Standing.{CommitsNothing, IsLasting, StaysCommitted, IsAtRest};
 ghost use Rattle.register_opening.specs.Gains.{AddsNothing};
 ghost use Rattle.register_opening.specs.Earlier.{is_blocked};
 ghost use Rattle.register_opening.specs.Migrating.{insert_early, write_fault, migrating, AreDone, StopsAt, AreCommitted, AreUndone, AreTreesOf, MigratesRegister};
@@ -136,8 +136,7 @@ pub fn migrate_register<S: Alter>(
     alloc: Global,
     conn: &mut Connection<S>,
 ) -> Result<Counts, OpenFault>
-    requires autocommit { conn.old.in_transaction ≡ false }
-    requires unlimited { conn.old.step_limit ≡ None }
+    requires { IsAtRest conn.old }
     ensures { MigratesRegister S.Store conn.old conn.new result }
 {
     prove!(is_settled(conn));

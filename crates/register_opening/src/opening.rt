@@ -13,6 +13,7 @@ ghost use Rattle.register_opening.specs.Opening.{all_meta, row_texts, new_texts,
 ghost use Rattle.register_rows.specs.Register.{meta_row, migrated_row};
 ghost use Rattle.register_rows.specs.Schema.{HasCommon};
 ghost use Rattle.register_opening.specs.Walk.{AreCounted};
+ghost use Rattle.table_rows.specs.Standing.{IsAtRest};
 
 pub(crate) mod walk;
 pub(crate) mod watch;
@@ -316,8 +317,7 @@ pub fn read_register<S: Alter, W: Watch>(
     conn: &mut Connection<S>,
     watch: &mut W,
 ) -> Result<Counts, OpenFault>
-    requires autocommit { conn.old.in_transaction ≡ false }
-    requires unlimited { conn.old.step_limit ≡ None }
+    requires { IsAtRest conn.old }
     ensures { ReadsRegister S.Store conn.old conn.new result }
 {
     prove!(is_settled(conn));

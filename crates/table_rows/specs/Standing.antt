@@ -1,10 +1,15 @@
 -- What a connection keeps between calls.
-use Rattle.std.specs.Prelude.{◌≡◌, ◌⊎◌, false, Result, IsTrue, OnOk, OnErr}
+use Rattle.std.specs.Prelude.{◌≡◌, ◌⊎◌, false, None, Result, IsTrue, OnOk, OnErr}
 use Rattle.sqlite.specs.Store.{Ghosts}
 use Rattle.sqlite.specs.Tree.{Trees}
 use Rattle.sqlite.specs.Effect.{Database}
 use Rattle.sqlite.specs.Held.{Held, state}
 use Rattle.sqlite.specs.State.{State, HasCleanDisk, IsUnchanged, IsRolledBack, KeepsCommit, Survives}
+
+-- a connection in no transaction, whose statements may take any number of steps
+pub record IsAtRest {S : Type 0} (conn : Held S) : Type 0 where
+  pub autocommit : conn.in_transaction ≡ false
+  pub unlimited : conn.step_limit ≡ None
 
 -- no transaction is under way, and while the store is open the database is such a one, committed as it is
 pub record HasCommitted (Is : Database → Type 0) (s : State) : Type 0 where
