@@ -16,11 +16,12 @@ ghost use Rattle.outbox_opening.specs.Faults.{IsFailure};
 ghost use Rattle.outbox_opening.specs.Migrating.{MigratesOutbox};
 
 use crate::fault::OutboxFault;
-use crate::opening::{FoundOutbox, count_whole, filer_of, is_settled};
+use crate::opening::{FoundOutbox, count_whole, filer_of};
 use crate::schema::create::run;
 use sqlite::{Alter, Connection, Error, Transaction};
 use sqlite_catalog::layout::is_used;
 use std::alloc::Global;
+use table_rows::is_settled;
 
 /// Reads the outbox of a database in the form before this one. Nothing is written.
 fn read_earlier<S: Alter>(

@@ -1,12 +1,12 @@
 //! What an opening finds in a database.
 
-ghost use Rattle.std.specs.Prelude.{◌≡◌, ◌<◌, ◌≤◌, ◌^◌, ◌⊎◌, ◌∷◌, [], ℕ, List, length, IsPermutation, true, false, not, None, Some, Err, IsTrue, IfOk, IfErr, IfSome, OnOk, string_bytes};
+ghost use Rattle.std.specs.Prelude.{◌≡◌, ◌<◌, ◌≤◌, ◌^◌, ◌⊎◌, ◌∷◌, [], ℕ, List, length, IsPermutation, true, false, None, Some, Err, IsTrue, IfOk, IfErr, IfSome, OnOk, string_bytes};
 ghost use Rattle.std.specs.List.{AllByRecursion};
 ghost use Rattle.key_string.specs.Filer.{is_filer};
 ghost use Rattle.filing_model.specs.Outbox.{Entry as Item};
 ghost use Rattle.sqlite.specs.Held.{state};
 ghost use Rattle.sqlite.specs.Order.{Row as Stored};
-ghost use Rattle.sqlite.specs.State.{HasCleanDisk, IsLive, Shown};
+ghost use Rattle.sqlite.specs.State.{HasCleanDisk, Shown};
 ghost use Rattle.table_rows.specs.Rows.{TableHas};
 ghost use Rattle.table_rows.specs.Leaving.{OnlyReads};
 ghost use Rattle.outbox_opening.specs.Schema.{IsDeclared, HasCommon, meta_table, entry_table, target_table};
@@ -30,7 +30,7 @@ use crate::opening::walk::count_by_walk;
 use crate::rows;
 use sqlite::{Alter, Connection, Error, Row};
 use std::alloc::Global;
-use table_rows::Cause;
+use table_rows::{Cause, is_settled};
 
 fn meta_fault(error: Error) -> OutboxFault
     ensures { result ≡ meta_fault error }
@@ -219,17 +219,6 @@ fn count_all<S: Alter>(alloc: Global, conn: &mut Connection<S>) -> Result<u64, O
 {
     let targets = read_targets(conn)?;
     count_entries(alloc, conn, targets.as_slice())
-}
-
-/// Whether no transaction is under way.
-pub(crate) fn is_settled<S: Alter>(conn: &Connection<S>) -> bool
-    ensures value { result ≡ not conn.now.in_transaction }
-    ensures live { IsLive (state S.Store conn.now) }
-    ensures settled { IsTrue result → IsTrue (state S.Store conn.now).is_open
-        → (state S.Store conn.now).now ≡ (state S.Store conn.now).committed }
-{
-    let _schema = conn.schema();
-    conn.is_autocommit()
 }
 
 /// The outbox of a database: the code of its filer, and how many entries it has.

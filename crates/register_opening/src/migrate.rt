@@ -14,12 +14,12 @@ pub(crate) mod earlier;
 
 use crate::fault::OpenFault;
 use crate::migrate::earlier::{Earlier, read_earlier};
-use crate::opening::{Counts, is_settled};
+use crate::opening::Counts;
 use crate::schema::create::run;
 use crate::schema::names;
 use sqlite::{Alter, Connection, Error, Transaction, params};
 use std::alloc::Global;
-use table_rows::Cause;
+use table_rows::{Cause, is_settled};
 
 fn write_fault(error: Error) -> OpenFault
     ensures { result ≡ write_fault error }

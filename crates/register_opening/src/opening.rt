@@ -1,10 +1,10 @@
 //! What an opening finds in a database.
 
-ghost use Rattle.std.specs.Prelude.{◌≡◌, ◌≤◌, ◌<◌, ◌⊎◌, ◌↔◌, ◌∷◌, [], ℕ, length, false, not, Err, IsTrue, IfOk, IfErr, IfSome, OnOk, None, Option};
+ghost use Rattle.std.specs.Prelude.{◌≡◌, ◌≤◌, ◌<◌, ◌⊎◌, ◌↔◌, ◌∷◌, [], ℕ, length, false, Err, IsTrue, IfOk, IfErr, IfSome, OnOk, None, Option};
 ghost use Rattle.filing_model.specs.Register.{register};
 ghost use Rattle.sqlite.specs.Held.{state};
 ghost use Rattle.sqlite.specs.declared.types.Value.TheVariants.{Int};
-ghost use Rattle.sqlite.specs.State.{HasCleanDisk, IsLive};
+ghost use Rattle.sqlite.specs.State.{HasCleanDisk};
 ghost use Rattle.table_rows.specs.Leaving.{OnlyQueries, OnlyReads};
 ghost use Rattle.table_rows.specs.Causes.{cause_of};
 ghost use Rattle.register_rows.specs.Audit.{IsVerdict};
@@ -26,7 +26,7 @@ use register_rows::{Cell, Verdict, audit, is_row, last_in};
 use sqlite::types::ValueRef;
 use sqlite::{Alter, Connection, Error, Row};
 use std::alloc::Global;
-use table_rows::Cause;
+use table_rows::{Cause, is_settled};
 
 pub(crate) fn meta_fault(error: Error) -> OpenFault
     ensures { result ≡ meta_fault error }
@@ -260,17 +260,6 @@ fn count_one_by_one<S: Alter, W: Watch>(
             Cause::Other => Ok(None),
         },
     }
-}
-
-/// Whether no transaction is under way.
-pub(crate) fn is_settled<S: Alter>(conn: &Connection<S>) -> bool
-    ensures value { result ≡ not conn.now.in_transaction }
-    ensures live { IsLive (state S.Store conn.now) }
-    ensures settled { IsTrue result → IsTrue (state S.Store conn.now).is_open
-        → (state S.Store conn.now).now ≡ (state S.Store conn.now).committed }
-{
-    let _schema = conn.schema();
-    conn.is_autocommit()
 }
 
 /// Counts what the rows stand for beside those of the later tables.

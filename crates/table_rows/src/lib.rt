@@ -9,9 +9,11 @@ mod count;
 mod fault;
 mod first;
 mod query;
+mod settled;
 
 pub use cause::Cause;
 pub use count::count_in;
 pub use fault::StoreFault;
 pub use first::first_row;
 pub use query::select;
+pub use settled::is_settled;

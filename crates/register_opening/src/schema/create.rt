@@ -10,9 +10,9 @@ ghost use Rattle.register_rows.specs.Schema.{is_taken};
 ghost use Rattle.table_rows.specs.Standing.{CommitsNothing, StaysCommitted};
 
 use crate::fault::CreateFault;
-use crate::opening::is_settled;
 use crate::schema::names;
 use sqlite::{Alter, Connection, Error, Transaction};
+use table_rows::is_settled;
 
 /// Runs a statement that has no parameter.
 pub(crate) fn run<S: Alter>(tx: &mut Transaction<'_, S>, sql: &str) -> Result<(), Error>
