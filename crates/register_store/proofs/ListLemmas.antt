@@ -1,13 +1,12 @@
 -- What the rows that are read say of the requests that they stand for.
-use Rattle.std.proofs.Common.{◌≡◌, ℕ, List, map, refl, sym, ap, subst, ◌∙◌, arith}
+use Rattle.std.proofs.Common.{◌≡◌, ℕ, List, map, refl, sym, ap, subst, ◌∙◌}
 use Rattle.sqlite.specs.Order.{Row}
-use Rattle.sqlite.specs.State.{State, HasCleanDisk}
+use Rattle.sqlite.specs.State.{State}
 use Rattle.filing_model.specs.Request.{Request}
 use Rattle.filing_model.specs.Register.{kept}
 use Rattle.table_rows.specs.Rows.{counted_from}
 use Rattle.table_rows.specs.Reading.{RisesBy, ReadsRows}
-use Rattle.table_rows.specs.Standing.{HasCommitted, Keeps, CommitsNothing}
-use Rattle.table_rows.proofs.StandLemmas.{stands_on}
+use Rattle.table_rows.specs.Standing.{HasCommitted}
 use Rattle.table_rows.proofs.OrderLemmas.{counted_rise}
 use Rattle.register_opening.specs.Reads.{Knows, KnowsAll, every, whole, by_first}
 use Rattle.register_rows.specs.Register.{kept_row, amends_rows, joined_from}
@@ -18,15 +17,6 @@ use Rattle.register_opening.proofs.ListLemmas.{filter_every, map_whole, amends_r
 
 pub knows : {early : ℕ} (F : List Request) (s : State) → HasCommitted (IsRegisterOf early F) s → Knows s
 knows F s was alive = has_common s.now.schema (was.now alive).rows.rows.declared
-
--- a call that wrote nothing
-pub stays : {early : ℕ} (F : List Request) (old new : State) → HasCommitted (IsRegisterOf early F) old → Keeps old new → HasCommitted (IsRegisterOf early F) new
-stays {early} F old new was keeps = stands_on (IsRegisterOf early F) old new keeps was
-
--- two calls that wrote nothing
-pub both_stay : {early : ℕ} (F : List Request) (old mid new : State) → HasCommitted (IsRegisterOf early F) old → (HasCleanDisk mid → Keeps old mid) → (HasCleanDisk new → Keeps mid new) → CommitsNothing mid new
-    → HasCleanDisk new → HasCommitted (IsRegisterOf early F) new
-both_stay F old mid new was first then survives clean = stays F mid new (stays F old mid was (first (omega (arith, survives.clean)))) (then clean)
 
 -- all kept rows, in order
 pub kept_read : {early : ℕ} (F : List Request) (old new : State) (rows : List Row) → HasCommitted (IsRegisterOf early F) old → ReadsRows kept_table every by_first whole rows old new → rows ≡ counted_from kept_row 1 (kept F)

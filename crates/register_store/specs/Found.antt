@@ -20,7 +20,8 @@ use Rattle.filing_model.specs.Register.{Kept, kept}
 use Rattle.filing_model.specs.Answer.{kept_for}
 use Rattle.filing_model.specs.Style.{style_of}
 use Rattle.filing_model.specs.Views.{the_request}
-use Rattle.table_rows.specs.Standing.{HasCommitted, CommitsNothing, StaysAutocommit}
+use Rattle.table_rows.specs.Leaving.{OnlyReads}
+use Rattle.table_rows.specs.Standing.{HasCommitted}
 use Rattle.table_rows.specs.declared.fault.StoreFault.{StoreFault}
 use Rattle.register_store.specs.declared.outcome.KeptRow.{KeptRow}
 use Rattle.register_store.specs.declared.select.found.FoundRow.{FoundRow}
@@ -28,7 +29,7 @@ use Rattle.register_rows.specs.Columns.{bytes_in}
 use Rattle.register_store.specs.Outcomes.{kept_as}
 use Rattle.register_rows.specs.Register.{number_of}
 use Rattle.register_opening.specs.Registers.{IsRegisterOf}
-use Rattle.register_store.specs.Store.{AnswersOpen, KeepsRegister, ForRegister}
+use Rattle.register_store.specs.Store.{ForRegister}
 
 -- the column `seq` of `finding` or of `amends` equals this number, as SQL compares
 abbrev pub has_seq : ℤ → Row → Bool
@@ -108,7 +109,4 @@ pub record FindsKept {S : Type 0} (g : Ghosts S) (early : ℕ) (filer key : List
       → IfOk result (λ row. option_map (kept_as filer key) row ≡ kept_for (kept F) (the_request filer key target body)))
   pub style : HasCleanDisk (state g new) → (F : List Request) → HasCommitted (IsRegisterOf early F) (state g old) → (target : Option ℕ) (body : List ℕ)
       → IfOk result (λ row. IfSome row (λ r. r.style ≡ style_of (take early F) (the_request filer key target body)))
-  pub same : KeepsRegister (state g old) (state g new)
-  pub «open» : AnswersOpen (state g old) (state g new) result
-  pub mode : StaysAutocommit old new
-  pub crash : CommitsNothing (state g old) (state g new)
+  pub leaves : OnlyReads g old new result

@@ -1,6 +1,5 @@
 -- Outcomes and kept rows without where they lie in memory.
 use Rattle.std.specs.Prelude.{ℕ, List, nat_le, if◌then◌else◌}
-use Rattle.xbrl_report.specs.declared.judging.Judged.TheVariants.{Refused}
 use Rattle.filing_model.specs.declared.served.Style.{Style}
 use Rattle.filing_model.specs.declared.served.Style.TheVariants.{Old, Problem}
 use Rattle.filing_model.specs.Register.{Outcome, Kept}

@@ -1,5 +1,5 @@
 -- What the store of a register holds and shows.
-use Rattle.std.specs.Prelude.{◌≡◌, ◌≤◌, ◌^◌, ℕ, false, List, length, None, Result, IsTrue, IfOk, OnOk, refl}
+use Rattle.std.specs.Prelude.{◌≡◌, ◌≤◌, ◌^◌, ℕ, false, List, length, None, Result, IsTrue, IfOk, refl}
 use Rattle.std.specs.Coded.{Coded, code_by, coded×, coded_ℕ}
 use Rattle.sqlite.specs.Store.{Ghosts}
 use Rattle.sqlite.specs.Held.{Held, held_code, state}
@@ -44,17 +44,9 @@ pub record HasRequests {S : Type 0} (g : Ghosts S) (store : StoreParts S) (F : L
   pub filings_is : store.filings ≡ length (register F)
   pub within : store.early ≤ length F
 
--- Where the disk is clean at the end, the rows that stood for requests stand for them still, and are committed.
-abbrev pub KeepsRegister : State → State → Type 0
-KeepsRegister old new = HasCleanDisk new → (early : ℕ) (F : List Request) → HasCommitted (IsRegisterOf early F) old → HasCommitted (IsRegisterOf early F) new
-
 -- Whatever requests the rows stood for before, and were committed: where the disk is clean at the end, this holds of them.
 abbrev pub ForRegister : {S : Type 0} → Ghosts S → Held S → Held S → (ℕ → List Request → Type 0) → Type 0
 ForRegister g old new Holds = HasCleanDisk (state g new) → (early : ℕ) (F : List Request) → HasCommitted (IsRegisterOf early F) (state g old) → Holds early F
-
--- so an answer leaves the store open
-abbrev pub AnswersOpen : {X E : Type 0} → State → State → Result X E → Type 0
-AnswersOpen old new result = HasCleanDisk new → (early : ℕ) (F : List Request) → HasCommitted (IsRegisterOf early F) old → OnOk result (IsTrue new.is_open)
 
 -- Whatever requests it had before: where the disk is clean at the end, this holds of them.
 abbrev pub ForRequests : {S : Type 0} → Ghosts S → StoreParts S → StoreParts S → (List Request → Type 0) → Type 0

@@ -6,9 +6,10 @@ ghost use Rattle.sqlite.specs.Values.{or_null};
 ghost use Rattle.sqlite.specs.Held.{state};
 ghost use Rattle.sqlite.specs.State.{HasCleanDisk};
 ghost use Rattle.sqlite.specs.Table.{Table};
+ghost use Rattle.table_rows.specs.Leaving.{OnlyQueries};
 ghost use Rattle.table_rows.specs.Rows.{counted_from};
 ghost use Rattle.table_rows.specs.Reading.{ReadsRows};
-ghost use Rattle.table_rows.specs.Standing.{Keeps, CommitsNothing, StaysAutocommit, StaysCommitted};
+ghost use Rattle.table_rows.specs.Standing.{CommitsNothing, StaysCommitted};
 ghost use Rattle.register_opening.specs.Reads.{Knows, KnowsAll, by_second, has_texts};
 ghost use Rattle.register_store.specs.Found.{has_seq, unsorted, found_in, pair_in, target_alone};
 ghost use Rattle.register_rows.specs.Schema.{kept_table, finding_table, filing_table, fact_table, amends_table};
@@ -19,6 +20,7 @@ ghost use Rattle.register_store.specs.Changes.{InsertsRow};
 use crate::outcome::NewRow;
 use register_rows::RowItem;
 use sqlite::{Alter, Connection, Error, Row, Transaction, params};
+use table_rows::select;
 use xbrl_report::{Fact, Finding};
 
 /// A number as a row holds it.
@@ -199,11 +201,10 @@ pub fn rows_with_key<S: Alter>(
         → IfOk result (λ rows.
         ReadsRows kept_table (has_texts filer.now key.now) unsorted found_in rows.items (state S.Store conn.old)
         (state S.Store conn.new)) }
-    ensures keeps { HasCleanDisk (state S.Store conn.new) → Keeps (state S.Store conn.old) (state S.Store conn.new) }
-    ensures mode { StaysAutocommit conn.old conn.new }
-    ensures survives { CommitsNothing (state S.Store conn.old) (state S.Store conn.new) }
+    ensures leaves { OnlyQueries S.Store conn.old conn.new result }
 {
-    conn.query_all(
+    select(
+        conn,
         "SELECT seq, body, number FROM kept WHERE filer = ?1 AND idem = ?2",
         params![filer, key],
     )
@@ -215,11 +216,10 @@ pub fn rows_of_findings<S: Alter>(conn: &mut Connection<S>, seq: i64) -> Result<
         → IfOk result (λ rows.
         ReadsRows finding_table (has_seq seq) by_second pair_in rows.items (state S.Store conn.old)
         (state S.Store conn.new)) }
-    ensures keeps { HasCleanDisk (state S.Store conn.new) → Keeps (state S.Store conn.old) (state S.Store conn.new) }
-    ensures mode { StaysAutocommit conn.old conn.new }
-    ensures survives { CommitsNothing (state S.Store conn.old) (state S.Store conn.new) }
+    ensures leaves { OnlyQueries S.Store conn.old conn.new result }
 {
-    conn.query_all(
+    select(
+        conn,
         "SELECT code, place FROM finding WHERE seq = ?1 ORDER BY pos",
         params![seq],
     )
@@ -231,9 +231,11 @@ pub fn rows_of_target<S: Alter>(conn: &mut Connection<S>, seq: i64) -> Result<Ve
         → IfOk result (λ rows.
         ReadsRows amends_table (has_seq seq) unsorted target_alone rows.items (state S.Store conn.old)
         (state S.Store conn.new)) }
-    ensures keeps { HasCleanDisk (state S.Store conn.new) → Keeps (state S.Store conn.old) (state S.Store conn.new) }
-    ensures mode { StaysAutocommit conn.old conn.new }
-    ensures survives { CommitsNothing (state S.Store conn.old) (state S.Store conn.new) }
+    ensures leaves { OnlyQueries S.Store conn.old conn.new result }
 {
-    conn.query_all("SELECT target FROM amends WHERE seq = ?1", params![seq])
+    select(
+        conn,
+        "SELECT target FROM amends WHERE seq = ?1",
+        params![seq],
+    )
 }

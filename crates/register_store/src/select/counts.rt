@@ -1,22 +1,21 @@
 //! The filings of a filer as they are listed: what the indexes have of the filer's requests, and of no other filer's.
 
-ghost use Rattle.std.specs.Prelude.{◌≡◌, ℕ, pos, List, [], length, map, filter, unwrap_or, option_map, None, IsTrue, IfOk, OnOk};
+ghost use Rattle.std.specs.Prelude.{◌≡◌, ℕ, pos, List, [], length, map, filter, unwrap_or, option_map, None, IfOk};
 ghost use Rattle.std.specs.Ordering.{nat_cmp};
 ghost use Rattle.std.specs.BTreeMap.{get};
 ghost use Rattle.filing_model.specs.Listing.{listing, listings, replacing};
 ghost use Rattle.filing_model.specs.Register.{Filing, Kept, Outcome, filing_of, kept, register};
 ghost use Rattle.filing_model.specs.Views.{view_row};
 ghost use Rattle.xbrl_report.specs.ReportParts.{fact_count};
-ghost use Rattle.sqlite.specs.Held.{state};
+ghost use Rattle.table_rows.specs.Leaving.{MayRead, OnlyReads};
 ghost use Rattle.table_rows.specs.Rows.{counted_from};
-ghost use Rattle.table_rows.specs.Standing.{CommitsNothing, StaysAutocommit};
 ghost use Rattle.register_store.specs.Found.{IsPlaced};
 ghost use Rattle.register_store.specs.Numbered.{facts_numbered};
 ghost use Rattle.register_store.specs.Own.{own_filings, own_of};
 ghost use Rattle.register_opening.specs.Reads.{by_first};
 ghost use Rattle.register_store.specs.Reads.{has_filer};
 ghost use Rattle.register_rows.specs.Register.{kept_row, filing_rows_by, number_of};
-ghost use Rattle.register_store.specs.Store.{AnswersOpen, KeepsRegister, ForRegister};
+ghost use Rattle.register_store.specs.Store.{ForRegister};
 
 use crate::select::found::target_at;
 use crate::select::reads;
@@ -41,18 +40,13 @@ pub(crate) struct Own {
 fn count_facts<S: Alter>(conn: &mut Connection<S>, number: u64) -> Result<usize, StoreFault>
     ensures counted { ForRegister S.Store conn.old conn.new (λ _ F.
         IfOk result (λ count. count ≡ length (unwrap_or (facts_numbered number (register F)) []))) }
-    ensures same { KeepsRegister (state S.Store conn.old) (state S.Store conn.new) }
-    ensures open { AnswersOpen (state S.Store conn.old) (state S.Store conn.new) result }
-    ensures mode { StaysAutocommit conn.old conn.new }
-    ensures survives { CommitsNothing (state S.Store conn.old) (state S.Store conn.new) }
+    ensures leaves { OnlyReads S.Store conn.old conn.new result }
 {
     if number > MAX_NUMBER {
         return Err(StoreFault::Store);
     }
-    match reads::fact_places(conn, number) {
-        Ok(rows) => Ok(rows.len()),
-        Err(error) => Err(StoreFault::from(error)),
-    }
+    let rows = reads::fact_places(conn, number)?;
+    Ok(rows.len())
 }
 
 /// The number in such a row's one column, if there is a row.
@@ -72,15 +66,10 @@ fn number_at<S: Alter>(conn: &mut Connection<S>, seq: i64) -> Result<Option<u64>
     ensures found { ForRegister S.Store conn.old conn.new (λ _ F.
         (n : ℕ) (k : Kept) → seq ≡ pos n → IsPlaced 1 n (kept F) k
         → IfOk result (λ number. number ≡ number_of k.outcome)) }
-    ensures same { KeepsRegister (state S.Store conn.old) (state S.Store conn.new) }
-    ensures open { AnswersOpen (state S.Store conn.old) (state S.Store conn.new) result }
-    ensures mode { StaysAutocommit conn.old conn.new }
-    ensures survives { CommitsNothing (state S.Store conn.old) (state S.Store conn.new) }
+    ensures leaves { OnlyReads S.Store conn.old conn.new result }
 {
-    match reads::filing_at(conn, seq) {
-        Ok(rows) => first_number(&rows),
-        Err(error) => Err(StoreFault::from(error)),
-    }
+    let rows = reads::filing_at(conn, seq)?;
+    first_number(&rows)
 }
 
 /// The filing that the kept request at this place is, or `None` where it was refused.
@@ -88,18 +77,14 @@ fn own_at<S: Alter>(conn: &mut Connection<S>, seq: i64) -> Result<Option<Own>, S
     ensures found { ForRegister S.Store conn.old conn.new (λ _ F.
         (n : ℕ) (k : Kept) → seq ≡ pos n → IsPlaced 1 n (kept F) k
         → IfOk result (λ own. own ≡ option_map own_of (filing_of k.request k.outcome))) }
-    ensures same { KeepsRegister (state S.Store conn.old) (state S.Store conn.new) }
-    ensures open { AnswersOpen (state S.Store conn.old) (state S.Store conn.new) result }
-    ensures mode { StaysAutocommit conn.old conn.new }
-    ensures survives { CommitsNothing (state S.Store conn.old) (state S.Store conn.new) }
+    ensures leaves { OnlyReads S.Store conn.old conn.new result }
 {
-    match number_at(conn, seq) {
-        Ok(Some(number)) => match target_at(conn, seq) {
-            Ok(replaces) => Ok(Some(Own { number, replaces })),
-            Err(fault) => Err(fault),
-        },
-        Ok(None) => Ok(None),
-        Err(fault) => Err(fault),
+    match number_at(conn, seq)? {
+        Some(number) => {
+            let replaces = target_at(conn, seq)?;
+            Ok(Some(Own { number, replaces }))
+        }
+        None => Ok(None),
     }
 }
 
@@ -112,11 +97,7 @@ fn own_among<S: Alter>(
     ensures own { ForRegister S.Store conn.old conn.new (λ _ F.
         (filer : List ℕ) → places.now ≡ map by_first (filter (has_filer filer) (counted_from kept_row 1 (kept F)))
         → IfOk result (λ own. own.items ≡ map own_of (own_filings filer F))) }
-    ensures same { KeepsRegister (state S.Store conn.old) (state S.Store conn.new) }
-    ensures open { ForRegister S.Store conn.old conn.new (λ _ _.
-        IsTrue (state S.Store conn.old).is_open → OnOk result (IsTrue (state S.Store conn.new).is_open)) }
-    ensures mode { StaysAutocommit conn.old conn.new }
-    ensures survives { CommitsNothing (state S.Store conn.old) (state S.Store conn.new) }
+    ensures leaves { MayRead S.Store conn.old conn.new result }
 {
     let mut own = Vec::new(alloc);
     for place in places {
@@ -136,15 +117,10 @@ fn read_own<S: Alter>(
 ) -> Result<Vec<Own>, StoreFault>
     ensures own { ForRegister S.Store conn.old conn.new (λ _ F.
         IfOk result (λ own. own.items ≡ map own_of (own_filings filer.now F))) }
-    ensures same { KeepsRegister (state S.Store conn.old) (state S.Store conn.new) }
-    ensures open { AnswersOpen (state S.Store conn.old) (state S.Store conn.new) result }
-    ensures mode { StaysAutocommit conn.old conn.new }
-    ensures survives { CommitsNothing (state S.Store conn.old) (state S.Store conn.new) }
+    ensures leaves { OnlyReads S.Store conn.old conn.new result }
 {
-    match reads::places_of(conn, filer) {
-        Ok(places) => own_among(conn, alloc, &places),
-        Err(error) => Err(StoreFault::from(error)),
-    }
+    let places = reads::places_of(conn, filer)?;
+    own_among(conn, alloc, &places)
 }
 
 /// Under the number of each filing that one of these replaces, the number of the first one that does.
@@ -188,11 +164,7 @@ fn list_each<S: Alter>(
         (filer : List ℕ) → own.now ≡ map own_of (own_filings filer F)
         → ((n : ℕ) → get nat_cmp by.now n ≡ replacing (own_filings filer F) n)
         → IfOk result (λ rows. map view_row rows.items ≡ listings filer None (register F))) }
-    ensures same { KeepsRegister (state S.Store conn.old) (state S.Store conn.new) }
-    ensures open { ForRegister S.Store conn.old conn.new (λ _ _.
-        IsTrue (state S.Store conn.old).is_open → OnOk result (IsTrue (state S.Store conn.new).is_open)) }
-    ensures mode { StaysAutocommit conn.old conn.new }
-    ensures survives { CommitsNothing (state S.Store conn.old) (state S.Store conn.new) }
+    ensures leaves { MayRead S.Store conn.old conn.new result }
 {
     let mut rows = Vec::new(alloc);
     for filing in own {
@@ -211,16 +183,10 @@ fn list_own<S: Alter>(
     ensures rows { ForRegister S.Store conn.old conn.new (λ _ F.
         (filer : List ℕ) → own.now ≡ map own_of (own_filings filer F)
         → IfOk result (λ rows. map view_row rows.items ≡ listings filer None (register F))) }
-    ensures same { KeepsRegister (state S.Store conn.old) (state S.Store conn.new) }
-    ensures open { ForRegister S.Store conn.old conn.new (λ _ _.
-        IsTrue (state S.Store conn.old).is_open → OnOk result (IsTrue (state S.Store conn.new).is_open)) }
-    ensures mode { StaysAutocommit conn.old conn.new }
-    ensures survives { CommitsNothing (state S.Store conn.old) (state S.Store conn.new) }
+    ensures leaves { MayRead S.Store conn.old conn.new result }
 {
-    match replacing_among(alloc, own) {
-        Ok(by) => list_each(conn, alloc, own, &by),
-        Err(error) => Err(StoreFault::from(error)),
-    }
+    let by = replacing_among(alloc, own)?;
+    list_each(conn, alloc, own, &by)
 }
 
 /// The filings of a filer as they are listed.
@@ -231,13 +197,8 @@ pub(crate) fn filings_of<S: Alter>(
 ) -> Result<Vec<FilingRow>, StoreFault>
     ensures rows { ForRegister S.Store conn.old conn.new (λ _ F.
         IfOk result (λ rows. map view_row rows.items ≡ listings filer.now None (register F))) }
-    ensures same { KeepsRegister (state S.Store conn.old) (state S.Store conn.new) }
-    ensures open { AnswersOpen (state S.Store conn.old) (state S.Store conn.new) result }
-    ensures mode { StaysAutocommit conn.old conn.new }
-    ensures survives { CommitsNothing (state S.Store conn.old) (state S.Store conn.new) }
+    ensures leaves { OnlyReads S.Store conn.old conn.new result }
 {
-    match read_own(conn, alloc, filer) {
-        Ok(own) => list_own(conn, alloc, &own),
-        Err(fault) => Err(fault),
-    }
+    let own = read_own(conn, alloc, filer)?;
+    list_own(conn, alloc, &own)
 }

@@ -1,15 +1,16 @@
 //! What is kept of a filer and key: its row, and the findings where it was refused.
 
-ghost use Rattle.std.specs.Prelude.{◌≡◌, ℕ, pos, List, map, Option, IsTrue, IfOk, OnOk};
+ghost use Rattle.std.specs.Prelude.{◌≡◌, ℕ, pos, List, map, Option, IfOk};
 ghost use Rattle.sqlite.specs.Held.{state};
 ghost use Rattle.sqlite.specs.State.{HasCleanDisk};
 ghost use Rattle.filing_model.specs.Request.{Request};
 ghost use Rattle.filing_model.specs.Register.{Kept, kept};
-ghost use Rattle.table_rows.specs.Standing.{HasCommitted, CommitsNothing, StaysAutocommit};
+ghost use Rattle.table_rows.specs.Leaving.{MayRead, OnlyReads};
+ghost use Rattle.table_rows.specs.Standing.{HasCommitted};
 ghost use Rattle.register_rows.specs.Register.{amends_rows_by, findings_of, number_of};
 ghost use Rattle.xbrl_report.specs.CodeNumber.{number_of as code_number};
 ghost use Rattle.register_opening.specs.Registers.{IsRegisterOf};
-ghost use Rattle.register_store.specs.Store.{AnswersOpen, KeepsRegister, ForRegister};
+ghost use Rattle.register_store.specs.Store.{ForRegister};
 ghost use Rattle.register_store.specs.Outcomes.{kept_as, style_at};
 ghost use Rattle.register_store.specs.Found.{FindsKept, IsFound, IsLookUp, IsPlaced, IsReading, found_row, finding_in, target_alone};
 
@@ -101,15 +102,10 @@ fn look_up<S: Alter>(
     key: &str,
 ) -> Result<Option<FoundRow>, StoreFault>
     ensures found { ForRegister S.Store conn.old conn.new (λ _ F. IfOk result (IsLookUp filer.now key.now F)) }
-    ensures same { KeepsRegister (state S.Store conn.old) (state S.Store conn.new) }
-    ensures open { AnswersOpen (state S.Store conn.old) (state S.Store conn.new) result }
-    ensures mode { StaysAutocommit conn.old conn.new }
-    ensures survives { CommitsNothing (state S.Store conn.old) (state S.Store conn.new) }
+    ensures leaves { OnlyReads S.Store conn.old conn.new result }
 {
-    match rows_with_key(conn, filer, key) {
-        Ok(rows) => read_first(rows),
-        Err(error) => Err(StoreFault::from(error)),
-    }
+    let rows = rows_with_key(conn, filer, key)?;
+    read_first(rows)
 }
 
 /// The findings of the refused request at this place.
@@ -121,15 +117,10 @@ fn findings_at<S: Alter>(
     ensures found { ForRegister S.Store conn.old conn.new (λ _ F.
         (n : ℕ) (k : Kept) → seq ≡ pos n → IsPlaced 1 n (kept F) k
         → IfOk result (λ findings. findings ≡ findings_of k.outcome)) }
-    ensures same { KeepsRegister (state S.Store conn.old) (state S.Store conn.new) }
-    ensures open { AnswersOpen (state S.Store conn.old) (state S.Store conn.new) result }
-    ensures mode { StaysAutocommit conn.old conn.new }
-    ensures survives { CommitsNothing (state S.Store conn.old) (state S.Store conn.new) }
+    ensures leaves { OnlyReads S.Store conn.old conn.new result }
 {
-    match rows_of_findings(conn, seq) {
-        Ok(rows) => read_findings(alloc, &rows),
-        Err(error) => Err(StoreFault::from(error)),
-    }
+    let rows = rows_of_findings(conn, seq)?;
+    read_findings(alloc, &rows)
 }
 
 /// The number in such a row's one column, if there is a row.
@@ -151,15 +142,10 @@ pub(crate) fn target_at<S: Alter>(
     ensures found { ForRegister S.Store conn.old conn.new (λ _ F.
         (n : ℕ) (k : Kept) → seq ≡ pos n → IsPlaced 1 n (kept F) k
         → IfOk result (λ target. target ≡ k.request.target)) }
-    ensures same { KeepsRegister (state S.Store conn.old) (state S.Store conn.new) }
-    ensures open { AnswersOpen (state S.Store conn.old) (state S.Store conn.new) result }
-    ensures mode { StaysAutocommit conn.old conn.new }
-    ensures survives { CommitsNothing (state S.Store conn.old) (state S.Store conn.new) }
+    ensures leaves { OnlyReads S.Store conn.old conn.new result }
 {
-    match rows_of_target(conn, seq) {
-        Ok(rows) => read_target(&rows),
-        Err(error) => Err(StoreFault::from(error)),
-    }
+    let rows = rows_of_target(conn, seq)?;
+    read_target(&rows)
 }
 
 /// The style in which the request at this place is answered, where the first so many are answered as before.
@@ -184,11 +170,7 @@ fn complete<S: Alter>(
         → HasCommitted (IsRegisterOf n F) (state S.Store conn.old) → (is : IsFound filer key F found)
         → target ≡ is.k.request.target → IfOk result (λ row. kept_as filer key row ≡ is.k) }
     ensures style { (place : ℕ) → found.seq ≡ pos place → IfOk result (λ row. row.style ≡ style_at early place) }
-    ensures same { KeepsRegister (state S.Store conn.old) (state S.Store conn.new) }
-    ensures open { ForRegister S.Store conn.old conn.new (λ _ _.
-        IsTrue (state S.Store conn.old).is_open → OnOk result (IsTrue (state S.Store conn.new).is_open)) }
-    ensures mode { StaysAutocommit conn.old conn.new }
-    ensures survives { CommitsNothing (state S.Store conn.old) (state S.Store conn.new) }
+    ensures leaves { MayRead S.Store conn.old conn.new result }
 {
     let FoundRow { seq, body, number } = found;
     let style = style_at(early, seq);
@@ -199,15 +181,15 @@ fn complete<S: Alter>(
             outcome: Outcome::Registered(number),
             style,
         }),
-        None => match findings_at(conn, alloc, seq) {
-            Ok(findings) => Ok(KeptRow {
+        None => {
+            let findings = findings_at(conn, alloc, seq)?;
+            Ok(KeptRow {
                 target,
                 body,
                 outcome: Outcome::Refused(findings),
                 style,
-            }),
-            Err(fault) => Err(fault),
-        },
+            })
+        }
     }
 }
 
@@ -222,16 +204,10 @@ fn complete_found<S: Alter>(
         → HasCommitted (IsRegisterOf n F) (state S.Store conn.old) → (is : IsFound filer key F found)
         → IfOk result (λ row. kept_as filer key row ≡ is.k) }
     ensures style { (place : ℕ) → found.seq ≡ pos place → IfOk result (λ row. row.style ≡ style_at early place) }
-    ensures same { KeepsRegister (state S.Store conn.old) (state S.Store conn.new) }
-    ensures open { ForRegister S.Store conn.old conn.new (λ _ _.
-        IsTrue (state S.Store conn.old).is_open → OnOk result (IsTrue (state S.Store conn.new).is_open)) }
-    ensures mode { StaysAutocommit conn.old conn.new }
-    ensures survives { CommitsNothing (state S.Store conn.old) (state S.Store conn.new) }
+    ensures leaves { OnlyReads S.Store conn.old conn.new result }
 {
-    match target_at(conn, found.seq) {
-        Ok(target) => complete(conn, alloc, early, target, found),
-        Err(fault) => Err(fault),
-    }
+    let target = target_at(conn, found.seq)?;
+    complete(conn, alloc, early, target, found)
 }
 
 /// What is kept of a filer and key, or `None` where they are new. The first `early` requests are answered as before.
@@ -244,12 +220,11 @@ pub fn find_kept<S: Alter>(
 ) -> Result<Option<KeptRow>, StoreFault>
     ensures { FindsKept S.Store early filer.now key.now conn.old conn.new result }
 {
-    match look_up(conn, filer, key) {
-        Ok(Some(found)) => match complete_found(conn, alloc, early, found) {
-            Ok(row) => Ok(Some(row)),
-            Err(fault) => Err(fault),
-        },
-        Ok(None) => Ok(None),
-        Err(fault) => Err(fault),
+    match look_up(conn, filer, key)? {
+        Some(found) => {
+            let row = complete_found(conn, alloc, early, found)?;
+            Ok(Some(row))
+        }
+        None => Ok(None),
     }
 }

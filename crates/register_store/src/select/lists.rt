@@ -5,12 +5,12 @@ ghost use Rattle.filing_model.specs.Listing.{listings};
 ghost use Rattle.filing_model.specs.Views.{view_row};
 ghost use Rattle.filing_model.specs.Request.{firsts};
 ghost use Rattle.filing_model.specs.Register.{kept, register};
-ghost use Rattle.sqlite.specs.Held.{state};
+ghost use Rattle.table_rows.specs.Leaving.{OnlyReads};
 ghost use Rattle.table_rows.specs.Rows.{counted_from};
-ghost use Rattle.table_rows.specs.Standing.{CommitsNothing, StaysAutocommit};
+ghost use Rattle.table_rows.specs.Standing.{CommitsNothing};
 ghost use Rattle.register_rows.specs.Register.{kept_row, amends_rows, joined_from};
 ghost use Rattle.register_store.specs.Numbered.{facts_numbered};
-ghost use Rattle.register_store.specs.Store.{shows, HasRequests, AnswersOpen, KeepsRegister, ForRequests, IsDurableAs, ForRegister};
+ghost use Rattle.register_store.specs.Store.{shows, HasRequests, ForRequests, IsDurableAs, ForRegister};
 ghost use Rattle.register_opening.specs.Registers.{LeavesOnly};
 
 use crate::decode::completed::{Completed, Registered, read_filings, read_requests};
@@ -36,18 +36,11 @@ fn read_both<S: Alter>(conn: &mut Connection<S>) -> Result<Both, StoreFault>
         IfOk result (λ both.
         (firsts F ≡ F) × (both.kept.items ≡ counted_from kept_row 1 (kept F))
         × (both.amends.items ≡ joined_from amends_rows 1 (kept F)))) }
-    ensures same { KeepsRegister (state S.Store conn.old) (state S.Store conn.new) }
-    ensures open { AnswersOpen (state S.Store conn.old) (state S.Store conn.new) result }
-    ensures mode { StaysAutocommit conn.old conn.new }
-    ensures survives { CommitsNothing (state S.Store conn.old) (state S.Store conn.new) }
+    ensures leaves { OnlyReads S.Store conn.old conn.new result }
 {
-    match kept_rows(conn) {
-        Ok(kept) => match amends_rows(conn) {
-            Ok(amends) => Ok(Both { kept, amends }),
-            Err(error) => Err(StoreFault::from(error)),
-        },
-        Err(error) => Err(StoreFault::from(error)),
-    }
+    let kept = kept_rows(conn)?;
+    let amends = amends_rows(conn)?;
+    Ok(Both { kept, amends })
 }
 
 // Of each call: the rows are those of before, whatever the answer is, and a crash leaves what it could leave before.

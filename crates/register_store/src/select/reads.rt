@@ -3,8 +3,8 @@
 ghost use Rattle.std.specs.Prelude.{◌<◌, ◌^◌, IfOk};
 ghost use Rattle.sqlite.specs.Held.{state};
 ghost use Rattle.sqlite.specs.State.{HasCleanDisk};
+ghost use Rattle.table_rows.specs.Leaving.{OnlyQueries};
 ghost use Rattle.table_rows.specs.Reading.{ReadsRows};
-ghost use Rattle.table_rows.specs.Standing.{Keeps, CommitsNothing, StaysAutocommit};
 ghost use Rattle.register_rows.specs.Schema.{kept_table, filing_table, fact_table, amends_table};
 ghost use Rattle.register_store.specs.Found.{has_seq};
 ghost use Rattle.register_opening.specs.Reads.{Knows, KnowsAll, by_first, by_second};
@@ -12,6 +12,7 @@ ghost use Rattle.register_store.specs.Reads.{has_filer, has_place, has_second, f
 ghost use Rattle.table_rows.specs.Picking.{has_number};
 
 use sqlite::{Alter, Connection, Error, Row, params};
+use table_rows::select;
 
 /// The places of the filer's kept requests, ascending.
 pub(crate) fn places_of<S: Alter>(conn: &mut Connection<S>, filer: &str) -> Result<Vec<Row>, Error>
@@ -19,11 +20,10 @@ pub(crate) fn places_of<S: Alter>(conn: &mut Connection<S>, filer: &str) -> Resu
         → IfOk result (λ rows.
         ReadsRows kept_table (has_filer filer.now) by_first by_first rows.items (state S.Store conn.old)
         (state S.Store conn.new)) }
-    ensures keeps { HasCleanDisk (state S.Store conn.new) → Keeps (state S.Store conn.old) (state S.Store conn.new) }
-    ensures mode { StaysAutocommit conn.old conn.new }
-    ensures survives { CommitsNothing (state S.Store conn.old) (state S.Store conn.new) }
+    ensures leaves { OnlyQueries S.Store conn.old conn.new result }
 {
-    conn.query_all(
+    select(
+        conn,
         "SELECT seq FROM kept WHERE filer = ?1 ORDER BY seq",
         params![filer],
     )
@@ -35,11 +35,10 @@ pub(crate) fn filing_at<S: Alter>(conn: &mut Connection<S>, seq: i64) -> Result<
         → IfOk result (λ rows.
         ReadsRows filing_table (has_place seq) by_first by_first rows.items (state S.Store conn.old)
         (state S.Store conn.new)) }
-    ensures keeps { HasCleanDisk (state S.Store conn.new) → Keeps (state S.Store conn.old) (state S.Store conn.new) }
-    ensures mode { StaysAutocommit conn.old conn.new }
-    ensures survives { CommitsNothing (state S.Store conn.old) (state S.Store conn.new) }
+    ensures leaves { OnlyQueries S.Store conn.old conn.new result }
 {
-    conn.query_all(
+    select(
+        conn,
         "SELECT number FROM filing WHERE seq = ?1 ORDER BY number",
         params![seq],
     )
@@ -55,11 +54,10 @@ pub(crate) fn place_of_filing<S: Alter>(
         → IfOk result (λ rows.
         ReadsRows filing_table (has_number number) by_first second_alone rows.items (state S.Store conn.old)
         (state S.Store conn.new)) }
-    ensures keeps { HasCleanDisk (state S.Store conn.new) → Keeps (state S.Store conn.old) (state S.Store conn.new) }
-    ensures mode { StaysAutocommit conn.old conn.new }
-    ensures survives { CommitsNothing (state S.Store conn.old) (state S.Store conn.new) }
+    ensures leaves { OnlyQueries S.Store conn.old conn.new result }
 {
-    conn.query_all(
+    select(
+        conn,
         "SELECT seq FROM filing WHERE number = ?1 ORDER BY number",
         params![number as i64],
     )
@@ -71,11 +69,10 @@ pub(crate) fn filer_at<S: Alter>(conn: &mut Connection<S>, seq: i64) -> Result<V
         → IfOk result (λ rows.
         ReadsRows kept_table (has_seq seq) by_first filer_alone rows.items (state S.Store conn.old)
         (state S.Store conn.new)) }
-    ensures keeps { HasCleanDisk (state S.Store conn.new) → Keeps (state S.Store conn.old) (state S.Store conn.new) }
-    ensures mode { StaysAutocommit conn.old conn.new }
-    ensures survives { CommitsNothing (state S.Store conn.old) (state S.Store conn.new) }
+    ensures leaves { OnlyQueries S.Store conn.old conn.new result }
 {
-    conn.query_all(
+    select(
+        conn,
         "SELECT filer FROM kept WHERE seq = ?1 ORDER BY seq",
         params![seq],
     )
@@ -87,11 +84,10 @@ pub(crate) fn number_at<S: Alter>(conn: &mut Connection<S>, seq: i64) -> Result<
         → IfOk result (λ rows.
         ReadsRows kept_table (has_seq seq) by_first number_alone rows.items (state S.Store conn.old)
         (state S.Store conn.new)) }
-    ensures keeps { HasCleanDisk (state S.Store conn.new) → Keeps (state S.Store conn.old) (state S.Store conn.new) }
-    ensures mode { StaysAutocommit conn.old conn.new }
-    ensures survives { CommitsNothing (state S.Store conn.old) (state S.Store conn.new) }
+    ensures leaves { OnlyQueries S.Store conn.old conn.new result }
 {
-    conn.query_all(
+    select(
+        conn,
         "SELECT number FROM kept WHERE seq = ?1 ORDER BY seq",
         params![seq],
     )
@@ -107,11 +103,10 @@ pub(crate) fn places_with_target<S: Alter>(
         → IfOk result (λ rows.
         ReadsRows amends_table (has_second target) by_first by_first rows.items (state S.Store conn.old)
         (state S.Store conn.new)) }
-    ensures keeps { HasCleanDisk (state S.Store conn.new) → Keeps (state S.Store conn.old) (state S.Store conn.new) }
-    ensures mode { StaysAutocommit conn.old conn.new }
-    ensures survives { CommitsNothing (state S.Store conn.old) (state S.Store conn.new) }
+    ensures leaves { OnlyQueries S.Store conn.old conn.new result }
 {
-    conn.query_all(
+    select(
+        conn,
         "SELECT seq FROM amends WHERE target = ?1 ORDER BY seq",
         params![target as i64],
     )
@@ -127,11 +122,10 @@ pub(crate) fn fact_places<S: Alter>(
         → IfOk result (λ rows.
         ReadsRows fact_table (has_number number) by_second place_alone rows.items (state S.Store conn.old)
         (state S.Store conn.new)) }
-    ensures keeps { HasCleanDisk (state S.Store conn.new) → Keeps (state S.Store conn.old) (state S.Store conn.new) }
-    ensures mode { StaysAutocommit conn.old conn.new }
-    ensures survives { CommitsNothing (state S.Store conn.old) (state S.Store conn.new) }
+    ensures leaves { OnlyQueries S.Store conn.old conn.new result }
 {
-    conn.query_all(
+    select(
+        conn,
         "SELECT pos FROM fact WHERE number = ?1 ORDER BY pos",
         params![number as i64],
     )
@@ -147,11 +141,10 @@ pub(crate) fn facts_of_filing<S: Alter>(
         → IfOk result (λ rows.
         ReadsRows fact_table (has_number number) by_second said rows.items (state S.Store conn.old)
         (state S.Store conn.new)) }
-    ensures keeps { HasCleanDisk (state S.Store conn.new) → Keeps (state S.Store conn.old) (state S.Store conn.new) }
-    ensures mode { StaysAutocommit conn.old conn.new }
-    ensures survives { CommitsNothing (state S.Store conn.old) (state S.Store conn.new) }
+    ensures leaves { OnlyQueries S.Store conn.old conn.new result }
 {
-    conn.query_all(
+    select(
+        conn,
         "SELECT id, concept, dimensions, value, decimals FROM fact WHERE number = ?1 ORDER BY pos",
         params![number as i64],
     )

@@ -1,17 +1,17 @@
 //! Whether a filer may replace a filing: it is the filer's, and no other filing replaces it.
 
-ghost use Rattle.std.specs.Prelude.{◌≡◌, ◌<◌, ◌^◌, ◌∷◌, [], ℕ, pos, false, List, Some, None, Option, map, filter, bytes_eq, IsTrue, IfOk, OnOk, is_some};
+ghost use Rattle.std.specs.Prelude.{◌≡◌, ◌<◌, ◌^◌, ◌∷◌, [], ℕ, pos, false, List, Some, None, Option, map, filter, bytes_eq, IfOk, OnOk, is_some};
 ghost use Rattle.std.specs.List.{list_any};
 ghost use Rattle.filing_model.specs.Register.{Kept, is_amendment_of, is_filing_of, is_replaceable, kept, register};
-ghost use Rattle.sqlite.specs.Held.{state};
-ghost use Rattle.table_rows.specs.Standing.{CommitsNothing, StaysAutocommit};
+ghost use Rattle.table_rows.specs.Leaving.{MayRead, OnlyReads};
+ghost use Rattle.table_rows.specs.Standing.{CommitsNothing};
 ghost use Rattle.register_store.specs.Found.{IsPlaced, IsPlaceOf};
 ghost use Rattle.register_opening.specs.Reads.{by_first};
 ghost use Rattle.register_store.specs.Reads.{has_second};
 ghost use Rattle.register_rows.specs.Register.{amends_rows, joined_from, number_of};
 ghost use Rattle.sqlite.specs.declared.types.Value.TheVariants.{Int, Text};
 ghost use Rattle.sqlite.specs.Values.{or_null};
-ghost use Rattle.register_store.specs.Store.{shows, HasRequests, AnswersOpen, KeepsRegister, ForRequests, IsDurableAs, ForRegister};
+ghost use Rattle.register_store.specs.Store.{shows, HasRequests, ForRequests, IsDurableAs, ForRegister};
 
 use crate::select::counts::MAX_NUMBER;
 use crate::select::reads;
@@ -69,15 +69,10 @@ fn is_filers<S: Alter>(conn: &mut Connection<S>, filer: &str, seq: i64) -> Resul
     ensures found { ForRegister S.Store conn.old conn.new (λ _ F.
         (n : ℕ) (k : Kept) → seq ≡ pos n → IsPlaced 1 n (kept F) k
         → IfOk result (λ so. so ≡ bytes_eq k.request.filer filer.now)) }
-    ensures same { KeepsRegister (state S.Store conn.old) (state S.Store conn.new) }
-    ensures open { AnswersOpen (state S.Store conn.old) (state S.Store conn.new) result }
-    ensures mode { StaysAutocommit conn.old conn.new }
-    ensures survives { CommitsNothing (state S.Store conn.old) (state S.Store conn.new) }
+    ensures leaves { OnlyReads S.Store conn.old conn.new result }
 {
-    match reads::filer_at(conn, seq) {
-        Ok(rows) => Ok(is_text(&rows, filer)),
-        Err(error) => Err(StoreFault::from(error)),
-    }
+    let rows = reads::filer_at(conn, seq)?;
+    Ok(is_text(&rows, filer))
 }
 
 /// Whether the kept request at this place is a filing.
@@ -85,30 +80,20 @@ fn is_filing<S: Alter>(conn: &mut Connection<S>, seq: i64) -> Result<bool, Store
     ensures found { ForRegister S.Store conn.old conn.new (λ _ F.
         (n : ℕ) (k : Kept) → seq ≡ pos n → IsPlaced 1 n (kept F) k
         → IfOk result (λ so. so ≡ is_some (number_of k.outcome))) }
-    ensures same { KeepsRegister (state S.Store conn.old) (state S.Store conn.new) }
-    ensures open { AnswersOpen (state S.Store conn.old) (state S.Store conn.new) result }
-    ensures mode { StaysAutocommit conn.old conn.new }
-    ensures survives { CommitsNothing (state S.Store conn.old) (state S.Store conn.new) }
+    ensures leaves { OnlyReads S.Store conn.old conn.new result }
 {
-    match reads::number_at(conn, seq) {
-        Ok(rows) => is_numbered(&rows),
-        Err(error) => Err(StoreFault::from(error)),
-    }
+    let rows = reads::number_at(conn, seq)?;
+    is_numbered(&rows)
 }
 
 /// The place of the filing of this number, if there is one.
 fn place_of<S: Alter>(conn: &mut Connection<S>, number: u64) -> Result<Option<i64>, StoreFault>
     requires { number < 2 ^ 63 }
     ensures found { ForRegister S.Store conn.old conn.new (λ _ F. IfOk result (IsPlaceOf number F)) }
-    ensures same { KeepsRegister (state S.Store conn.old) (state S.Store conn.new) }
-    ensures open { AnswersOpen (state S.Store conn.old) (state S.Store conn.new) result }
-    ensures mode { StaysAutocommit conn.old conn.new }
-    ensures survives { CommitsNothing (state S.Store conn.old) (state S.Store conn.new) }
+    ensures leaves { OnlyReads S.Store conn.old conn.new result }
 {
-    match reads::place_of_filing(conn, number) {
-        Ok(rows) => first_place(&rows),
-        Err(error) => Err(StoreFault::from(error)),
-    }
+    let rows = reads::place_of_filing(conn, number)?;
+    first_place(&rows)
 }
 
 /// Whether the filer has a filing of this number.
@@ -120,15 +105,11 @@ fn has_filing<S: Alter>(
     requires { number < 2 ^ 63 }
     ensures found { ForRegister S.Store conn.old conn.new (λ _ F.
         IfOk result (λ so. so ≡ list_any (is_filing_of filer.now number) (register F))) }
-    ensures same { KeepsRegister (state S.Store conn.old) (state S.Store conn.new) }
-    ensures open { AnswersOpen (state S.Store conn.old) (state S.Store conn.new) result }
-    ensures mode { StaysAutocommit conn.old conn.new }
-    ensures survives { CommitsNothing (state S.Store conn.old) (state S.Store conn.new) }
+    ensures leaves { OnlyReads S.Store conn.old conn.new result }
 {
-    match place_of(conn, number) {
-        Ok(Some(seq)) => is_filers(conn, filer, seq),
-        Ok(None) => Ok(false),
-        Err(fault) => Err(fault),
+    match place_of(conn, number)? {
+        Some(seq) => is_filers(conn, filer, seq),
+        None => Ok(false),
     }
 }
 
@@ -137,11 +118,7 @@ fn is_any_filing<S: Alter>(conn: &mut Connection<S>, rows: &[Row]) -> Result<boo
     ensures found { ForRegister S.Store conn.old conn.new (λ _ F.
         (number : ℕ) → rows.now ≡ map by_first (filter (has_second number) (joined_from amends_rows 1 (kept F)))
         → IfOk result (λ so. so ≡ list_any (is_amendment_of number) (register F))) }
-    ensures same { KeepsRegister (state S.Store conn.old) (state S.Store conn.new) }
-    ensures open { ForRegister S.Store conn.old conn.new (λ _ _.
-        IsTrue (state S.Store conn.old).is_open → OnOk result (IsTrue (state S.Store conn.new).is_open)) }
-    ensures mode { StaysAutocommit conn.old conn.new }
-    ensures survives { CommitsNothing (state S.Store conn.old) (state S.Store conn.new) }
+    ensures leaves { MayRead S.Store conn.old conn.new result }
 {
     for row in rows {
         if is_filing(conn, place_in(row)?)? {
@@ -156,15 +133,10 @@ fn is_replaced<S: Alter>(conn: &mut Connection<S>, number: u64) -> Result<bool, 
     requires { number < 2 ^ 63 }
     ensures found { ForRegister S.Store conn.old conn.new (λ _ F.
         IfOk result (λ so. so ≡ list_any (is_amendment_of number) (register F))) }
-    ensures same { KeepsRegister (state S.Store conn.old) (state S.Store conn.new) }
-    ensures open { AnswersOpen (state S.Store conn.old) (state S.Store conn.new) result }
-    ensures mode { StaysAutocommit conn.old conn.new }
-    ensures survives { CommitsNothing (state S.Store conn.old) (state S.Store conn.new) }
+    ensures leaves { OnlyReads S.Store conn.old conn.new result }
 {
-    match reads::places_with_target(conn, number) {
-        Ok(rows) => is_any_filing(conn, &rows),
-        Err(error) => Err(StoreFault::from(error)),
-    }
+    let rows = reads::places_with_target(conn, number)?;
+    is_any_filing(conn, &rows)
 }
 
 /// Whether the filer may replace the filing of this number.
@@ -176,19 +148,13 @@ fn may_replace<S: Alter>(
     requires { number < 2 ^ 63 }
     ensures found { ForRegister S.Store conn.old conn.new (λ _ F.
         IfOk result (λ free. free ≡ is_replaceable (register F) filer.now number)) }
-    ensures same { KeepsRegister (state S.Store conn.old) (state S.Store conn.new) }
-    ensures open { AnswersOpen (state S.Store conn.old) (state S.Store conn.new) result }
-    ensures mode { StaysAutocommit conn.old conn.new }
-    ensures survives { CommitsNothing (state S.Store conn.old) (state S.Store conn.new) }
+    ensures leaves { OnlyReads S.Store conn.old conn.new result }
 {
-    match has_filing(conn, filer, number) {
-        Ok(true) => match is_replaced(conn, number) {
-            Ok(replaced) => Ok(!replaced),
-            Err(fault) => Err(fault),
-        },
-        Ok(false) => Ok(false),
-        Err(fault) => Err(fault),
+    if !has_filing(conn, filer, number)? {
+        return Ok(false);
     }
+    let replaced = is_replaced(conn, number)?;
+    Ok(!replaced)
 }
 
 impl<S: Alter> Store<S> {

@@ -1,19 +1,15 @@
-use Rattle.std.proofs.Common.{◌∙◌, arith}
+use Rattle.std.proofs.Common.{◌∙◌}
 use Rattle.sqlite.specs.Held.{state}
 use Rattle.sqlite.specs.State.{HasCleanDisk}
+use Rattle.table_rows.proofs.LeavingLemmas.{clean_before, stands}
+use Rattle.register_opening.proofs.Calls.{asked_first}
+use Rattle.table_rows.specs.Leaving.Ending.{Ended}
 use Rattle.register_store.proofs.select.counts.filings_of.Goals as goal
 
-pub returns-in-Ok-clause-rows : goal.returns-in-Ok-clause-rows
-returns-in-Ok-clause-rows g c clean e F was =
-    let early : HasCleanDisk (state g.S.Store c.read_own.new.conn) = omega (arith, c.list_own.ensures.survives.clean) in
-    c.list_own.ensures.rows clean e F (c.in-Ok.ensures.same early e F was) c.args.filer.now (c.deref.ensures.value ∙ c.in-Ok.ensures.own early e F was)
+pub returns-clause-rows : goal.returns-clause-rows
+returns-clause-rows g c clean e F was =
+    let early : HasCleanDisk (state g.S.Store c.read_own.new.conn) = clean_before c.list_own.ensures.leaves clean in
+    c.list_own.ensures.rows clean e F (stands c.in_ok-own.ensures.leaves early was) c.args.filer.now (c.deref.ensures.value ∙ c.in_ok-own.ensures.own early e F was)
 
-pub returns-in-Ok-clause-same : goal.returns-in-Ok-clause-same
-returns-in-Ok-clause-same g c clean e F was =
-    let early : HasCleanDisk (state g.S.Store c.read_own.new.conn) = omega (arith, c.list_own.ensures.survives.clean) in
-    c.list_own.ensures.same clean e F (c.in-Ok.ensures.same early e F was)
-
-pub returns-in-Ok-clause-open : goal.returns-in-Ok-clause-open
-returns-in-Ok-clause-open g c clean e F was =
-    let early : HasCleanDisk (state g.S.Store c.read_own.new.conn) = omega (arith, c.list_own.ensures.survives.clean) in
-    c.list_own.ensures.open clean e F (c.in-Ok.ensures.same early e F was) (c.in-Ok.ensures.open early e F was)
+pub returns-clause-leaves : goal.returns-clause-leaves
+returns-clause-leaves g c = asked_first (λ _. Ended) c.list_own.result c.in_ok-own.ensures.leaves c.list_own.ensures.leaves

@@ -1,10 +1,12 @@
-use Rattle.std.proofs.Common.{◌≡◌, ℕ, List, map, take, false, IsTrue}
+use Rattle.std.proofs.Common.{◌≡◌, ℕ, List, map, take}
 use Rattle.std.specs.Prelude.{filter}
 use Rattle.sqlite.specs.Held.{state}
-use Rattle.sqlite.specs.State.{HasCleanDisk, Survives}
+use Rattle.sqlite.specs.State.{HasCleanDisk}
 use Rattle.filing_model.specs.Request.{Request}
 use Rattle.filing_model.specs.Register.{filings, kept}
 use Rattle.table_rows.specs.Rows.{counted_from}
+use Rattle.table_rows.specs.Leaving.{Leaves}
+use Rattle.table_rows.specs.Leaving.Ending.{Passed}
 use Rattle.table_rows.specs.Standing.{HasCommitted}
 use Rattle.register_store.specs.Own.{is_filers, own_of}
 use Rattle.register_opening.specs.Reads.{by_first}
@@ -19,8 +21,5 @@ invariant-loop-place g l =
     let now = state g.S.Store l.conn in record {
       own : HasCleanDisk now → (early : ℕ) (F : List Request) → HasCommitted (IsRegisterOf early F) old → (filer : List ℕ) → l.places ≡ map by_first (filter (has_filer filer) (counted_from kept_row 1 (kept F)))
           → l.own.items ≡ map own_of (filings (take l.place-index (filter (is_filers filer) (kept F))));
-      same : HasCleanDisk now → (early : ℕ) (F : List Request) → HasCommitted (IsRegisterOf early F) old → HasCommitted (IsRegisterOf early F) now;
-      alive : HasCleanDisk now → (early : ℕ) (F : List Request) → HasCommitted (IsRegisterOf early F) old → IsTrue old.is_open → IsTrue now.is_open;
-      mode : l.fn.conn.in_transaction ≡ false → l.conn.in_transaction ≡ false;
-      survives : Survives old now (λ _. ⊥);
+      leaves : Leaves Passed old now;
     }

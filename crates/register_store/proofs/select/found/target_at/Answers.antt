@@ -7,11 +7,15 @@ use Rattle.register_rows.specs.Schema.{amends_table}
 use Rattle.register_store.specs.Found.{has_seq, unsorted, target_alone}
 use Rattle.register_store.proofs.ListLemmas.{knows_all}
 use Rattle.register_store.proofs.FindLemmas.{target_read}
+use Rattle.register_opening.proofs.Calls.{concluded}
 use Rattle.register_store.proofs.select.found.target_at.Goals as goal
 
-pub returns-in-Ok-clause-found : goal.returns-in-Ok-clause-found
-returns-in-Ok-clause-found g c clean e F was n k seq placed =
+pub returns-clause-found : goal.returns-clause-found
+returns-clause-found g c clean e F was n k seq placed =
     let old = state g.S.Store c.args.conn.now in
     let new = state g.S.Store c.rows_of_target.new.conn in
-    let read : ReadsRows amends_table (has_seq (pos n)) unsorted target_alone c.in-Ok.rows.items old new = subst (λ s. ReadsRows amends_table (has_seq s) unsorted target_alone c.in-Ok.rows.items old new) (to_z-of_z w64 c.args.seq c.ranges.seq ∙ seq) (c.in-Ok.ensures.read clean (knows_all F old was)) in
-    IfOk-weaker c.read_target.result _ _ (λ found h. h n k.request.target (c.deref.ensures.value ∙ target_read F old new c.in-Ok.rows.items was n k placed read)) c.read_target.ensures
+    let read : ReadsRows amends_table (has_seq (pos n)) unsorted target_alone c.in_ok-rows.rows.items old new = subst (λ s. ReadsRows amends_table (has_seq s) unsorted target_alone c.in_ok-rows.rows.items old new) (to_z-of_z w64 c.args.seq c.ranges.seq ∙ seq) (c.in_ok-rows.ensures.read clean (knows_all F old was)) in
+    IfOk-weaker c.read_target.result _ _ (λ found h. h n k.request.target (c.deref.ensures.value ∙ target_read F old new c.in_ok-rows.rows.items was n k placed read)) c.read_target.ensures
+
+pub returns-clause-leaves : goal.returns-clause-leaves
+returns-clause-leaves g c = concluded c.read_target.result c.in_ok-rows.ensures.leaves

@@ -2,17 +2,13 @@ use Rattle.std.proofs.Common.{w64}
 use Rattle.std.proofs.lemmas.Int.{to_z-of_z}
 use Rattle.std.proofs.lemmas.Result.{IfOk-weaker}
 use Rattle.sqlite.specs.Held.{state}
-use Rattle.register_store.proofs.ReadTexts.{filing_at, query_filing_at}
+use Rattle.register_store.proofs.ReadTexts.{query_filing_at}
 use Rattle.register_store.proofs.ReadLemmas.{reads_filing_at}
-use Rattle.table_rows.proofs.TextLemmas.{query_keeps, query_survives}
 use Rattle.register_store.proofs.select.reads.filing_at.Goals as goal
 
 pub returns-clause-read : goal.returns-clause-read
 returns-clause-read g c clean knows =
-    IfOk-weaker c.query_all.result _ _ (λ rows h. reads_filing_at (state g.S.Store c.args.conn.now) (state g.S.Store c.query_all.new.self) knows rows.items c.args.seq (rw (c.params-to_sql.ensures, to_z-of_z w64 c.args.seq c.ranges.seq) at h)) (c.query_all.ensures.ok clean)
+    IfOk-weaker c.select.result _ _ (λ rows h. reads_filing_at (state g.S.Store c.args.conn.now) (state g.S.Store c.select.new.conn) knows rows.items c.args.seq (rw (c.params-to_sql.ensures, to_z-of_z w64 c.args.seq c.ranges.seq) at h)) (c.select.ensures.shown clean)
 
-pub returns-clause-keeps : goal.returns-clause-keeps
-returns-clause-keeps g c clean = query_keeps filing_at query_filing_at _ (state g.S.Store c.args.conn.now) (state g.S.Store c.query_all.new.self) (λ rows. rows.items) c.query_all.result (c.query_all.ensures.ok clean) (c.query_all.ensures.err clean)
-
-pub returns-clause-survives : goal.returns-clause-survives
-returns-clause-survives g c = query_survives filing_at query_filing_at _ (state g.S.Store c.args.conn.now) (state g.S.Store c.query_all.new.self) c.query_all.ensures.survives
+pub select-requires : goal.select-requires
+select-requires g c = query_filing_at

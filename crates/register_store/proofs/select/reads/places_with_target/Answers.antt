@@ -2,16 +2,12 @@ use Rattle.std.proofs.Common.{pos, arith, w64}
 use Rattle.std.proofs.lemmas.Result.{IfOk-weaker}
 use Rattle.std.proofs.lemmas.Int.{to_z-of_z}
 use Rattle.sqlite.specs.Held.{state}
-use Rattle.register_store.proofs.ReadTexts.{places_with_target, query_with_target}
-use Rattle.table_rows.proofs.TextLemmas.{query_keeps, query_survives}
+use Rattle.register_store.proofs.ReadTexts.{query_with_target}
 use Rattle.register_store.proofs.ReadLemmas.{reads_with_target}
 use Rattle.register_store.proofs.select.reads.places_with_target.Goals as goal
 
 pub returns-clause-read : goal.returns-clause-read
-returns-clause-read g c clean knows = IfOk-weaker c.query_all.result _ _ (λ rows h. reads_with_target (state g.S.Store c.args.conn.now) (state g.S.Store c.query_all.new.self) knows rows.items c.args.target (rw (c.params-to_sql.ensures, to_z-of_z w64 (pos c.args.target) (record { sfits = omega (arith, c.requires) })) at h)) (c.query_all.ensures.ok clean)
+returns-clause-read g c clean knows = IfOk-weaker c.select.result _ _ (λ rows h. reads_with_target (state g.S.Store c.args.conn.now) (state g.S.Store c.select.new.conn) knows rows.items c.args.target (rw (c.params-to_sql.ensures, to_z-of_z w64 (pos c.args.target) (record { sfits = omega (arith, c.requires) })) at h)) (c.select.ensures.shown clean)
 
-pub returns-clause-keeps : goal.returns-clause-keeps
-returns-clause-keeps g c clean = query_keeps places_with_target query_with_target _ (state g.S.Store c.args.conn.now) (state g.S.Store c.query_all.new.self) (λ rows. rows.items) c.query_all.result (c.query_all.ensures.ok clean) (c.query_all.ensures.err clean)
-
-pub returns-clause-survives : goal.returns-clause-survives
-returns-clause-survives g c = query_survives places_with_target query_with_target _ (state g.S.Store c.args.conn.now) (state g.S.Store c.query_all.new.self) c.query_all.ensures.survives
+pub select-requires : goal.select-requires
+select-requires g c = query_with_target

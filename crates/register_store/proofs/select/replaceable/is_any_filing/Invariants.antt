@@ -1,10 +1,12 @@
-use Rattle.std.proofs.Common.{◌≡◌, ℕ, List, map, take, false, IsTrue}
+use Rattle.std.proofs.Common.{◌≡◌, ℕ, List, map, take, false}
 use Rattle.std.specs.Prelude.{filter, is_some}
 use Rattle.std.specs.List.{list_any}
 use Rattle.sqlite.specs.Held.{state}
-use Rattle.sqlite.specs.State.{HasCleanDisk, Survives}
+use Rattle.sqlite.specs.State.{HasCleanDisk}
 use Rattle.filing_model.specs.Request.{Request}
 use Rattle.filing_model.specs.Register.{Kept, kept}
+use Rattle.table_rows.specs.Leaving.{Leaves}
+use Rattle.table_rows.specs.Leaving.Ending.{Passed}
 use Rattle.table_rows.specs.Standing.{HasCommitted}
 use Rattle.register_opening.specs.Reads.{by_first}
 use Rattle.register_store.specs.Reads.{has_second}
@@ -19,8 +21,5 @@ invariant-loop-row g l =
     let now = state g.S.Store l.conn in record {
       none : HasCleanDisk now → (early : ℕ) (F : List Request) → HasCommitted (IsRegisterOf early F) old → (number : ℕ) → l.rows ≡ map by_first (filter (has_second number) (joined_from amends_rows 1 (kept F)))
           → list_any (λ (k : Kept). is_some (number_of k.outcome)) (take l.row-index (replacers number (kept F))) ≡ false;
-      same : HasCleanDisk now → (early : ℕ) (F : List Request) → HasCommitted (IsRegisterOf early F) old → HasCommitted (IsRegisterOf early F) now;
-      alive : HasCleanDisk now → (early : ℕ) (F : List Request) → HasCommitted (IsRegisterOf early F) old → IsTrue old.is_open → IsTrue now.is_open;
-      mode : l.fn.conn.in_transaction ≡ false → l.conn.in_transaction ≡ false;
-      survives : Survives old now (λ _. ⊥);
+      leaves : Leaves Passed old now;
     }

@@ -5,7 +5,7 @@ use Rattle.register_store.proofs.ListLemmas.{knows}
 use Rattle.register_store.proofs.ReplaceLemmas.{kept_shown}
 use Rattle.register_store.proofs.select.replaceable.is_filers.Goals as goal
 
-pub returns-in-Ok-clause-found : goal.returns-in-Ok-clause-found
-returns-in-Ok-clause-found g c clean e F was n k seq placed =
-    let read = c.in-Ok.ensures.read clean (knows F _ was) in
+pub returns-clause-found : goal.returns-clause-found
+returns-clause-found g c clean e F was n k seq placed =
+    let read = c.in_ok-rows.ensures.read clean (knows F _ was) in
     c.is_text.ensures k.request.filer (c.deref.ensures.value ∙ kept_shown F _ _ _ filer_alone was _ n k (to_z-of_z w64 c.args.seq c.ranges.seq ∙ seq) placed read)

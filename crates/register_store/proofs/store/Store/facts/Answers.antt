@@ -8,9 +8,10 @@ use Rattle.register_store.specs.Numbered.{filing_numbered}
 use Rattle.std.specs.Prelude.{option_map}
 use Rattle.table_rows.proofs.StepLemmas.{nothing_yet}
 use Rattle.register_store.proofs.StoreLemmas.{leaves}
-use Rattle.register_store.proofs.ListLemmas.{knows, stays}
+use Rattle.register_store.proofs.ListLemmas.{knows}
 use Rattle.register_store.proofs.FactLemmas.{facts_read, is_there, is_absent, some_list}
 use Rattle.register_store.proofs.store.Store.facts.Goals.{then-number-eq0-via-then-number-eq0, then-number-eq0-via-else-number-eq0+then-self-number}
+use Rattle.table_rows.proofs.LeavingLemmas.{stands}
 use Rattle.register_store.proofs.store.Store.facts.Goals as goal
 
 pub returns-then-number-eq0-clause-facts : goal.returns-then-number-eq0-clause-facts
@@ -45,12 +46,12 @@ returns-then-number-eq0-clause-durable g c clean F = rw (← c.self.view_is) (λ
 pub returns-in-Ok-read_facts-clause-same : goal.returns-in-Ok-read_facts-clause-same
 returns-in-Ok-read_facts-clause-same g c clean F has =
     let had = rw (← c.self.view_is) at has in
-    record { stands = stays F _ _ had.stands (c.facts_of_filing.ensures.keeps clean); kept_is = had.kept_is; filings_is = had.filings_is; within = had.within }
+    record { stands = stands c.facts_of_filing.ensures.leaves clean had.stands; kept_is = had.kept_is; filings_is = had.filings_is; within = had.within }
 
 pub returns-in-Ok-read_facts-clause-crash : goal.returns-in-Ok-read_facts-clause-crash
-returns-in-Ok-read_facts-clause-crash g c = rw (← c.self.view_is) c.facts_of_filing.ensures.survives
+returns-in-Ok-read_facts-clause-crash g c = rw (← c.self.view_is) c.facts_of_filing.ensures.leaves.survives
 
 pub returns-in-Ok-read_facts-clause-durable : goal.returns-in-Ok-read_facts-clause-durable
 returns-in-Ok-read_facts-clause-durable g c clean F = rw (← c.self.view_is) (λ had alive trees left.
     let conn = c.facts_of_filing.new.conn in
-    leaves c.self.inside.early F (state g.S.Store conn) (stays F _ _ had.stands (c.facts_of_filing.ensures.keeps clean)) alive trees (g.met.S.Store.settled conn.store trees alive left))
+    leaves c.self.inside.early F (state g.S.Store conn) (stands c.facts_of_filing.ensures.leaves clean had.stands) alive trees (g.met.S.Store.settled conn.store trees alive left))

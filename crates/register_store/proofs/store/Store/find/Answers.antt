@@ -2,6 +2,7 @@ use Rattle.std.proofs.Common.{rules}
 use Rattle.std.proofs.lemmas.Result.{IfOk-weaker}
 use Rattle.sqlite.specs.Held.{state}
 use Rattle.register_store.proofs.StoreLemmas.{leaves}
+use Rattle.table_rows.proofs.LeavingLemmas.{opens, stands}
 use Rattle.register_store.proofs.store.Store.find.Goals as goal
 
 pub returns : goal.returns
@@ -10,7 +11,7 @@ returns g c = record {
   style = λ clean F. rw (← c.self.view_is, ← c.as_str.ensures.value) (λ had. c.find_kept.ensures.style clean F had.stands);
   same = λ clean F has.
       let had = rw (← c.self.view_is) at has in
-      record { stands = c.find_kept.ensures.same clean c.self.inside.early F had.stands; kept_is = had.kept_is; filings_is = had.filings_is; within = had.within };
+      record { stands = stands c.find_kept.ensures.leaves clean had.stands; kept_is = had.kept_is; filings_is = had.filings_is; within = had.within };
   counts = search rules;
   early = search rules;
   crash = search rules;
@@ -18,6 +19,6 @@ returns g c = record {
       rw (← c.self.view_is) (λ had.
       let early = c.self.inside.early in
       let new = c.find_kept.new.conn in
-      let stands = c.find_kept.ensures.same clean early F had.stands in
-      IfOk-weaker c.find_kept.result _ _ (λ _ alive. (alive, λ trees left. leaves early F (state g.S.Store new) stands alive trees (g.met.S.Store.settled new.store trees alive left))) (c.find_kept.ensures.open clean early F had.stands));
+      let still = stands c.find_kept.ensures.leaves clean had.stands in
+      IfOk-weaker c.find_kept.result _ _ (λ _ alive. (alive, λ trees left. leaves early F (state g.S.Store new) still alive trees (g.met.S.Store.settled new.store trees alive left))) (opens c.find_kept.result c.find_kept.ensures.leaves clean));
 }

@@ -6,6 +6,7 @@ use Rattle.register_store.proofs.store.Store.replaceable.Goals.{then-number-gt-M
 use Rattle.std.proofs.lemmas.Result.{IfOk-weaker}
 use Rattle.sqlite.specs.Held.{state}
 use Rattle.register_store.proofs.StoreLemmas.{leaves}
+use Rattle.table_rows.proofs.LeavingLemmas.{opens, stands}
 use Rattle.register_store.proofs.store.Store.replaceable.Goals as goal
 
 pub returns-clause-answer : goal.returns-clause-answer
@@ -24,11 +25,11 @@ returns-clause-answer g c clean F has =
 pub returns-clause-same : goal.returns-clause-same
 returns-clause-same g c clean F has =
     let had = rw (← c.self.view_is) at has in
-    record { stands = c.may_replace.ensures.same clean c.self.inside.early F had.stands; kept_is = had.kept_is; filings_is = had.filings_is; within = had.within }
+    record { stands = stands c.may_replace.ensures.leaves clean had.stands; kept_is = had.kept_is; filings_is = had.filings_is; within = had.within }
 
 pub returns-clause-durable : goal.returns-clause-durable
 returns-clause-durable g c clean F = rw (← c.self.view_is) (λ had.
     let early = c.self.inside.early in
     let new = c.may_replace.new.conn in
-    let stands = c.may_replace.ensures.same clean early F had.stands in
-    IfOk-weaker c.may_replace.result _ _ (λ _ alive. (alive, λ trees left. leaves early F (state g.S.Store new) stands alive trees (g.met.S.Store.settled new.store trees alive left))) (c.may_replace.ensures.open clean early F had.stands))
+    let still = stands c.may_replace.ensures.leaves clean had.stands in
+    IfOk-weaker c.may_replace.result _ _ (λ _ alive. (alive, λ trees left. leaves early F (state g.S.Store new) still alive trees (g.met.S.Store.settled new.store trees alive left))) (opens c.may_replace.result c.may_replace.ensures.leaves clean))
