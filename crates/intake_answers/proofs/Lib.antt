@@ -1,3 +1,3 @@
 pub mod CacheLemmas
-pub mod Floats
+pub mod ListTokens
 pub mod Styles

@@ -1,3 +1,4 @@
 pub mod Answered
 pub mod Cache
 pub mod Line
+pub mod Listed

@@ -1,20 +1,24 @@
 //! The replies to answers and lists, to the byte. Their forms are own rules; statuses are those of RFC
 //! 9110, section 15, and refusals are problem details (RFC 9457).
 
-ghost use Rattle.std.specs.Prelude.{◌≡◌, false, map, IfOk};
+ghost use Rattle.std.specs.Prelude.{◌≡◌, map, IfOk};
+ghost use Rattle.json.specs.Tree.{json_tokens};
 ghost use Rattle.http_messages.specs.Replies.{reply_parts};
-ghost use Rattle.serde_json.specs.View.{view};
-ghost use Rattle.serde_json.specs.Written.{compact_text, has_float};
+ghost use Rattle.serde_json.specs.Written.{compact_text, outline};
 ghost use Rattle.filing_model.specs.declared.served.Style.{Style};
 ghost use Rattle.filing_model.specs.Reply.{reply_as, list_reply, word_reply, answer_data, answer_kind, answer_status, refusal_kind, listing_data, listings_data, list_data};
 ghost use Rattle.filing_model.specs.Style.{HasStyle};
 ghost use Rattle.filing_model.specs.Views.{view_answer, view_row};
 ghost use Rattle.intake_answers.specs.Answered.{told_style};
+ghost use Rattle.intake_answers.specs.Listed.{number_tokens};
+ghost use Rattle.register_store.specs.Writing.{AppendsTokens};
 
 use filing_model::{Answer, FilingRow, Style};
 use http_messages::{Kind, Reply};
-use register_store::{problem_value, refusal_value, refused_status, refused_text, registered_text};
-use serde_json::{Value, json};
+use json::Writer;
+use register_store::{
+    problem_text, refusal_text, refused_status, refused_text, registered_text, write_number,
+};
 use std::alloc::{AllocError, Global};
 
 /// The reply to an answer, as compact JSON: 201 with the number, 400 with the finding that the body is
@@ -34,12 +38,15 @@ pub fn reply_of(alloc: Global, answer: &Answer) -> Result<Reply, AllocError>
 
 /// The reply that lists filings: 200, with the number of each, how many facts it has, and which filing it replaces and which
 /// one replaces it, as compact JSON.
-#[tactic(auto, using(crate::proofs::Floats::list_data_no_float), unfolding(filing_model::specs::Reply::list_reply))]
+#[tactic(auto, unfolding(filing_model::specs::Reply::list_reply))]
 pub fn list_reply(alloc: Global, rows: &[FilingRow]) -> Result<Reply, AllocError>
     ensures { IfOk result (λ r. reply_parts r ≡ list_reply (map view_row rows.now)) }
 {
-    let content = list_value(alloc, rows)?;
-    reply_with(alloc, 200, &content, Kind::Json)
+    Ok(Reply {
+        status: 200,
+        content: list_text(alloc, rows)?,
+        kind: Kind::Json,
+    })
 }
 
 /// The reply that refuses a request for this reason, under `status`, which is to be a status code of three digits: problem
@@ -47,29 +54,11 @@ pub fn list_reply(alloc: Global, rows: &[FilingRow]) -> Result<Reply, AllocError
 pub fn word_reply(alloc: Global, status: u16, word: &str) -> Result<Reply, AllocError>
     ensures { IfOk result (λ r. reply_parts r ≡ word_reply status word.now) }
 {
-    let content = problem_value(alloc, status, word)?;
-    reply_with(alloc, status, &content, Kind::Problem)
-}
-
-/// The reply whose content is the compact text of a value.
-fn reply_with(alloc: Global, status: u16, content: &Value, kind: Kind) -> Result<Reply, AllocError>
-    requires { has_float (view content.now) ≡ false }
-    ensures { IfOk result (λ r.
-        reply_parts r ≡ record { status = status; content = compact_text (view content.now); kind = kind }) }
-{
     Ok(Reply {
         status,
-        content: text_of(alloc, content)?,
-        kind,
+        content: problem_text(alloc, status, word)?,
+        kind: Kind::Problem,
     })
-}
-
-/// The compact text of a value.
-fn text_of(alloc: Global, value: &Value) -> Result<Vec<u8>, AllocError>
-    requires { has_float (view value.now) ≡ false }
-    ensures { IfOk result (λ text. text.items ≡ compact_text (view value.now)) }
-{
-    Ok(value.to_string(alloc)?.into_bytes())
 }
 
 fn answer_status(answer: &Answer) -> u16
@@ -102,7 +91,6 @@ fn refusal_kind(style: Style) -> Kind
 }
 
 /// The content of the reply to an answer.
-#[tactic(auto, using(register_store::proofs::Floats::answer_data_no_float))]
 fn answer_text(alloc: Global, answer: &Answer) -> Result<Vec<u8>, AllocError>
     ensures { IfOk result (λ text.
         text.items ≡ compact_text (answer_data (told_style answer.now) (view_answer answer.now))) }
@@ -114,46 +102,50 @@ fn answer_text(alloc: Global, answer: &Answer) -> Result<Vec<u8>, AllocError>
             style,
             ..
         } => refused_text(alloc, *style, findings),
-        Answer::KeyReused { style } => {
-            text_of(alloc, &refusal_value(alloc, *style, 422, "key-reused")?)
-        }
+        Answer::KeyReused { style } => refusal_text(alloc, *style, 422, "key-reused"),
     }
 }
 
-fn rows_value(alloc: Global, rows: &[FilingRow]) -> Result<Value, AllocError>
-    ensures { IfOk result (λ v. view v ≡ listings_data (map view_row rows.now)) }
+/// The compact JSON that lists filings.
+fn list_text(alloc: Global, rows: &[FilingRow]) -> Result<Vec<u8>, AllocError>
+    ensures { IfOk result (λ text. text.items ≡ compact_text (list_data (map view_row rows.now))) }
 {
-    let mut values = Vec::new(alloc);
+    let mut writer = Writer::new(Vec::new(alloc));
+    writer.begin_object()?;
+    writer.key("filings")?;
+    write_rows(&mut writer, rows)?;
+    writer.end_object()?;
+    Ok(writer.into_inner())
+}
+
+fn write_rows(writer: &mut Writer, rows: &[FilingRow]) -> Result<(), AllocError>
+    ensures { AppendsTokens writer.old writer.new
+        (json_tokens (outline (listings_data (map view_row rows.now)))) result }
+{
+    writer.begin_array()?;
     for row in rows {
-        values.push(row_value(alloc, row)?)?;
+        write_row(writer, row)?;
     }
-    Ok(Value::Array(values))
+    writer.end_array()
 }
 
-fn row_value(alloc: Global, row: &FilingRow) -> Result<Value, AllocError>
-    ensures { IfOk result (λ v. view v ≡ listing_data (view_row row.now)) }
+fn write_row(writer: &mut Writer, row: &FilingRow) -> Result<(), AllocError>
+    ensures { AppendsTokens writer.old writer.new (json_tokens (outline (listing_data (view_row row.now)))) result }
 {
-    let facts = row.facts as u64;
-    match (row.replaced_by, row.replaces) {
-        (None, None) => json!(in alloc; {"facts": facts, "number": row.number}),
-        (Some(by), None) => {
-            json!(in alloc; {"facts": facts, "number": row.number, "replaced_by": by})
-        }
-        (None, Some(replaced)) => {
-            json!(in alloc; {"facts": facts, "number": row.number, "replaces": replaced})
-        }
-        (Some(by), Some(replaced)) => json!(in alloc; {
-            "facts": facts,
-            "number": row.number,
-            "replaced_by": by,
-            "replaces": replaced
-        }),
-    }
+    writer.begin_object()?;
+    write_number(writer, "facts", row.facts as u64)?;
+    write_number(writer, "number", row.number)?;
+    write_if_some(writer, "replaced_by", row.replaced_by)?;
+    write_if_some(writer, "replaces", row.replaces)?;
+    writer.end_object()
 }
 
-fn list_value(alloc: Global, rows: &[FilingRow]) -> Result<Value, AllocError>
-    ensures { IfOk result (λ v. view v ≡ list_data (map view_row rows.now)) }
+/// Writes a member with a number, if there is one.
+fn write_if_some(writer: &mut Writer, name: &str, number: Option<u64>) -> Result<(), AllocError>
+    ensures { AppendsTokens writer.old writer.new (number_tokens name.now number) result }
 {
-    let filings = rows_value(alloc, rows)?;
-    json!(in alloc; {"filings": filings})
+    match number {
+        Some(number) => write_number(writer, name, number),
+        None => Ok(()),
+    }
 }

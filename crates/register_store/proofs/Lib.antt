@@ -6,8 +6,8 @@ pub mod FiledSteps
 pub mod FindLemmas
 pub mod FindReads
 pub mod FindTexts
-pub mod Floats
 pub mod Growing
+pub mod JsonTokens
 pub mod ListLemmas
 pub mod MoreRequests
 pub mod OurGains

@@ -7,3 +7,4 @@ pub mod Outcomes
 pub mod Own
 pub mod Reads
 pub mod Store
+pub mod Writing

@@ -1,20 +1,23 @@
-//! The contents of the replies to those who file, as JSON values and texts. Their forms are own rules; those of refusals are
+//! The contents of the replies to those who file, as compact JSON texts. Their forms are own rules; those of refusals are
 //! problem details (RFC 9457, section 3), or what stood there before them.
 
-ghost use Rattle.std.specs.Prelude.{◌≡◌, Bool, false, IfOk};
+ghost use Rattle.std.specs.Prelude.{◌≡◌, [], ◌∷◌, Bool, false, decimal, unwrap_or, IfOk};
+ghost use Rattle.json.specs.Token.{key, number, string};
+ghost use Rattle.json.specs.Tree.{json_tokens, members_tokens};
+ghost use Rattle.http_messages.specs.Reply.{phrase};
 ghost use Rattle.serde_json.specs.Data.{object};
-ghost use Rattle.serde_json.specs.View.{view};
-ghost use Rattle.serde_json.specs.Written.{compact_text};
+ghost use Rattle.serde_json.specs.Written.{compact_text, members_outline, outline};
 ghost use Rattle.filing_model.specs.declared.served.Style.TheVariants.{Problem};
 ghost use Rattle.filing_model.specs.Answer.{Answer, answer_by};
 ghost use Rattle.filing_model.specs.Reply.{reply_as, answer_data, refused_status, problem_members, refusal_members, finding_data, findings_data};
 ghost use Rattle.register_store.specs.Outcomes.{view_outcome};
+ghost use Rattle.register_store.specs.Writing.{AppendsTokens};
 
 use crate::outcome::Outcome;
 use filing_model::Style;
 use http_messages::phrase;
 use itoa::Buffer;
-use serde_json::{Value, json};
+use json::Writer;
 use std::alloc::{AllocError, Global};
 use xbrl_report::{Code, Finding, Findings};
 
@@ -52,28 +55,12 @@ pub fn registered_text(alloc: Global, number: u64) -> Result<Vec<u8>, AllocError
 pub fn refused_text(alloc: Global, style: Style, findings: &Findings) -> Result<Vec<u8>, AllocError>
     ensures { IfOk result (λ text. text.items ≡ compact_text (answer_data style (Answer.Refused findings.now false))) }
 {
-    let value = refused_value(alloc, style, findings)?;
-    Ok(value.to_string(alloc)?.into_bytes())
-}
-
-/// What says that a report is refused, and lists its findings.
-fn refused_value(alloc: Global, style: Style, findings: &Findings) -> Result<Value, AllocError>
-    ensures { IfOk result (λ v. view v ≡ answer_data style (Answer.Refused findings.now false)) }
-{
-    let listed = findings_value(alloc, findings.list())?;
-    match style {
-        Style::Old => json!(in alloc; {"findings": listed, "status": "refused"}),
-        Style::Problem => {
-            let status = refused_status(findings);
-            json!(in alloc; {
-                "findings": listed,
-                "reason": "refused",
-                "status": u64::from(status),
-                "title": phrase(status).unwrap_or(""),
-                "type": "about:blank"
-            })
-        }
-    }
+    let mut writer = Writer::new(Vec::new(alloc));
+    writer.begin_object()?;
+    writer.key("findings")?;
+    write_findings(&mut writer, findings.list())?;
+    end_refusal(&mut writer, style, refused_status(findings), "refused")?;
+    Ok(writer.into_inner())
 }
 
 /// The status of a refused report: 400 where the body is no JSON text, and else 422 (RFC 9110, sections 15.5.1 and 15.5.21).
@@ -86,46 +73,87 @@ pub fn refused_status(findings: &Findings) -> u16
     }
 }
 
-/// What says why something is refused that has no findings, in this style.
-pub fn refusal_value(
+/// The compact JSON that says in this style why something is refused that has no findings.
+pub fn refusal_text(
     alloc: Global,
     style: Style,
     status: u16,
     word: &str,
-) -> Result<Value, AllocError>
-    ensures { IfOk result (λ v. view v ≡ object (refusal_members style status word.now)) }
+) -> Result<Vec<u8>, AllocError>
+    ensures { IfOk result (λ text. text.items ≡ compact_text (object (refusal_members style status word.now))) }
+{
+    let mut writer = Writer::new(Vec::new(alloc));
+    writer.begin_object()?;
+    end_refusal(&mut writer, style, status, word)?;
+    Ok(writer.into_inner())
+}
+
+/// Problem details (RFC 9457, section 3) of this status and reason as compact JSON, the members in the order of their names.
+pub fn problem_text(alloc: Global, status: u16, reason: &str) -> Result<Vec<u8>, AllocError>
+    ensures { IfOk result (λ text. text.items ≡ compact_text (object (problem_members status reason.now))) }
+{
+    refusal_text(alloc, Style::Problem, status, reason)
+}
+
+/// Writes the members that say in this style why something is refused, and the end of the object that they are in.
+fn end_refusal(writer: &mut Writer, style: Style, status: u16, word: &str) -> Result<(), AllocError>
+    ensures { AppendsTokens writer.old writer.new
+        (members_tokens (members_outline (refusal_members style status word.now))) result }
 {
     match style {
-        Style::Old => json!(in alloc; {"status": word}),
-        Style::Problem => problem_value(alloc, status, word),
+        Style::Old => {
+            write_text(writer, "status", word)?;
+            writer.end_object()
+        }
+        Style::Problem => {
+            write_text(writer, "reason", word)?;
+            write_number(writer, "status", u64::from(status))?;
+            write_text(writer, "title", title_of(status))?;
+            write_text(writer, "type", "about:blank")?;
+            writer.end_object()
+        }
     }
 }
 
-/// Problem details (RFC 9457, section 3) of this status and reason, the members in the order of their names.
-pub fn problem_value(alloc: Global, status: u16, reason: &str) -> Result<Value, AllocError>
-    ensures { IfOk result (λ v. view v ≡ object (problem_members status reason.now)) }
+/// The title of problem details: the phrase of the status (RFC 9457, section 4.2.1).
+fn title_of(status: u16) -> &'static str
+    ensures { result.now ≡ unwrap_or (phrase status) [] }
 {
-    json!(in alloc; {
-        "reason": reason,
-        "status": u64::from(status),
-        "title": phrase(status).unwrap_or(""),
-        "type": "about:blank"
-    })
+    phrase(status).unwrap_or("")
 }
 
-/// Findings as replies list them: the word of each code and its place, in order.
-pub fn findings_value(alloc: Global, findings: &[Finding]) -> Result<Value, AllocError>
-    ensures { IfOk result (λ v. view v ≡ findings_data findings.now) }
+/// Writes a member whose value is a string.
+fn write_text(writer: &mut Writer, name: &str, text: &str) -> Result<(), AllocError>
+    ensures { AppendsTokens writer.old writer.new (key name.now ∷ string text.now ∷ []) result }
 {
-    let mut values = Vec::new(alloc);
+    writer.key(name)?;
+    writer.string(text)
+}
+
+/// Writes a member of a JSON object whose value is a number.
+pub fn write_number(writer: &mut Writer, name: &str, value: u64) -> Result<(), AllocError>
+    ensures { AppendsTokens writer.old writer.new (key name.now ∷ number (decimal value) ∷ []) result }
+{
+    writer.key(name)?;
+    writer.u64(value)
+}
+
+/// Writes findings as replies list them: the word of each code and its place, in order.
+fn write_findings(writer: &mut Writer, findings: &[Finding]) -> Result<(), AllocError>
+    ensures { AppendsTokens writer.old writer.new (json_tokens (outline (findings_data findings.now))) result }
+{
+    writer.begin_array()?;
     for finding in findings {
-        values.push(finding_value(alloc, finding)?)?;
+        write_finding(writer, finding)?;
     }
-    Ok(Value::Array(values))
+    writer.end_array()
 }
 
-fn finding_value(alloc: Global, finding: &Finding) -> Result<Value, AllocError>
-    ensures { IfOk result (λ v. view v ≡ finding_data finding.now) }
+fn write_finding(writer: &mut Writer, finding: &Finding) -> Result<(), AllocError>
+    ensures { AppendsTokens writer.old writer.new (json_tokens (outline (finding_data finding.now))) result }
 {
-    json!(in alloc; {"code": finding.code.text(), "place": finding.place.as_str()})
+    writer.begin_object()?;
+    write_text(writer, "code", finding.code.text())?;
+    write_text(writer, "place", finding.place.as_str())?;
+    writer.end_object()
 }

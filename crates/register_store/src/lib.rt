@@ -13,7 +13,7 @@ mod store;
 mod write;
 
 pub use content::{
-    findings_value, problem_value, refusal_value, refused_status, refused_text, registered_text,
+    problem_text, refusal_text, refused_status, refused_text, registered_text, write_number,
 };
 pub use decode::completed::{Completed, Registered};
 pub use kept_body::KeptBody;
