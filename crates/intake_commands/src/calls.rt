@@ -2,6 +2,7 @@
 //! nothing: what the tasks do is not stated, and so no task carries the clauses of what it calls.
 
 ghost use Rattle.std.specs.Prelude.{◌≡◌, ◌≤◌, ◌^◌, None, false};
+ghost use Rattle.table_rows.specs.Standing.{IsAtRest};
 
 use gateway_server::{Ended, Mark, Served, completed as completed_of, serve as serve_connection};
 use http_wire::{ConnFault, Inbox, Kind, Next, Reply, Sink, Source, write_reply};
@@ -18,8 +19,7 @@ pub fn create<S: Alter + Drop>(
     alloc: Global,
     conn: Connection<S>,
 ) -> Result<Store<S>, (CreateFault, Connection<S>)>
-    requires autocommit { conn.in_transaction ≡ false }
-    requires unlimited { conn.step_limit ≡ None }
+    requires { IsAtRest conn }
 {
     Store::create_or_back(alloc, conn)
 }
@@ -29,8 +29,7 @@ pub fn open<S: Alter + Drop>(
     alloc: Global,
     conn: Connection<S>,
 ) -> Result<Store<S>, (OpenFault, Connection<S>)>
-    requires autocommit { conn.in_transaction ≡ false }
-    requires unlimited { conn.step_limit ≡ None }
+    requires { IsAtRest conn }
 {
     Store::open_or_back(alloc, conn)
 }
@@ -41,8 +40,7 @@ pub fn check<S: Alter, W: Watch>(
     conn: &mut Connection<S>,
     watch: &mut W,
 ) -> Result<Counts, OpenFault>
-    requires autocommit { conn.old.in_transaction ≡ false }
-    requires unlimited { conn.old.step_limit ≡ None }
+    requires { IsAtRest conn.old }
 {
     read_register(alloc, conn, watch)
 }
@@ -52,8 +50,7 @@ pub fn migrate<S: Alter + Drop>(
     alloc: Global,
     conn: Connection<S>,
 ) -> Result<Store<S>, (OpenFault, Connection<S>)>
-    requires autocommit { conn.in_transaction ≡ false }
-    requires unlimited { conn.step_limit ≡ None }
+    requires { IsAtRest conn }
 {
     Store::migrate_or_back(alloc, conn)
 }

@@ -1,6 +1,7 @@
 //! What is done with the register of a file, apart from serving it.
 
 ghost use Rattle.std.specs.Prelude.{◌≡◌, None, false};
+ghost use Rattle.table_rows.specs.Standing.{IsAtRest};
 
 use crate::calls;
 use crate::fault::{Fault, Refusal, VisitFault};
@@ -76,8 +77,7 @@ pub fn tell_close<E: Write>(closed: Result<(), Error>, name: &str, errors: &mut 
 
 /// Makes the tables of a register, in a database without tables.
 pub fn create<S: Alter + Drop>(alloc: Global, conn: Connection<S>) -> Result<Store<S>, VisitFault>
-    requires autocommit { conn.in_transaction ≡ false }
-    requires unlimited { conn.step_limit ≡ None }
+    requires { IsAtRest conn }
 {
     match held_in(&conn) {
         Holding::Nothing => match calls::create(alloc, conn) {
@@ -90,8 +90,7 @@ pub fn create<S: Alter + Drop>(alloc: Global, conn: Connection<S>) -> Result<Sto
 
 /// The register of a database that is there.
 pub fn open<S: Alter + Drop>(alloc: Global, conn: Connection<S>) -> Result<Store<S>, VisitFault>
-    requires autocommit { conn.in_transaction ≡ false }
-    requires unlimited { conn.step_limit ≡ None }
+    requires { IsAtRest conn }
 {
     match calls::open(alloc, conn) {
         Ok(register) => Ok(register),
@@ -140,8 +139,7 @@ fn list<'a, S: Alter + Drop, O: Write>(
     filer: &str,
     output: &mut O,
 ) -> (Left<S>, Result<(), Fault<'a>>)
-    requires autocommit { conn.in_transaction ≡ false }
-    requires unlimited { conn.step_limit ≡ None }
+    requires { IsAtRest conn }
 {
     let register = match open(alloc, conn) {
         Ok(register) => register,
@@ -182,8 +180,7 @@ fn show_filing<'a, S: Alter + Drop, O: Write>(
     number: u64,
     output: &mut O,
 ) -> (Left<S>, Result<(), Fault<'a>>)
-    requires autocommit { conn.in_transaction ≡ false }
-    requires unlimited { conn.step_limit ≡ None }
+    requires { IsAtRest conn }
 {
     let mut register = match open(alloc, conn) {
         Ok(register) => register,
@@ -214,8 +211,7 @@ fn check<'a, S: Alter + Drop, O: Write>(
     mut conn: Connection<S>,
     output: &mut O,
 ) -> (Left<S>, Result<(), Fault<'a>>)
-    requires autocommit { conn.in_transaction ≡ false }
-    requires unlimited { conn.step_limit ≡ None }
+    requires { IsAtRest conn }
 {
     let mut progress = Progress::new(rt);
     let checked = calls::check(rt.alloc(), &mut conn, &mut progress);
@@ -257,8 +253,7 @@ fn migrate<'a, S: Alter + Drop, O: Write>(
     conn: Connection<S>,
     output: &mut O,
 ) -> (Left<S>, Result<(), Fault<'a>>)
-    requires autocommit { conn.in_transaction ≡ false }
-    requires unlimited { conn.step_limit ≡ None }
+    requires { IsAtRest conn }
 {
     match calls::migrate(alloc, conn) {
         Ok(register) => {

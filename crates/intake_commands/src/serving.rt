@@ -1,6 +1,7 @@
 //! Serves the connections of a port on the register of a file, one after the other.
 
 ghost use Rattle.std.specs.Prelude.{◌≡◌, None, false};
+ghost use Rattle.table_rows.specs.Standing.{IsAtRest};
 
 use crate::calls;
 use crate::fault::{Fault, VisitFault};
@@ -456,8 +457,7 @@ fn register_of<S: Alter + Drop>(
     serving: Serving<'_>,
     conn: Connection<S>,
 ) -> Result<Store<S>, VisitFault>
-    requires autocommit { conn.in_transaction ≡ false }
-    requires unlimited { conn.step_limit ≡ None }
+    requires { IsAtRest conn }
 {
     if serving.new {
         create(alloc, conn)

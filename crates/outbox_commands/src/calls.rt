@@ -2,6 +2,7 @@
 //! tasks do is not stated, and so no task carries the clauses of what it calls.
 
 ghost use Rattle.std.specs.Prelude.{◌≡◌, None, false};
+ghost use Rattle.table_rows.specs.Standing.{IsAtRest};
 
 use crate::options::Target;
 use filer_client::{ExchangeFault, exchange as exchange_entry};
@@ -17,8 +18,7 @@ pub fn create<S: Alter + Drop>(
     conn: Connection<S>,
     filer: &str,
 ) -> Result<Outbox<S>, (OutboxFault, Connection<S>)>
-    requires autocommit { conn.in_transaction ≡ false }
-    requires unlimited { conn.step_limit ≡ None }
+    requires { IsAtRest conn }
 {
     Outbox::create_or_back(alloc, conn, filer)
 }
@@ -28,16 +28,14 @@ pub fn open<S: Alter + Drop>(
     alloc: Global,
     conn: Connection<S>,
 ) -> Result<Outbox<S>, (OutboxFault, Connection<S>)>
-    requires autocommit { conn.in_transaction ≡ false }
-    requires unlimited { conn.step_limit ≡ None }
+    requires { IsAtRest conn }
 {
     Outbox::open_or_back(alloc, conn)
 }
 
 /// Reads the outbox of a database, which is one of this version unless this fails.
 pub fn read<S: Alter + Drop>(alloc: Global, conn: &mut Connection<S>) -> Result<(), OutboxFault>
-    requires autocommit { conn.old.in_transaction ≡ false }
-    requires unlimited { conn.old.step_limit ≡ None }
+    requires { IsAtRest conn.old }
     ensures autocommit { conn.new.in_transaction ≡ false }
     ensures unlimited { conn.new.step_limit ≡ None }
 {
@@ -54,8 +52,7 @@ pub fn migrate<S: Alter + Drop>(
     alloc: Global,
     conn: Connection<S>,
 ) -> Result<Outbox<S>, (OutboxFault, Connection<S>)>
-    requires autocommit { conn.in_transaction ≡ false }
-    requires unlimited { conn.step_limit ≡ None }
+    requires { IsAtRest conn }
 {
     Outbox::migrate_or_back(alloc, conn)
 }

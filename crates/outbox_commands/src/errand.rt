@@ -1,6 +1,7 @@
 //! What is done with the outbox of a file.
 
 ghost use Rattle.std.specs.Prelude.{◌≡◌, None, false};
+ghost use Rattle.table_rows.specs.Standing.{IsAtRest};
 
 use crate::calls;
 use crate::fault::{Fault, VisitFault};
@@ -136,8 +137,7 @@ fn outbox_of<S: Alter + Drop>(
     conn: Connection<S>,
     errand: &Errand<'_>,
 ) -> Result<Outbox<S>, VisitFault>
-    requires autocommit { conn.in_transaction ≡ false }
-    requires unlimited { conn.step_limit ≡ None }
+    requires { IsAtRest conn }
 {
     match errand {
         Errand::Init { filer } => create(alloc, conn, filer),
@@ -152,8 +152,7 @@ fn create<S: Alter + Drop>(
     conn: Connection<S>,
     filer: &str,
 ) -> Result<Outbox<S>, VisitFault>
-    requires autocommit { conn.in_transaction ≡ false }
-    requires unlimited { conn.step_limit ≡ None }
+    requires { IsAtRest conn }
 {
     let held = held_in(&conn);
     if held != Holding::Nothing {
@@ -167,8 +166,7 @@ fn create<S: Alter + Drop>(
 
 /// Makes the outbox, which is one of an earlier version, one of this version.
 fn migrate<S: Alter + Drop>(alloc: Global, mut conn: Connection<S>) -> Result<Outbox<S>, VisitFault>
-    requires autocommit { conn.in_transaction ≡ false }
-    requires unlimited { conn.step_limit ≡ None }
+    requires { IsAtRest conn }
 {
     match calls::read(alloc, &mut conn) {
         Ok(()) => Err(VisitFault::IsCurrent),
@@ -182,8 +180,7 @@ fn migrate_earlier<S: Alter + Drop>(
     alloc: Global,
     conn: Connection<S>,
 ) -> Result<Outbox<S>, VisitFault>
-    requires autocommit { conn.in_transaction ≡ false }
-    requires unlimited { conn.step_limit ≡ None }
+    requires { IsAtRest conn }
 {
     match calls::migrate(alloc, conn) {
         Ok(outbox) => Ok(outbox),
@@ -193,8 +190,7 @@ fn migrate_earlier<S: Alter + Drop>(
 
 /// The outbox of a database that is there.
 fn open<S: Alter + Drop>(alloc: Global, conn: Connection<S>) -> Result<Outbox<S>, VisitFault>
-    requires autocommit { conn.in_transaction ≡ false }
-    requires unlimited { conn.step_limit ≡ None }
+    requires { IsAtRest conn }
 {
     match calls::open(alloc, conn) {
         Ok(outbox) => Ok(outbox),

@@ -7,6 +7,7 @@ ghost use Rattle.http_messages.specs.Posting.{IsTarget};
 ghost use Rattle.xbrl_report.specs.Judgement.{HasFacts};
 ghost use Rattle.register_store.specs.Calls.{AddsRequest, CreatesOrGivesBack, CreatesStore, FindsRow};
 ghost use Rattle.register_store.specs.Calls.{MigratesOrGivesBack, MigratesStore, OpensOrGivesBack, OpensStore};
+ghost use Rattle.table_rows.specs.Standing.{IsAtRest};
 
 pub(crate) mod files;
 
@@ -69,8 +70,7 @@ impl<S: Alter> Store<S> {
         alloc: Global,
         mut conn: Connection<S>,
     ) -> Result<Store<S>, (CreateFault, Connection<S>)>
-        requires autocommit { conn.in_transaction ≡ false }
-        requires unlimited { conn.step_limit ≡ None }
+        requires { IsAtRest conn }
         ensures { CreatesOrGivesBack S.Store conn result }
     {
         match make_register(&mut conn) {
@@ -91,8 +91,7 @@ impl<S: Alter> Store<S> {
         alloc: Global,
         conn: Connection<S>,
     ) -> Result<Store<S>, (OpenFault, Connection<S>)>
-        requires autocommit { conn.in_transaction ≡ false }
-        requires unlimited { conn.step_limit ≡ None }
+        requires { IsAtRest conn }
         ensures { OpensOrGivesBack S.Store conn result }
     {
         let mut conn = conn;
@@ -124,8 +123,7 @@ impl<S: Alter> Store<S> {
         alloc: Global,
         conn: Connection<S>,
     ) -> Result<Store<S>, (OpenFault, Connection<S>)>
-        requires autocommit { conn.in_transaction ≡ false }
-        requires unlimited { conn.step_limit ≡ None }
+        requires { IsAtRest conn }
         ensures { MigratesOrGivesBack S.Store conn result }
     {
         let mut conn = conn;
@@ -152,8 +150,7 @@ impl<S: Alter + Drop> Store<S> {
     /// As `create_or_back`, but a refusal gives the connection up. A register's file is its own: if the database had a
     /// table before, no clause says what the rows stand for.
     pub fn create(alloc: Global, conn: Connection<S>) -> Result<Store<S>, CreateFault>
-        requires autocommit { conn.in_transaction ≡ false }
-        requires unlimited { conn.step_limit ≡ None }
+        requires { IsAtRest conn }
         ensures { CreatesStore S.Store conn result }
     {
         match Store::create_or_back(alloc, conn) {
@@ -164,8 +161,7 @@ impl<S: Alter + Drop> Store<S> {
 
     /// As `open_or_back`, but a refusal gives the connection up.
     pub fn open(alloc: Global, conn: Connection<S>) -> Result<Store<S>, OpenFault>
-        requires autocommit { conn.in_transaction ≡ false }
-        requires unlimited { conn.step_limit ≡ None }
+        requires { IsAtRest conn }
         ensures { OpensStore S.Store conn result }
     {
         match Store::open_or_back(alloc, conn) {
@@ -176,8 +172,7 @@ impl<S: Alter + Drop> Store<S> {
 
     /// As `migrate_or_back`, but a refusal gives the connection up.
     pub fn migrate(alloc: Global, conn: Connection<S>) -> Result<Store<S>, OpenFault>
-        requires autocommit { conn.in_transaction ≡ false }
-        requires unlimited { conn.step_limit ≡ None }
+        requires { IsAtRest conn }
         ensures { MigratesStore S.Store conn result }
     {
         match Store::migrate_or_back(alloc, conn) {
