@@ -1,6 +1,7 @@
 -- What a call leaves, and one call after another.
 use Rattle.std.proofs.Common.{◌≡◌, inl, inr, ℕ, List, Result, Ok, Err, IfOk, IsErr, IsTrue, false, refl, sym, ap, ◌∙◌, subst, arith}
 use Rattle.std.proofs.lemmas.Bool.{cases_Bool}
+use Rattle.std.specs.Borrow.{MutBor}
 use Rattle.sqlite.specs.Order.{Row}
 use Rattle.sqlite.specs.Store.{Ghosts}
 use Rattle.sqlite.specs.Held.{Held, state}
@@ -9,6 +10,7 @@ use Rattle.sqlite.specs.declared.error.Error.{Error}
 use Rattle.sqlite.proofs.InsideLemmas.{inside_keeps}
 use Rattle.sqlite_trees.specs.declared.error.StoreError.{StoreError}
 use Rattle.sqlite_trees.specs.declared.error.StoreError.TheVariants.{OutOfMemory, Io, Corrupt, Full, Broken, Unstorable}
+use Rattle.register_opening.specs.Gains.{GoesOn}
 use Rattle.table_rows.specs.Causes.{cause_of}
 use Rattle.table_rows.specs.declared.cause.Cause.TheVariants.{Memory, Disk, Other}
 use Rattle.table_rows.specs.Leaving.{Ending, Leaves, ending_of}
@@ -16,7 +18,7 @@ use Rattle.table_rows.specs.Leaving.Ending.{Asked, Passed, Ended, Stopped}
 use Rattle.table_rows.specs.Picking.{IsStopped}
 use Rattle.table_rows.specs.Standing.{CommitsNothing, StaysOnOk, KeepsOnErr}
 use Rattle.table_rows.proofs.LeavingLemmas.{asked_before, asked_then, ended, keeps_commit}
-use Rattle.table_rows.proofs.StepLemmas.{keeps_then}
+use Rattle.table_rows.proofs.StepLemmas.{keeps_then, nothing_left, nothing_yet}
 
 -- a query that was refused for another cause than memory or disk left the connection as it was
 pub not_run : {error : Error} {a b : State} → cause_of error ≡ Other → Leaves (Stopped error) a b → Leaves Asked a b
@@ -62,14 +64,27 @@ pub kept_on_err : {X E : Type 0} {a b : State} (result : Result X E) → Leaves 
 kept_on_err (Ok x) p clean = tt
 kept_on_err (Err e) p clean = keeps_commit p clean
 
--- where each call keeps what was committed, so do the two
-pub stays_then : {a b c : State} → (HasCleanDisk b → KeepsCommit a b) → (HasCleanDisk c → KeepsCommit b c) → CommitsNothing b c → HasCleanDisk c → KeepsCommit a c
-stays_then {a} {b} {c} p q survives clean = keeps_then a b c (p (omega (arith, survives.clean))) (q clean)
+-- one statement inside a transaction after another
+pub goes_on_then : {S : Type 0} {g : Ghosts S} {a b c : MutBor (Held S)} → GoesOn g a b → GoesOn g b c → GoesOn g a c
+goes_on_then {S} {g} {a} {b} {c} p q = record {
+  same_reference = q.same_reference ∙ p.same_reference;
+  keeps = λ clean. keeps_then (state g a.now) (state g b.now) (state g c.now) (p.keeps (omega (arith, q.survives.clean))) (q.keeps clean);
+  survives = nothing_left (state g a.now) (state g b.now) (state g c.now) p.survives q.survives;
+}
 
--- a statement keeps it: outside of a transaction it is not run
-pub statement_keeps : {S : Type 0} (g : Ghosts S) (a b : Held S) (sql : List ℕ) (params : Row) (result : Result ℕ Error) {Refused : Type 0} → ((state g a).in_transaction ≡ false → Refused × (b ≡ a))
+-- a statement keeps what was committed: outside of a transaction it is not run
+statement_keeps : {S : Type 0} (g : Ghosts S) (a b : Held S) (sql : List ℕ) (params : Row) (result : Result ℕ Error) {Refused : Type 0} → ((state g a).in_transaction ≡ false → Refused × (b ≡ a))
     → (HasCleanDisk (state g b) → IsTrue (state g a).in_transaction → ExecutesInside 0 sql params (state g a) (state g b) result) → HasCleanDisk (state g b) → KeepsCommit (state g a) (state g b)
 statement_keeps g a b sql params result ended runs clean = elim (cases_Bool (state g a).in_transaction) [
   | inl inside ↦ inside_keeps (state g a) (state g b) 0 false sql params result (runs clean inside)
   | inr outside ↦ subst (λ h. KeepsCommit (state g a) (state g h)) (sym (ended outside).1) (record { was_open = λ opened. opened; committed = λ opened. refl })
 ]
+
+pub statement_goes_on : {S : Type 0} (g : Ghosts S) (a b : MutBor (Held S)) (sql : List ℕ) (params : Row) (result : Result ℕ Error) {Refused : Type 0} → b.ghost_name ≡ a.ghost_name
+    → ((state g a.now).in_transaction ≡ false → Refused × (b.now ≡ a.now)) → (HasCleanDisk (state g b.now) → IsTrue (state g a.now).in_transaction → ExecutesInside 0 sql params (state g a.now) (state g b.now) result)
+    → CommitsNothing (state g a.now) (state g b.now) → GoesOn g a b
+statement_goes_on g a b sql params result same ended runs survives = record { same_reference = same; keeps = statement_keeps g a.now b.now sql params result ended runs; survives = survives }
+
+-- no statement was run
+pub goes_on_yet : {S : Type 0} (g : Ghosts S) (a : MutBor (Held S)) → GoesOn g a a
+goes_on_yet g a = record { same_reference = refl; keeps = λ clean. record { was_open = λ opened. opened; committed = λ opened. refl }; survives = nothing_yet (state g a.now) }

@@ -5,8 +5,8 @@ ghost use Rattle.sqlite.specs.Held.{state};
 ghost use Rattle.sqlite.specs.declared.error.Error.{Error};
 ghost use Rattle.sqlite.specs.declared.types.Value.TheVariants.{Int};
 ghost use Rattle.sqlite.specs.State.{HasCleanDisk, Survives, ExecutesInside};
-ghost use Rattle.table_rows.specs.Standing.{CommitsNothing, IsLasting, StaysCommitted, IsAtRest};
-ghost use Rattle.register_opening.specs.Gains.{AddsNothing};
+ghost use Rattle.table_rows.specs.Standing.{IsAtRest, IsLasting};
+ghost use Rattle.register_opening.specs.Gains.{AddsNothing, GoesOn};
 ghost use Rattle.register_opening.specs.Earlier.{is_blocked};
 ghost use Rattle.register_opening.specs.Migrating.{insert_early, write_fault, migrating, AreDone, StopsAt, AreCommitted, AreUndone, AreTreesOf, MigratesRegister};
 
@@ -33,7 +33,7 @@ fn write_fault(error: Error) -> OpenFault
 /// Writes the row that says how many requests were kept before there were problem details.
 fn tell_early<S: Alter>(tx: &mut Transaction<'_, S>, early: u64) -> Result<(), Error>
     requires { early < 2 ^ 63 }
-    ensures same_reference { tx.new.conn.ghost_name ≡ tx.old.conn.ghost_name }
+    ensures on { GoesOn S.Store tx.old.conn tx.new.conn }
     ensures ran { HasCleanDisk (state S.Store tx.new.conn.now)
         → OnOk result ((count : ℕ)
         × ExecutesInside 0 insert_early (Int (pos early) ∷ []) (state S.Store tx.old.conn.now)
@@ -43,8 +43,6 @@ fn tell_early<S: Alter>(tx: &mut Transaction<'_, S>, early: u64) -> Result<(), E
         → IfErr result (λ error.
         ExecutesInside 0 insert_early (Int (pos early) ∷ []) (state S.Store tx.old.conn.now)
         (state S.Store tx.new.conn.now) (Err error)) }
-    ensures keeps { StaysCommitted S.Store tx.old.conn.now tx.new.conn.now }
-    ensures survives { CommitsNothing (state S.Store tx.old.conn.now) (state S.Store tx.new.conn.now) }
 {
     tx.execute("INSERT INTO migrated VALUES (1, ?1)", params![early as i64])?;
     Ok(())
@@ -53,15 +51,13 @@ fn tell_early<S: Alter>(tx: &mut Transaction<'_, S>, early: u64) -> Result<(), E
 /// Writes what a register of the second form has not.
 fn write_second<S: Alter>(tx: &mut Transaction<'_, S>, early: u64) -> Result<(), Error>
     requires { early < 2 ^ 63 }
-    ensures same_reference { tx.new.conn.ghost_name ≡ tx.old.conn.ghost_name }
+    ensures on { GoesOn S.Store tx.old.conn tx.new.conn }
     ensures done { HasCleanDisk (state S.Store tx.new.conn.now)
         → OnOk result (AreDone S.Store (migrating Earlier.Second early) tx.old.conn.now tx.new.conn.now) }
     ensures stopped { HasCleanDisk (state S.Store tx.new.conn.now)
         → IsTrue (state S.Store tx.old.conn.now).in_transaction
         → IfErr result (λ error.
         StopsAt S.Store error (migrating Earlier.Second early) tx.old.conn.now tx.new.conn.now) }
-    ensures keeps { StaysCommitted S.Store tx.old.conn.now tx.new.conn.now }
-    ensures survives { CommitsNothing (state S.Store tx.old.conn.now) (state S.Store tx.new.conn.now) }
 {
     run(
         tx,
@@ -77,14 +73,12 @@ fn write_second<S: Alter>(tx: &mut Transaction<'_, S>, early: u64) -> Result<(),
 
 /// Writes what a register of the third form has not.
 fn write_third<S: Alter>(tx: &mut Transaction<'_, S>) -> Result<(), Error>
-    ensures same_reference { tx.new.conn.ghost_name ≡ tx.old.conn.ghost_name }
+    ensures on { GoesOn S.Store tx.old.conn tx.new.conn }
     ensures done { HasCleanDisk (state S.Store tx.new.conn.now)
         → OnOk result (AreDone S.Store (migrating Earlier.Third 0) tx.old.conn.now tx.new.conn.now) }
     ensures stopped { HasCleanDisk (state S.Store tx.new.conn.now)
         → IsTrue (state S.Store tx.old.conn.now).in_transaction
         → IfErr result (λ error. StopsAt S.Store error (migrating Earlier.Third 0) tx.old.conn.now tx.new.conn.now) }
-    ensures keeps { StaysCommitted S.Store tx.old.conn.now tx.new.conn.now }
-    ensures survives { CommitsNothing (state S.Store tx.old.conn.now) (state S.Store tx.new.conn.now) }
 {
     run(
         tx,
@@ -95,14 +89,12 @@ fn write_third<S: Alter>(tx: &mut Transaction<'_, S>) -> Result<(), Error>
 
 fn write_all<S: Alter>(tx: &mut Transaction<'_, S>, form: Earlier, early: u64) -> Result<(), Error>
     requires { early < 2 ^ 63 }
-    ensures same_reference { tx.new.conn.ghost_name ≡ tx.old.conn.ghost_name }
+    ensures on { GoesOn S.Store tx.old.conn tx.new.conn }
     ensures done { HasCleanDisk (state S.Store tx.new.conn.now)
         → OnOk result (AreDone S.Store (migrating form early) tx.old.conn.now tx.new.conn.now) }
     ensures stopped { HasCleanDisk (state S.Store tx.new.conn.now)
         → IsTrue (state S.Store tx.old.conn.now).in_transaction
         → IfErr result (λ error. StopsAt S.Store error (migrating form early) tx.old.conn.now tx.new.conn.now) }
-    ensures keeps { StaysCommitted S.Store tx.old.conn.now tx.new.conn.now }
-    ensures survives { CommitsNothing (state S.Store tx.old.conn.now) (state S.Store tx.new.conn.now) }
 {
     match form {
         Earlier::Second => write_second(tx, early),

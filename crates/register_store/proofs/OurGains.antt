@@ -17,7 +17,7 @@ use Rattle.table_rows.proofs.GainLemmas.{inside, gained, cast_int, cast_null, ca
 use Rattle.table_rows.proofs.InsertLemmas.{inserts}
 use Rattle.register_rows.specs.Schema.{register_tables, kept_table, finding_table, filing_table, fact_table, amends_table}
 use Rattle.register_opening.specs.Gains.{GainsRows}
-use Rattle.register_opening.proofs.Calls.{statement_keeps}
+use Rattle.register_opening.proofs.Calls.{statement_goes_on}
 use Rattle.register_store.specs.Changes.{InsertsRow}
 use Rattle.register_store.proofs.Texts.{insert_kept, insert_finding, insert_filing, insert_fact, insert_amends, inserts_amends, inserts_kept, inserts_finding, inserts_filing, inserts_fact, plain_inserts}
 
@@ -74,9 +74,7 @@ pub refused_row : {S Refused : Type 0} (g : Ghosts S) (table : Table) (row : Row
     → (HasCleanDisk (state g b.now) → IsTrue (state g a.now).in_transaction → ExecutesInside 0 sql params (state g a.now) (state g b.now) ran)
     → CommitsNothing (state g a.now) (state g b.now) → InsertsRow g table row a b result
 refused_row g table row sql params a b ran result error failed same ended runs survives = record {
-  same_reference = same;
+  on = statement_goes_on g a b sql params ran same ended runs survives;
   was_inside = rw failed tt;
   gains = λ clean. rw failed tt;
-  keeps = statement_keeps g a.now b.now sql params ran ended runs;
-  survives = survives;
 }

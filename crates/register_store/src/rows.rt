@@ -9,12 +9,11 @@ ghost use Rattle.sqlite.specs.Table.{Table};
 ghost use Rattle.table_rows.specs.Leaving.{OnlyQueries};
 ghost use Rattle.table_rows.specs.Rows.{counted_from};
 ghost use Rattle.table_rows.specs.Reading.{ReadsRows};
-ghost use Rattle.table_rows.specs.Standing.{CommitsNothing, StaysCommitted};
 ghost use Rattle.register_opening.specs.Reads.{Knows, KnowsAll, by_second, has_texts};
 ghost use Rattle.register_store.specs.Found.{has_seq, unsorted, found_in, pair_in, target_alone};
 ghost use Rattle.register_rows.specs.Schema.{kept_table, finding_table, filing_table, fact_table, amends_table};
 ghost use Rattle.key_string.specs.Key.{IsKey};
-ghost use Rattle.register_opening.specs.Gains.{GainsRows};
+ghost use Rattle.register_opening.specs.Gains.{GainsRows, GoesOn};
 ghost use Rattle.register_store.specs.Changes.{InsertsRow};
 
 use crate::outcome::NewRow;
@@ -175,13 +174,11 @@ pub fn insert_items<S: Alter, T: InsertItem>(
 ) -> Result<(), Error>
     requires number { number < 2 ^ 63 }
     requires few { length items.now < 2 ^ 63 }
-    ensures same_reference { tx.new.conn.ghost_name ≡ tx.old.conn.ghost_name }
+    ensures on { GoesOn S.Store tx.old.conn tx.new.conn }
     ensures gains { HasCleanDisk (state S.Store tx.new.conn.now) → IsTrue (state S.Store tx.old.conn.now).in_transaction
         → OnOk result
         (GainsRows T.table (counted_from (T.row_of number) 1 items.now) (state S.Store tx.old.conn.now)
         (state S.Store tx.new.conn.now)) }
-    ensures keeps { StaysCommitted S.Store tx.old.conn.now tx.new.conn.now }
-    ensures survives { CommitsNothing (state S.Store tx.old.conn.now) (state S.Store tx.new.conn.now) }
 {
     let mut at = 0u64;
     'items: for item in items {

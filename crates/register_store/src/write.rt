@@ -8,8 +8,8 @@ ghost use Rattle.xbrl_report.specs.Judgement.{HasFacts};
 ghost use Rattle.xbrl_report.specs.ReportParts.{facts as facts_of};
 ghost use Rattle.filing_model.specs.Register.{Outcome};
 ghost use Rattle.register_rows.specs.Outcomes.{outcome_of};
+ghost use Rattle.register_opening.specs.Gains.{GoesOn};
 ghost use Rattle.register_store.specs.Changes.{AddsAs, KeepsRequest};
-ghost use Rattle.table_rows.specs.Standing.{CommitsNothing, StaysCommitted};
 
 use crate::outcome::NewRow;
 use crate::rows::{insert_amends, insert_filing, insert_items, insert_kept};
@@ -25,11 +25,9 @@ fn write_refused<S: Alter>(
 ) -> Result<(), Error>
     requires { seq < 2 ^ 63 }
     ensures key { IsKey row.now.key.now }
-    ensures same_reference { tx.new.conn.ghost_name ≡ tx.old.conn.ghost_name }
+    ensures on { GoesOn S.Store tx.old.conn tx.new.conn }
     ensures adds { AddsAs seq None row.now (Outcome.Refused findings.now)
         (state S.Store tx.old.conn.now) (state S.Store tx.new.conn.now) result }
-    ensures keeps { StaysCommitted S.Store tx.old.conn.now tx.new.conn.now }
-    ensures survives { CommitsNothing (state S.Store tx.old.conn.now) (state S.Store tx.new.conn.now) }
 {
     insert_kept(tx, seq, row, None)?;
     insert_items(tx, seq, findings)
@@ -48,11 +46,9 @@ fn write_accepted<S: Alter>(
     requires number { number < 2 ^ 63 }
     requires facts { facts.now ≡ facts_of row.now.body.now }
     ensures key { IsKey row.now.key.now }
-    ensures same_reference { tx.new.conn.ghost_name ≡ tx.old.conn.ghost_name }
+    ensures on { GoesOn S.Store tx.old.conn tx.new.conn }
     ensures adds { AddsAs seq None row.now (Outcome.Registered number)
         (state S.Store tx.old.conn.now) (state S.Store tx.new.conn.now) result }
-    ensures keeps { StaysCommitted S.Store tx.old.conn.now tx.new.conn.now }
-    ensures survives { CommitsNothing (state S.Store tx.old.conn.now) (state S.Store tx.new.conn.now) }
 {
     insert_kept(tx, seq, row, Some(number))?;
     insert_filing(tx, number, seq)?;
@@ -70,11 +66,9 @@ fn write_judged<S: Alter>(
     requires number { number < 2 ^ 63 }
     requires facts { HasFacts row.now.body.now row.now.judged.now }
     ensures key { IsKey row.now.key.now }
-    ensures same_reference { tx.new.conn.ghost_name ≡ tx.old.conn.ghost_name }
+    ensures on { GoesOn S.Store tx.old.conn tx.new.conn }
     ensures adds { AddsAs seq None row.now (outcome_of number row.now.judged.now)
         (state S.Store tx.old.conn.now) (state S.Store tx.new.conn.now) result }
-    ensures keeps { StaysCommitted S.Store tx.old.conn.now tx.new.conn.now }
-    ensures survives { CommitsNothing (state S.Store tx.old.conn.now) (state S.Store tx.new.conn.now) }
 {
     match row.judged {
         Judged::Valid(report) => write_accepted(tx, seq, number, row, report.facts()),
@@ -95,11 +89,9 @@ fn write_amendment<S: Alter>(
     requires target { target < 2 ^ 63 }
     requires facts { HasFacts row.now.body.now row.now.judged.now }
     ensures key { IsKey row.now.key.now }
-    ensures same_reference { tx.new.conn.ghost_name ≡ tx.old.conn.ghost_name }
+    ensures on { GoesOn S.Store tx.old.conn tx.new.conn }
     ensures adds { AddsAs seq (Some target) row.now (outcome_of number row.now.judged.now)
         (state S.Store tx.old.conn.now) (state S.Store tx.new.conn.now) result }
-    ensures keeps { StaysCommitted S.Store tx.old.conn.now tx.new.conn.now }
-    ensures survives { CommitsNothing (state S.Store tx.old.conn.now) (state S.Store tx.new.conn.now) }
 {
     let _key = row.key.as_str();
     insert_amends(tx, seq, target)?;
@@ -118,11 +110,9 @@ fn write<S: Alter>(
     requires target { IsTarget row.now.target }
     requires facts { HasFacts row.now.body.now row.now.judged.now }
     ensures key { IsKey row.now.key.now }
-    ensures same_reference { tx.new.conn.ghost_name ≡ tx.old.conn.ghost_name }
+    ensures on { GoesOn S.Store tx.old.conn tx.new.conn }
     ensures adds { AddsAs seq row.now.target row.now (outcome_of number row.now.judged.now)
         (state S.Store tx.old.conn.now) (state S.Store tx.new.conn.now) result }
-    ensures keeps { StaysCommitted S.Store tx.old.conn.now tx.new.conn.now }
-    ensures survives { CommitsNothing (state S.Store tx.old.conn.now) (state S.Store tx.new.conn.now) }
 {
     match row.target {
         Some(target) => write_amendment(tx, seq, number, target, row),

@@ -1,5 +1,6 @@
 //! The tables of a register are made.
 
+ghost use Rattle.register_opening.specs.Gains.{GoesOn};
 ghost use Rattle.std.specs.Prelude.{◌≡◌, ◌≢◌, ◌↔◌, ℕ, false, [], Ok, Err, IsTrue, IfErr, OnOk};
 ghost use Rattle.sqlite.specs.Held.{state};
 ghost use Rattle.sqlite.specs.declared.error.Error.{Error};
@@ -7,7 +8,6 @@ ghost use Rattle.sqlite.specs.State.{HasCleanDisk, ExecutesInside};
 ghost use Rattle.register_opening.specs.Faults.{create_fault};
 ghost use Rattle.register_opening.specs.Making.{common_texts, later_texts, making_texts, AreRun, StopsWith, FailsToMake, MakesRegister};
 ghost use Rattle.register_rows.specs.Schema.{is_taken};
-ghost use Rattle.table_rows.specs.Standing.{CommitsNothing, StaysCommitted};
 
 use crate::fault::CreateFault;
 use crate::schema::names;
@@ -16,7 +16,7 @@ use table_rows::is_settled;
 
 /// Runs a statement that has no parameter.
 pub(crate) fn run<S: Alter>(tx: &mut Transaction<'_, S>, sql: &str) -> Result<(), Error>
-    ensures same_reference { tx.new.conn.ghost_name ≡ tx.old.conn.ghost_name }
+    ensures on { GoesOn S.Store tx.old.conn tx.new.conn }
     ensures ran { HasCleanDisk (state S.Store tx.new.conn.now)
         → OnOk result ((count : ℕ)
         × ExecutesInside 0 sql.now [] (state S.Store tx.old.conn.now) (state S.Store tx.new.conn.now) (Ok count)) }
@@ -24,8 +24,6 @@ pub(crate) fn run<S: Alter>(tx: &mut Transaction<'_, S>, sql: &str) -> Result<()
         → IsTrue (state S.Store tx.old.conn.now).in_transaction
         → IfErr result (λ error.
         ExecutesInside 0 sql.now [] (state S.Store tx.old.conn.now) (state S.Store tx.new.conn.now) (Err error)) }
-    ensures keeps { StaysCommitted S.Store tx.old.conn.now tx.new.conn.now }
-    ensures survives { CommitsNothing (state S.Store tx.old.conn.now) (state S.Store tx.new.conn.now) }
 {
     tx.execute(sql, &[])?;
     Ok(())
@@ -33,7 +31,7 @@ pub(crate) fn run<S: Alter>(tx: &mut Transaction<'_, S>, sql: &str) -> Result<()
 
 /// Makes the tables of every form.
 fn make_common<S: Alter>(tx: &mut Transaction<'_, S>) -> Result<(), Error>
-    ensures same_reference { tx.new.conn.ghost_name ≡ tx.old.conn.ghost_name }
+    ensures on { GoesOn S.Store tx.old.conn tx.new.conn }
     ensures ran { HasCleanDisk (state S.Store tx.new.conn.now)
         → OnOk result (AreRun S.Store common_texts tx.old.conn.now tx.new.conn.now) }
     ensures failed { HasCleanDisk (state S.Store tx.new.conn.now)
@@ -41,8 +39,6 @@ fn make_common<S: Alter>(tx: &mut Transaction<'_, S>) -> Result<(), Error>
         → IfErr result (λ error. StopsWith S.Store error common_texts tx.old.conn.now tx.new.conn.now) }
     ensures inside { HasCleanDisk (state S.Store tx.new.conn.now)
         → OnOk result (IsTrue (state S.Store tx.new.conn.now).in_transaction) }
-    ensures keeps { StaysCommitted S.Store tx.old.conn.now tx.new.conn.now }
-    ensures survives { CommitsNothing (state S.Store tx.old.conn.now) (state S.Store tx.new.conn.now) }
 {
     run(
         tx,
@@ -68,7 +64,7 @@ fn make_common<S: Alter>(tx: &mut Transaction<'_, S>) -> Result<(), Error>
 
 /// Makes the other tables, and the rows that every register has.
 fn make_later<S: Alter>(tx: &mut Transaction<'_, S>) -> Result<(), Error>
-    ensures same_reference { tx.new.conn.ghost_name ≡ tx.old.conn.ghost_name }
+    ensures on { GoesOn S.Store tx.old.conn tx.new.conn }
     ensures ran { HasCleanDisk (state S.Store tx.new.conn.now)
         → OnOk result (AreRun S.Store later_texts tx.old.conn.now tx.new.conn.now) }
     ensures failed { HasCleanDisk (state S.Store tx.new.conn.now)
@@ -76,8 +72,6 @@ fn make_later<S: Alter>(tx: &mut Transaction<'_, S>) -> Result<(), Error>
         → IfErr result (λ error. StopsWith S.Store error later_texts tx.old.conn.now tx.new.conn.now) }
     ensures inside { HasCleanDisk (state S.Store tx.new.conn.now)
         → OnOk result (IsTrue (state S.Store tx.new.conn.now).in_transaction) }
-    ensures keeps { StaysCommitted S.Store tx.old.conn.now tx.new.conn.now }
-    ensures survives { CommitsNothing (state S.Store tx.old.conn.now) (state S.Store tx.new.conn.now) }
 {
     run(
         tx,
@@ -92,7 +86,7 @@ fn make_later<S: Alter>(tx: &mut Transaction<'_, S>) -> Result<(), Error>
 }
 
 fn make_tables<S: Alter>(tx: &mut Transaction<'_, S>) -> Result<(), Error>
-    ensures same_reference { tx.new.conn.ghost_name ≡ tx.old.conn.ghost_name }
+    ensures on { GoesOn S.Store tx.old.conn tx.new.conn }
     ensures ran { HasCleanDisk (state S.Store tx.new.conn.now)
         → OnOk result (AreRun S.Store making_texts tx.old.conn.now tx.new.conn.now) }
     ensures failed { HasCleanDisk (state S.Store tx.new.conn.now)
@@ -100,8 +94,6 @@ fn make_tables<S: Alter>(tx: &mut Transaction<'_, S>) -> Result<(), Error>
         → IfErr result (λ error. StopsWith S.Store error making_texts tx.old.conn.now tx.new.conn.now) }
     ensures inside { HasCleanDisk (state S.Store tx.new.conn.now)
         → OnOk result (IsTrue (state S.Store tx.new.conn.now).in_transaction) }
-    ensures keeps { StaysCommitted S.Store tx.old.conn.now tx.new.conn.now }
-    ensures survives { CommitsNothing (state S.Store tx.old.conn.now) (state S.Store tx.new.conn.now) }
 {
     make_common(tx)?;
     make_later(tx)

@@ -3,9 +3,10 @@ use Rattle.std.proofs.Math.Seq.{take-length}
 use Rattle.sqlite.specs.Held.{state}
 use Rattle.sqlite.specs.State.{HasCleanDisk}
 use Rattle.table_rows.specs.Rows.{counted_from}
-use Rattle.table_rows.proofs.StepLemmas.{begins, goes_on, keeps_then, nothing_left, nothing_yet, counted_more}
+use Rattle.table_rows.proofs.StepLemmas.{begins, goes_on, counted_more}
 use Rattle.register_rows.specs.Schema.{register_tables}
 use Rattle.register_opening.specs.Gains.{GainsRows}
+use Rattle.register_opening.proofs.Calls.{goes_on_then, goes_on_yet}
 use Rattle.register_store.proofs.rows.insert_items.Goals as goal
 
 pub items-preserved : goal.items-preserved
@@ -16,17 +17,15 @@ items-preserved g c =
     let made = c.in_ok-insert.ensures in
     record {
       count = ap (λ n. n + 1) c.items.invariant.count;
-      same = search rules;
       gains = λ clean inside.
-          let early : HasCleanDisk old = omega (arith, made.survives.clean) in
+          let early : HasCleanDisk old = omega (arith, made.on.survives.clean) in
           let i = c.items.item-index in
           let item = c.item-item.result in
           let both = goes_on register_tables g.T.InsertItem.table _ _ first old now (c.items.invariant.gains early inside) (made.gains clean) in
           let index : c.items.at + 1 ≡ 1 + i = omega (arith, c.items.invariant.count) in
           let rows = counted_more (g.T.RowItem.row_of c.args.number) c.args.items.now i item c.items-test.true in
           subst (λ rows. GainsRows g.T.InsertItem.table rows first now) (sym (rows ∙ ap (λ x. counted_from (g.T.RowItem.row_of c.args.number) 1 (take i c.args.items.now) ++ x ∷ []) (rw (← index, ← c.item-item.is) refl))) both;
-      keeps = λ clean. let early : HasCleanDisk old = omega (arith, made.survives.clean) in keeps_then first old now (c.items.invariant.keeps early) (made.keeps clean);
-      survives = nothing_left first old now c.items.invariant.survives made.survives;
+      on = goes_on_then c.items.invariant.on made.on;
     }
 
 pub returns-clause-gains : goal.returns-clause-gains
@@ -38,8 +37,9 @@ returns-clause-gains g c clean inside =
 pub items-init : goal.items-init
 items-init g c = record {
   count = refl;
-  same = refl;
   gains = λ clean inside. begins register_tables g.T.InsertItem.table (state g.S.Store c.args.tx.now.conn.now) inside;
-  keeps = λ clean. record { was_open = λ opened. opened; committed = λ opened. refl };
-  survives = nothing_yet (state g.S.Store c.args.tx.now.conn.now);
+  on = goes_on_yet g.S.Store c.args.tx.now.conn;
 }
+
+pub returns-in_err-insert-clause-on : goal.returns-in_err-insert-clause-on
+returns-in_err-insert-clause-on g c = goes_on_then c.items.invariant.on c.in_err-insert.ensures.on

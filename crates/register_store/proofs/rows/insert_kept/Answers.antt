@@ -5,13 +5,13 @@ use Rattle.std.proofs.lemmas.Result.{err_from_is_err_and}
 use Rattle.sqlite.specs.declared.types.Value.TheVariants.{Int}
 use Rattle.sqlite.specs.Held.{state}
 use Rattle.table_rows.proofs.GainLemmas.{bound_maybe}
-use Rattle.register_opening.proofs.Calls.{statement_keeps}
+use Rattle.register_opening.proofs.Calls.{statement_goes_on}
 use Rattle.register_store.proofs.OurGains.{kept_gains, held_as, answered_inside, refused_row}
 use Rattle.register_store.proofs.rows.insert_kept.Goals as goal
 
 pub returns-clause-inserts : goal.returns-clause-inserts
 returns-clause-inserts g c = record {
-  same_reference = c.execute.ensures.same_reference;
+  on = statement_goes_on g.S.Store c.args.tx.now.conn c.execute.new.self.conn _ _ c.execute.result c.execute.ensures.same_reference c.execute.ensures.ended c.execute.ensures.runs c.execute.ensures.survives;
   was_inside = answered_inside _ _ _ c.in_ok-execute.ensures.ended;
   gains = λ clean.
       let ran = c.in_ok-execute.ensures.runs clean (answered_inside _ _ _ c.in_ok-execute.ensures.ended) in
@@ -19,8 +19,6 @@ returns-clause-inserts g c = record {
       rw (held_as Int pos c.args.number)
       (kept_gains (state g.S.Store c.args.tx.now.conn.now) (state g.S.Store c.execute.new.self.conn.now) (pos c.args.seq) row.filer.now row.key.now row.body.now (option_map pos c.args.number) c.in_ok-execute.field-0
       (rw (c.params-to_sql.ensures, c.params-to_sql-2.ensures, c.params-to_sql-3.ensures, c.params-to_sql-4.ensures, c.params-to_sql-5.ensures, c.as_str.ensures.value, c.signed-number.ensures, bound_maybe (option_map pos c.args.number), to_z-of_z w64 (pos c.args.seq) (record { sfits = omega (arith, c.requires.seq) })) at ran));
-  keeps = statement_keeps g.S.Store c.args.tx.now.conn.now c.execute.new.self.conn.now _ _ c.execute.result c.execute.ensures.ended c.execute.ensures.runs;
-  survives = c.execute.ensures.survives;
 }
 
 pub returns-in_err-execute-clause-inserts : goal.returns-in_err-execute-clause-inserts

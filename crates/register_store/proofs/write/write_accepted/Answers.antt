@@ -3,8 +3,7 @@ use Rattle.std.proofs.lemmas.Result.{IfOk-weaker}
 use Rattle.sqlite.specs.Held.{state}
 use Rattle.sqlite.specs.State.{HasCleanDisk}
 use Rattle.filing_model.specs.Views.{the_request}
-use Rattle.table_rows.proofs.StepLemmas.{nothing_left}
-use Rattle.register_opening.proofs.Calls.{stays_then}
+use Rattle.register_opening.proofs.Calls.{goes_on_then}
 use Rattle.register_store.proofs.Adding.{adds_accepted}
 use Rattle.register_store.proofs.write.write_accepted.Goals as goal
 
@@ -15,22 +14,15 @@ returns-clause-adds g c clean =
     let next = state g.S.Store c.insert_filing.new.tx.conn.now in
     let last = state g.S.Store c.insert_items.new.tx.conn.now in
     let row = c.args.row.now in
-    let late : HasCleanDisk next = omega (arith, c.insert_items.ensures.survives.clean) in
-    let early : HasCleanDisk mid = omega (arith, c.insert_filing.ensures.survives.clean, late) in
+    let late : HasCleanDisk next = omega (arith, c.insert_items.ensures.on.survives.clean) in
+    let early : HasCleanDisk mid = omega (arith, c.insert_filing.ensures.on.survives.clean, late) in
     let one = c.in_ok-insert_kept.ensures.inserts.gains early in
     let two = c.in_ok-insert_filing.ensures.gains late in
     IfOk-weaker c.insert_items.result _ _ (λ _ three. adds_accepted c.args.seq (the_request row.filer.now row.key.now None row.body.now) refl c.args.number first mid next last one two (rw c.requires.facts at three))
     (c.insert_items.ensures.gains clean two.inside)
 
-pub returns-in_err-insert_filing-clause-keeps : goal.returns-in_err-insert_filing-clause-keeps
-returns-in_err-insert_filing-clause-keeps g c = stays_then c.insert_kept.ensures.inserts.keeps c.insert_filing.ensures.keeps c.insert_filing.ensures.survives
+pub returns-in_err-insert_filing-clause-on : goal.returns-in_err-insert_filing-clause-on
+returns-in_err-insert_filing-clause-on g c = goes_on_then c.insert_kept.ensures.inserts.on c.insert_filing.ensures.on
 
-pub returns-in_err-insert_filing-clause-survives : goal.returns-in_err-insert_filing-clause-survives
-returns-in_err-insert_filing-clause-survives g c = nothing_left _ _ _ c.insert_kept.ensures.inserts.survives c.insert_filing.ensures.survives
-
-pub returns-clause-keeps : goal.returns-clause-keeps
-returns-clause-keeps g c =
-    stays_then (stays_then c.insert_kept.ensures.inserts.keeps c.insert_filing.ensures.keeps c.insert_filing.ensures.survives) c.insert_items.ensures.keeps c.insert_items.ensures.survives
-
-pub returns-clause-survives : goal.returns-clause-survives
-returns-clause-survives g c = nothing_left _ _ _ (nothing_left _ _ _ c.insert_kept.ensures.inserts.survives c.insert_filing.ensures.survives) c.insert_items.ensures.survives
+pub returns-clause-on : goal.returns-clause-on
+returns-clause-on g c = goes_on_then (goes_on_then c.insert_kept.ensures.inserts.on c.insert_filing.ensures.on) c.insert_items.ensures.on

@@ -3,8 +3,7 @@ use Rattle.std.proofs.lemmas.Result.{IfOk-weaker}
 use Rattle.sqlite.specs.Held.{state}
 use Rattle.sqlite.specs.State.{HasCleanDisk}
 use Rattle.register_rows.specs.Outcomes.{outcome_of}
-use Rattle.table_rows.proofs.StepLemmas.{nothing_left}
-use Rattle.register_opening.proofs.Calls.{stays_then}
+use Rattle.register_opening.proofs.Calls.{goes_on_then}
 use Rattle.register_store.proofs.Adding.{adds_amends}
 use Rattle.register_store.proofs.write.write_amendment.Goals as goal
 
@@ -14,13 +13,10 @@ returns-clause-adds g c clean =
     let mid = state g.S.Store c.insert_amends.new.tx.conn.now in
     let last = state g.S.Store c.write_judged.new.tx.conn.now in
     let row = c.args.row.now in
-    let early : HasCleanDisk mid = omega (arith, c.write_judged.ensures.survives.clean) in
+    let early : HasCleanDisk mid = omega (arith, c.write_judged.ensures.on.survives.clean) in
     let one = c.in_ok-insert_amends.ensures.gains early in
     IfOk-weaker c.write_judged.result _ _ (λ _ two. adds_amends c.args.seq c.args.target row.filer.now row.key.now row.body.now (outcome_of c.args.number row.judged.now) first mid last one two)
     (c.write_judged.ensures.adds clean)
 
-pub returns-clause-keeps : goal.returns-clause-keeps
-returns-clause-keeps g c = stays_then c.insert_amends.ensures.keeps c.write_judged.ensures.keeps c.write_judged.ensures.survives
-
-pub returns-clause-survives : goal.returns-clause-survives
-returns-clause-survives g c = nothing_left _ _ _ c.insert_amends.ensures.survives c.write_judged.ensures.survives
+pub returns-clause-on : goal.returns-clause-on
+returns-clause-on g c = goes_on_then c.insert_amends.ensures.on c.write_judged.ensures.on

@@ -3,8 +3,7 @@ use Rattle.std.proofs.lemmas.Result.{IfOk-weaker}
 use Rattle.sqlite.specs.Held.{state}
 use Rattle.sqlite.specs.State.{HasCleanDisk}
 use Rattle.filing_model.specs.Views.{the_request}
-use Rattle.table_rows.proofs.StepLemmas.{nothing_left}
-use Rattle.register_opening.proofs.Calls.{stays_then}
+use Rattle.register_opening.proofs.Calls.{goes_on_then}
 use Rattle.register_store.proofs.Adding.{adds_refused}
 use Rattle.register_store.proofs.write.write_refused.Goals as goal
 
@@ -14,13 +13,10 @@ returns-clause-adds g c clean =
     let mid = state g.S.Store c.insert_kept.new.tx.conn.now in
     let last = state g.S.Store c.insert_items.new.tx.conn.now in
     let row = c.args.row.now in
-    let early : HasCleanDisk mid = omega (arith, c.insert_items.ensures.survives.clean) in
+    let early : HasCleanDisk mid = omega (arith, c.insert_items.ensures.on.survives.clean) in
     let one = c.in_ok-insert_kept.ensures.inserts.gains early in
     IfOk-weaker c.insert_items.result _ _ (λ _ two. adds_refused c.args.seq (the_request row.filer.now row.key.now None row.body.now) refl c.args.findings.now first mid last one two)
     (c.insert_items.ensures.gains clean one.inside)
 
-pub returns-clause-keeps : goal.returns-clause-keeps
-returns-clause-keeps g c = stays_then c.insert_kept.ensures.inserts.keeps c.insert_items.ensures.keeps c.insert_items.ensures.survives
-
-pub returns-clause-survives : goal.returns-clause-survives
-returns-clause-survives g c = nothing_left _ _ _ c.insert_kept.ensures.inserts.survives c.insert_items.ensures.survives
+pub returns-clause-on : goal.returns-clause-on
+returns-clause-on g c = goes_on_then c.insert_kept.ensures.inserts.on c.insert_items.ensures.on
