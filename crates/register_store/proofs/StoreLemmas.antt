@@ -1,19 +1,22 @@
 -- What the calls of a store keep.
-use Rattle.std.proofs.Common.{◌≡◌, ◌≤◌, ℕ, ◌+◌, suc, false, List, [], ◌∷◌, ◌++◌, length, length-append, IsTrue, sym, ap, subst, ◌∙◌, arith}
+use Rattle.std.proofs.Common.{◌≡◌, ◌≤◌, ℕ, ◌+◌, suc, false, List, [], ◌∷◌, ◌++◌, length, length-append, IsTrue, sym, ap, subst, ◌∙◌, arith, Result, Ok, Err, OnOk}
 use Rattle.sqlite.specs.Store.{Ghosts}
 use Rattle.sqlite.specs.Tree.{Trees}
 use Rattle.sqlite.specs.Effect.{Database}
-use Rattle.sqlite.specs.State.{State, Survives}
+use Rattle.sqlite.specs.Held.{Held, state}
+use Rattle.sqlite.specs.State.{State, HasCleanDisk, Survives}
 use Rattle.sqlite.proofs.StateLemmas.{survives_weaker}
 use Rattle.xbrl_report.specs.Judgement.{IsAmendmentJudgement}
 use Rattle.xbrl_report.specs.declared.judging.Judged.{Judged}
 use Rattle.filing_model.specs.Request.{Request, has_key}
 use Rattle.filing_model.specs.Register.{Outcome, Kept, is_free, judged, kept, register}
+use Rattle.table_rows.specs.Leaving.{Ending, Leaves, OnlyReads}
 use Rattle.table_rows.specs.Standing.{HasCommitted}
+use Rattle.table_rows.proofs.LeavingLemmas.{stands}
 use Rattle.register_rows.specs.Outcomes.{outcome_of, filings_by}
 use Rattle.register_rows.specs.Register.{IsCompleted}
 use Rattle.register_store.specs.Changes.{AddsRows, Adds, AddsTo}
-use Rattle.register_store.specs.Store.{StoreParts, shows, HasRequests}
+use Rattle.register_store.specs.Store.{StoreParts, shows, HasRequests, IsDurableAs}
 use Rattle.register_opening.specs.Registers.{IsRegisterOf, LeavesRegister}
 use Rattle.register_rows.proofs.MoreRequests.{judged_as, registered_more}
 use Rattle.register_store.proofs.MoreRequests.{register_of_more}
@@ -21,6 +24,16 @@ use Rattle.register_store.proofs.MoreRequests.{register_of_more}
 -- while the store is open, a crash leaves the requests that stand
 pub leaves : (early : ℕ) (F : List Request) (s : State) → HasCommitted (IsRegisterOf early F) s → IsTrue s.is_open → (trees : Trees) → trees ≡ s.committed.trees → LeavesRegister early F trees
 leaves early F s h alive trees last = record { db = s.now; is = last ∙ ap (λ (d : Database). d.trees) (h.committed alive); register = h.now alive }
+
+-- after a call that only reads the store has the requests that it had, and an answer says that they last
+module _ {S : Type 0} (g : Ghosts S) (store : StoreParts S) (conn : Held S) (F : List Request) (had : HasRequests g store F) (clean : HasCleanDisk (state g conn)) where
+  pub has_still : {l : Ending} → Leaves l (shows g store) (state g conn) → HasRequests g (record store { conn = conn }) F
+  has_still p = record { stands = stands p clean had.stands; kept_is = had.kept_is; filings_is = had.filings_is; within = had.within }
+
+  pub answers_last : {X E : Type 0} (result : Result X E) → OnlyReads g store.conn conn result → ((trees : Trees) → IsTrue (state g conn).is_open → (state g conn).may_leave trees → trees ≡ (state g conn).committed.trees)
+      → OnOk result (IsDurableAs g (record store { conn = conn }) store.early F)
+  answers_last (Ok x) p settled = let alive = (p.left clean).0.is_open in (alive, λ trees left. leaves store.early F (state g conn) (stands p clean had.stands) alive trees (settled trees alive left))
+  answers_last (Err e) p settled = tt
 
 -- a request that is kept as it was judged, after those that the store has
 module _ {S : Type 0} (g : Ghosts S) (store : StoreParts S) (r : Request) (j : Judged) (completed : IsCompleted r) where

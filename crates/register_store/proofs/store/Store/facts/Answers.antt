@@ -7,7 +7,7 @@ use Rattle.register_rows.specs.Columns.{fact_in}
 use Rattle.register_store.specs.Numbered.{filing_numbered}
 use Rattle.std.specs.Prelude.{option_map}
 use Rattle.table_rows.proofs.StepLemmas.{nothing_yet}
-use Rattle.register_store.proofs.StoreLemmas.{leaves}
+use Rattle.register_store.proofs.StoreLemmas.{has_still, leaves}
 use Rattle.register_store.proofs.ListLemmas.{knows}
 use Rattle.register_store.proofs.FactLemmas.{facts_read, is_there, is_absent, some_list}
 use Rattle.register_store.proofs.store.Store.facts.Goals.{then-number-eq0-via-then-number-eq0, then-number-eq0-via-else-number-eq0+then-self-number}
@@ -44,9 +44,7 @@ returns-then-number-eq0-clause-durable g c clean F = rw (← c.self.view_is) (λ
     leaves c.self.inside.early F (state g.S.Store conn) had.stands alive trees (g.met.S.Store.settled conn.store trees alive left))
 
 pub returns-in-Ok-read_facts-clause-same : goal.returns-in-Ok-read_facts-clause-same
-returns-in-Ok-read_facts-clause-same g c clean F has =
-    let had = rw (← c.self.view_is) at has in
-    record { stands = stands c.facts_of_filing.ensures.leaves clean had.stands; kept_is = had.kept_is; filings_is = had.filings_is; within = had.within }
+returns-in-Ok-read_facts-clause-same g c clean F has = has_still g.S.Store _ c.facts_of_filing.new.conn F (rw (← c.self.view_is) at has) clean c.facts_of_filing.ensures.leaves
 
 pub returns-in-Ok-read_facts-clause-crash : goal.returns-in-Ok-read_facts-clause-crash
 returns-in-Ok-read_facts-clause-crash g c = rw (← c.self.view_is) c.facts_of_filing.ensures.leaves.survives

@@ -4,9 +4,7 @@ use Rattle.filing_model.proofs.Keeping.{register_numbered}
 use Rattle.register_rows.proofs.Filings.{none_there}
 use Rattle.register_store.proofs.store.Store.replaceable.Goals.{then-number-gt-MAX_NUMBER, else-number-gt-MAX_NUMBER}
 use Rattle.std.proofs.lemmas.Result.{IfOk-weaker}
-use Rattle.sqlite.specs.Held.{state}
-use Rattle.register_store.proofs.StoreLemmas.{leaves}
-use Rattle.table_rows.proofs.LeavingLemmas.{opens, stands}
+use Rattle.register_store.proofs.StoreLemmas.{answers_last, has_still}
 use Rattle.register_store.proofs.store.Store.replaceable.Goals as goal
 
 pub returns-clause-answer : goal.returns-clause-answer
@@ -23,13 +21,7 @@ returns-clause-answer g c clean F has =
     IfOk-weaker c.may_replace.result _ _ (λ free h. h ∙ same) (c.may_replace.ensures.found clean c.self.inside.early F had.stands)
 
 pub returns-clause-same : goal.returns-clause-same
-returns-clause-same g c clean F has =
-    let had = rw (← c.self.view_is) at has in
-    record { stands = stands c.may_replace.ensures.leaves clean had.stands; kept_is = had.kept_is; filings_is = had.filings_is; within = had.within }
+returns-clause-same g c clean F has = has_still g.S.Store _ c.may_replace.new.conn F (rw (← c.self.view_is) at has) clean c.may_replace.ensures.leaves
 
 pub returns-clause-durable : goal.returns-clause-durable
-returns-clause-durable g c clean F = rw (← c.self.view_is) (λ had.
-    let early = c.self.inside.early in
-    let new = c.may_replace.new.conn in
-    let still = stands c.may_replace.ensures.leaves clean had.stands in
-    IfOk-weaker c.may_replace.result _ _ (λ _ alive. (alive, λ trees left. leaves early F (state g.S.Store new) still alive trees (g.met.S.Store.settled new.store trees alive left))) (opens c.may_replace.result c.may_replace.ensures.leaves clean))
+returns-clause-durable g c clean F = rw (← c.self.view_is) (λ had. answers_last g.S.Store _ c.may_replace.new.conn F had clean c.may_replace.result c.may_replace.ensures.leaves (g.met.S.Store.settled c.may_replace.new.conn.store))
