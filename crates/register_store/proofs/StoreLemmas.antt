@@ -1,5 +1,5 @@
 -- What the calls of a store keep.
-use Rattle.std.proofs.Common.{◌≡◌, ◌≤◌, ℕ, ◌+◌, suc, false, List, [], ◌∷◌, ◌++◌, length, length-append, IsTrue, sym, ap, subst, ◌∙◌, arith, Result, Ok, Err, OnOk}
+use Rattle.std.proofs.Common.{◌≡◌, ◌≤◌, ℕ, ◌+◌, suc, false, List, [], ◌∷◌, ◌++◌, length, length-append, IsTrue, sym, ap, subst, ◌∙◌, arith, Result, Ok, Err, OnOk, refl}
 use Rattle.sqlite.specs.Store.{Ghosts}
 use Rattle.sqlite.specs.Tree.{Trees}
 use Rattle.sqlite.specs.Effect.{Database}
@@ -16,6 +16,7 @@ use Rattle.table_rows.proofs.LeavingLemmas.{stands}
 use Rattle.register_rows.specs.Outcomes.{outcome_of, filings_by}
 use Rattle.register_rows.specs.Register.{IsCompleted}
 use Rattle.register_store.specs.Changes.{AddsRows, Adds, AddsTo}
+use Rattle.register_store.specs.Calls.{KeepsStore}
 use Rattle.register_store.specs.Store.{StoreParts, shows, HasRequests, IsDurableAs}
 use Rattle.register_opening.specs.Registers.{IsRegisterOf, LeavesRegister}
 use Rattle.register_rows.proofs.MoreRequests.{judged_as, registered_more}
@@ -29,6 +30,10 @@ leaves early F s h alive trees last = record { db = s.now; is = last ∙ ap (λ 
 module _ {S : Type 0} (g : Ghosts S) (store : StoreParts S) (conn : Held S) (F : List Request) (had : HasRequests g store F) (clean : HasCleanDisk (state g conn)) where
   pub has_still : {l : Ending} → Leaves l (shows g store) (state g conn) → HasRequests g (record store { conn = conn }) F
   has_still p = record { stands = stands p clean had.stands; kept_is = had.kept_is; filings_is = had.filings_is; within = had.within }
+
+-- and nothing else of it has changed
+pub keeps_store : {S : Type 0} (g : Ghosts S) (store : StoreParts S) (conn : Held S) {l : Ending} → Leaves l (shows g store) (state g conn) → KeepsStore g store (record store { conn = conn })
+keeps_store g store conn p = record { same = λ clean F had. has_still g store conn F had clean p; counts = (refl, refl); early = refl; crash = p.survives }
 
   pub answers_last : {X E : Type 0} (result : Result X E) → OnlyReads g store.conn conn result → ((trees : Trees) → IsTrue (state g conn).is_open → (state g conn).may_leave trees → trees ≡ (state g conn).committed.trees)
       → OnOk result (IsDurableAs g (record store { conn = conn }) store.early F)

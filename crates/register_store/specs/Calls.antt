@@ -90,6 +90,18 @@ pub record MigratesOrGivesBack {S : Type 0} (g : Ghosts S) (conn : Held S) (resu
 
 -- ---- a store is asked
 
+-- What a call that only reads leaves of a store, whatever it answers: the rows are those of before, and a crash leaves what it could
+-- leave before.
+pub record KeepsStore {S : Type 0} (g : Ghosts S) (old new : StoreParts S) : Type 0 where
+  pub same : ForRequests g old new (HasRequests g new)
+  pub counts : (new.kept ≡ old.kept) × (new.filings ≡ old.filings)
+  pub early : new.early ≡ old.early
+  pub crash : CommitsNothing (shows g old) (shows g new)
+
+-- an answer leaves it open, and durable as it is
+abbrev pub AnswersDurably : {S X E : Type 0} → Ghosts S → StoreParts S → StoreParts S → Result X E → Type 0
+AnswersDurably g old new result = ForRequests g old new (λ F. OnOk result (IsDurableAs g new old.early F))
+
 -- What `find` tells of a filer and key, and that it writes nothing.
 pub record FindsRow {S : Type 0} (g : Ghosts S) (filer key : List ℕ) (old new : StoreParts S) (result : Result (Option KeptRow) StoreFault) : Type 0 where
   pub found : ForRequests g old new (λ F. (target : Option ℕ) (body : List ℕ)
@@ -97,12 +109,8 @@ pub record FindsRow {S : Type 0} (g : Ghosts S) (filer key : List ℕ) (old new 
   -- It is answered in the style of before where it is among the first that were kept then.
   pub style : ForRequests g old new (λ F. (target : Option ℕ) (body : List ℕ)
       → IfOk result (λ row. IfSome row (λ r. r.style ≡ style_of (take old.early F) (the_request filer key target body))))
-  -- The rows are those of before, whatever the answer is, and a crash leaves what it could leave before.
-  pub same : ForRequests g old new (HasRequests g new)
-  pub counts : (new.kept ≡ old.kept) × (new.filings ≡ old.filings)
-  pub early : new.early ≡ old.early
-  pub crash : CommitsNothing (shows g old) (shows g new)
-  pub durable : ForRequests g old new (λ F. OnOk result (IsDurableAs g new old.early F))
+  pub keeps : KeepsStore g old new
+  pub durable : AnswersDurably g old new result
 
 -- ---- a store is written to
 

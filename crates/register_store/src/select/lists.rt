@@ -1,5 +1,4 @@
 //! What a store lists: the kept requests, the filings and their facts.
-
 ghost use Rattle.std.specs.Prelude.{◌≡◌, IsTrue, IfOk, OnOk, None, map, option_map};
 ghost use Rattle.filing_model.specs.Listing.{listings};
 ghost use Rattle.filing_model.specs.Views.{view_row};
@@ -7,10 +6,10 @@ ghost use Rattle.filing_model.specs.Request.{firsts};
 ghost use Rattle.filing_model.specs.Register.{kept, register};
 ghost use Rattle.table_rows.specs.Leaving.{OnlyReads};
 ghost use Rattle.table_rows.specs.Rows.{counted_from};
-ghost use Rattle.table_rows.specs.Standing.{CommitsNothing};
 ghost use Rattle.register_rows.specs.Register.{kept_row, amends_rows, joined_from};
 ghost use Rattle.register_store.specs.Numbered.{facts_numbered};
-ghost use Rattle.register_store.specs.Store.{shows, HasRequests, ForRequests, IsDurableAs, ForRegister};
+ghost use Rattle.register_store.specs.Calls.{AnswersDurably, KeepsStore};
+ghost use Rattle.register_store.specs.Store.{shows, ForRequests, ForRegister};
 ghost use Rattle.register_opening.specs.Registers.{LeavesOnly};
 
 use crate::decode::completed::{Completed, Registered, read_filings, read_requests};
@@ -48,12 +47,8 @@ impl<S: Alter> Store<S> {
     /// The kept requests, in the order in which they were completed.
     pub fn requests(&mut self) -> Result<Vec<Completed>, StoreFault>
         ensures rows { ForRequests S.Store self.old self.new (λ F. IfOk result (λ rows. rows.items ≡ F)) }
-        ensures same { ForRequests S.Store self.old self.new (HasRequests S.Store self.new) }
-        ensures counts { (self.new.kept ≡ self.old.kept) × (self.new.filings ≡ self.old.filings) }
-        ensures early { self.new.early ≡ self.old.early }
-        ensures crash { CommitsNothing (shows S.Store self.old) (shows S.Store self.new) }
-        ensures durable { ForRequests S.Store self.old self.new (λ F.
-            OnOk result (IsDurableAs S.Store self.new self.old.early F)) }
+        ensures keeps { KeepsStore S.Store self.old self.new }
+        ensures durable { AnswersDurably S.Store self.old self.new result }
     {
         match read_both(&mut self.conn) {
             Ok(both) => read_requests(self.alloc, &both.kept, &both.amends),
@@ -64,12 +59,8 @@ impl<S: Alter> Store<S> {
     /// The registered requests under their numbers, ascending.
     pub fn all_filings(&mut self) -> Result<Vec<Registered>, StoreFault>
         ensures rows { ForRequests S.Store self.old self.new (λ F. IfOk result (λ rows. rows.items ≡ register F)) }
-        ensures same { ForRequests S.Store self.old self.new (HasRequests S.Store self.new) }
-        ensures counts { (self.new.kept ≡ self.old.kept) × (self.new.filings ≡ self.old.filings) }
-        ensures early { self.new.early ≡ self.old.early }
-        ensures crash { CommitsNothing (shows S.Store self.old) (shows S.Store self.new) }
-        ensures durable { ForRequests S.Store self.old self.new (λ F.
-            OnOk result (IsDurableAs S.Store self.new self.old.early F)) }
+        ensures keeps { KeepsStore S.Store self.old self.new }
+        ensures durable { AnswersDurably S.Store self.old self.new result }
     {
         match read_both(&mut self.conn) {
             Ok(both) => read_filings(self.alloc, &both.kept, &both.amends),
@@ -82,12 +73,8 @@ impl<S: Alter> Store<S> {
     pub fn filings(&mut self, filer: &str) -> Result<Vec<FilingRow>, StoreFault>
         ensures rows { ForRequests S.Store self.old self.new (λ F.
             IfOk result (λ rows. map view_row rows.items ≡ listings filer.now None (register F))) }
-        ensures same { ForRequests S.Store self.old self.new (HasRequests S.Store self.new) }
-        ensures counts { (self.new.kept ≡ self.old.kept) × (self.new.filings ≡ self.old.filings) }
-        ensures early { self.new.early ≡ self.old.early }
-        ensures crash { CommitsNothing (shows S.Store self.old) (shows S.Store self.new) }
-        ensures durable { ForRequests S.Store self.old self.new (λ F.
-            OnOk result (IsDurableAs S.Store self.new self.old.early F)) }
+        ensures keeps { KeepsStore S.Store self.old self.new }
+        ensures durable { AnswersDurably S.Store self.old self.new result }
     {
         filings_of(&mut self.conn, self.alloc, filer)
     }
@@ -97,10 +84,7 @@ impl<S: Alter> Store<S> {
     pub fn facts(&mut self, number: u64) -> Result<Option<Vec<Fact>>, StoreFault>
         ensures facts { ForRequests S.Store self.old self.new (λ F.
             IfOk result (λ facts. option_map (λ list. list.items) facts ≡ facts_numbered number (register F))) }
-        ensures same { ForRequests S.Store self.old self.new (HasRequests S.Store self.new) }
-        ensures counts { (self.new.kept ≡ self.old.kept) × (self.new.filings ≡ self.old.filings) }
-        ensures early { self.new.early ≡ self.old.early }
-        ensures crash { CommitsNothing (shows S.Store self.old) (shows S.Store self.new) }
+        ensures keeps { KeepsStore S.Store self.old self.new }
         ensures durable { ForRequests S.Store self.old self.new (λ F.
             IsTrue (shows S.Store self.new).is_open → LeavesOnly (shows S.Store self.new) self.old.early F) }
     {

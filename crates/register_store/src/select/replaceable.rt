@@ -1,17 +1,16 @@
 //! Whether a filer may replace a filing: it is the filer's, and no other filing replaces it.
-
 ghost use Rattle.std.specs.Prelude.{◌≡◌, ◌<◌, ◌^◌, ◌∷◌, [], ℕ, pos, false, List, Some, None, Option, map, filter, bytes_eq, IfOk, OnOk, is_some};
 ghost use Rattle.std.specs.List.{list_any};
 ghost use Rattle.filing_model.specs.Register.{Kept, is_amendment_of, is_filing_of, is_replaceable, kept, register};
 ghost use Rattle.table_rows.specs.Leaving.{MayRead, OnlyReads};
-ghost use Rattle.table_rows.specs.Standing.{CommitsNothing};
 ghost use Rattle.register_store.specs.Found.{IsPlaced, IsPlaceOf};
 ghost use Rattle.register_opening.specs.Reads.{by_first};
 ghost use Rattle.register_store.specs.Reads.{has_second};
 ghost use Rattle.register_rows.specs.Register.{amends_rows, joined_from, number_of};
 ghost use Rattle.sqlite.specs.declared.types.Value.TheVariants.{Int, Text};
 ghost use Rattle.sqlite.specs.Values.{or_null};
-ghost use Rattle.register_store.specs.Store.{shows, HasRequests, ForRequests, IsDurableAs, ForRegister};
+ghost use Rattle.register_store.specs.Calls.{AnswersDurably, KeepsStore};
+ghost use Rattle.register_store.specs.Store.{ForRequests, ForRegister};
 
 use crate::select::counts::MAX_NUMBER;
 use crate::select::reads;
@@ -162,14 +161,8 @@ impl<S: Alter> Store<S> {
     pub fn replaceable(&mut self, filer: &str, number: u64) -> Result<bool, StoreFault>
         ensures answer { ForRequests S.Store self.old self.new (λ F.
             IfOk result (λ free. free ≡ is_replaceable (register F) filer.now number)) }
-
-        // The rows are those of before, whatever the answer is, and a crash leaves what it could leave before.
-        ensures same { ForRequests S.Store self.old self.new (HasRequests S.Store self.new) }
-        ensures counts { (self.new.kept ≡ self.old.kept) × (self.new.filings ≡ self.old.filings) }
-        ensures early { self.new.early ≡ self.old.early }
-        ensures crash { CommitsNothing (shows S.Store self.old) (shows S.Store self.new) }
-        ensures durable { ForRequests S.Store self.old self.new (λ F.
-            OnOk result (IsDurableAs S.Store self.new self.old.early F)) }
+        ensures keeps { KeepsStore S.Store self.old self.new }
+        ensures durable { AnswersDurably S.Store self.old self.new result }
     {
         // No filing has the number 0, and none a greater one than the number of filings. The database is asked in any
         // case, since an answer says that it is open.

@@ -34,7 +34,7 @@ returns-in-Some-clause-answer g c = λ clean requests h.
     let answered = c.repeat.ensures.answer c.args.filer.now c.args.key.now in (
       (answered.0 ∙ sym (answer_kept requests r k found), subst (λ (s : Style). HasStyle s c.repeat.result) styled answered.1),
       HoldsRequests-repeat requests r c.repeat.new.self (kept_has_key requests r k found)
-          (c.repeat.ensures.same requests (HoldsRequests-asked requests c.args.self.now _ h refl c.in_ok-row.ensures.early (c.in_ok-row.ensures.same cleaned requests h.rows)) c.args.filer.now c.args.key.now c.requires.name found (styled ∙ ap (λ n. style_of (take n requests) r) (sym c.in_ok-row.ensures.early))),
+          (c.repeat.ensures.same requests (HoldsRequests-asked requests c.args.self.now _ h refl c.in_ok-row.ensures.keeps.early (c.in_ok-row.ensures.keeps.same cleaned requests h.rows)) c.args.filer.now c.args.key.now c.requires.name found (styled ∙ ap (λ n. style_of (take n requests) r) (sym c.in_ok-row.ensures.keeps.early))),
     )
 
 pub returns-in-Some-clause-room : goal.returns-in-Some-clause-room
@@ -51,13 +51,13 @@ returns-in-Some-clause-err g c = λ clean requests h. tt
 pub returns-in-Some-clause-clean : goal.returns-in-Some-clause-clean
 returns-in-Some-clause-clean g c = λ clean.
     let cleaned : HasCleanDisk (shows g.S.Store c.find.new.self) = subst (λ s. HasCleanDisk (shows g.S.Store s)) (told g (goal.at.returns-in-Some-clause-clean g c).After-repeat).0 clean in
-    omega (arith, c.find.ensures.crash.clean)
+    omega (arith, c.find.ensures.keeps.crash.clean)
 
 pub returns-in-Some-clause-limit : goal.returns-in-Some-clause-limit
 returns-in-Some-clause-limit g c = let rest = told g (goal.at.returns-in-Some-clause-limit g c).After-repeat in (rest.1, rest.2)
 
 pub returns-in-Some-clause-early : goal.returns-in-Some-clause-early
-returns-in-Some-clause-early g c = ap (λ s. s.early) (told g (goal.at.returns-in-Some-clause-early g c).After-repeat).0 ∙ c.in_ok-row.ensures.early
+returns-in-Some-clause-early g c = ap (λ s. s.early) (told g (goal.at.returns-in-Some-clause-early g c).After-repeat).0 ∙ c.in_ok-row.ensures.keeps.early
 
 pub returns-in-Some-clause-full : goal.returns-in-Some-clause-full
 returns-in-Some-clause-full g c = λ clean requests h k e. cc
@@ -75,28 +75,28 @@ returns-in-None-clause-answer g c = λ clean requests h.
     let r : Request = the_request c.args.filer.now c.args.key.now c.args.target c.args.body.now in
     let cleaned = c.keep.ensures.clean clean in
     let fresh = has_key-none requests r (sym (rw c.in-None.is at (c.in_ok-row.ensures.found cleaned requests h.rows c.args.target c.args.body.now))) in
-    let asked = HoldsRequests-asked requests c.args.self.now _ h refl c.in_ok-row.ensures.early (c.in_ok-row.ensures.same cleaned requests h.rows) in
-    IfOk-weaker c.keep.result _ _ (λ a told. (subst (λ n. IsAnswerTo (take n requests) requests r a) c.in_ok-row.ensures.early told.0, HoldsRequests-new requests r c.keep.new.self h.firsts' fresh told.1)) (c.keep.ensures.answer clean requests asked fresh)
+    let asked = HoldsRequests-asked requests c.args.self.now _ h refl c.in_ok-row.ensures.keeps.early (c.in_ok-row.ensures.keeps.same cleaned requests h.rows) in
+    IfOk-weaker c.keep.result _ _ (λ a told. (subst (λ n. IsAnswerTo (take n requests) requests r a) c.in_ok-row.ensures.keeps.early told.0, HoldsRequests-new requests r c.keep.new.self h.firsts' fresh told.1)) (c.keep.ensures.answer clean requests asked fresh)
 
 pub returns-in-None-clause-err : goal.returns-in-None-clause-err
 returns-in-None-clause-err g c = λ clean requests h.
     let cleaned = c.keep.ensures.clean clean in
-    let asked = HoldsRequests-asked requests c.args.self.now _ h refl c.in_ok-row.ensures.early (c.in_ok-row.ensures.same cleaned requests h.rows) in
+    let asked = HoldsRequests-asked requests c.args.self.now _ h refl c.in_ok-row.ensures.keeps.early (c.in_ok-row.ensures.keeps.same cleaned requests h.rows) in
     c.keep.ensures.err clean requests asked
 
 pub returns-in-None-clause-clean : goal.returns-in-None-clause-clean
-returns-in-None-clause-clean g c = λ clean. let cleaned = c.keep.ensures.clean clean in omega (arith, c.find.ensures.crash.clean)
+returns-in-None-clause-clean g c = λ clean. let cleaned = c.keep.ensures.clean clean in omega (arith, c.find.ensures.keeps.crash.clean)
 
 pub returns-in-None-clause-limit : goal.returns-in-None-clause-limit
 returns-in-None-clause-limit g c = c.keep.ensures.limit
 
 pub returns-in-None-clause-early : goal.returns-in-None-clause-early
-returns-in-None-clause-early g c = c.keep.ensures.early ∙ c.in_ok-row.ensures.early
+returns-in-None-clause-early g c = c.keep.ensures.early ∙ c.in_ok-row.ensures.keeps.early
 
 pub returns-in-None-clause-room : goal.returns-in-None-clause-room
 returns-in-None-clause-room g c = λ clean requests h.
     let cleaned = c.keep.ensures.clean clean in
-    let asked = HoldsRequests-asked requests c.args.self.now _ h refl c.in_ok-row.ensures.early (c.in_ok-row.ensures.same cleaned requests h.rows) in
+    let asked = HoldsRequests-asked requests c.args.self.now _ h refl c.in_ok-row.ensures.keeps.early (c.in_ok-row.ensures.keeps.same cleaned requests h.rows) in
     on_ok_weaker c.keep.result (λ less new. less) (c.keep.ensures.room requests asked)
 
 pub returns-in-None-clause-running : goal.returns-in-None-clause-running
@@ -107,7 +107,7 @@ returns-in-None-clause-full g c = λ clean requests h k e.
     let r : Request = the_request c.args.filer.now c.args.key.now c.args.target c.args.body.now in
     let cleaned = c.keep.ensures.clean clean in
     let fresh = has_key-none requests r (sym (rw c.in-None.is at (c.in_ok-row.ensures.found cleaned requests h.rows c.args.target c.args.body.now))) in
-    let asked = HoldsRequests-asked requests c.args.self.now _ h refl c.in_ok-row.ensures.early (c.in_ok-row.ensures.same cleaned requests h.rows) in
+    let asked = HoldsRequests-asked requests c.args.self.now _ h refl c.in_ok-row.ensures.keeps.early (c.in_ok-row.ensures.keeps.same cleaned requests h.rows) in
     let full = c.keep.ensures.full requests asked k e in
     (fresh, full.0, full.1)
 
@@ -119,19 +119,19 @@ returns-in-None-clause-crash g c =
     (λ clean trees left requests h alive.
     let cleaned = c.keep.ensures.clean clean in
     let fresh = has_key-none requests r (sym (rw c.in-None.is at (c.in_ok-row.ensures.found cleaned requests h.rows c.args.target c.args.body.now))) in
-    let asked = HoldsRequests-asked requests c.args.self.now _ h refl c.in_ok-row.ensures.early (c.in_ok-row.ensures.same cleaned requests h.rows) in
+    let asked = HoldsRequests-asked requests c.args.self.now _ h refl c.in_ok-row.ensures.keeps.early (c.in_ok-row.ensures.keeps.same cleaned requests h.rows) in
     let still = (c.in_ok-row.ensures.durable cleaned requests h.rows).0 in
-    subst (λ (rs : List Request). LeavesRegister (early_of c.args.self.now) rs trees) (sym (firsts-more requests r h.firsts' fresh)) (subst (λ n. LeavesRegister n (requests ++ r ∷ []) trees) c.in_ok-row.ensures.early (left requests asked still fresh)))
-    c.find.ensures.crash c.keep.ensures.crash
+    subst (λ (rs : List Request). LeavesRegister (early_of c.args.self.now) rs trees) (sym (firsts-more requests r h.firsts' fresh)) (subst (λ n. LeavesRegister n (requests ++ r ∷ []) trees) c.in_ok-row.ensures.keeps.early (left requests asked still fresh)))
+    c.find.ensures.keeps.crash c.keep.ensures.crash
 
 pub returns-in-None-clause-open : goal.returns-in-None-clause-open
 returns-in-None-clause-open g c = λ clean requests h.
     let r : Request = the_request c.args.filer.now c.args.key.now c.args.target c.args.body.now in
     let cleaned = c.keep.ensures.clean clean in
     let fresh = has_key-none requests r (sym (rw c.in-None.is at (c.in_ok-row.ensures.found cleaned requests h.rows c.args.target c.args.body.now))) in
-    let asked = HoldsRequests-asked requests c.args.self.now _ h refl c.in_ok-row.ensures.early (c.in_ok-row.ensures.same cleaned requests h.rows) in
+    let asked = HoldsRequests-asked requests c.args.self.now _ h refl c.in_ok-row.ensures.keeps.early (c.in_ok-row.ensures.keeps.same cleaned requests h.rows) in
     c.keep.ensures.open clean requests asked fresh
 
 pub returns-in-Some-clause-crash : goal.returns-in-Some-clause-crash
 returns-in-Some-clause-crash g c =
-    rw (told g (goal.at.returns-in-Some-clause-crash g c).After-repeat).0 (survives_weaker (shows g.S.Store c.args.self.now.store) (shows g.S.Store c.find.new.self) _ _ (λ clean trees none. absurd none) c.find.ensures.crash)
+    rw (told g (goal.at.returns-in-Some-clause-crash g c).After-repeat).0 (survives_weaker (shows g.S.Store c.args.self.now.store) (shows g.S.Store c.find.new.self) _ _ (λ clean trees none. absurd none) c.find.ensures.keeps.crash)

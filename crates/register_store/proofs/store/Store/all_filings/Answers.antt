@@ -1,6 +1,6 @@
 use Rattle.std.proofs.Common.{◌∙◌}
 use Rattle.std.proofs.lemmas.Result.{IfOk-weaker}
-use Rattle.register_store.proofs.StoreLemmas.{answers_last, has_still}
+use Rattle.register_store.proofs.StoreLemmas.{answers_last, keeps_store}
 use Rattle.register_opening.proofs.Calls.{concluded}
 use Rattle.register_store.proofs.store.Store.all_filings.Goals.{in-Ok, in-Err}
 use Rattle.register_store.proofs.store.Store.all_filings.Goals as goal
@@ -14,8 +14,8 @@ returns-clause-rows g c clean F has =
       | in-Err w ↦ rw w.result-is tt
     ]
 
-pub returns-clause-same : goal.returns-clause-same
-returns-clause-same g c clean F has = has_still g.S.Store _ c.read_both.new.conn F (rw (← c.self.view_is) at has) clean c.read_both.ensures.leaves
+pub returns-clause-keeps : goal.returns-clause-keeps
+returns-clause-keeps g c = rw (← c.self.view_is) (keeps_store g.S.Store _ c.read_both.new.conn c.read_both.ensures.leaves)
 
 pub returns-clause-durable : goal.returns-clause-durable
 returns-clause-durable g c clean F = rw (← c.self.view_is) (λ had.

@@ -6,12 +6,11 @@ use Rattle.filing_model.proofs.Keeping.{register_numbered}
 use Rattle.register_rows.specs.Columns.{fact_in}
 use Rattle.register_store.specs.Numbered.{filing_numbered}
 use Rattle.std.specs.Prelude.{option_map}
-use Rattle.table_rows.proofs.StepLemmas.{nothing_yet}
 use Rattle.register_store.proofs.StoreLemmas.{has_still, leaves}
 use Rattle.register_store.proofs.ListLemmas.{knows}
 use Rattle.register_store.proofs.FactLemmas.{facts_read, is_there, is_absent, some_list}
 use Rattle.register_store.proofs.store.Store.facts.Goals.{then-number-eq0-via-then-number-eq0, then-number-eq0-via-else-number-eq0+then-self-number}
-use Rattle.table_rows.proofs.LeavingLemmas.{stands}
+use Rattle.table_rows.proofs.LeavingLemmas.{none_yet, stands}
 use Rattle.register_store.proofs.store.Store.facts.Goals as goal
 
 pub returns-then-number-eq0-clause-facts : goal.returns-then-number-eq0-clause-facts
@@ -32,22 +31,16 @@ returns-in-Ok-read_facts-clause-facts g c clean F has =
     let read = facts_read F (state g.S.Store c.self.inside.conn) (state g.S.Store c.facts_of_filing.new.conn) c.in-Ok.rows.items had.stands n (c.in-Ok.ensures.read clean (knows F _ had.stands)) in
     some_list (λ (f : Filing). facts f.request.body) (filing_numbered n (register F)) _ [] there (c.in-Ok-read_facts.ensures ∙ ap (map fact_in) c.deref.ensures.value ∙ read)
 
-pub returns-then-number-eq0-clause-same : goal.returns-then-number-eq0-clause-same
-returns-then-number-eq0-clause-same g c clean F has = has
-
-pub returns-then-number-eq0-clause-crash : goal.returns-then-number-eq0-clause-crash
-returns-then-number-eq0-clause-crash g c = rw (← c.self.view_is) (nothing_yet (state g.S.Store c.self.inside.conn))
+pub returns-then-number-eq0-clause-keeps : goal.returns-then-number-eq0-clause-keeps
+returns-then-number-eq0-clause-keeps g c = rw (← c.self.view_is) (keeps_store g.S.Store _ c.self.inside.conn (none_yet (state g.S.Store c.self.inside.conn)))
 
 pub returns-then-number-eq0-clause-durable : goal.returns-then-number-eq0-clause-durable
 returns-then-number-eq0-clause-durable g c clean F = rw (← c.self.view_is) (λ had alive trees left.
     let conn = c.self.inside.conn in
     leaves c.self.inside.early F (state g.S.Store conn) had.stands alive trees (g.met.S.Store.settled conn.store trees alive left))
 
-pub returns-in-Ok-read_facts-clause-same : goal.returns-in-Ok-read_facts-clause-same
-returns-in-Ok-read_facts-clause-same g c clean F has = has_still g.S.Store _ c.facts_of_filing.new.conn F (rw (← c.self.view_is) at has) clean c.facts_of_filing.ensures.leaves
-
-pub returns-in-Ok-read_facts-clause-crash : goal.returns-in-Ok-read_facts-clause-crash
-returns-in-Ok-read_facts-clause-crash g c = rw (← c.self.view_is) c.facts_of_filing.ensures.leaves.survives
+pub returns-in-Ok-read_facts-clause-keeps : goal.returns-in-Ok-read_facts-clause-keeps
+returns-in-Ok-read_facts-clause-keeps g c = rw (← c.self.view_is) (keeps_store g.S.Store _ c.facts_of_filing.new.conn c.facts_of_filing.ensures.leaves)
 
 pub returns-in-Ok-read_facts-clause-durable : goal.returns-in-Ok-read_facts-clause-durable
 returns-in-Ok-read_facts-clause-durable g c clean F = rw (← c.self.view_is) (λ had alive trees left.

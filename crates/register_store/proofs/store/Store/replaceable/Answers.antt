@@ -4,7 +4,7 @@ use Rattle.filing_model.proofs.Keeping.{register_numbered}
 use Rattle.register_rows.proofs.Filings.{none_there}
 use Rattle.register_store.proofs.store.Store.replaceable.Goals.{then-number-gt-MAX_NUMBER, else-number-gt-MAX_NUMBER}
 use Rattle.std.proofs.lemmas.Result.{IfOk-weaker}
-use Rattle.register_store.proofs.StoreLemmas.{answers_last, has_still}
+use Rattle.register_store.proofs.StoreLemmas.{answers_last, keeps_store}
 use Rattle.register_store.proofs.store.Store.replaceable.Goals as goal
 
 pub returns-clause-answer : goal.returns-clause-answer
@@ -20,8 +20,8 @@ returns-clause-answer g c clean F has =
     ] in
     IfOk-weaker c.may_replace.result _ _ (λ free h. h ∙ same) (c.may_replace.ensures.found clean c.self.inside.early F had.stands)
 
-pub returns-clause-same : goal.returns-clause-same
-returns-clause-same g c clean F has = has_still g.S.Store _ c.may_replace.new.conn F (rw (← c.self.view_is) at has) clean c.may_replace.ensures.leaves
+pub returns-clause-keeps : goal.returns-clause-keeps
+returns-clause-keeps g c = rw (← c.self.view_is) (keeps_store g.S.Store _ c.may_replace.new.conn c.may_replace.ensures.leaves)
 
 pub returns-clause-durable : goal.returns-clause-durable
 returns-clause-durable g c clean F = rw (← c.self.view_is) (λ had. answers_last g.S.Store _ c.may_replace.new.conn F had clean c.may_replace.result c.may_replace.ensures.leaves (g.met.S.Store.settled c.may_replace.new.conn.store))
