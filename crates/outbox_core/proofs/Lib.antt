@@ -7,6 +7,7 @@ pub mod InsertLemmas
 pub mod UpdateLemmas
 pub mod ReadLemmas
 pub mod ListLemmas
+pub mod LookLemmas
 pub mod KeyLemmas
 pub mod UniqueLemmas
 pub mod FileLemmas

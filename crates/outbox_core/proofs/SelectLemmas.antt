@@ -1,5 +1,5 @@
 -- What the look-ups on entries select.
-use Rattle.std.proofs.Common.{◌≡◌, ℕ, pos, Bool, true, false, List, [], ◌∷◌, map, filter, find, slice_get, Option, Result, Ok, Err, option_map, IsTrue, IfOk, IfErr, OnOk, refl, sym, ap, ◌∙◌, int_eq, IsPermutation}
+use Rattle.std.proofs.Common.{◌≡◌, ℕ, pos, Bool, true, false, List, [], ◌∷◌, map, filter, find, slice_get, Option, Result, option_map, IfOk, refl, sym, ap, ◌∙◌, int_eq, IsPermutation}
 use Rattle.std.specs.List.{list_all}
 use Rattle.std.proofs.lemmas.Option.{slice_get-map}
 use Rattle.std.proofs.lemmas.Result.{IfOk-weaker}
@@ -9,10 +9,10 @@ use Rattle.sqlite.specs.Order.{Row, column}
 use Rattle.sqlite.specs.Tree.{Trees}
 use Rattle.sqlite.specs.Schema.{Schema}
 use Rattle.sqlite.specs.Term.{Term, holds}
-use Rattle.sqlite.specs.Query.{Query, output}
+use Rattle.sqlite.specs.Query.{output}
 use Rattle.sqlite.specs.Program.{overlay}
 use Rattle.sqlite.specs.Effect.{Database}
-use Rattle.sqlite.specs.State.{State, QueriesRow, Shown, FailsToQuery}
+use Rattle.sqlite.specs.State.{State, QueriesRow}
 use Rattle.sqlite_sql.specs.Query.{IsSureAnswer}
 use Rattle.sqlite_sql.specs.declared.ops.CompareOp.TheVariants.{Eq}
 use Rattle.sqlite_keyed.proofs.ListLemmas.{slice_get-filter}

@@ -1,5 +1,5 @@
 -- What the query of a target tells.
-use Rattle.std.proofs.Common.{◌≡◌, ℕ, suc, pos, false, arith, List, [], ◌∷◌, ◌++◌, map, filter, slice_get, Option, Some, None, option_map, Result, IfOk, OnOk, IsTrue, IsPermutation, refl, sym, ap, subst, ◌∙◌}
+use Rattle.std.proofs.Common.{◌≡◌, ℕ, suc, pos, false, arith, List, [], ◌∷◌, ◌++◌, map, filter, slice_get, Option, Some, None, option_map, Result, IfOk, IsPermutation, refl, sym, ap, subst, ◌∙◌}
 use Rattle.std.proofs.lemmas.Result.{IfOk-weaker}
 use Rattle.std.proofs.lemmas.List.Sorted.{length_permutation}
 use Rattle.sqlite.specs.declared.types.Value.TheVariants.{Int}
