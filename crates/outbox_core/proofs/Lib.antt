@@ -10,4 +10,5 @@ pub mod ListLemmas
 pub mod LookLemmas
 pub mod KeyLemmas
 pub mod UniqueLemmas
+pub mod FoundLemmas
 pub mod FileLemmas

@@ -1,5 +1,5 @@
 -- What is promised of an outbox that a call hands out over a connection, and of the connection where the call refuses.
-use Rattle.std.specs.Prelude.{◌≡◌, ◌↔◌, true, false, ℕ, List, [], Result, Err, IsTrue, IfOk, IfErr}
+use Rattle.std.specs.Prelude.{◌≡◌, ◌↔◌, true, false, ℕ, List, [], Result, Ok, Err, IsTrue, IfOk, IfErr, string_bytes}
 use Rattle.std.specs.Result.{result_map_both}
 use Rattle.key_string.specs.Filer.{is_filer}
 use Rattle.sqlite.specs.Store.{Ghosts}
@@ -9,6 +9,7 @@ use Rattle.filing_model.specs.Outbox.{Entry}
 use Rattle.table_rows.specs.Tables.{no_schema}
 use Rattle.table_rows.specs.Standing.{CommitsNothing}
 use Rattle.outbox_opening.specs.declared.fault.OutboxFault.{OutboxFault}
+use Rattle.outbox_opening.specs.declared.opening.FoundOutbox.{FoundOutbox}
 use Rattle.outbox_opening.specs.declared.fault.OutboxFault.TheVariants.{BadFiler, Taken}
 use Rattle.outbox_opening.specs.Schema.{IsDeclared, is_taken}
 use Rattle.outbox_opening.specs.Entries.{empty}
@@ -71,6 +72,11 @@ pub record HandsOutMigrated {S : Type 0} (g : Ghosts S) (conn : Held S) (result 
 -- the outbox, or the fault without the connection that comes back beside it
 abbrev pub without_conn : {T E C : Type 0} → Result T (E × C) → Result T E
 without_conn = result_map_both (λ outbox. outbox) (λ refusal. refusal.0)
+
+-- over this connection, the outbox that was found; or the fault and the connection
+abbrev pub over : {S : Type 0} → Held S → Result FoundOutbox OutboxFault → Result (OutboxParts S) (OutboxFault × Held S)
+over conn (Ok found) = Ok (record { conn = conn; filer = string_bytes found.filer; count = found.count; has_failed = false })
+over conn (Err fault) = Err (fault, conn)
 
 -- What `create_or_back` does: what `create` does, and of the connection that comes back it says what was left of the database.
 pub record MakesOrGivesBack {S : Type 0} (g : Ghosts S) (code : List ℕ) (conn : Held S) (result : Result (OutboxParts S) (OutboxFault × Held S)) : Type 0 where

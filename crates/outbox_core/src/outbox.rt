@@ -1,6 +1,6 @@
 //! The outbox of a filer.
 
-ghost use Rattle.std.specs.Prelude.{◌≡◌, ◌^◌, ◌≤◌, ◌↔◌, map, false, None, IsTrue, IfOk, true, Err};
+ghost use Rattle.std.specs.Prelude.{◌≡◌, ◌^◌, ◌≤◌, ◌↔◌, map, false, None, IsTrue, IfOk, true, Err, string_bytes};
 ghost use Rattle.key_string.specs.Filer.{is_filer};
 ghost use Rattle.http_messages.specs.Posting.{IsTarget};
 ghost use Rattle.http_messages.specs.Replies.{reply_parts};
@@ -65,7 +65,29 @@ impl<S: Alter + Drop> Drop for Outbox<S> {
 }
 
 impl<S: Alter> Outbox<S> {
-    ghost use Rattle.outbox_core.specs.HandedOut.{FindsOrGivesBack, MakesOrGivesBack, MigratesOrGivesBack};
+    ghost use Rattle.outbox_core.specs.HandedOut.{FindsOrGivesBack, MakesOrGivesBack, MigratesOrGivesBack, over};
+
+    /// The outbox that was found over the connection, or the refusal and the connection.
+    fn over(
+        alloc: Global,
+        conn: Connection<S>,
+        found: Result<FoundOutbox, OutboxFault>,
+    ) -> Result<Outbox<S>, (OutboxFault, Connection<S>)>
+        requires few { IfOk found (λ it. it.count ≤ 2 ^ 62) }
+        requires code { IfOk found (λ it. is_filer (string_bytes it.filer) ≡ true) }
+        ensures { result ≡ over conn found }
+    {
+        match found {
+            Ok(FoundOutbox { filer, count }) => Ok(Outbox {
+                alloc,
+                conn,
+                filer,
+                count,
+                has_failed: false,
+            }),
+            Err(refusal) => Err((refusal, conn)),
+        }
+    }
 
     /// Makes the tables of an outbox of this filer that has no entry, in one transaction. A refusal leaves the database
     /// as it was, and gives the connection back, which may be used again.
@@ -107,19 +129,9 @@ impl<S: Alter> Outbox<S> {
         ensures { FindsOrGivesBack S.Store conn result }
     {
         let mut conn = conn;
-        match read_outbox(alloc, &mut conn) {
-            Ok(FoundOutbox { filer, count }) => Ok(Outbox {
-                alloc,
-                conn,
-                filer,
-                count,
-                has_failed: false,
-            }),
-            Err(refusal) => {
-                prove!(conn.is_autocommit());
-                Err((refusal, conn))
-            }
-        }
+        let found = read_outbox(alloc, &mut conn);
+        prove!(conn.is_autocommit());
+        Outbox::over(alloc, conn, found)
     }
 
     /// Brings the outbox that the database holds from the form before this one into this one, in one transaction, and
@@ -134,19 +146,9 @@ impl<S: Alter> Outbox<S> {
         ensures { MigratesOrGivesBack S.Store conn result }
     {
         let mut conn = conn;
-        match migrate_outbox(alloc, &mut conn) {
-            Ok(FoundOutbox { filer, count }) => Ok(Outbox {
-                alloc,
-                conn,
-                filer,
-                count,
-                has_failed: false,
-            }),
-            Err(reason) => {
-                prove!(conn.is_autocommit());
-                Err((reason, conn))
-            }
-        }
+        let found = migrate_outbox(alloc, &mut conn);
+        prove!(conn.is_autocommit());
+        Outbox::over(alloc, conn, found)
     }
 }
 
@@ -160,10 +162,7 @@ impl<S: Alter + Drop> Outbox<S> {
         requires unlimited { conn.step_limit ≡ None }
         ensures { HandsOutMade S.Store filer.now conn result }
     {
-        match Outbox::create_or_back(alloc, conn, filer) {
-            Ok(outbox) => Ok(outbox),
-            Err((fault, _conn)) => Err(fault),
-        }
+        Outbox::create_or_back(alloc, conn, filer).map_err(|(fault, _conn)| fault)
     }
 
     /// As `open_or_back`, but a refusal gives the connection up.
@@ -172,10 +171,7 @@ impl<S: Alter + Drop> Outbox<S> {
         requires unlimited { conn.step_limit ≡ None }
         ensures { HandsOutFound S.Store conn result }
     {
-        match Outbox::open_or_back(alloc, conn) {
-            Ok(outbox) => Ok(outbox),
-            Err((fault, _conn)) => Err(fault),
-        }
+        Outbox::open_or_back(alloc, conn).map_err(|(fault, _conn)| fault)
     }
 
     /// As `migrate_or_back`, but a refusal gives the connection up.
@@ -184,10 +180,7 @@ impl<S: Alter + Drop> Outbox<S> {
         requires unlimited { conn.step_limit ≡ None }
         ensures { HandsOutMigrated S.Store conn result }
     {
-        match Outbox::migrate_or_back(alloc, conn) {
-            Ok(outbox) => Ok(outbox),
-            Err((fault, _conn)) => Err(fault),
-        }
+        Outbox::migrate_or_back(alloc, conn).map_err(|(fault, _conn)| fault)
     }
 }
 
