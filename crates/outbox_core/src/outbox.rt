@@ -7,7 +7,7 @@ ghost use Rattle.http_messages.specs.Replies.{reply_parts};
 ghost use Rattle.outbox_opening.specs.Entries.{numbered};
 ghost use Rattle.outbox_core.specs.Entries.{found_at, first_open};
 ghost use Rattle.outbox_core.specs.Reading.{view_pair, id_and_state};
-ghost use Rattle.table_rows.specs.Standing.{CommitsNothing};
+ghost use Rattle.table_rows.specs.Standing.{CommitsNothing, IsAtRest};
 
 pub(crate) mod files;
 
@@ -98,8 +98,7 @@ impl<S: Alter> Outbox<S> {
         conn: Connection<S>,
         filer: &str,
     ) -> Result<Outbox<S>, (OutboxFault, Connection<S>)>
-        requires autocommit { conn.in_transaction ≡ false }
-        requires unlimited { conn.step_limit ≡ None }
+        requires { IsAtRest conn }
         ensures { MakesOrGivesBack S.Store filer.now conn result }
     {
         let mut conn = conn;
@@ -124,8 +123,7 @@ impl<S: Alter> Outbox<S> {
         alloc: Global,
         conn: Connection<S>,
     ) -> Result<Outbox<S>, (OutboxFault, Connection<S>)>
-        requires autocommit { conn.in_transaction ≡ false }
-        requires unlimited { conn.step_limit ≡ None }
+        requires { IsAtRest conn }
         ensures { FindsOrGivesBack S.Store conn result }
     {
         let mut conn = conn;
@@ -141,8 +139,7 @@ impl<S: Alter> Outbox<S> {
         alloc: Global,
         conn: Connection<S>,
     ) -> Result<Outbox<S>, (OutboxFault, Connection<S>)>
-        requires autocommit { conn.in_transaction ≡ false }
-        requires unlimited { conn.step_limit ≡ None }
+        requires { IsAtRest conn }
         ensures { MigratesOrGivesBack S.Store conn result }
     {
         let mut conn = conn;
@@ -158,8 +155,7 @@ impl<S: Alter + Drop> Outbox<S> {
     /// As `create_or_back`, but a refusal gives the connection up. An outbox's file is its own: if the database had a
     /// table before, no clause says what the rows stand for.
     pub fn create(alloc: Global, conn: Connection<S>, filer: &str) -> Result<Outbox<S>, OutboxFault>
-        requires autocommit { conn.in_transaction ≡ false }
-        requires unlimited { conn.step_limit ≡ None }
+        requires { IsAtRest conn }
         ensures { HandsOutMade S.Store filer.now conn result }
     {
         Outbox::create_or_back(alloc, conn, filer).map_err(|(fault, _conn)| fault)
@@ -167,8 +163,7 @@ impl<S: Alter + Drop> Outbox<S> {
 
     /// As `open_or_back`, but a refusal gives the connection up.
     pub fn open(alloc: Global, conn: Connection<S>) -> Result<Outbox<S>, OutboxFault>
-        requires autocommit { conn.in_transaction ≡ false }
-        requires unlimited { conn.step_limit ≡ None }
+        requires { IsAtRest conn }
         ensures { HandsOutFound S.Store conn result }
     {
         Outbox::open_or_back(alloc, conn).map_err(|(fault, _conn)| fault)
@@ -176,8 +171,7 @@ impl<S: Alter + Drop> Outbox<S> {
 
     /// As `migrate_or_back`, but a refusal gives the connection up.
     pub fn migrate(alloc: Global, conn: Connection<S>) -> Result<Outbox<S>, OutboxFault>
-        requires autocommit { conn.in_transaction ≡ false }
-        requires unlimited { conn.step_limit ≡ None }
+        requires { IsAtRest conn }
         ensures { HandsOutMigrated S.Store conn result }
     {
         Outbox::migrate_or_back(alloc, conn).map_err(|(fault, _conn)| fault)

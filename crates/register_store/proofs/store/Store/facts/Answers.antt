@@ -6,7 +6,7 @@ use Rattle.filing_model.proofs.Keeping.{register_numbered}
 use Rattle.register_rows.specs.Columns.{fact_in}
 use Rattle.register_store.specs.Numbered.{filing_numbered}
 use Rattle.std.specs.Prelude.{option_map}
-use Rattle.register_store.proofs.StoreLemmas.{has_still, leaves}
+use Rattle.register_store.proofs.StoreLemmas.{keeps_store, leaves}
 use Rattle.register_store.proofs.ListLemmas.{knows}
 use Rattle.register_store.proofs.FactLemmas.{facts_read, is_there, is_absent, some_list}
 use Rattle.register_store.proofs.store.Store.facts.Goals.{then-number-eq0-via-then-number-eq0, then-number-eq0-via-else-number-eq0+then-self-number}
