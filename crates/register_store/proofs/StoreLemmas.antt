@@ -31,14 +31,14 @@ module _ {S : Type 0} (g : Ghosts S) (store : StoreParts S) (conn : Held S) (F :
   pub has_still : {l : Ending} → Leaves l (shows g store) (state g conn) → HasRequests g (record store { conn = conn }) F
   has_still p = record { stands = stands p clean had.stands; kept_is = had.kept_is; filings_is = had.filings_is; within = had.within }
 
--- and nothing else of it has changed
-pub keeps_store : {S : Type 0} (g : Ghosts S) (store : StoreParts S) (conn : Held S) {l : Ending} → Leaves l (shows g store) (state g conn) → KeepsStore g store (record store { conn = conn })
-keeps_store g store conn p = record { same = λ clean F had. has_still g store conn F had clean p; counts = (refl, refl); early = refl; crash = p.survives }
-
   pub answers_last : {X E : Type 0} (result : Result X E) → OnlyReads g store.conn conn result → ((trees : Trees) → IsTrue (state g conn).is_open → (state g conn).may_leave trees → trees ≡ (state g conn).committed.trees)
       → OnOk result (IsDurableAs g (record store { conn = conn }) store.early F)
   answers_last (Ok x) p settled = let alive = (p.left clean).0.is_open in (alive, λ trees left. leaves store.early F (state g conn) (stands p clean had.stands) alive trees (settled trees alive left))
   answers_last (Err e) p settled = tt
+
+-- a call that only reads changes nothing else of it
+pub keeps_store : {S : Type 0} (g : Ghosts S) (store : StoreParts S) (conn : Held S) {l : Ending} → Leaves l (shows g store) (state g conn) → KeepsStore g store (record store { conn = conn })
+keeps_store g store conn p = record { same = λ clean F had. has_still g store conn F had clean p; counts = (refl, refl); early = refl; crash = p.survives }
 
 -- a request that is kept as it was judged, after those that the store has
 module _ {S : Type 0} (g : Ghosts S) (store : StoreParts S) (r : Request) (j : Judged) (completed : IsCompleted r) where
