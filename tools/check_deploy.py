@@ -164,27 +164,76 @@ def tables_of_protocol():
     return [f"CREATE TABLE {first}{rest} STRICT;" for first, rest in found]
 
 
-def try_views():
+def codes_of_protocol():
+    """Each code of a finding as docs/PROTOCOL.md has it: its number, its word and what it means, without the marks of the page."""
+    text = (ROOT / "docs" / "PROTOCOL.md").read_text()
+    numbers = {word: int(number) for number, word in re.findall(r"(?m)^\| (\d+) \| ([a-z-]+) \|", text)}
+    meanings = re.findall(r"(?m)^- `([a-z-]+)`: ((?:.*\n)(?: {2}.*\n)*)", text[text.index("What each code means") :])
+    means = {word: " ".join(meaning.split()).partition(" *")[0].replace("`", "") for word, meaning in meanings}
+    return sorted((number, word, means.get(word)) for word, number in numbers.items())
+
+
+# A register of five filings and three refused reports. Filing 2 replaces 1, and 4 replaces 2; 5 is another filer's. Of the refused ones, one was to
+# replace filing 1, which was replaced already, one filing 9, which isn't there, and one nothing.
+KEPT = [("ACME", "k-1", 1), ("ACME", "k-2", 2), ("BETA", "k-1", 3), ("ACME", "k-3", None), ("ACME", "k-4", 4), ("GAMMA", "k-1", None),
+        ("DELTA", "k-1", None), ("BETA", "k-2", 5)]  # fmt: skip
+AMENDS = [(2, 1), (4, 1), (5, 2), (6, 9)]
+FINDINGS = [(4, 1, 3, "/documentInfo"), (4, 2, 26, ""), (6, 1, 26, ""), (7, 1, 22, "/facts/a/value"), (7, 2, 22, "/facts/b/value")]
+DIMENSIONS = '{"concept":"eg:A","entity":"lei:ACME","period":"2024-12-31T00:00:00","unit":"iso4217:EUR"}'
+# A question to the views, and the rows that the register above gives, worked out by hand.
+VIEWS = [
+    ("SELECT * FROM filings", ["1|1|ACME|k-1|4", "2|2|ACME|k-2|4", "3|3|BETA|k-1|4", "4|5|ACME|k-4|4", "5|8|BETA|k-2|4"]),
+    ("SELECT number FROM current", ["3", "4", "5"]),
+    ("SELECT number FROM current WHERE filer = 'ACME'", ["4"]),
+    ("SELECT * FROM replaced", ["1|ACME|2", "2|ACME|4"]),
+    ("SELECT * FROM facts", [f"4|ACME|1|f1|eg:A|2024-12-31T00:00:00|iso4217:EUR|100|0|{DIMENSIONS}"]),
+    ("SELECT * FROM refused WHERE filer = 'ACME'", ["4|ACME|k-3|1|3|/documentInfo|document-info", "4|ACME|k-3|2|26||not-replaceable"]),
+    ("SELECT code, word, findings, reports, filers FROM findings_by_code",
+     ["22|number|2|1|1", "26|not-replaceable|2|2|2", "3|document-info|1|1|1"]),
+    ("SELECT meaning FROM findings_by_code WHERE code = 22", ["The fact has a unit, and its value is no number."]),
+    ("SELECT * FROM refused_amendments", ["4|ACME|k-3|1|ACME|2", "6|GAMMA|k-1|9||"]),
+    ("SELECT * FROM missing", []),
+    ("INSERT INTO expected VALUES ('ACME'), ('BETA'), ('DELTA'), ('OMEGA'), ('acme')", []),
+    (".import {folder}/list.txt expected", []),
+    ("SELECT * FROM missing", ["DELTA|1", "GAMMA|1", "OMEGA|0", "PSI|0", "acme|0"]),
+    ("SELECT * FROM received WHERE filer = 'BETA'", ["3|3|BETA|k-1|4|T1|agent", "5|8|BETA|k-2|4||"]),
+    ("SELECT * FROM entries", ["1|k-1|4|confirmed|1", "2|k-2|4|open|"]),
+]  # fmt: skip
+
+
+def try_views(folder):
+    """Each view of reading.sql over a register whose rows are known, in a file that only may be read."""
     if not (sqlite := find("sqlite3")):
         return
     tables = tables_of_protocol()
     hold("the tables of docs/PROTOCOL.md", len(tables), 10)
-    dimensions = '{"concept":"eg:A","entity":"lei:ACME","period":"2024-12-31T00:00:00","unit":"iso4217:EUR"}'
-    script = "\n".join(tables) + f"""
-INSERT INTO kept VALUES (1, 'ACME', 'k-1', CAST('body' AS BLOB), 1), (2, 'ACME', 'k-2', CAST('x' AS BLOB), NULL),
-    (3, 'ACME', 'k-3', CAST('body' AS BLOB), 2);
-INSERT INTO amends VALUES (2, 1), (3, 1);
-INSERT INTO filing VALUES (1, 1);
-INSERT INTO fact VALUES (1, 1, CAST('f1' AS BLOB), CAST('eg:A' AS BLOB), CAST('{dimensions}' AS BLOB), CAST('100' AS BLOB), 0);
-INSERT INTO finding VALUES (2, 1, 1, CAST('' AS BLOB));
-INSERT INTO entry VALUES (1, 'k-1', CAST('body' AS BLOB), 1, 1);
-.read {DEPLOY / "reading.sql"}
-SELECT * FROM filings; SELECT * FROM replaced; SELECT * FROM refused; SELECT * FROM facts; SELECT * FROM entries;
-"""
-    done = run(sqlite, "-batch", ":memory:", input=script)
-    wanted = "1|1|ACME|k-1|4\n2|3|ACME|k-3|4\n1|ACME|2\n2|ACME|k-2|1|1|\n"
-    wanted += f"1|ACME|1|f1|eg:A|2024-12-31T00:00:00|iso4217:EUR|100|0|{dimensions}\n1|k-1|4|confirmed|1\n"
-    hold("the views of reading.sql", done.stdout + done.stderr, wanted)
+    copy = folder / "views.db"
+    with contextlib.closing(sqlite3.connect(copy)) as database:
+        database.executescript("\n".join(tables) + "CREATE TABLE receipt (number INTEGER PRIMARY KEY, sha256 TEXT, received TEXT, user TEXT) STRICT;")
+        database.executemany("INSERT INTO kept VALUES (NULL, ?, ?, x'626f6479', ?)", KEPT)
+        database.execute("INSERT INTO filing SELECT number, seq FROM kept WHERE number IS NOT NULL")
+        database.executemany("INSERT INTO amends VALUES (?, ?)", AMENDS)
+        database.executemany("INSERT INTO finding VALUES (?, ?, ?, CAST(? AS BLOB))", FINDINGS)
+        database.execute("INSERT INTO fact VALUES (4, 1, x'6631', x'65673a41', CAST(? AS BLOB), x'313030', 0)", (DIMENSIONS,))
+        database.execute("INSERT INTO receipt VALUES (3, 'S', 'T1', 'agent')")
+        database.execute("INSERT INTO entry VALUES (1, 'k-1', x'626f6479', 1, 1), (2, 'k-2', x'626f6479', 0, NULL)")
+        database.commit()
+    (folder / "list.txt").write_bytes(b"GAMMA\r\nPSI\r\n\r\n")
+    before = copy.read_bytes()
+    lines = [f".print == {number}\n{ask if ask[0] == '.' else ask + ';'}" for number, (ask, _) in enumerate(VIEWS)]
+    script = f".read {DEPLOY / 'reading.sql'}\n" + "\n".join(lines).replace("{folder}", str(folder))
+    done = run(sqlite, "-batch", "-readonly", copy, input=script + "\n")
+    answers = re.split(r"(?m)^== \d+\n", done.stdout)
+    hold("the views can be asked", (done.returncode, done.stderr, answers[0], len(answers) - 1), (0, "", "", len(VIEWS)))
+    for (ask, wanted), found in zip(VIEWS, answers[1:]):
+        hold(ask, found.splitlines(), wanted)
+    hold("the file is as it was", copy.read_bytes() == before, True)
+    with contextlib.closing(sqlite3.connect(copy)) as database:
+        database.executescript((DEPLOY / "reading.sql").read_text())
+        hold("the codes, as docs/PROTOCOL.md has them", database.execute("SELECT * FROM codes").fetchall(), codes_of_protocol())
+        for view in ("filings", "facts"):
+            plan = " / ".join(row[3] for row in database.execute(f"EXPLAIN QUERY PLAN SELECT * FROM {view} WHERE number = 4"))
+            hold(f"{view} of one number goes through no whole table", ("SEARCH" in plan, "SCAN" in plan), (True, False))
 
 
 def make_copy(copy, filings, refused=()):
@@ -492,7 +541,7 @@ def main():
         if find("curl"):
             try_new(folders[2])
         try_units(folders[2])
-        try_views()
+        try_views(folders[2])
         try_log(folders[2])
         try_nginx(folders[3])
     print(f"{len(failures)} failed")
