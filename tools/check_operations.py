@@ -1,5 +1,5 @@
 #!/usr/bin/env python3
-"""Tries with the built programs what docs/OPERATIONS.md promises an operator: copies, restores, logs, rounds, and a full disk.
+"""Tries with the built programs what docs/OPERATIONS.md promises an operator: copies, restores, logs, receipts, rounds, and a full disk.
 
     tools/check_operations.py [WORD]        each trial, or those with this word in their name
 
@@ -12,6 +12,9 @@ meet a row in ROUNDS, a further request to nginx a row in FRONT, and one to a fu
 """
 import contextlib
 import fcntl
+import gzip
+import hashlib
+import json
 import os
 import pathlib
 import shutil
@@ -326,6 +329,118 @@ def check_pause(folder):
     hold("the copy of a pause is sound, and has what was answered before it", (status, before <= kept <= before + 4), (0, True))
 
 
+# ---- what was received
+
+
+def log_line(time_of_line, key, filer="ACME", status="201", **more):
+    """A line of nginx's log, of which `intake_status` is what the intake answered."""
+    return {"time": time_of_line, "host": "intake.example", "user": "acme", "uri": f"/filings/{filer}", "key": f'"{key}"',
+            "status": int(status), "intake_status": status, **more}  # fmt: skip
+
+
+def write_log(path, lines):
+    """Writes lines, of which some are JSON and some are bytes."""
+    data = b"".join(line if isinstance(line, bytes) else json.dumps(line).encode() + b"\n" for line in lines)
+    path.write_bytes(gzip.compress(data) if path.suffix == ".gz" else data)
+    return path
+
+
+RECEIVED = [request("k-1", REPORT), request('a\\"b', REPORT), request("k-3", b"{}"), request("k-4", LARGE, "ACME/1"),
+            request("k-1", SMALLEST, "BETA")]  # fmt: skip
+
+
+def check_receipts(folder):
+    """Which filing was received when and from whom, by logs in any order, one packed, with repeats, odd lines and lines of other registers."""
+    if missing("sqlite3"):
+        return
+    database, copy = folder / "register.db", folder / "copy.db"
+    serving = Serving(database, len(RECEIVED), "--new")
+    found = [statuses(exchange(serving.port, it)) for it in RECEIVED]
+    hold("what is filed", found, [[201], [201], [422], [201], [201]])
+    script("register-snapshot", database, copy)
+    serving.end()
+    # k-1 was answered at 00:30 UTC for the first time, by a clock that is an hour ahead. The line of its repeat has a lesser text.
+    early = write_log(folder / "filings.log-2024-03-31.gz", [
+        log_line("2024-03-31T00:10:00+01:00", "k-1", status="503", intake_status="504"),
+        log_line("2024-03-31T01:30:00+01:00", "k-1"),
+        log_line("2024-03-31T01:31:00+01:00", "k-3", status="422"),
+        log_line("2024-03-31T01:32:00+01:00", 'a\\"b', user="agent"),
+        log_line("2024-03-31T01:33:00+01:00", "k-4", "ACME/1"),
+        log_line("2024-03-31T01:20:00+01:00", "k-1", host="other.example", user="nobody"),
+    ])  # fmt: skip
+    late = write_log(folder / "filings.log", [
+        log_line("2024-03-31T00:45:00+00:00", "k-1", user="agent"),
+        log_line("2024-03-31T00:46:00+00:00", "k-9"),
+        log_line("no time", "k-4", "ACME/1"),
+        b'{"time":"2024-03-31T00:50:00+00:00","uri":"/\xff","intake_status":"","key":""}\n',
+        b"\n",
+        b'{"time":"2024-03-31T00:51:00+00:00","uri":"/fil',
+    ])  # fmt: skip
+    unread = f"register-receipts: {late}: 3 lines can't be read, the first is line 3\n"
+    none = f"register-receipts: {copy}: 1 filings have no line in these logs\n"
+    sums = {name: hashlib.sha256(body).hexdigest() for name, body in [("report", REPORT), ("large", LARGE), ("smallest", SMALLEST)]}
+    first = "2024-03-31T01:30:00+01:00,acme"
+    table = f"""number,filer,key,sha256,received,user
+1,ACME,k-1,{sums["report"]},{first}
+2,ACME,"a""b",{sums["report"]},2024-03-31T01:32:00+01:00,agent
+3,ACME,k-4,{sums["large"]},2024-03-31T01:33:00+01:00,acme
+4,BETA,k-1,{sums["smallest"]},,
+"""
+    before = copy.read_bytes()
+    own = ("--host", "intake.example")
+    hold("register-receipts", script("register-receipts", *own, copy, late, early), (0, table, unread + none))
+    hold("the logs in another order", script("register-receipts", *own, copy, early, late), (0, table, unread + none))
+    others = table.replace(first, "2024-03-31T01:20:00+01:00,nobody")
+    hold("with the lines of another server", script("register-receipts", copy, late, early), (0, others, unread + none))
+    reading = folder / "reading.db"
+    hold("a file for reading", script("register-receipts", *own, "--into", reading, copy, late, early), (0, "", unread + none))
+    hold("only its owner may read it", rights(reading), "0o600")
+    asked = ["sqlite3", "-batch", "-init", str(DEPLOY / "reading.sql"), str(reading)]
+    question = "SELECT number, key, received, user FROM received ORDER BY number"
+    done = subprocess.run([*asked, question], capture_output=True, text=True, check=False, timeout=60)
+    wanted = "1|k-1|2024-03-31T01:30:00+01:00|acme\n2|a\"b|2024-03-31T01:32:00+01:00|agent\n3|k-4|2024-03-31T01:33:00+01:00|acme\n4|k-1||\n"
+    hold("the view `received`", (done.stdout, done.stderr), (wanted, ""))
+    done = subprocess.run([*asked, "SELECT number FROM current ORDER BY number"], capture_output=True, text=True, check=False, timeout=60)
+    hold("the view `current`", (done.stdout, done.stderr), ("2\n3\n4\n", ""))
+    hold("it is no register", ask_register(shutil.copy(reading, folder / "tried.db"))[0], 1)
+    hold("the copy is as it was", (copy.read_bytes() == before, sorted(it.name for it in folder.glob("copy.db*"))), (True, ["copy.db"]))
+    check_refused_receipts(folder, copy, early)
+
+
+def check_refused_receipts(folder, copy, log):
+    make_outbox(folder / "outbox.db")
+    (folder / "text.db").write_text("no database " * 100)
+    kept = names(folder)
+    new = folder / "new.db"
+    for what, words, status, cause in [
+        ("an outbox", (folder / "outbox.db", log), 1, "this is an outbox"),
+        ("a file that is no database", (folder / "text.db", log), 1, "file is not a database"),
+        ("a copy that isn't there", (folder / "none.db", log), 3, "there is no such file"),
+        ("a log that isn't there", (copy, folder / "none.log"), 3, "No such file"),
+        ("a file that is there", ("--into", copy, copy, log), 1, "is there already"),
+        ("a folder that isn't there", ("--into", folder / "none" / "new.db", copy, log), 3, "there is no such folder"),
+        ("no log", (copy,), 2, "LOG"),
+        ("an outbox, into a file", ("--into", new, folder / "outbox.db", log), 1, "this is an outbox"),
+    ]:
+        found, said, errors = script("register-receipts", *words)
+        hold(f"register-receipts: {what}", (found, said, cause in errors), (status, "", True))
+    with open("/dev/full", "wb") as full:
+        done = subprocess.run([DEPLOY / "register-receipts", copy, log], stdout=full, stderr=subprocess.PIPE, check=False, timeout=60)
+    hold("register-receipts: an output that takes nothing", (done.returncode, b"Traceback" in done.stderr), (3, False))
+    serving = Serving(folder / "served.db", 1, "--new")
+    found = script("register-receipts", "--into", new, folder / "served.db", log)
+    hold("register-receipts: a register that is served", found[::2], (3, f"register-receipts: {folder / 'served.db'}: database is locked\n"))
+    exchange(serving.port, listing("ACME"))
+    serving.end()
+    hold("nothing is left", [it for it in names(folder) if not it.startswith("served")], kept)
+    with SmallDisk(folder / "disk", 1 << 20) as disk:
+        if disk.is_mounted:
+            disk.fill(8 << 10)
+            on_disk = names(disk.folder)
+            found = script("register-receipts", "--into", disk.folder / "new.db", copy, log)[0]
+            hold("register-receipts on a full disk", (found, names(disk.folder)), (3, on_disk))
+
+
 # ---- a new register
 
 
@@ -542,6 +657,7 @@ TRIALS = [
     check_earlier_copies,
     check_served,
     check_rush,
+    check_receipts,
     check_pause,
     check_new,
     check_rounds,
