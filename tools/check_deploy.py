@@ -28,7 +28,7 @@ from trials import failures, hold, tell
 
 ROOT = pathlib.Path(__file__).resolve().parent.parent
 DEPLOY = ROOT / "deploy"
-SCRIPTS = ["register-new", "register-snapshot", "outbox-round"]
+SCRIPTS = ["register-new", "register-snapshot", "intake-health", "outbox-round"]
 SECOND_HOST = "2025.example"
 
 
@@ -150,8 +150,10 @@ def try_units(folder):
         units = []
         for unit in sorted(DEPLOY.glob("*.service")) + sorted(DEPLOY.glob("*.timer")):
             text = re.sub(r"(?m)^(Exec\w+=-?)/usr/local/\S+", r"\1/bin/true", unit.read_text())
-            (folder / unit.name).write_text(text)
-            units.append(folder / unit.name)
+            # A unit for instances is read as one of them.
+            own = folder / unit.name.replace("@", "@one")
+            own.write_text(text)
+            units.append(own)
         done = run(analyze, "verify", *units)
         said = "\n".join(line for line in done.stderr.splitlines() if "berruzpil" in line)
         tell("systemd-analyze verify", said or (done.stderr.strip() if done.returncode else None))
@@ -397,7 +399,11 @@ def connect(folder, port, user, host):
 
 def ask_bytes(folder, port, given):
     """The status, media type and content that nginx gives these bytes."""
-    with connect(folder, port, "acme", "intake.example") as peer:
+    return ask_bytes_of(folder, port, "acme", given)
+
+
+def ask_bytes_of(folder, port, user, given):
+    with connect(folder, port, user, "intake.example") as peer:
         peer.sendall(given)
         reply = http.client.HTTPResponse(peer)
         reply.begin()
@@ -446,6 +452,28 @@ def try_second_register(folder, intake, second, port):
         done = run(DEPLOY / "lost-filings", "--host", host, copies[host], folder / "filings.log")
         found = [line.partition(" ")[2] for line in done.stdout.splitlines()]
         hold(f"lost-filings of {host}", (done.returncode, found, done.stderr), (1 if missing else 0, missing, ""))
+
+
+def try_health(folder, intake, port):
+    """The location of the health check: a GET of one list, whatever is asked, for any certificate of the authority, without a line in the log."""
+    lines, before = (folder / "filings.log").read_bytes(), len(intake.requests)
+    for what, user, given in [
+        ("GET", "acme", b"GET /health"),
+        ("a POST with a body", "other", b"POST /health"),
+        ("a query", "acme", b"GET /health?filer=ACME"),
+    ]:
+        with connect(folder, port, user, "intake.example") as peer:
+            peer.sendall(given + b' HTTP/1.1\r\nHost: intake.example\r\nIdempotency-Key: "k"\r\nContent-Length: 2\r\n\r\n{}')
+            reply = http.client.HTTPResponse(peer)
+            reply.begin()
+            sent = intake.requests[-1]
+            hold(f"health: {what}", (reply.status, sent.split(b"\r\n")[0], sent.endswith(b"\r\n\r\n")), (201, b"GET /filings/health HTTP/1.1", True))
+    hold("health without a certificate", ask_bytes_of(folder, port, None, b"GET /health HTTP/1.1\r\nHost: intake.example\r\n\r\n"),
+         problem(403, "no-certificate", "Forbidden"))
+    hold("each reached the intake, but the last", len(intake.requests) - before, 3)
+    time.sleep(0.5)
+    logged = (folder / "filings.log").read_bytes()[len(lines) :].splitlines()
+    hold("only the refused one is logged", [json.loads(line)["status"] for line in logged], [403])
 
 
 def try_requests(folder, intake, port, outbox_port):
@@ -498,10 +526,15 @@ def try_rotation(folder, port):
     before = log.read_bytes()
     done = run(logrotate, "--force", "--state", folder / "state", rules)
     kept = log.with_name(f"filings.log-{time.strftime('%Y-%m-%d')}")
-    hold("logrotate", (done.returncode, done.stderr, kept.exists() and kept.read_bytes()), (0, "", before))
+    hold("logrotate", (done.returncode, done.stderr, kept.exists() and kept.read_bytes() == before), (0, "", True))
     time.sleep(1)
     ask(folder, port, "acme", "ACME")
-    hold("nginx opens its log anew", (len(log.read_bytes().splitlines()), kept.read_bytes()), (1, before))
+    # nginx writes the line after the reply.
+    for _ in range(50):
+        if log.read_bytes():
+            break
+        time.sleep(0.1)
+    hold("nginx opens its log anew", (len(log.read_bytes().splitlines()), kept.read_bytes() == before), (1, True))
 
 
 def try_nginx(folder):
@@ -520,6 +553,7 @@ def try_nginx(folder):
             try:
                 time.sleep(1)
                 try_requests(folder, intake, port, outbox_port)
+                try_health(folder, intake, port)
                 try_second_register(folder, intake, second, port)
                 try_rotation(folder, port)
                 intake.leave()

@@ -1,5 +1,5 @@
 #!/usr/bin/env python3
-"""Tries with the built programs what docs/OPERATIONS.md promises an operator: copies, restores, logs, receipts, rounds, and a full disk.
+"""Tries with the built programs what docs/OPERATIONS.md promises an operator: copies, restores, logs, receipts, numbers, rounds, and a full disk.
 
     tools/check_operations.py [WORD]        each trial, or those with this word in their name
 
@@ -17,6 +17,7 @@ import hashlib
 import json
 import os
 import pathlib
+import re
 import shutil
 import signal
 import socket
@@ -329,7 +330,7 @@ def check_pause(folder):
     hold("the copy of a pause is sound, and has what was answered before it", (status, before <= kept <= before + 4), (0, True))
 
 
-# ---- what was received
+# ---- what was received, and numbers
 
 
 def log_line(time_of_line, key, filer="ACME", status="201", **more):
@@ -439,6 +440,89 @@ def check_refused_receipts(folder, copy, log):
             on_disk = names(disk.folder)
             found = script("register-receipts", "--into", disk.folder / "new.db", copy, log)[0]
             hold("register-receipts on a full disk", (found, names(disk.folder)), (3, on_disk))
+
+
+# What register-metrics writes of the logs and copies below, without the help and the moment at which it is written.
+NUMBERS = """berruzpil_requests_total{host="",status="200"} 1
+berruzpil_requests_total{host="",status="201"} 0
+berruzpil_requests_total{host="",status="403"} 0
+berruzpil_requests_total{host="",status="422"} 0
+berruzpil_requests_total{host="",status="503"} 0
+berruzpil_requests_total{host="a\\"b\\\\c",status="201"} 1
+berruzpil_requests_total{host="a\\"b\\\\c",status="403"} 0
+berruzpil_requests_total{host="a\\"b\\\\c",status="422"} 0
+berruzpil_requests_total{host="a\\"b\\\\c",status="503"} 0
+berruzpil_requests_total{host="intake.example",status="201"} 3
+berruzpil_requests_total{host="intake.example",status="403"} 2
+berruzpil_requests_total{host="intake.example",status="422"} 0
+berruzpil_requests_total{host="intake.example",status="503"} 0
+berruzpil_unread_lines_total 5
+berruzpil_copy_kept{register="2025"} 0
+berruzpil_copy_kept{register="register"} 4
+berruzpil_copy_filings{register="2025"} 0
+berruzpil_copy_filings{register="register"} 3
+berruzpil_copy_timestamp_seconds{register="2025"} 1704067200
+berruzpil_copy_timestamp_seconds{register="register"} 1704164645
+berruzpil_restore_timestamp_seconds{register="register"} 1704164700
+berruzpil_restore_ok{register="register"} 0
+"""
+
+
+def check_numbers(folder):
+    """The numbers of logs with known lines, one packed and some odd, and of copies and a restore of known moments."""
+    kept, file = folder / "copies", folder / "numbers" / "berruzpil.prom"
+    kept.mkdir()
+    file.parent.mkdir()
+    trials.make_register(kept / "empty.db")
+    shutil.copy(kept / "empty.db", kept / "register-20240101T000000Z.db")
+    shutil.move(kept / "empty.db", kept / "2025-20240101T000000Z.db")
+    make_register(folder / "register.db")
+    # The last copy, begun on 2 January 2024 at 3:04:05: 19,724 days and 11,045 seconds after the first moment of 1970.
+    shutil.copy(folder / "register.db", kept / "register-20240102T030405Z.db")
+    (kept / "register.tried").write_text("2024-01-02T03:05:00Z 1 register-20240102T030405Z.db doesn't open\n")
+    for it in kept.glob("*-wal"):
+        it.unlink()
+    logs = [
+        write_log(folder / "filings.log", [log_line("T", "k-1"), log_line("T", "k-2", status="403"), b"\n", b'{"status":200}\n',
+                                           log_line("T", "k-3", host='a"b\\c'), b'{"host":"x","status":"201"}\n', b"[7]\n", b'{"status":true}\n',
+                                           b'{"host":"intake.example","status":403,"agent":"\xff"}\n', b'{"host":"intake.exa']),
+        write_log(folder / "filings.log-2024-01-01.gz", [log_line("T", "k-4"), log_line("T", "k-5")]),
+    ]  # fmt: skip
+    before = int(time.time())
+    found = script("register-metrics", "--into", file, "--copies", kept, *logs)
+    hold("register-metrics", found, (0, "", ""))
+    text = file.read_text()
+    values = [line for line in text.splitlines() if not line.startswith("#")]
+    moment = int(values[-1].removeprefix("berruzpil_metrics_timestamp_seconds "))
+    hold("when they were written", before <= moment <= time.time(), True)
+    ages = [line for line in values if "age_seconds" in line]
+    hold("the ages", ages, [f'berruzpil_copy_age_seconds{{register="2025"}} {moment - 1704067200}',
+                            f'berruzpil_copy_age_seconds{{register="register"}} {moment - 1704164645}',
+                            f'berruzpil_restore_age_seconds{{register="register"}} {moment - 1704164700}'])  # fmt: skip
+    hold("the other numbers", [line for line in values[:-1] if line not in ages], NUMBERS.splitlines())
+    kinds = re.findall(r"(?m)^# TYPE (\S+) (?:counter|gauge)$", text)
+    hold("each name has its kind, and once", kinds, list(dict.fromkeys(re.split("[{ ]", line)[0] for line in values)))
+    hold("everybody may read them", (rights(file), names(file.parent)), ("0o644", ["berruzpil.prom"]))
+    hold("nothing is left beside the copies", names(kept),
+         ["2025-20240101T000000Z.db", "register-20240101T000000Z.db", "register-20240102T030405Z.db", "register.tried"])
+    (folder / "damaged").mkdir()
+    (folder / "damaged" / "register-20240101T000000Z.db").write_text("no database " * 100)
+    for what, words, status in [
+        ("a log that isn't there", ("--into", file, folder / "none.log"), 3),
+        ("a folder that isn't there", ("--into", folder / "none" / "x.prom", logs[0]), 3),
+        ("copies that aren't there", ("--into", file, "--copies", folder / "none"), 3),
+        ("a copy that is none", ("--into", file, "--copies", folder / "damaged"), 3),
+        ("a name that Prometheus doesn't read", ("--into", folder / "x.txt", logs[0]), 2),
+        ("no file", (logs[0],), 2),
+    ]:
+        found, said, errors = script("register-metrics", *words)
+        is_named = errors.startswith(("register-metrics: ", "usage: ")) and "Traceback" not in errors
+        hold(f"register-metrics: {what}", (found, said, is_named), (status, "", True))
+    hold("the file is as it was", (file.read_text() == text, names(file.parent)), (True, ["berruzpil.prom"]))
+    hold("numbers of a log alone", script("register-metrics", "--into", file, logs[1])[0], 0)
+    counts = [f'berruzpil_requests_total{{host="intake.example",status="{status}"}} {2 if status == 201 else 0}' for status in (201, 403, 422, 503)]
+    hold("replace those of before", [line for line in file.read_text().splitlines() if line[0] != "#"][:-1],
+         [*counts, "berruzpil_unread_lines_total 0"])
 
 
 # ---- a new register
@@ -658,6 +742,7 @@ TRIALS = [
     check_served,
     check_rush,
     check_receipts,
+    check_numbers,
     check_pause,
     check_new,
     check_rounds,
