@@ -28,7 +28,7 @@ from trials import failures, hold, tell
 
 ROOT = pathlib.Path(__file__).resolve().parent.parent
 DEPLOY = ROOT / "deploy"
-SCRIPTS = ["register-new", "register-snapshot", "intake-health", "outbox-round"]
+SCRIPTS = ["register-new", "register-snapshot", "register-copies", "intake-health", "outbox-round"]
 SECOND_HOST = "2025.example"
 
 
@@ -157,6 +157,27 @@ def try_units(folder):
         done = run(analyze, "verify", *units)
         said = "\n".join(line for line in done.stderr.splitlines() if "berruzpil" in line)
         tell("systemd-analyze verify", said or (done.stderr.strip() if done.returncode else None))
+
+
+def settings(name):
+    """The lines of a unit that are no comments."""
+    return [line for line in (DEPLOY / name).read_text().splitlines() if line and line[0] != "#"]
+
+
+def try_instances():
+    """The units for instances are those for one, but for the names, the port and what says where the port is."""
+    for one, changes, more in [
+        ("berruzpil-intake", {"registers xBRL-JSON reports once": "of the register %i", "intake: of": "intake of", "register.db": "%i.db",
+                              "8080": "${PORT}", "Identifier=intake": "Identifier=intake-%i"}, ["EnvironmentFile=/etc/berruzpil/%i.env"]),
+        ("berruzpil-outbox", {"outbox: sends": "outbox %i: sends", "outbox.db 8081": "%i.db ${PORT}"},
+         ["Environment=PORT=8081", "EnvironmentFile=-/etc/berruzpil/%i.env"]),
+    ]:
+        wanted = "\n".join(settings(f"{one}.service"))
+        for old, new in changes.items():
+            wanted = wanted.replace(old, new)
+        found = settings(f"{one}@.service")
+        hold(f"{one}@.service says where its port is", [line for line in found if line in more], more)
+        hold(f"{one}@.service is {one}.service otherwise", [line for line in found if line not in more], wanted.splitlines())
 
 
 def tables_of_protocol():
@@ -576,6 +597,7 @@ def main():
             try_new(folders[2])
         try_units(folders[2])
         try_views(folders[2])
+        try_instances()
         try_log(folders[2])
         try_nginx(folders[3])
     print(f"{len(failures)} failed")

@@ -330,6 +330,89 @@ def check_pause(folder):
     hold("the copy of a pause is sound, and has what was answered before it", (status, before <= kept <= before + 4), (0, True))
 
 
+# ---- copies that are kept
+
+OLD = 40 * 86400
+
+
+def make_old(path, age):
+    """A file that was last written so many seconds ago."""
+    path.write_bytes(b"")
+    os.utime(path, (time.time() - age,) * 2)
+
+
+def check_kept_copies(folder):
+    """register-copies while the register is served: a copy, what came of its restore, and which old copies go."""
+    database, kept = folder / "register.db", folder / "copies"
+    kept.mkdir()
+    serving = Serving(database, len(REQUESTS) + 1, "--new")
+    for it in REQUESTS:
+        exchange(serving.port, it)
+    # The last of these are no copies of this register, whatever their age.
+    ages = {"register-20240101T000000Z.db": OLD, "register-20240102T000000Z.db": 20 * 86400, "register-2-20240101T000000Z.db": OLD,
+            "before-upgrade.db": OLD}  # fmt: skip
+    for name, age in ages.items():
+        make_old(kept / name, age)
+    status, said, errors = script("register-copies", database, kept, 30)
+    (copy,) = set(names(kept)) - set(ages) - {"register.tried"}
+    hold("register-copies", (status, said, errors), (0, f"{kept / copy}: {SOUND}\n{kept / copy}: restored: {SOUND}\n", ""))
+    hold("the name of the copy", bool(re.fullmatch(r"register-\d{8}T\d{6}Z\.db", copy)), True)
+    hold("only its owner may read it", rights(kept / copy), "0o600")
+    hold("the copy that is too old is gone, and no other file", names(kept), sorted({copy, "register.tried", *list(ages)[1:]}))
+    moment, *rest = (kept / "register.tried").read_text().split(" ", 3)
+    hold("when the restore was tried", bool(re.fullmatch(r"\d{4}-\d\d-\d\dT\d\d:\d\d:\d\dZ", moment)), True)
+    hold("what came of it", rest, ["0", copy, f"restored: {SOUND}\n"])
+    exchange(serving.port, request("k-1", REPORT))
+    serving.end()
+    hold("the copy is the register", rows(kept / copy) == rows(database), True)
+
+
+def check_failed_copies(folder):
+    """Restores that fail or give another register, a register that is damaged, names that are wrong, and a full disk."""
+    database, kept, scripts = folder / "register.db", folder / "copies", folder / "scripts"
+    make_register(database)
+    kept.mkdir()
+    scripts.mkdir()
+    for name in ("register-copies", "register-snapshot"):
+        shutil.copy(DEPLOY / name, scripts)
+    make_old(kept / "register-20240101T000000Z.db", OLD)
+    for what, stand_in, wanted in [
+        ("a restore that fails", "echo 'register-restore: no' >&2; exit 3", (3, "no")),
+        ("a restore that gives another register", 'echo "$2: restored: sound: 3 kept, 3 filings"', (1, "restored: sound: 3 kept, 3 filings")),
+    ]:
+        (scripts / "register-restore").write_text(f"#!/bin/sh\n: > \"$2\"\n{stand_in}\n")
+        (scripts / "register-restore").chmod(0o755)
+        for it in set(names(kept)) - {"register-20240101T000000Z.db"}:
+            (kept / it).unlink()
+        done = subprocess.run([scripts / "register-copies", database, kept, "30"], capture_output=True, text=True, check=False, env=PATHS, timeout=60)
+        old, copy, tried = names(kept)
+        found = (done.returncode, done.stderr)
+        hold(what, found, (wanted[0], f"register-copies: {kept / copy}: a restore failed: {wanted[1]}\n"))
+        hold("no copy goes, and nothing else is left", (old, tried), ("register-20240101T000000Z.db", "register.tried"))
+        hold("it is written down", (kept / tried).read_text().split(" ", 1)[1], f"{wanted[0]} {copy} {wanted[1]}\n")
+    before = {it: (kept / it).read_bytes() for it in names(kept)}
+    shutil.copy(database, folder / "byte.db")
+    with_changed_byte(folder / "byte.db")
+    for what, words, status in [
+        ("a damaged register", (folder / "byte.db", kept, 30), 1),
+        ("a register that isn't there", (folder / "none.db", kept, 30), 3),
+        ("a folder that isn't there", (database, folder / "none", 30), 3),
+        ("days that are no number", (database, kept, "x"), 2),
+        ("too few words", (database, kept), 2),
+    ]:
+        found, said, errors = script("register-copies", *words)
+        hold(f"register-copies: {what}", (found, said, errors != ""), (status, "", True))
+    hold("all copies are as they were", {it: (kept / it).read_bytes() for it in names(kept)} == before, True)
+    with SmallDisk(folder / "disk", 1 << 20) as disk:
+        if not disk.is_mounted:
+            print("not tried: a full disk, since no file system may be mounted")
+            return
+        disk.fill(8 << 10)
+        on_disk = names(disk.folder)
+        found, said, _ = script("register-copies", database, disk.folder, 30)
+        hold("register-copies on a full disk", (found, said, names(disk.folder)), (3, "", on_disk))
+
+
 # ---- what was received, and numbers
 
 
@@ -741,6 +824,8 @@ TRIALS = [
     check_earlier_copies,
     check_served,
     check_rush,
+    check_kept_copies,
+    check_failed_copies,
     check_receipts,
     check_numbers,
     check_pause,
