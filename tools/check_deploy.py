@@ -357,13 +357,21 @@ def read_message(peer):
     return held
 
 
+# Subjects with whatever means something to a regular expression, to nginx's files, or to the way in which a subject is written.
+ODD_SUBJECTS = {
+    "odd-1": "/O=Bäcker, Söhne \\+ Co./CN=a|b",
+    "odd-2": '/O=say "(x)" {1}; #2/CN=a.b*c?^[d]$e',
+    "odd-3": "/O=back\\\\slash and 'quotes' <x>/CN= ends with a space ",
+}
+
+
 def make_certificates(openssl, folder):
     """An authority, and certificates of the server, of a filer and of somebody without a line in the map."""
     run(openssl, "req", "-x509", "-newkey", "ec", "-pkeyopt", "ec_paramgen_curve:P-256", "-nodes", "-subj", "/CN=authority",
         "-keyout", folder / "ca.key", "-out", folder / "ca.pem", "-days", "2")
-    subjects = {"server": "/CN=intake.example", "acme": "/O=ACME/CN=acme-filing", "other": "/O=x,CN=acme-filing,O=ACME/CN=other"}
+    subjects = {"server": "/CN=intake.example", "acme": "/O=ACME/CN=acme-filing", "other": "/O=x,CN=acme-filing,O=ACME/CN=other", **ODD_SUBJECTS}
     for name, subject in subjects.items():
-        run(openssl, "req", "-newkey", "ec", "-pkeyopt", "ec_paramgen_curve:P-256", "-nodes", "-subj", subject,
+        run(openssl, "req", "-utf8", "-newkey", "ec", "-pkeyopt", "ec_paramgen_curve:P-256", "-nodes", "-subj", subject,
             "-keyout", folder / f"{name}.key", "-out", folder / f"{name}.csr")
         names = folder / "names"
         names.write_text(f"subjectAltName=DNS:intake.example,DNS:{SECOND_HOST}")
@@ -377,9 +385,19 @@ def second_register():
     return run("sh", "-c", command[1], cwd=DEPLOY).stdout
 
 
+def with_odd_users(folder):
+    """The file of the first register, with the users of the odd subjects, as nginx-filer writes them, each for the filer ACME and one of its own."""
+    file = folder / "fronts.conf"
+    file.write_text((DEPLOY / "nginx-intake.conf").read_text())
+    for user in ODD_SUBJECTS:
+        done = run(DEPLOY / "nginx-filer", file, folder / f"{user}.pem", user, "ACME", f"{user}.x")
+        hold(f"nginx-filer: {user}", (done.returncode, done.stderr, len(done.stdout.splitlines())), (0, "", 3))
+    return file.read_text()
+
+
 def nginx_file(folder, port, intakes, outbox_port):
     """The files of deploy/ as one that runs in a folder, for two registers."""
-    fronts = (DEPLOY / "nginx-intake.conf").read_text() + second_register()
+    fronts = with_odd_users(folder) + second_register()
     for written, own in [("127.0.0.1:8080", intakes[0]), ("127.0.0.1:8082", intakes[1])]:
         fronts = fronts.replace(written, f"127.0.0.1:{own}")
     fronts = fronts.replace("listen 443", f"listen 127.0.0.1:{port}")
@@ -468,11 +486,46 @@ def try_second_register(folder, intake, second, port):
     hold("a report for the second register", (status, len(second.requests), len(intake.requests) - before), (201, 1, 0))
     copies = {host: folder / f"{host}.db" for host in ("intake.example", SECOND_HOST)}
     for host, copy in copies.items():
-        make_copy(copy, [("ACME", "k-1")] if host == "intake.example" else [])
+        make_copy(copy, [("ACME", "k-1"), *((f"{user}.x", "k-1") for user in ODD_SUBJECTS)] if host == "intake.example" else [])
     for host, missing in [("intake.example", []), (SECOND_HOST, ['ACME "second"'])]:
         done = run(DEPLOY / "lost-filings", "--host", host, copies[host], folder / "filings.log")
         found = [line.partition(" ")[2] for line in done.stdout.splitlines()]
         hold(f"lost-filings of {host}", (done.returncode, found, done.stderr), (1 if missing else 0, missing, ""))
+
+
+def try_users(folder, port):
+    """The users that nginx-filer wrote may file for their filers, and for no other."""
+    for user in ODD_SUBJECTS:
+        found = [ask(folder, port, user, filer)[0] for filer in ("ACME", f"{user}.x", f"{user}-x", "BETA")]
+        hold(f"the filers of {user}", found, [201, 201, 403, 403])
+    # nginx writes the line after the reply.
+    time.sleep(0.5)
+    hold("none of them is another", json.loads((folder / "filings.log").read_text().splitlines()[-1])["user"], "odd-3")
+
+
+def try_filer_lines(folder):
+    """What nginx-filer refuses, and that it leaves the file as it is then."""
+    file, acme = folder / "fronts.conf", folder / "acme.pem"
+    before = file.read_text()
+    for what, words, wanted in [
+        ("lines that are there", (file, acme, "acme", "ACME"), (0, '"~^CN=acme-filing,O=ACME$" acme;\n"~^acme ACME$" 1;\n', "")),
+        ("a subject that is another user's", (file, acme, "beta", "ACME"),
+         (1, "", f'nginx-filer: {file}: this subject is another user\'s: "~^CN=acme-filing,O=ACME$" acme;\n')),
+        ("a file without the maps", (acme, acme, "acme", "ACME"), (1, "", f"nginx-filer: {acme}: there is no map of who may file for which filer\n")),
+        ("a filer code that is none", (file, acme, "acme", "a/b"), (2, "", "nginx-filer: 'a/b' is no filer code\n")),
+        ("a user that is none", (file, acme, "acme; }", "ACME"), (2, "", "nginx-filer: 'acme; }' is no user\n")),
+        ("too few words", (file, acme, "acme"), (2, "", "usage: nginx-filer FILE CERTIFICATE USER FILER ..\n")),
+    ]:
+        done = run(DEPLOY / "nginx-filer", *words)
+        hold(f"nginx-filer: {what}", (done.returncode, done.stdout, done.stderr), wanted)
+    hold("nginx-filer: a certificate that is none", run(DEPLOY / "nginx-filer", file, file, "acme", "ACME").returncode, 3)
+    hold("nginx-filer: a file that isn't there", run(DEPLOY / "nginx-filer", folder / "none.conf", acme, "acme", "ACME").returncode, 3)
+    hold("nginx-filer leaves the file as it was", (file.read_text(), (folder / ".fronts.conf.part").exists()), (before, False))
+    second = folder / "second.conf"
+    second.write_text(second_register())
+    done = run(DEPLOY / "nginx-filer", second, acme, "acme", "BETA")
+    line = '"~^acme BETA$" 1;\n'
+    hold("nginx-filer: a file without users", (done.returncode, done.stdout, f"    {line}" in second.read_text()), (0, line, True))
 
 
 def try_health(folder, intake, port):
@@ -574,6 +627,8 @@ def try_nginx(folder):
             try:
                 time.sleep(1)
                 try_requests(folder, intake, port, outbox_port)
+                try_users(folder, port)
+                try_filer_lines(folder)
                 try_health(folder, intake, port)
                 try_second_register(folder, intake, second, port)
                 try_rotation(folder, port)
