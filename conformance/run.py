@@ -1,0 +1,894 @@
+#!/usr/bin/env python3
+"""Holds an implementation of either end of the protocol to the cases of conformance/cases.
+
+    run.py intake --command 'intake serve --db {db} --port {port} --connections {n} --limit {limit} --new'
+                  [--again 'intake serve --db {db} --port {port} --connections {n}']
+    run.py intake --port PORT
+    run.py intake --exec 'intake run'
+    run.py outbox --command outbox
+    run.py list
+
+Besides, with each of these: --only WORD (cases with this word in their name), --case NAME (both may be given again), --cases FOLDER,
+--patience SECONDS, --jobs N.
+README.md beside this file says what the cases are made of. Status 0 if each case that was tried passed, 1 if one failed, 2 for a wrong
+command line, and if a file of cases is none.
+"""
+import argparse
+import base64
+import concurrent.futures
+import json
+import os
+import pathlib
+import re
+import select
+import shlex
+import signal
+import socket
+import struct
+import subprocess
+import sys
+import tempfile
+import threading
+import time
+
+HERE = pathlib.Path(__file__).resolve().parent
+DEFAULT_LIMIT = 1_000_000
+# How long nothing has to come where a case says that nothing comes.
+QUIET = 0.25
+
+
+class Fault(Exception):
+    """What was wanted, and what came."""
+
+    def __init__(self, what, wanted, came):
+        super().__init__(f"{what}\n    wanted: {shown(wanted)}\n    came:   {shown(came)}")
+
+
+class Unusable(Exception):
+    """A file of cases, or a command, that can't be used."""
+
+
+def shown(value):
+    """The value, cut where it is long."""
+    if isinstance(value, (bytes, bytearray)):
+        text = repr(bytes(value))[1:]
+        return text if len(text) <= 700 else f"{text[:450]} .. {text[-200:]} ({len(value)} bytes)"
+    return str(value)
+
+
+# ---- bytes as a case writes them
+
+
+def to_bytes(it, offset=0):
+    """The bytes that a case writes as a text, base64, a repetition, a count, a filing's number or a list of these."""
+    if isinstance(it, str):
+        return it.encode()
+    if isinstance(it, list):
+        return b"".join(to_bytes(part, offset) for part in it)
+    if isinstance(it, dict):
+        if set(it) == {"base64"}:
+            return from_base64(it["base64"])
+        if set(it) == {"repeat", "times"}:
+            return to_bytes(it["repeat"], offset) * it["times"]
+        if set(it) == {"each", "from", "to", "join"}:
+            return it["join"].join(it["each"].replace("%", str(n)) for n in range(it["from"], it["to"] + 1)).encode()
+        if set(it) == {"number"}:
+            if offset is None:
+                raise Unusable("a number is sent before a reply named one")
+            return str(it["number"] + offset).encode()
+    raise Unusable(f"{it!r} spells no bytes")
+
+
+def from_base64(text):
+    try:
+        return base64.b64decode(text, validate=True)
+    except (TypeError, ValueError) as fault:
+        raise Unusable(f"{text!r} is no base64") from fault
+
+
+def parts_of(it):
+    """The bytes as a list of bytes and of filings' numbers."""
+    if isinstance(it, list):
+        return [part for one in it for part in parts_of(one)]
+    if isinstance(it, dict) and set(it) == {"number"}:
+        return [it["number"]]
+    return [to_bytes(it)]
+
+
+class Numbers:
+    """By how much the numbers of filings are above those of an empty register: nothing, or what the first number of a reply shows."""
+
+    def __init__(self, offset):
+        self.offset = offset
+
+    def bytes_of(self, it):
+        return to_bytes(it, self.offset)
+
+    def match(self, it, came):
+        """Whether the bytes are those of the case. Finds the offset where it is not known yet."""
+        parts = parts_of(it)
+        if self.offset is None and any(isinstance(part, int) for part in parts):
+            pattern = b"".join(b"([1-9][0-9]*)" if isinstance(part, int) else re.escape(part) for part in parts)
+            found = re.fullmatch(pattern, came, re.DOTALL)
+            if found:
+                self.offset = int(found[1]) - next(part for part in parts if isinstance(part, int))
+        return self.offset is not None and came == self.bytes_of(it) or self.offset is None and came == to_bytes(it, 0)
+
+    def wanted(self, it):
+        return to_bytes(it, self.offset or 0)
+
+
+# ---- one connection
+
+
+class Socket:
+    """A connection to a port. The first one of a program waits until the program listens."""
+
+    def __init__(self, port, wait, process=None):
+        until = time.monotonic() + wait
+        while True:
+            try:
+                self.peer = socket.create_connection(("127.0.0.1", port), timeout=wait)
+                break
+            except ConnectionRefusedError as refused:
+                if time.monotonic() > until or process is not None and process.poll() is not None:
+                    raise Fault("a connection", f"somebody listens on port {port}", "nobody does") from refused
+                time.sleep(0.01)
+        self.peer.setsockopt(socket.IPPROTO_TCP, socket.TCP_NODELAY, 1)
+
+    def send(self, data):
+        self.peer.sendall(data)
+
+    def is_readable(self, seconds):
+        return bool(select.select([self.peer], [], [], seconds)[0])
+
+    def receive(self):
+        return self.peer.recv(65536)
+
+    def shut(self):
+        self.peer.shutdown(socket.SHUT_WR)
+
+    def reset(self):
+        self.peer.setsockopt(socket.SOL_SOCKET, socket.SO_LINGER, struct.pack("ii", 1, 0))
+        self.peer.close()
+
+    def close(self):
+        self.peer.close()
+
+
+class Pipes:
+    """A program that serves its standard input as one connection."""
+
+    def __init__(self, words):
+        self.process = subprocess.Popen(words, stdin=subprocess.PIPE, stdout=subprocess.PIPE, stderr=subprocess.DEVNULL, bufsize=0)
+
+    def send(self, data):
+        # Written beside the reading, as a reply may come before all is read.
+        threading.Thread(target=self.write, args=(data,), daemon=True).start() if len(data) > 60_000 else self.write(data)
+
+    def write(self, data):
+        while data:
+            data = data[self.process.stdin.write(data) :]
+
+    def is_readable(self, seconds):
+        return bool(select.select([self.process.stdout], [], [], seconds)[0])
+
+    def receive(self):
+        return os.read(self.process.stdout.fileno(), 65536)
+
+    def shut(self):
+        self.process.stdin.close()
+
+    def close(self):
+        for it in (self.process.stdin, self.process.stdout):
+            try:
+                it.close()
+            except OSError:
+                pass
+        self.process.kill()
+        self.process.wait()
+
+    reset = close
+
+
+class Connection:
+    """The steps of a case on a connection, and what came on it so far."""
+
+    def __init__(self, transport, numbers, patience):
+        self.transport, self.numbers, self.patience = transport, numbers, patience
+        self.came, self.is_ended = b"", False
+
+    def play(self, steps):
+        try:
+            for step in steps:
+                name, value = one_member(step)
+                getattr(self, name)(value)
+            if self.came:
+                raise Fault("behind the last step", b"", self.came)
+        finally:
+            self.transport.close()
+
+    def more(self, seconds):
+        """Waits for more bytes, or for the end. Whether either came."""
+        if self.is_ended or not self.transport.is_readable(seconds):
+            return False
+        try:
+            found = self.transport.receive()
+        except (ConnectionResetError, BrokenPipeError):
+            found = b""
+        self.came += found
+        self.is_ended = not found
+        return True
+
+    def send(self, value):
+        try:
+            self.transport.send(self.numbers.bytes_of(value))
+        except (ConnectionResetError, BrokenPipeError):
+            # The other end may close before it has read everything; what it replied is looked at all the same.
+            pass
+
+    def pause(self, value):
+        time.sleep(value / 1000)
+
+    def shut(self, _):
+        try:
+            self.transport.shut()
+        except OSError:
+            pass
+
+    def cut(self, _):
+        self.transport.close()
+        self.is_ended = True
+
+    def reset(self, _):
+        self.transport.reset()
+        self.is_ended = True
+
+    def quiet(self, value):
+        until = time.monotonic() + value / 1000
+        while (left := until - time.monotonic()) > 0:
+            if self.more(left):
+                raise Fault(f"in {value} ms", "nothing comes", "the connection is closed" if self.is_ended else self.came)
+
+    def stays(self, _):
+        """The connection is open: nothing comes before this side is shut, and nothing but the end behind that."""
+        if self.came:
+            raise Fault("behind the last reply", b"", self.came)
+        self.quiet(QUIET * 1000)
+        self.shut(True)
+        self.closed(True)
+
+    def closed(self, _):
+        until = time.monotonic() + self.patience
+        while not self.is_ended and not self.came:
+            if not self.more(until - time.monotonic()):
+                raise Fault("the end of the connection", "the other end closes it", f"it is open after {self.patience} s")
+        if self.came:
+            raise Fault("before the end of the connection", b"", self.came)
+
+    def take(self, what, is_there):
+        """Reads until the bytes satisfy the test, which gives how many of them are taken, or None."""
+        until = time.monotonic() + self.patience
+        while (size := is_there(self.came)) is None:
+            left = until - time.monotonic()
+            if left <= 0 or not self.more(left) or self.is_ended:
+                end = "the connection ended" if self.is_ended else f"no more in {self.patience} s"
+                raise Fault(what, "a whole reply", shown(self.came) + f", then {end}")
+        found, self.came = self.came[:size], self.came[size:]
+        return found
+
+    def reply(self, wanted):
+        """Reads one reply, interim or final, and holds it to what is wanted of it."""
+        what = f"a reply with status {wanted['status']}"
+        head = self.take(what, lambda came: came.find(b"\r\n\r\n") + 4 if b"\r\n\r\n" in came else None)
+        status, fields = read_head(head)
+        has_content = "content" in wanted or "json" in wanted
+        content = b""
+        if has_content or status != wanted["status"]:
+            length = content_length(what, head, fields)
+            content = self.take(what, lambda came: length if len(came) >= length else None)
+        if status != wanted["status"]:
+            raise Fault("the status", wanted["status"], head + content)
+        for name, value in wanted.get("fields", {}).items():
+            found = [one for other, one in fields if other == name.lower()]
+            if found != [value]:
+                raise Fault(f"the field {name}", value, ", ".join(found) if found else b"no such field in " + head)
+        for name in ("transfer-encoding", "content-encoding"):
+            if any(other == name for other, _ in fields):
+                raise Fault("the fields", f"none is {name}", head)
+        if not has_content and any(name == "content-length" for name, _ in fields):
+            raise Fault("a reply without content", "no Content-Length", head)
+        if "content" in wanted and not self.numbers.match(wanted["content"], content):
+            raise Fault("the content", self.numbers.wanted(wanted["content"]), content)
+        if "json" in wanted and read_json(content) != wanted["json"]:
+            raise Fault("the content", json.dumps(wanted["json"]), content)
+
+
+def one_member(step):
+    if not isinstance(step, dict) or len(step) != 1:
+        raise Unusable(f"{step!r} is no step")
+    return next(iter(step.items()))
+
+
+def read_head(head):
+    """The status of a reply's head, and its fields with names in lower case."""
+    first, *lines = head[:-4].split(b"\r\n")
+    found = re.fullmatch(rb"HTTP/1\.1 ([1-9][0-9][0-9]) [\t -~\x80-\xff]*", first)
+    if not found:
+        raise Fault("the first line of a reply", "HTTP/1.1, a status and a phrase", head)
+    fields = []
+    for line in lines:
+        field = re.fullmatch(rb"([!#$%&'*+.^_`|~0-9A-Za-z-]+):[ \t]*([\t -~\x80-\xff]*?)[ \t]*", line)
+        if not field:
+            raise Fault("a line of a reply's head", "a name, a colon and a value", line)
+        fields.append((field[1].decode().lower(), field[2].decode("latin-1")))
+    return int(found[1]), fields
+
+
+def read_json(content):
+    try:
+        return json.loads(content)
+    except ValueError:
+        return None
+
+
+def content_length(what, head, fields):
+    found = [value for name, value in fields if name == "content-length"]
+    if len(found) != 1 or not re.fullmatch("[0-9]+", found[0]):
+        raise Fault(what, "one Content-Length", head)
+    return int(found[0])
+
+
+# ---- an intake
+
+
+class Command:
+    """A program that is started afresh on a port of its own for a case, and again on the same register where the case says so."""
+
+    reads_lists = True
+
+    def __init__(self, first, again):
+        self.first, self.again = first, again
+
+    def lacks(self, case):
+        """Why the case can't be tried, or None."""
+        if "limit" in case and "{limit}" not in self.first:
+            return "the command has no {limit}"
+        if self.again is None and any("restart" in item for item in case["connections"]):
+            return "there is no --again"
+        return None
+
+    def open(self, case, folder, patience):
+        return Started(self, case, folder, patience)
+
+
+class Started:
+    """The program of a case while the case is tried."""
+
+    def __init__(self, command, case, folder, patience):
+        self.command, self.patience, self.folder = command, patience, folder
+        self.port = Ports.next()
+        self.limit = case.get("limit", DEFAULT_LIMIT)
+        self.left = served_counts(case)
+        self.process = None
+        self.numbers = Numbers(0)
+        self.start(command.first)
+
+    def start(self, template):
+        words = {"db": self.folder / "register.db", "port": self.port, "n": self.left.pop(0), "limit": self.limit}
+        with open(self.folder / "said", "ab") as said:
+            self.process = start(filled(template, words), stdin=subprocess.DEVNULL, stdout=said, stderr=said)
+
+    def connect(self):
+        return Socket(self.port, max(self.patience, 20), self.process)
+
+    def restart(self, how):
+        self.stop(signal.SIGKILL if how == "kill" else signal.SIGTERM)
+        self.start(self.command.again)
+
+    def stop(self, sign):
+        try:
+            self.process.send_signal(sign)
+            self.process.wait(timeout=10)
+        except subprocess.TimeoutExpired:
+            self.process.kill()
+            self.process.wait()
+
+    def end(self):
+        self.stop(signal.SIGTERM)
+
+    def told(self):
+        """What the program printed, for somebody who looks for the cause of a failure."""
+        return (self.folder / "said").read_bytes()[-600:]
+
+
+def served_counts(case):
+    """For each start of the program, how many connections it serves until it is stopped or the case ends."""
+    counts = [0]
+    for item in case["connections"]:
+        if "restart" in item:
+            counts.append(0)
+        else:
+            counts[-1] += 1
+    counts[-1] += len(case.get("register", {}))
+    return [max(count, 1) for count in counts]
+
+
+class Running:
+    """An intake that runs already. Its register has what earlier cases filed, so numbers are counted from the first that a case sees."""
+
+    reads_lists = True
+
+    def __init__(self, port):
+        self.port, self.is_fresh = port, True
+
+    def lacks(self, case):
+        if "limit" in case:
+            return "it needs a limit of its own"
+        if any("restart" in item for item in case["connections"]):
+            return "it needs a restart"
+        if case.get("empty") and not self.is_fresh:
+            return "it needs an empty register of its own"
+        return None
+
+    def open(self, case, folder, patience):
+        self.is_fresh = False
+        return Attached(self.port, patience)
+
+
+class Attached:
+    def __init__(self, port, patience):
+        self.port, self.patience, self.numbers = port, patience, Numbers(None)
+
+    def connect(self):
+        return Socket(self.port, self.patience)
+
+    def end(self):
+        pass
+
+    def told(self):
+        return b""
+
+
+class Piped:
+    """A program that serves one connection on its standard input and output, with a register in memory."""
+
+    reads_lists = False
+
+    def __init__(self, template):
+        self.words = filled(template, {})
+
+    def lacks(self, case):
+        if "limit" in case:
+            return "it needs a limit of its own"
+        if len(case["connections"]) > 1:
+            return "it needs more than one connection"
+        if any(name in step for step in case["connections"][0]["steps"] for name in ("cut", "reset")):
+            return "it needs a socket"
+        return None
+
+    def open(self, case, folder, patience):
+        return PipedCase(self.words)
+
+
+class PipedCase:
+    def __init__(self, words):
+        self.words, self.numbers = words, Numbers(0)
+
+    def connect(self):
+        return Pipes(self.words)
+
+    def end(self):
+        pass
+
+    def told(self):
+        return b""
+
+
+def list_steps(filer, content):
+    """A GET of a filer's list, or of one filing of it, and what has to come."""
+    return [
+        {"send": ["GET /filings/", filer, " HTTP/1.1\r\nHost: h\r\nConnection: close\r\n\r\n"]},
+        {"reply": {"status": 200, "fields": {"Content-Type": "application/json"}, "content": content}},
+        {"closed": True},
+    ]
+
+
+def try_intake(end, case, patience):
+    """Plays the case. None if it passed, else what was wanted and what came."""
+    with tempfile.TemporaryDirectory(prefix="conformance-") as folder:
+        tried = end.open(case, pathlib.Path(folder), patience)
+        what = "the program"
+        try:
+            for at, item in enumerate(case["connections"], 1):
+                what = f"connection {at}"
+                if "restart" in item:
+                    tried.restart(item["restart"])
+                else:
+                    Connection(tried.connect(), tried.numbers, patience).play(item["steps"])
+            for filer, content in case.get("register", {}).items() if end.reads_lists else ():
+                what = f"the list of {filer} afterwards"
+                Connection(tried.connect(), tried.numbers, patience).play(list_steps(filer, content))
+        except (Fault, OSError) as fault:
+            told = tried.told()
+            return f"{what}: {fault}" + (f"\n    the program said: {shown(told)}" if told else "")
+        finally:
+            tried.end()
+    return None
+
+
+# ---- an outbox
+
+
+class Peer:
+    """A server that takes one request of an outbox, answers it as the case says, and closes the connection."""
+
+    def __init__(self, answer, patience):
+        self.answer, self.patience = answer, patience
+        self.came, self.count = [], 0
+        self.listener = socket.create_server(("127.0.0.1", 0))
+        self.port = self.listener.getsockname()[1]
+        self.is_done = threading.Event()
+        self.thread = threading.Thread(target=self.serve, daemon=True)
+        self.thread.start()
+
+    def serve(self):
+        with self.listener:
+            while not self.is_done.is_set():
+                if not select.select([self.listener], [], [], 0.02)[0]:
+                    continue
+                connection = self.listener.accept()[0]
+                connection.settimeout(self.patience)
+                self.came.append(b"")
+                with connection:
+                    try:
+                        self.take(connection)
+                        self.act(connection)
+                    except OSError:
+                        pass
+
+    def take(self, connection):
+        """Reads a request to the end of its body, and what is there behind it."""
+        while not (size := whole_request(self.came[-1])):
+            found = connection.recv(65536)
+            if not found:
+                return
+            self.came[-1] += found
+        if select.select([connection], [], [], 0.05)[0] and len(self.came[-1]) <= size:
+            self.came[-1] += connection.recv(65536)
+
+    def act(self, connection):
+        for step in self.answer:
+            name, value = one_member(step)
+            if name == "send":
+                connection.sendall(to_bytes(value))
+            elif name == "pause":
+                time.sleep(value / 1000)
+            elif name == "reset":
+                connection.setsockopt(socket.SOL_SOCKET, socket.SO_LINGER, struct.pack("ii", 1, 0))
+            elif name == "wait":
+                # Until the outbox closes the connection.
+                while connection.recv(65536):
+                    pass
+
+    def end(self):
+        self.is_done.set()
+        self.thread.join(timeout=self.patience + 5)
+
+
+def whole_request(data):
+    """How many bytes the request at the front of these has, or 0 while it isn't whole."""
+    head, mark, body = data.partition(b"\r\n\r\n")
+    length = re.search(rb"(?i)\r\ncontent-length:[ \t]*([0-9]+)", head)
+    size = len(head) + 4 + (int(length[1]) if length else 0)
+    return size if mark and len(data) >= size else 0
+
+
+class Outbox:
+    """The commands of an outbox, and the database of one case."""
+
+    def __init__(self, templates, folder, patience):
+        self.templates, self.folder, self.patience = templates, folder, patience
+
+    def run(self, name, **words):
+        words = {"db": self.folder / "outbox.db", "patience": self.patience, **words}
+        process = start(filled(self.templates[name], words), stdin=subprocess.DEVNULL, stdout=subprocess.PIPE, stderr=subprocess.PIPE)
+        try:
+            output, errors = process.communicate(timeout=self.patience + 20)
+        except subprocess.TimeoutExpired as late:
+            process.kill()
+            process.communicate()
+            raise Fault(f"the command {name}", "it ends", f"it runs after {self.patience + 20} s") from late
+        return process.returncode, output, errors
+
+    def done(self, name, **words):
+        status, output, errors = self.run(name, **words)
+        if status:
+            raise Fault(f"the command {name}", "status 0", f"status {status}: {shown(output + errors)}")
+        return output
+
+    def put(self, value):
+        report = self.folder / "report.json"
+        report.write_bytes(to_bytes(value["body"]))
+        words = {"body": report, "key": value["key"]}
+        if "amend" in value:
+            self.done("amend", target=value["amend"], **words)
+        else:
+            self.done("put", **words)
+
+    def send(self, value):
+        peer = Peer(value["answer"], self.patience)
+        try:
+            # Its status is its own: an answer that settles nothing may count as a failure or not.
+            self.run("send", port=peer.port, entry=value["entry"])
+        finally:
+            peer.end()
+        wanted = [to_bytes(one) for one in value.get("requests", [])]
+        if "requests" in value and peer.came != wanted:
+            raise Fault(f"what is sent for entry {value['entry']}", as_requests(wanted), as_requests(peer.came))
+
+    def states(self, value):
+        output = self.done("status").decode("utf-8", "replace")
+        found = re.findall(r"(?m)^(?:.*\s)?(open|confirmed [0-9]+|refused|clashed)\r?$", output)
+        if found != value:
+            raise Fault("the states of the entries", ", ".join(value), f"{', '.join(found)}, from {shown(output.encode())}")
+
+
+def as_requests(requests):
+    return " and ".join(map(shown, requests)) if requests else "no request"
+
+
+def try_outbox(templates, case, patience):
+    with tempfile.TemporaryDirectory(prefix="conformance-") as folder:
+        outbox = Outbox(templates, pathlib.Path(folder), patience)
+        what = "a new outbox"
+        try:
+            outbox.done("init", filer=case["filer"])
+            for at, step in enumerate(case["steps"], 1):
+                name, value = one_member(step)
+                what = f"step {at}"
+                getattr(outbox, name)(value)
+        except (Fault, OSError) as fault:
+            return f"{what}: {fault}"
+    return None
+
+
+# ---- commands
+
+
+def filled(template, words):
+    """The words of a command, each with its places filled."""
+    try:
+        return [word.format(**words) for word in shlex.split(template)]
+    except (KeyError, IndexError, ValueError) as fault:
+        raise Unusable(f"{template!r} is no command here: {fault}") from fault
+
+
+def start(words, **options):
+    try:
+        return subprocess.Popen(words, **options)
+    except OSError as fault:
+        raise Unusable(f"{words[0]}: {fault.strerror}") from fault
+
+
+class Ports:
+    """Ports that are free, each given once, and below those that the system gives to connections."""
+
+    lock, last = threading.Lock(), os.getpid() % 10_000
+
+    @classmethod
+    def next(cls):
+        with cls.lock:
+            while True:
+                cls.last = (cls.last + 1) % 10_000
+                with socket.socket() as it:
+                    try:
+                        it.bind(("127.0.0.1", 20_000 + cls.last))
+                        return 20_000 + cls.last
+                    except OSError:
+                        continue
+
+
+def is_listened_to(port):
+    try:
+        socket.create_connection(("127.0.0.1", port), timeout=5).close()
+        return True
+    except OSError:
+        return False
+
+
+# ---- cases
+
+
+# The members that each thing has, and of which kind; those with a question mark may be missing.
+ANY, BYTES = object(), object()
+REPLY = {"status": int, "fields?": dict, "content?": BYTES, "json?": ANY}
+STEPS = {"send": BYTES, "reply": REPLY, "pause": int, "quiet": int, "shut": bool, "stays": bool, "closed": bool, "cut": bool, "reset": bool}
+ANSWER = {"send": BYTES, "pause": int, "wait": bool, "reset": bool}
+SENDING = {"entry": int, "requests?": [BYTES], "answer": [ANSWER]}
+OUTBOX_STEPS = {"put": {"key": str, "body": BYTES, "amend?": int}, "send": SENDING, "states": [str]}
+CASES = {
+    "intake": {"name": str, "rule": str, "connections": [{"steps": [STEPS], "restart": str}], "register?": dict, "limit?": int, "empty?": bool},
+    "outbox": {"name": str, "rule": str, "filer": str, "steps": [OUTBOX_STEPS]},
+}
+# Of these members a thing has exactly one.
+ONE_OF = (STEPS, ANSWER, OUTBOX_STEPS, CASES["intake"]["connections"][0])
+
+
+def check_form(what, it, form):
+    """Raises what is wrong with a part of a case."""
+    if form is BYTES:
+        to_bytes(it, 0)
+    elif isinstance(form, list):
+        if not isinstance(it, list):
+            raise Unusable(f"{what} is no list")
+        for at, one in enumerate(it, 1):
+            check_form(f"{what}, {at}", one, form[0])
+    elif isinstance(form, dict):
+        check_members(what, it, form)
+    elif form is not ANY and (not isinstance(it, form) or isinstance(it, bool) and form is not bool):
+        raise Unusable(f"{what} is no {form.__name__}")
+
+
+def check_members(what, it, form):
+    if not isinstance(it, dict):
+        raise Unusable(f"{what} is no object")
+    known = {name.rstrip("?"): (name, kind) for name, kind in form.items()}
+    is_choice = any(form is one for one in ONE_OF)
+    if is_choice and len(it) != 1:
+        raise Unusable(f"{what} has {len(it)} members in place of one")
+    for name, value in it.items():
+        if name not in known:
+            raise Unusable(f"{what}: there is no {name!r}")
+        check_form(f"{what}, {name}", value, known[name][1])
+    for name, (spelled, _) in known.items():
+        if not (is_choice or spelled.endswith("?") or name in it):
+            raise Unusable(f"{what} has no {name!r}")
+
+
+def check_case(end, case):
+    check_members(f"the case {case.get('name')}", case, CASES[end])
+    for content in case.get("register", {}).values():
+        to_bytes(content, 0)
+    if not case["name"] or not case["rule"]:
+        raise Unusable("a case has no name or no rule")
+
+
+def read_cases(folder, end, only, exact):
+    """The cases of this end, or of both, in the order of the files' names."""
+    files = sorted(pathlib.Path(folder).glob("*.json"))
+    if not files:
+        raise Unusable(f"{folder}: there are no cases")
+    found, names = [], set()
+    for file in files:
+        try:
+            whole = json.loads(file.read_bytes())
+            for case in whole["cases"]:
+                check_case(whole["end"], case)
+                if case["name"] in names:
+                    raise Unusable(f"two cases are called {case['name']}")
+                names.add(case["name"])
+                found.append({"end": whole["end"], **case})
+        except Unusable as fault:
+            raise Unusable(f"{file}: {fault}") from fault
+        except (ValueError, KeyError, TypeError, AttributeError) as fault:
+            raise Unusable(f"{file}: no file of cases: {fault!r}") from fault
+    of_end = [case for case in found if end in (None, case["end"])]
+    unknown = set(exact) - {case["name"] for case in of_end}
+    chosen = [case for case in of_end if not (only or exact) or case["name"] in exact or any(word in case["name"] for word in only)]
+    if unknown or not chosen:
+        raise Unusable(f"no case is called so: {' '.join(sorted(unknown) or only)}" if only or exact else f"there are no cases for {end}")
+    return chosen
+
+
+def tried(cases, attempt, lacks, jobs):
+    """Tries the cases, so many at a time, tells of those that failed, in order, and gives the status."""
+    passed, failed, left = 0, 0, {}
+
+    def one(case):
+        cause = lacks(case)
+        return ("left", cause) if cause else ("tried", attempt(case))
+
+    pool = concurrent.futures.ThreadPoolExecutor(jobs)
+    try:
+        for case, (kind, fault) in zip(cases, pool.map(one, cases)):
+            if kind == "left":
+                left.setdefault(fault, []).append(case["name"])
+            elif fault:
+                failed += 1
+                print(f"failed: {case['name']}: {case['rule']}\n  {fault}", flush=True)
+            else:
+                passed += 1
+    finally:
+        pool.shutdown(cancel_futures=True)
+    for cause, names in left.items():
+        print(f"not tried, since {cause}: {len(names)}, as {names[0]}")
+    print(f"{passed} passed, {failed} failed")
+    return 1 if failed or not passed else 0
+
+
+def intake_of(options):
+    """The end that the options name, and how many cases are tried at a time."""
+    if options.command:
+        return Command(options.command, options.again), options.jobs
+    if options.exec:
+        return Piped(options.exec), options.jobs
+    return Running(options.port), 1
+
+
+def run_intake(options, cases):
+    end, jobs = intake_of(options)
+    if jobs == 1 and options.port:
+        # The only case that gets the register empty comes first.
+        cases.sort(key=lambda case: not case.get("empty"))
+        if not is_listened_to(options.port):
+            raise Unusable(f"nobody listens on port {options.port} of 127.0.0.1")
+    return tried(cases, lambda case: try_intake(end, case, options.patience), end.lacks, jobs)
+
+
+def run_outbox(options, cases):
+    program = shlex.quote(options.command) if os.path.exists(options.command) else options.command
+    templates = {
+        "init": options.init or f"{program} init --db {{db}} --filer {{filer}}",
+        "put": options.put or f"{program} put --db {{db}} --body {{body}} --key {{key}}",
+        "amend": options.amend or f"{program} put --db {{db}} --body {{body}} --key {{key}} --amend {{target}}",
+        "send": options.send or f"{program} send --db {{db}} --port {{port}} --entry {{entry}} --patience {{patience}}",
+        "status": options.status or f"{program} status --db {{db}}",
+    }
+    return tried(cases, lambda case: try_outbox(templates, case, options.patience), lambda case: None, options.jobs)
+
+
+def whole_seconds(text):
+    value = int(text)
+    if not 1 <= value <= 600:
+        raise ValueError
+    return value
+
+
+def read_words(words):
+    parser = argparse.ArgumentParser(prog="run.py", description="Holds an implementation of either end to the cases.")
+    parsers = parser.add_subparsers(dest="end", required=True)
+    shared = argparse.ArgumentParser(add_help=False)
+    shared.add_argument("--only", action="append", default=[], metavar="WORD", help="cases with this word in their name")
+    shared.add_argument("--case", action="append", default=[], metavar="NAME", help="the case of this name")
+    shared.add_argument("--cases", default=HERE / "cases", metavar="FOLDER", help="another folder of cases")
+    shared.add_argument("--patience", type=whole_seconds, default=10, metavar="SECONDS", help="how long an answer is waited for (10)")
+    shared.add_argument("--jobs", type=whole_seconds, default=4, metavar="N", help="how many cases are tried at a time (4)")
+    intake = parsers.add_parser("intake", parents=[shared], help="a supervisor's end")
+    way = intake.add_mutually_exclusive_group(required=True)
+    way.add_argument("--command", metavar="TEMPLATE", help="starts an intake on a new register: {db}, {port}, {n} connections, {limit} of keys")
+    way.add_argument("--port", type=int, metavar="PORT", help="an intake that runs, with an empty register")
+    way.add_argument("--exec", metavar="COMMAND", help="serves standard input and output as one connection")
+    intake.add_argument("--again", metavar="TEMPLATE", help="starts an intake on a register that is there")
+    outbox = parsers.add_parser("outbox", parents=[shared], help="a filer's end")
+    outbox.add_argument("--command", default="outbox", metavar="PROGRAM", help="a program that takes the words of this repository's outbox")
+    for name, places in (("init", "{db} {filer}"), ("put", "{db} {body} {key}"), ("amend", "{db} {body} {key} {target}"),
+                         ("send", "{db} {port} {entry} {patience}"), ("status", "{db}")):
+        outbox.add_argument(f"--{name}", metavar="TEMPLATE", help=f"another command for this, with {places}")
+    parsers.add_parser("list", parents=[shared], help="prints each case's name and rule")
+    return parser.parse_args(words)
+
+
+def main(words):
+    options = read_words(words)
+    try:
+        cases = read_cases(options.cases, None if options.end == "list" else options.end, options.only, options.case)
+        if options.end == "list":
+            for case in cases:
+                print(f"{case['end']} {case['name']}: {case['rule']}")
+            return 0
+        return run_intake(options, cases) if options.end == "intake" else run_outbox(options, cases)
+    except Unusable as fault:
+        print(f"run.py: {fault}", file=sys.stderr)
+        return 2
+    except BrokenPipeError:
+        # Whoever read the output has seen enough.
+        os.dup2(os.open(os.devnull, os.O_WRONLY), sys.stdout.fileno())
+        return 3
+    except OSError as fault:
+        print(f"run.py: {fault.filename or 'a file'}: {fault.strerror}", file=sys.stderr)
+        return 3
+
+
+if __name__ == "__main__":
+    sys.exit(main(sys.argv[1:]))

@@ -1,0 +1,476 @@
+#!/usr/bin/env python3
+"""Holds the built programs to the cases of conformance/, and the runner of these cases to account.
+
+    tools/check_conformance.py [INTAKE OUTBOX] [--only WORD]
+
+Without names it takes the programs that `rt run` builds in their folders. First each case is played on them: over sockets with an intake
+started for each case, over the port of one that runs, over pipes, and with the outbox. Then wrong programs are played: an intake and an
+outbox that this script puts itself in front of, changing one thing. For each change the named cases have to fail, and the others named have
+to pass. The last line is 'N passed, M failed', and the status 1 if one failed.
+"""
+import ctypes
+import json
+import pathlib
+import re
+import select
+import shlex
+import signal
+import socket
+import subprocess
+import sys
+import tempfile
+import time
+
+import trials
+from trials import ROOT, free_port, tell
+
+RUNNER = ROOT / "conformance/run.py"
+SERVE = "serve --db {db} --port {port} --connections {n}"
+passed = []
+
+
+def tell_one(what, fault=None):
+    tell(what, fault)
+    if not fault:
+        passed.append(what)
+
+
+# ---- an intake with one fault, played in front of the real one
+
+
+def replies_of(data):
+    """The whole replies at the front of these bytes, and the rest."""
+    found = []
+    while (end := data.find(b"\r\n\r\n")) >= 0:
+        length = re.search(rb"(?i)\r\ncontent-length: *(\d+)", data[: end + 2])
+        size = end + 4 + (int(length[1]) if length else 0)
+        if len(data) < size:
+            break
+        found.append(data[:size])
+        data = data[size:]
+    return found, data
+
+
+def with_content(reply, content):
+    """The reply with another content, and its length."""
+    head = reply.partition(b"\r\n\r\n")[0]
+    return re.sub(rb"(?i)content-length: *\d+", b"Content-Length: %d" % len(content), head) + b"\r\n\r\n" + content
+
+
+def changed_content(change):
+    def changed(reply):
+        head, mark, content = reply.partition(b"\r\n\r\n")
+        return with_content(reply, change(content)) if content else reply
+
+    return changed
+
+
+def next_number(found):
+    return b'"number":%d' % (int(found[1]) + 1)
+
+
+def without_continue(reply):
+    return b"" if reply.startswith(b"HTTP/1.1 100 ") else reply
+
+
+# What a fault does to each reply.
+REPLY_FAULTS = {
+    "answers 200 for 201": lambda reply: reply.replace(b" 201 Created", b" 200 OK", 1),
+    "answers 400 for 422": lambda reply: reply.replace(b" 422 ", b" 400 ", 1),
+    "sends no Allow": lambda reply: reply.replace(b"Allow: GET, POST\r\n", b""),
+    "calls problem details JSON": lambda reply: reply.replace(b"application/problem+json", b"application/json", 1),
+    "cuts a byte off the content": changed_content(lambda content: content[:-1]),
+    "writes a space into the content": changed_content(lambda content: content.replace(b":", b": ", 1)),
+    "writes a byte behind the reply": lambda reply: reply + b"\n",
+    "sends no length": lambda reply: re.sub(rb"Content-Length: \d+\r\n", b"", reply),
+    "sends a wrong length": lambda reply: re.sub(rb"(Content-Length: )(\d+)", lambda it: it[1] + b"%d" % (int(it[2]) + 1), reply),
+    "sends the length twice": lambda reply: re.sub(rb"(Content-Length: \d+\r\n)", rb"\1\1", reply),
+    "calls itself HTTP/1.0": lambda reply: reply.replace(b"HTTP/1.1 ", b"HTTP/1.0 ", 1),
+    "names a transfer coding": lambda reply: reply.replace(b"\r\n\r\n", b"\r\nTransfer-Encoding: chunked\r\n\r\n", 1),
+    "counts numbers from 2": changed_content(lambda content: re.sub(rb'"number":(\d+)', next_number, content)),
+    "lists nothing": changed_content(lambda content: b'{"filings":[]}' if content.startswith(b'{"filings"') else content),
+    "lists no replacements": changed_content(lambda content: re.sub(rb',"replace[a-z_]*":\d+', b"", content)),
+    "tells findings in another order": changed_content(
+        lambda content: re.sub(rb"(\[)(\{[^}]*\}),(\{[^}]*\})", rb"\1\3,\2", content, count=1)
+    ),
+    "tells one finding less": changed_content(lambda content: re.sub(rb"\},\{[^}]*\}\]", b"}]", content, count=1)),
+    "never sends 100 Continue": without_continue,
+    "writes content to a HEAD": lambda reply: reply + b"{}" if b" 405 " in reply and b"Content-Length" not in reply else reply,
+}
+# What may be otherwise: other fields, another phrase, names in lower case, and replies in pieces.
+HARMLESS = "is another sound intake"
+
+
+def made_harmless(reply):
+    head, mark, content = reply.partition(b"\r\n\r\n")
+    lines = head.split(b"\r\n")
+    first = lines[0][:12] + b" So it is"
+    fields = [name.lower() + b":\t" + value.strip() + b" " for name, _, value in (line.partition(b":") for line in lines[1:])]
+    return b"\r\n".join([first, b"Date: Mon, 01 Jan 2024 00:00:00 GMT", *reversed(fields), b"Server: another"]) + mark + content
+
+
+def ends_with_this():
+    """Lets a program end with this one, also where this one is killed."""
+    ctypes.CDLL(None).prctl(1, signal.SIGKILL)
+
+
+def start_real(words):
+    """Starts the real intake; again for a while if the one of before still has its register open."""
+    for _ in range(50):
+        process = subprocess.Popen(words, stderr=subprocess.PIPE, preexec_fn=ends_with_this)
+        if b": serving " in process.stderr.readline():
+            return process
+        process.wait()
+        time.sleep(0.1)
+    sys.exit("the real intake does not start")
+
+
+class WrongIntake:
+    """The real intake behind this, and one fault between it and whoever connects."""
+
+    def __init__(self, fault, program, database, port, connections, limit, is_new):
+        self.fault = fault
+        self.keys = 0
+        self.inner = free_port()
+        if fault == "has no limit":
+            limit = 1_000_000
+        if fault == "forgets everything at a restart" and not is_new:
+            for file in (database, f"{database}-wal"):
+                pathlib.Path(file).unlink(missing_ok=True)
+            is_new = True
+        words = [program, "serve", "--db", database, "--port", str(self.inner), "--connections", "1000", "--limit", str(limit)]
+        self.process = start_real(words + (["--new"] if is_new else []))
+        self.listener = socket.create_server(("127.0.0.1", int(port)))
+
+    def serve(self):
+        """Takes one connection after another, until the runner stops this process."""
+        while True:
+            client = self.listener.accept()[0]
+            client.setsockopt(socket.IPPROTO_TCP, socket.TCP_NODELAY, 1)
+            with client, socket.create_connection(("127.0.0.1", self.inner)) as real:
+                real.setsockopt(socket.IPPROTO_TCP, socket.TCP_NODELAY, 1)
+                try:
+                    self.carry(client, real)
+                except OSError:
+                    pass
+
+    def carry(self, client, real):
+        held, sources = b"", [client, real]
+        while real in sources:
+            for source in select.select(sources, [], [])[0]:
+                data = source.recv(65536)
+                if source is client:
+                    if data:
+                        real.sendall(self.asked(data))
+                    else:
+                        if self.fault == "completes what was cut":
+                            real.sendall(b"}")
+                        sources.remove(client)
+                        real.shutdown(socket.SHUT_WR)
+                elif data:
+                    replies, held = replies_of(held + data)
+                    for reply in replies:
+                        self.pass_on(client, reply)
+                        if self.fault == "closes after each reply" and not reply.startswith(b"HTTP/1.1 100 "):
+                            return
+                else:
+                    sources.remove(real)
+        if held:
+            self.pass_on(client, held)
+        if self.fault == "keeps the connection open":
+            while client.recv(65536):
+                pass
+
+    def asked(self, data):
+        """What the real intake is asked in place of these bytes."""
+        if self.fault != "forgets what was filed under a key":
+            return data
+
+        def another(_):
+            self.keys += 1
+            return b'\r\nIdempotency-Key: "key %d"\r\n' % self.keys
+
+        return re.sub(rb'\r\nIdempotency-Key: "[^"]*"\r\n', another, data)
+
+    def pass_on(self, client, reply):
+        if self.fault == "says nothing":
+            return
+        if self.fault == HARMLESS:
+            for piece in re.findall(rb"(?s).{1,97}", made_harmless(reply)):
+                client.sendall(piece)
+            return
+        client.sendall(REPLY_FAULTS.get(self.fault, bytes)(reply))
+
+
+# For each fault the cases that have to fail, and those that have to pass all the same.
+INTAKES = {
+    "answers 200 for 201": (["repeat.on-the-same-connection", "key.one-character"], ["head.smallest", "example.not-json"]),
+    "answers 400 for 422": (["example.not-object", "repeat.another-body"], ["example.not-json", "repeat.after-other-filings"]),
+    "sends no Allow": (["method.put", "method.head"], ["head.smallest"]),
+    "calls problem details JSON": (["path.other", "repeat.another-body", "length.missing"], ["head.smallest"]),
+    "cuts a byte off the content": (["head.smallest", "path.other"], ["method.head-of-an-unknown-path"]),
+    "writes a space into the content": (["head.smallest", "path.other", "example.fact"], ["method.head-of-an-unknown-path"]),
+    "writes a byte behind the reply": (["head.smallest", "close.asked", "connection.three-at-once"], ["connection.without-a-byte"]),
+    "sends no length": (["head.smallest", "close.asked", "path.other"], ["method.head"]),
+    "sends a wrong length": (["head.smallest", "close.asked"], ["method.head"]),
+    "sends the length twice": (["head.smallest"], ["method.head"]),
+    "calls itself HTTP/1.0": (["head.smallest"], ["connection.without-a-byte"]),
+    "names a transfer coding": (["head.smallest", "method.head"], ["connection.without-a-byte"]),
+    "counts numbers from 2": (["numbering.begins-with-1", "list.counts-facts"], ["head.smallest"]),
+    "lists nothing": (["list.counts-facts", "cut.before-the-last-byte"], ["list.empty", "key.1025-characters"]),
+    "lists no replacements": (["amend.replaces", "list.one-that-was-replaced"], ["list.counts-facts"]),
+    "tells findings in another order": (["document-info.two-missing", "place.in-byte-order"], ["example.fact"]),
+    "tells one finding less": (["document-info.two-missing", "entity.unbound-and-not-the-filer"], ["example.fact"]),
+    "never sends 100 Continue": (["continue.before-the-body", "continue.where-the-body-came"], ["continue.1.0", "continue.too-large"]),
+    "writes content to a HEAD": (["method.head", "method.head-that-closes"], ["method.put"]),
+    "forgets what was filed under a key": (["repeat.on-another-connection", "repeat.another-body", "amend.repeat"], ["numbering.over-all-filers"]),
+    "keeps the connection open": (["close.asked", "close.1.0", "head.field-without-colon", "length.missing"], []),
+    "closes after each reply": (["stays.keep-alive", "connection.one-after-another", "head.smallest"], ["close.asked", "length.missing"]),
+    "says nothing": (["head.smallest", "method.head"], ["connection.without-a-byte"]),
+    "completes what was cut": (["cut.before-the-last-byte", "connection.ends-inside-a-body"], ["close.asked"]),
+    "has no limit": (["limit.a-new-key", "limit.zero"], ["head.smallest"]),
+    "forgets everything at a restart": (["restart.killed", "restart.replacements"], ["repeat.on-another-connection"]),
+    HARMLESS: ([], ["head.smallest", "repeat.on-the-same-connection", "method.head", "method.put", "continue.before-the-body", "example.fact",
+                    "amend.chain", "limit.zero", "restart.killed", "close.1.0", "length.missing", "connection.three-at-once"]),
+}
+
+
+# ---- an outbox with one fault
+
+
+def told_state(change):
+    return lambda lines: re.sub(r"(?m)(open|confirmed \d+|refused|clashed)$", change, lines)
+
+
+# What a fault does to what `status` prints.
+STATUS_FAULTS = {
+    "tells another number": told_state(lambda it: f"confirmed {int(it[1].split()[1]) + 1}" if it[1].startswith("confirmed") else it[1]),
+    "tells open as refused": told_state(lambda it: "refused" if it[1] == "open" else it[1]),
+    "tells clashed as refused": told_state(lambda it: "refused" if it[1] == "clashed" else it[1]),
+    "tells one entry less": lambda lines: "".join(lines.splitlines(True)[1:]),
+    "tells more": lambda lines: "the entries\n" + re.sub(r"(?m)^entry (\d+)", r"No. \1, put in today:", lines),
+}
+FILERS = {
+    "tells another number": (["confirmed.number-1", "request.of-an-entry"], ["refused.422"]),
+    "tells open as refused": (["reply.none", "open.503-unavailable"], ["refused.422", "confirmed.number-1"]),
+    "tells clashed as refused": (["clashed.422"], ["refused.422"]),
+    "tells one entry less": (["request.of-the-second-entry", "confirmed.number-1"], ["request.key-with-spaces"]),
+    "tells more": ([], ["request.of-the-second-entry", "confirmed.number-1", "clashed.422", "reply.none"]),
+    "puts in under another key": (["request.of-an-entry", "request.key-with-spaces"], []),
+    "puts in another report": (["request.of-an-entry", "request.any-bytes"], []),
+    "forgets what is to be replaced": (["request.to-replace"], ["request.of-an-entry"]),
+    "sends twice": (["request.again", "reply.none"], []),
+    "sends nothing": (["request.of-an-entry", "reply.none"], []),
+    "sends the other entry": (["request.of-the-second-entry"], ["request.of-an-entry"]),
+    "fails": (["request.of-an-entry", "reply.none"], []),
+}
+
+
+def play_filer(fault, program, words):
+    """Runs a command of the real outbox, with one fault."""
+    words = list(words)
+    name = words[0]
+
+    def value(option):
+        return words.index(option) + 1
+
+    if fault == "fails" and name == "put":
+        return 3
+    if fault == "puts in under another key" and name == "put":
+        words[value("--key")] += "x"
+    if fault == "puts in another report" and name == "put":
+        other = words[value("--body")] + ".other"
+        pathlib.Path(other).write_bytes(pathlib.Path(words[value("--body")]).read_bytes() + b" ")
+        words[value("--body")] = other
+    if fault == "forgets what is to be replaced" and "--amend" in words:
+        del words[words.index("--amend") : value("--amend") + 1]
+    if fault == "sends nothing" and name == "send":
+        return 0
+    if fault == "sends twice" and name == "send":
+        subprocess.run([program, *words], capture_output=True, check=False)
+    if fault == "sends the other entry" and name == "send" and words[value("--entry")] == "2":
+        words[value("--entry")] = "1"
+    done = subprocess.run([program, *words], capture_output=True, text=True, check=False)
+    lines = STATUS_FAULTS[fault](done.stdout) if name == "status" and fault in STATUS_FAULTS else done.stdout
+    sys.stdout.write(lines)
+    return done.returncode
+
+
+# ---- the runner
+
+
+def run_cases(*words):
+    """What the runner prints, and its status."""
+    done = subprocess.run([sys.executable, RUNNER, *map(str, words)], capture_output=True, text=True, check=False, timeout=3000)
+    return done.returncode, done.stdout, done.stderr
+
+
+def told_of(output):
+    """The cases that failed, and the counts of the last line."""
+    failed = re.findall(r"(?m)^failed: (\S+?): ", output)
+    counts = re.search(r"(\d+) passed, (\d+) failed\n\Z", output)
+    return failed, (int(counts[1]), int(counts[2])) if counts else None
+
+
+def count_of(end, *words):
+    """How many cases there are for this end, as the runner lists them."""
+    output = run_cases("list", *words)[1]
+    return len(re.findall(rf"(?m)^{end} ", output))
+
+
+def check_all(what, wanted, *words, least=0):
+    """The runner tries so many cases, or at least so many, and each passes."""
+    status, output, errors = run_cases(*words)
+    failed, counts = told_of(output)
+    sys.stdout.write("".join(line + "\n" for line in output.splitlines() if not line.endswith("failed")))
+    fault = None
+    if status or failed or not counts or counts[1]:
+        fault = f"status {status}, failed {failed}, {errors[-500:]}"
+    elif wanted is not None and counts[0] != wanted or counts[0] < least:
+        fault = f"{counts[0]} cases in place of {wanted or least}"
+    tell_one(f"{what}: {counts[0] if counts else 0} cases", fault)
+
+
+def check_fault(what, fault, must_fail, must_pass, *words):
+    """With this fault the runner finds just these cases failed among those named."""
+    named = [*must_fail, *must_pass]
+    only = [word for name in named for word in ("--case", name)]
+    _, output, errors = run_cases(*words, *only, "--patience", "2")
+    failed, counts = told_of(output)
+    wanted = (len(must_pass), len(must_fail))
+    found = None if sorted(failed) == sorted(must_fail) and counts == wanted else f"failed {failed}, {counts}: {output[-700:]}{errors[-300:]}"
+    if must_fail and not found and not all(re.search(rf"(?ms)^failed: {re.escape(name)}: .*?wanted: .*?came: ", output) for name in must_fail):
+        found = f"it doesn't say what was wanted and what came: {output[-700:]}"
+    tell_one(f"{what} that {fault}", found)
+
+
+def own(*words):
+    """A command of this script, as a template for the runner."""
+    return " ".join(shlex.quote(str(word)) for word in (sys.executable, pathlib.Path(__file__).resolve(), *words))
+
+
+def check_programs(intake, outbox, only):
+    chosen = [word for one in only for word in ("--only", one)]
+    intakes, outboxes = count_of("intake", *chosen), count_of("outbox", *chosen)
+    program = shlex.quote(str(intake))
+    serve = ["--command", f"{program} {SERVE} --limit {{limit}} --new", "--again", f"{program} {SERVE}"]
+    if intakes:
+        check_all("an intake that is started for each case", intakes, "intake", *serve, *chosen)
+    if outboxes:
+        check_all("the outbox", outboxes, "outbox", "--command", outbox, *chosen)
+    if only:
+        return
+    check_all("an intake on its standard input and output", None, "intake", "--exec", f"{program} run", least=400)
+    with tempfile.TemporaryDirectory() as folder:
+        port = free_port()
+        words = [intake, "serve", "--db", f"{folder}/register.db", "--port", str(port), "--connections", "4294967295", "--new"]
+        with subprocess.Popen(words, stderr=subprocess.PIPE) as serving:
+            serving.stderr.readline()
+            check_all("an intake that runs", None, "intake", "--port", port, least=500)
+            serving.terminate()
+
+
+def check_faults(intake, outbox):
+    for fault, (must_fail, must_pass) in INTAKES.items():
+        words = own("--intake", fault, intake)
+        template = words + " {db} {port} {n} {limit} new"
+        again = words + " {db} {port} {n} 1000000 again"
+        check_fault("an intake", fault, must_fail, must_pass, "intake", "--command", template, "--again", again)
+    for fault, (must_fail, must_pass) in FILERS.items():
+        check_fault("an outbox", fault, must_fail, must_pass, "outbox", "--command", own("--outbox", fault, outbox))
+
+
+CASE = '{"end":"intake","about":"a","cases":[{"name":"a.b","rule":"r","connections":[{"steps":[%s]}]}]}'
+# A command line or a file of cases, and what is said of it.
+REFUSALS = [
+    (["intake", "--port", "{free}"], None, "nobody listens on port"),
+    (["intake", "--command", "/none/intake {db}"], None, "/none/intake: No such file or directory"),
+    (["intake", "--command", "intake {file}"], None, "is no command here"),
+    (["intake", "--command", "intake 'a"], None, "is no command here"),
+    (["intake"], None, "one of the arguments"),
+    (["nothing"], None, "invalid choice"),
+    (["outbox", "--patience", "0"], None, "invalid"),
+    (["outbox", "--only", "no-such-case"], None, "no case is called so"),
+    (["outbox", "--case", "reply"], None, "no case is called so: reply"),
+    (["list"], "", "there are no cases"),
+    (["list"], "{", "no file of cases"),
+    (["list"], "[]", "no file of cases"),
+    (["list"], '{"end":"middle","cases":[{}]}', "no file of cases"),
+    (["list"], CASE.replace('"rule":"r",', "") % "", "the case a.b has no 'rule'"),
+    (["list"], CASE.replace('"rule":"r"', '"rule":""') % "", "a case has no name or no rule"),
+    (["list"], CASE.replace('{"name"', '{"name":"a.b","rule":"r","connections":[]},{"name"', 1) % "", "two cases are called a.b"),
+    (["list"], CASE % '{"sned":""}', "there is no 'sned'"),
+    (["list"], CASE % '{"send":"","pause":1}', "has 2 members in place of one"),
+    (["list"], CASE % '{"pause":"1"}', "pause is no int"),
+    (["list"], CASE % '{"send":7}', "7 spells no bytes"),
+    (["list"], CASE % '{"send":{"base64":"*"}}', "'*' is no base64"),
+    (["list"], CASE % '{"reply":{"status":200,"contents":""}}', "there is no 'contents'"),
+    (["list"], CASE % '{"reply":{"content":""}}', "has no 'status'"),
+]
+
+
+def check_refusals():
+    """A wrong command line, and a file that is none, end with status 2 and a line that says why."""
+    for words, file, wanted in REFUSALS:
+        with tempfile.TemporaryDirectory() as folder:
+            more = []
+            if file is not None:
+                more = ["--cases", folder]
+                if file:
+                    (pathlib.Path(folder) / "a.json").write_text(file)
+            status, output, errors = run_cases(*(word.replace("{free}", str(free_port())) for word in words), *more)
+            is_told = status == 2 and wanted in errors and "Traceback" not in errors and not output
+            tell_one(f"refused: {wanted}", None if is_told else f"status {status}, {output}{errors[-400:]}")
+
+
+# ---- the cases themselves
+
+
+def check_cases():
+    """Each intake's case has filer codes that no other has, so that all can be played on one register; no name is used twice."""
+    owners, names = {}, []
+    for file in sorted((ROOT / "conformance/cases").glob("*.json")):
+        whole = json.loads(file.read_text())
+        for case in whole["cases"]:
+            names.append(case["name"])
+            if whole["end"] != "intake":
+                continue
+            sent = json.dumps(case["connections"])
+            for filer in set(re.findall(r'"POST /filings/([A-Za-z0-9._-]+)', sent)) | set(case.get("register", {})):
+                owners.setdefault(filer, set()).add(case["name"])
+    shared = {filer: cases for filer, cases in owners.items() if len(cases) > 1}
+    tell_one("each case has filers of its own", None if not shared else f"{shared}")
+    tell_one("each case has a name of its own", None if len(names) == len(set(names)) else f"{len(names) - len(set(names))} names are used twice")
+    codes = set(re.findall(r"(?m)^\| \d+ \| ([\w-]+) \|", (ROOT / "docs/PROTOCOL.md").read_text()))
+    examples = {name.removeprefix("example.") for name in names if name.startswith("example.")}
+    tell_one("each code of a finding has its example", None if codes == examples else f"{sorted(codes ^ examples)}")
+
+
+def main(words):
+    if words[:1] == ["--intake"]:
+        fault, program, database, port, connections, limit, how = words[1:]
+        wrong = WrongIntake(fault, program, database, port, connections, limit, how == "new")
+        wrong.serve()
+    if words[:1] == ["--outbox"]:
+        return play_filer(words[1], words[2], words[3:])
+    only = [words[at + 1] for at, word in enumerate(words[:-1]) if word == "--only"]
+    programs = [word for at, word in enumerate(words) if word != "--only" and (at == 0 or words[at - 1] != "--only")]
+    if len(programs) not in (0, 2):
+        print("check_conformance.py: INTAKE and OUTBOX, or neither", file=sys.stderr)
+        return 2
+    intake, outbox = (pathlib.Path(one).resolve() for one in programs or (trials.INTAKE, trials.OUTBOX))
+    for program in (intake, outbox):
+        if not program.exists():
+            print(f"check_conformance.py: {program}: there is no such program; build it: (cd crates/{program.name} && rt run < stdin)", file=sys.stderr)
+            return 2
+    check_cases()
+    check_programs(intake, outbox, only)
+    if not only:
+        check_refusals()
+        check_faults(intake, outbox)
+    print(f"{len(passed)} passed, {len(trials.failures)} failed")
+    return 1 if trials.failures else 0
+
+
+if __name__ == "__main__":
+    sys.exit(main(sys.argv[1:]))
