@@ -9,9 +9,8 @@
     run.py list
 
 Besides, with each of these: --only WORD (cases with this word in their name), --case NAME (both may be given again), --cases FOLDER,
---patience SECONDS, --jobs N.
-README.md beside this file says what the cases are made of. Status 0 if each case that was tried passed, 1 if one failed, 2 for a wrong
-command line, and if a file of cases is none.
+--patience SECONDS, --jobs N. README.md beside this file says what the cases are made of. Status 0 if each case that was tried passed, 1 if one
+failed, 2 if the command line, a command, the port or a file of cases can't be used, 3 if a file can't be written.
 """
 import argparse
 import base64
@@ -112,7 +111,7 @@ class Numbers:
             found = re.fullmatch(pattern, came, re.DOTALL)
             if found:
                 self.offset = int(found[1]) - next(part for part in parts if isinstance(part, int))
-        return self.offset is not None and came == self.bytes_of(it) or self.offset is None and came == to_bytes(it, 0)
+        return came == self.wanted(it)
 
     def wanted(self, it):
         return to_bytes(it, self.offset or 0)
@@ -122,25 +121,16 @@ class Numbers:
 
 
 class Socket:
-    """A connection to a port. The first one of a program waits until the program listens."""
+    """One end of a connection."""
 
-    def __init__(self, port, wait, process=None):
-        until = time.monotonic() + wait
-        while True:
-            try:
-                self.peer = socket.create_connection(("127.0.0.1", port), timeout=wait)
-                break
-            except ConnectionRefusedError as refused:
-                if time.monotonic() > until or process is not None and process.poll() is not None:
-                    raise Fault("a connection", f"somebody listens on port {port}", "nobody does") from refused
-                time.sleep(0.01)
-        self.peer.setsockopt(socket.IPPROTO_TCP, socket.TCP_NODELAY, 1)
+    def __init__(self, peer):
+        self.peer = peer
 
     def send(self, data):
         self.peer.sendall(data)
 
     def is_readable(self, seconds):
-        return bool(select.select([self.peer], [], [], seconds)[0])
+        return bool(select.select([self.peer], [], [], max(seconds, 0))[0])
 
     def receive(self):
         return self.peer.recv(65536)
@@ -156,39 +146,20 @@ class Socket:
         self.peer.close()
 
 
-class Pipes:
-    """A program that serves its standard input as one connection."""
-
-    def __init__(self, words):
-        self.process = subprocess.Popen(words, stdin=subprocess.PIPE, stdout=subprocess.PIPE, stderr=subprocess.DEVNULL, bufsize=0)
-
-    def send(self, data):
-        # Written beside the reading, as a reply may come before all is read.
-        threading.Thread(target=self.write, args=(data,), daemon=True).start() if len(data) > 60_000 else self.write(data)
-
-    def write(self, data):
-        while data:
-            data = data[self.process.stdin.write(data) :]
-
-    def is_readable(self, seconds):
-        return bool(select.select([self.process.stdout], [], [], seconds)[0])
-
-    def receive(self):
-        return os.read(self.process.stdout.fileno(), 65536)
-
-    def shut(self):
-        self.process.stdin.close()
-
-    def close(self):
-        for it in (self.process.stdin, self.process.stdout):
-            try:
-                it.close()
-            except OSError:
-                pass
-        self.process.kill()
-        self.process.wait()
-
-    reset = close
+def connected(port, wait, process=None):
+    """A connection to the port, for which it waits until somebody listens or the process is gone."""
+    until = time.monotonic() + wait
+    while True:
+        try:
+            peer = socket.create_connection(("127.0.0.1", port), timeout=wait)
+            peer.setsockopt(socket.IPPROTO_TCP, socket.TCP_NODELAY, 1)
+            return Socket(peer)
+        except ConnectionRefusedError as refused:
+            status = process.poll() if process else None
+            if time.monotonic() > until or status is not None:
+                end = "" if status is None else f", and the program ended with status {status}"
+                raise Fault("a connection", f"somebody listens on port {port}", f"nobody does{end}") from refused
+            time.sleep(0.01)
 
 
 class Connection:
@@ -224,8 +195,7 @@ class Connection:
         try:
             self.transport.send(self.numbers.bytes_of(value))
         except (ConnectionResetError, BrokenPipeError):
-            # The other end may close before it has read everything; what it replied is looked at all the same.
-            pass
+            pass  # The other end may close before it has read everything; what it replied is looked at all the same.
 
     def pause(self, value):
         time.sleep(value / 1000)
@@ -367,20 +337,19 @@ class Started:
 
     def __init__(self, command, case, folder, patience):
         self.command, self.patience, self.folder = command, patience, folder
-        self.port = Ports.next()
         self.limit = case.get("limit", DEFAULT_LIMIT)
         self.left = served_counts(case)
-        self.process = None
         self.numbers = Numbers(0)
         self.start(command.first)
 
     def start(self, template):
+        self.port = Ports.next()
         words = {"db": self.folder / "register.db", "port": self.port, "n": self.left.pop(0), "limit": self.limit}
         with open(self.folder / "said", "ab") as said:
             self.process = start(filled(template, words), stdin=subprocess.DEVNULL, stdout=said, stderr=said)
 
     def connect(self):
-        return Socket(self.port, max(self.patience, 20), self.process)
+        return connected(self.port, max(self.patience, 60), self.process)
 
     def restart(self, how):
         self.stop(signal.SIGKILL if how == "kill" else signal.SIGTERM)
@@ -441,7 +410,7 @@ class Attached:
         self.port, self.patience, self.numbers = port, patience, Numbers(None)
 
     def connect(self):
-        return Socket(self.port, self.patience)
+        return connected(self.port, self.patience)
 
     def end(self):
         pass
@@ -472,14 +441,21 @@ class Piped:
 
 
 class PipedCase:
+    """The program, whose standard input and output are one end of a pair of sockets."""
+
     def __init__(self, words):
-        self.words, self.numbers = words, Numbers(0)
+        own, self.peer = socket.socketpair()
+        self.numbers = Numbers(0)
+        with own:
+            self.process = start(words, stdin=own, stdout=own, stderr=subprocess.DEVNULL)
 
     def connect(self):
-        return Pipes(self.words)
+        return Socket(self.peer)
 
     def end(self):
-        pass
+        self.peer.close()
+        self.process.kill()
+        self.process.wait()
 
     def told(self):
         return b""
@@ -497,23 +473,23 @@ def list_steps(filer, content):
 def try_intake(end, case, patience):
     """Plays the case. None if it passed, else what was wanted and what came."""
     with tempfile.TemporaryDirectory(prefix="conformance-") as folder:
-        tried = end.open(case, pathlib.Path(folder), patience)
+        intake = end.open(case, pathlib.Path(folder), patience)
         what = "the program"
         try:
             for at, item in enumerate(case["connections"], 1):
                 what = f"connection {at}"
                 if "restart" in item:
-                    tried.restart(item["restart"])
+                    intake.restart(item["restart"])
                 else:
-                    Connection(tried.connect(), tried.numbers, patience).play(item["steps"])
+                    Connection(intake.connect(), intake.numbers, patience).play(item["steps"])
             for filer, content in case.get("register", {}).items() if end.reads_lists else ():
                 what = f"the list of {filer} afterwards"
-                Connection(tried.connect(), tried.numbers, patience).play(list_steps(filer, content))
+                Connection(intake.connect(), intake.numbers, patience).play(list_steps(filer, content))
         except (Fault, OSError) as fault:
-            told = tried.told()
+            told = intake.told()
             return f"{what}: {fault}" + (f"\n    the program said: {shown(told)}" if told else "")
         finally:
-            tried.end()
+            intake.end()
     return None
 
 
@@ -525,7 +501,7 @@ class Peer:
 
     def __init__(self, answer, patience):
         self.answer, self.patience = answer, patience
-        self.came, self.count = [], 0
+        self.came = []
         self.listener = socket.create_server(("127.0.0.1", 0))
         self.port = self.listener.getsockname()[1]
         self.is_done = threading.Event()
@@ -534,8 +510,11 @@ class Peer:
 
     def serve(self):
         with self.listener:
-            while not self.is_done.is_set():
+            while True:
+                is_last = self.is_done.is_set()
                 if not select.select([self.listener], [], [], 0.02)[0]:
+                    if is_last:
+                        return
                     continue
                 connection = self.listener.accept()[0]
                 connection.settimeout(self.patience)
@@ -549,12 +528,12 @@ class Peer:
 
     def take(self, connection):
         """Reads a request to the end of its body, and what is there behind it."""
-        while not (size := whole_request(self.came[-1])):
+        while not is_whole_request(self.came[-1]):
             found = connection.recv(65536)
             if not found:
                 return
             self.came[-1] += found
-        if select.select([connection], [], [], 0.05)[0] and len(self.came[-1]) <= size:
+        if select.select([connection], [], [], 0.05)[0]:
             self.came[-1] += connection.recv(65536)
 
     def act(self, connection):
@@ -576,12 +555,10 @@ class Peer:
         self.thread.join(timeout=self.patience + 5)
 
 
-def whole_request(data):
-    """How many bytes the request at the front of these has, or 0 while it isn't whole."""
+def is_whole_request(data):
     head, mark, body = data.partition(b"\r\n\r\n")
     length = re.search(rb"(?i)\r\ncontent-length:[ \t]*([0-9]+)", head)
-    size = len(head) + 4 + (int(length[1]) if length else 0)
-    return size if mark and len(data) >= size else 0
+    return bool(mark) and len(body) >= (int(length[1]) if length else 0)
 
 
 class Outbox:
@@ -708,7 +685,7 @@ ANSWER = {"send": BYTES, "pause": int, "wait": bool, "reset": bool}
 SENDING = {"entry": int, "requests?": [BYTES], "answer": [ANSWER]}
 OUTBOX_STEPS = {"put": {"key": str, "body": BYTES, "amend?": int}, "send": SENDING, "states": [str]}
 CASES = {
-    "intake": {"name": str, "rule": str, "connections": [{"steps": [STEPS], "restart": str}], "register?": dict, "limit?": int, "empty?": bool},
+    "intake": {"name": str, "rule": str, "connections": [{"steps": [STEPS], "restart": ("stop", "kill")}], "register?": dict, "limit?": int, "empty?": bool},
     "outbox": {"name": str, "rule": str, "filer": str, "steps": [OUTBOX_STEPS]},
 }
 # Of these members a thing has exactly one.
@@ -726,6 +703,9 @@ def check_form(what, it, form):
             check_form(f"{what}, {at}", one, form[0])
     elif isinstance(form, dict):
         check_members(what, it, form)
+    elif isinstance(form, tuple):
+        if it not in form:
+            raise Unusable(f"{what} is none of {', '.join(form)}")
     elif form is not ANY and (not isinstance(it, form) or isinstance(it, bool) and form is not bool):
         raise Unusable(f"{what} is no {form.__name__}")
 
@@ -818,7 +798,7 @@ def intake_of(options):
 
 def run_intake(options, cases):
     end, jobs = intake_of(options)
-    if jobs == 1 and options.port:
+    if options.port:
         # The only case that gets the register empty comes first.
         cases.sort(key=lambda case: not case.get("empty"))
         if not is_listened_to(options.port):
@@ -838,11 +818,21 @@ def run_outbox(options, cases):
     return tried(cases, lambda case: try_outbox(templates, case, options.patience), lambda case: None, options.jobs)
 
 
-def whole_seconds(text):
-    value = int(text)
-    if not 1 <= value <= 600:
-        raise ValueError
-    return value
+def show(_, cases):
+    for case in cases:
+        print(f"{case['end']} {case['name']}: {case['rule']}")
+    return 0
+
+
+def number_to(most):
+    """What reads a number from 1 to this one."""
+
+    def number(text):
+        if not 1 <= int(text) <= most:
+            raise ValueError
+        return int(text)
+
+    return number
 
 
 def read_words(words):
@@ -852,12 +842,12 @@ def read_words(words):
     shared.add_argument("--only", action="append", default=[], metavar="WORD", help="cases with this word in their name")
     shared.add_argument("--case", action="append", default=[], metavar="NAME", help="the case of this name")
     shared.add_argument("--cases", default=HERE / "cases", metavar="FOLDER", help="another folder of cases")
-    shared.add_argument("--patience", type=whole_seconds, default=10, metavar="SECONDS", help="how long an answer is waited for (10)")
-    shared.add_argument("--jobs", type=whole_seconds, default=4, metavar="N", help="how many cases are tried at a time (4)")
+    shared.add_argument("--patience", type=number_to(600), default=10, metavar="SECONDS", help="how long an answer is waited for (10)")
+    shared.add_argument("--jobs", type=number_to(64), default=4, metavar="N", help="how many cases are tried at a time (4)")
     intake = parsers.add_parser("intake", parents=[shared], help="a supervisor's end")
     way = intake.add_mutually_exclusive_group(required=True)
     way.add_argument("--command", metavar="TEMPLATE", help="starts an intake on a new register: {db}, {port}, {n} connections, {limit} of keys")
-    way.add_argument("--port", type=int, metavar="PORT", help="an intake that runs, with an empty register")
+    way.add_argument("--port", type=number_to(65535), metavar="PORT", help="an intake that runs, with an empty register")
     way.add_argument("--exec", metavar="COMMAND", help="serves standard input and output as one connection")
     intake.add_argument("--again", metavar="TEMPLATE", help="starts an intake on a register that is there")
     outbox = parsers.add_parser("outbox", parents=[shared], help="a filer's end")
@@ -873,20 +863,16 @@ def main(words):
     options = read_words(words)
     try:
         cases = read_cases(options.cases, None if options.end == "list" else options.end, options.only, options.case)
-        if options.end == "list":
-            for case in cases:
-                print(f"{case['end']} {case['name']}: {case['rule']}")
-            return 0
-        return run_intake(options, cases) if options.end == "intake" else run_outbox(options, cases)
+        status = {"list": show, "intake": run_intake, "outbox": run_outbox}[options.end](options, cases)
+        sys.stdout.flush()
+        return status
     except Unusable as fault:
         print(f"run.py: {fault}", file=sys.stderr)
         return 2
-    except BrokenPipeError:
-        # Whoever read the output has seen enough.
-        os.dup2(os.open(os.devnull, os.O_WRONLY), sys.stdout.fileno())
-        return 3
     except OSError as fault:
-        print(f"run.py: {fault.filename or 'a file'}: {fault.strerror}", file=sys.stderr)
+        # What could not be written is not tried again at the end.
+        os.dup2(os.open(os.devnull, os.O_WRONLY), sys.stdout.fileno())
+        print(f"run.py: {fault.filename or 'the output or a file'}: {fault.strerror or fault}", file=sys.stderr)
         return 3
 
 

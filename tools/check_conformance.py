@@ -208,12 +208,12 @@ INTAKES = {
     "answers 400 for 422": (["example.not-object", "repeat.another-body"], ["example.not-json", "repeat.after-other-filings"]),
     "sends no Allow": (["method.put", "method.head"], ["head.smallest"]),
     "calls problem details JSON": (["path.other", "repeat.another-body", "length.missing"], ["head.smallest"]),
-    "cuts a byte off the content": (["head.smallest", "path.other"], ["method.head-of-an-unknown-path"]),
-    "writes a space into the content": (["head.smallest", "path.other", "example.fact"], ["method.head-of-an-unknown-path"]),
+    "cuts a byte off the content": (["head.smallest", "path.other"], ["method.head-that-closes"]),
+    "writes a space into the content": (["head.smallest", "path.other", "example.fact"], ["method.head-that-closes"]),
     "writes a byte behind the reply": (["head.smallest", "close.asked", "connection.three-at-once"], ["connection.without-a-byte"]),
-    "sends no length": (["head.smallest", "close.asked", "path.other"], ["method.head"]),
-    "sends a wrong length": (["head.smallest", "close.asked"], ["method.head"]),
-    "sends the length twice": (["head.smallest"], ["method.head"]),
+    "sends no length": (["head.smallest", "close.asked", "path.other"], ["method.head-that-closes"]),
+    "sends a wrong length": (["head.smallest", "close.asked"], ["method.head-that-closes"]),
+    "sends the length twice": (["head.smallest"], ["method.head-that-closes"]),
     "calls itself HTTP/1.0": (["head.smallest"], ["connection.without-a-byte"]),
     "names a transfer coding": (["head.smallest", "method.head"], ["connection.without-a-byte"]),
     "counts numbers from 2": (["numbering.begins-with-1", "list.counts-facts"], ["head.smallest"]),
@@ -389,7 +389,10 @@ REFUSALS = [
     (["intake", "--command", "intake 'a"], None, "is no command here"),
     (["intake"], None, "one of the arguments"),
     (["nothing"], None, "invalid choice"),
-    (["outbox", "--patience", "0"], None, "invalid"),
+    (["intake", "--exec", "/none/intake run"], None, "/none/intake: No such file or directory"),
+    (["intake", "--port", "70000"], None, "invalid number value: '70000'"),
+    (["outbox", "--patience", "0"], None, "invalid number value: '0'"),
+    (["outbox", "--command", "/none/outbox"], None, "/none/outbox: No such file or directory"),
     (["outbox", "--only", "no-such-case"], None, "no case is called so"),
     (["outbox", "--case", "reply"], None, "no case is called so: reply"),
     (["list"], "", "there are no cases"),
@@ -400,6 +403,7 @@ REFUSALS = [
     (["list"], CASE.replace('"rule":"r"', '"rule":""') % "", "a case has no name or no rule"),
     (["list"], CASE.replace('{"name"', '{"name":"a.b","rule":"r","connections":[]},{"name"', 1) % "", "two cases are called a.b"),
     (["list"], CASE % '{"sned":""}', "there is no 'sned'"),
+    (["list"], CASE.replace('{"steps":[%s]}', '{"restart":"now"}'), "is none of stop, kill"),
     (["list"], CASE % '{"send":"","pause":1}', "has 2 members in place of one"),
     (["list"], CASE % '{"pause":"1"}', "pause is no int"),
     (["list"], CASE % '{"send":7}', "7 spells no bytes"),
@@ -428,11 +432,12 @@ def check_refusals():
 
 def check_cases():
     """Each intake's case has filer codes that no other has, so that all can be played on one register; no name is used twice."""
-    owners, names = {}, []
+    owners, names, counts = {}, [], {"intake": 0, "outbox": 0}
     for file in sorted((ROOT / "conformance/cases").glob("*.json")):
         whole = json.loads(file.read_text())
         for case in whole["cases"]:
             names.append(case["name"])
+            counts[whole["end"]] += 1
             if whole["end"] != "intake":
                 continue
             sent = json.dumps(case["connections"])
@@ -441,6 +446,10 @@ def check_cases():
     shared = {filer: cases for filer, cases in owners.items() if len(cases) > 1}
     tell_one("each case has filers of its own", None if not shared else f"{shared}")
     tell_one("each case has a name of its own", None if len(names) == len(set(names)) else f"{len(names) - len(set(names))} names are used twice")
+    told = f"{counts['intake']} cases for an intake and {counts['outbox']} for an outbox"
+    for page in ("conformance/README.md", "docs/CONFORMANCE.md"):
+        is_there = told in " ".join((ROOT / page).read_text().split())
+        tell_one(f"{page} counts the cases", None if is_there else f"it doesn't say {told}")
     codes = set(re.findall(r"(?m)^\| \d+ \| ([\w-]+) \|", (ROOT / "docs/PROTOCOL.md").read_text()))
     examples = {name.removeprefix("example.") for name in names if name.startswith("example.")}
     tell_one("each code of a finding has its example", None if codes == examples else f"{sorted(codes ^ examples)}")
