@@ -4,9 +4,9 @@
     tools/check_conformance.py [INTAKE OUTBOX] [--only WORD]
 
 Without names it takes the programs that `rt run` builds in their folders. First each case is played on them: over sockets with an intake
-started for each case, over the port of one that runs, over pipes, and with the outbox. Then wrong programs are played: an intake and an
+started for each case, over the port of one that runs, on standard input and output, and with the outbox. Then wrong programs are played: an intake and an
 outbox that this script puts itself in front of, changing one thing. For each change the named cases have to fail, and the others named have
-to pass. The last line is 'N passed, M failed', and the status 1 if one failed.
+to pass. All this takes some ten minutes. The last line is 'N passed, M failed', and the status 1 if one failed.
 """
 import ctypes
 import json
@@ -470,7 +470,8 @@ def main(words):
     intake, outbox = (pathlib.Path(one).resolve() for one in programs or (trials.INTAKE, trials.OUTBOX))
     for program in (intake, outbox):
         if not program.exists():
-            print(f"check_conformance.py: {program}: there is no such program; build it: (cd crates/{program.name} && rt run < stdin)", file=sys.stderr)
+            built = f"build it: (cd crates/{program.name} && rt run -- --version)"
+            print(f"check_conformance.py: {program}: there is no such program; {built}", file=sys.stderr)
             return 2
     check_cases()
     check_programs(intake, outbox, only)
