@@ -840,7 +840,7 @@ TRIALS = [
 def main(words):
     for program in (INTAKE, OUTBOX):
         if not program.exists():
-            sys.exit(f"build the program first: (cd crates/{program.name} && rt run < stdin)")
+            sys.exit(f"build the program first: (cd crates/{program.name} && rt run -- --version)")
     for trial in TRIALS:
         if not all(word in trial.__name__ for word in words):
             continue

@@ -189,7 +189,7 @@ def try_all(programs, trials):
     """Makes each trial in a folder of its own, says how many failed, and ends."""
     for program in programs:
         if not program.exists():
-            sys.exit(f"build the program first: (cd crates/{program.name} && rt run < stdin)")
+            sys.exit(f"build the program first: (cd crates/{program.name} && rt run -- --version)")
     for trial in trials:
         with tempfile.TemporaryDirectory() as folder:
             try:
