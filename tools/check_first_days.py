@@ -122,6 +122,10 @@ exec sleep infinity
 """
 
 
+# The processes of nginx that answer.
+WORKERS = "pgrep -P $(cat /run/nginx.pid)"
+
+
 class NotPossible(Exception):
     """Why no machine can be made here."""
 
@@ -178,7 +182,11 @@ class Machine:
                 continue
             for old, new in names:
                 command = command.replace(old, new)
+            before = set(self.paste(WORKERS)[1].split()) if command.endswith("reload nginx") else set()
             status, printed = self.paste(command)
+            # A reload returns before the new processes of nginx answer.
+            if before:
+                self.until(WORKERS, lambda _, printed: printed and not before & set(printed.split()))
             # nginx and an intake take a moment until they are there, and the page says so of the health check.
             if command.startswith("intake-health ") and status:
                 status, printed = self.until(command)
