@@ -3,9 +3,11 @@
 import os
 import re
 import resource
+import shutil
 import socket
 import subprocess
 import sys
+import tempfile
 import time
 
 TOP = os.path.dirname(os.path.dirname(os.path.abspath(__file__)))
@@ -63,6 +65,24 @@ def run(words, given, status=0):
     if ended.returncode != status:
         sys.exit(f"{' '.join(words)}: status {ended.returncode}, {ended.stderr.decode(errors='replace')}")
     return ended.stdout, spent
+
+
+def counts_instructions():
+    """Whether valgrind is installed, by which instructions are counted."""
+    return shutil.which("valgrind") is not None
+
+
+def instructions(words, given, status=0):
+    """What a program printed, and how many instructions it took in user mode, by callgrind. It has to end with the status."""
+    with tempfile.TemporaryFile() as it:
+        it.write(given)
+        it.seek(0)
+        valgrind = ["valgrind", "--tool=callgrind", "--callgrind-out-file=/dev/null"]
+        ended = subprocess.run(valgrind + words, stdin=it, capture_output=True, check=False)
+    count = re.search(rb"Collected : (\d+)", ended.stderr)
+    if ended.returncode != status or not count:
+        sys.exit(f"{' '.join(valgrind + words)}: status {ended.returncode}, {ended.stderr.decode(errors='replace')}")
+    return ended.stdout, int(count[1])
 
 
 def connect(port):

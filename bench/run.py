@@ -1,8 +1,10 @@
 #!/usr/bin/env python3
-"""Measures the program `intake`, and holds the growth of its time to bounds: status 1 where a bound is passed. Build it first:
-(cd crates/intake && rt run < stdin).
+"""Measures the program `intake`, and holds the growth of what it costs to bounds: status 1 if a bound is passed. Build it first:
+(cd crates/intake && rt run -- --version).
 
-Times are processor time, of the program and of the system for it, less that of a run on nothing, which is the start of the program.
+The growth of a judgement and of requests on a register in memory is that of their instructions, if valgrind is installed: these come out the same
+at each run, also where a small report fits a cache of the processor and a large one does not. Otherwise, and for a register in a file, it is that of
+their time. Times are processor time, of the program and of the system for it, less that of a run on nothing, which is the start of the program.
 Each figure is the best of three runs. A register in a file lies in /dev/shm where there is one, so that no disk is waited for.
 """
 
@@ -13,7 +15,7 @@ import sys
 import tempfile
 import threading
 
-from programs import Server, amendments, built, connect, example, pipelined, read_reply, request, run, time_of_children
+from programs import Server, amendments, built, connect, counts_instructions, example, instructions, pipelined, read_reply, request, run, time_of_children
 
 RUNS = 3
 BODY_BYTES = 1_048_576
@@ -83,6 +85,30 @@ def seconds_to_judge(body, status=0):
     return max(times[0] - times[1], 1e-3) / 10
 
 
+def cost_to_judge(body, status=0):
+    """What judging a report costs beyond the least one: in instructions, if they can be counted, and otherwise in seconds."""
+    if not counts_instructions():
+        return seconds_to_judge(body, status)
+    with tempfile.TemporaryDirectory() as folder:
+        name = os.path.join(folder, "report.json")
+        counts = []
+        for text, wanted in ((body, status), (SMALLEST, 0)):
+            with open(name, "wb") as it:
+                it.write(text)
+            counts.append(instructions([built("intake"), "lint", "--filer", "ACME", name], b"", wanted)[1])
+    return counts[0] - counts[1]
+
+
+def cost_to_serve(given, replies):
+    """What these bytes cost as one connection beyond none: in instructions, if they can be counted, and otherwise in seconds."""
+    if not counts_instructions():
+        return seconds(given, replies)
+    output, full = instructions([built("intake"), "run"], given)
+    if output.count(b"HTTP/1.1 201 ") != replies:
+        sys.exit(f"intake: {output[:200]!r}")
+    return full - instructions([built("intake"), "run"], b"")[1]
+
+
 def seconds_in_pieces(given, most):
     """The same where the program reads so many bytes at a time: its input is a socket that keeps the bounds of what is sent. Of the time
     only what the program takes itself is counted, and not that of the system for its reads."""
@@ -108,11 +134,15 @@ def seconds_in_pieces(given, most):
     return min(times)
 
 
-def growth(what, smaller, larger, most):
-    """Whether the larger run takes at most so many times the time of the smaller."""
+def growth(what, smaller, larger, most, unit="time"):
+    """Whether the larger run costs at most so many times what the smaller does."""
     times = larger / smaller
-    print(f"{what}: {times:.1f} times the time, at most {most}")
+    print(f"{what}: {times:.1f} times the {unit}, at most {most}")
     return times <= most
+
+
+def unit():
+    return "instructions" if counts_instructions() else "time"
 
 
 def bodies():
@@ -127,8 +157,8 @@ def bodies():
         rates = f"{len(body) / judged / 1e6:.1f} MB/s judged, {len(body) / filed / 1e6:.1f} MB/s filed under new keys"
         print(f"a report of {len(body)} bytes: {rates}")
     for what, form, status in (("facts", FACT, 0), ("wrong facts", WRONG, 1)):
-        fewer, more = (seconds_to_judge(facts(form, count), status) for count in (700, 7_000))
-        held.append(growth(f"10 times the {what}, to judge a report", fewer, more, 12))
+        fewer, more = (cost_to_judge(facts(form, count), status) for count in (700, 7_000))
+        held.append(growth(f"10 times the {what}, to judge a report", fewer, more, 12, unit()))
     print(f"one fact with 50,000 wrong dimensions: {seconds_to_judge(wide(), 1):.3f} s to judge")
     return held
 
@@ -141,7 +171,8 @@ def requests():
         times = [seconds(pipelined(numbers(count), small), count) for count in (100, 1_000, 10_000)]
         for count, time in zip((100, 1_000, 10_000), times):
             print(f"{count} {what}: {time:.3f} s, {count / time:.0f} requests/s")
-        held.append(growth(f"10 times the {what} (100 to 1,000)", times[0], times[1], 11))
+        fewer, more = (cost_to_serve(pipelined(numbers(count), small), count) for count in (100, 1_000))
+        held.append(growth(f"10 times the {what} (100 to 1,000)", fewer, more, 11, unit()))
         print(f"10 times as many again: {times[2] / times[1]:.1f} times the time")
     return held
 
