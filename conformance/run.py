@@ -15,6 +15,7 @@ failed, 2 if the command line, a command, the port or a file of cases can't be u
 import argparse
 import base64
 import concurrent.futures
+import http.client
 import json
 import os
 import pathlib
@@ -787,6 +788,22 @@ def tried(cases, attempt, lacks, jobs):
     return 1 if failed or not passed else 0
 
 
+def filer_with_filings(options, cases):
+    """The first filer of these cases that has filings already, if any. What else may be wrong with a list, the cases say."""
+    for filer in sorted({filer for case in cases for filer in case.get("register", {})}):
+        connection = http.client.HTTPConnection("127.0.0.1", options.port, timeout=options.patience)
+        try:
+            connection.request("GET", f"/filings/{filer}", headers={"Connection": "close"})
+            reply = connection.getresponse()
+            if reply.status == 200 and json.loads(reply.read()).get("filings"):
+                return filer
+        except (OSError, http.client.HTTPException, ValueError, AttributeError):
+            return None
+        finally:
+            connection.close()
+    return None
+
+
 def intake_of(options):
     """The end that the options name, and how many cases are tried at a time."""
     if options.command:
@@ -803,6 +820,8 @@ def run_intake(options, cases):
         cases.sort(key=lambda case: not case.get("empty"))
         if not is_listened_to(options.port):
             raise Unusable(f"nobody listens on port {options.port} of 127.0.0.1")
+        if filer := filer_with_filings(options, cases):
+            raise Unusable(f"the register has filings of {filer} already: the cases need an empty one")
     return tried(cases, lambda case: try_intake(end, case, options.patience), end.lacks, jobs)
 
 

@@ -367,6 +367,9 @@ def check_programs(intake, outbox, only):
         with subprocess.Popen(words, stderr=subprocess.PIPE) as serving:
             serving.stderr.readline()
             check_all("an intake that runs", None, "intake", "--port", port, least=500)
+            status, output, errors = run_cases("intake", "--port", str(port))
+            is_told = status == 2 and "the cases need an empty one" in errors and not output
+            tell_one("refused: a register that has their filings", None if is_told else f"status {status}, {output[-400:]}{errors[-400:]}")
             serving.terminate()
 
 
