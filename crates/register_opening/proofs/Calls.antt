@@ -36,16 +36,6 @@ not_run {error} {a} {b} other p = record { left = λ clean. unchanged_by (p.left
     unchanged_by (inl none) = none.0
     unchanged_by (inr failed) = absurd (blamed failed.0 failed.1 failed.2)
 
--- after an answer, a call that may not have asked
-pub asked_first : {X E : Type 0} {a b c : State} (refused : E → Ending) (result : Result X E) → Leaves Asked a b → Leaves (ending_of Passed refused result) b c → Leaves (ending_of Asked refused result) a c
-asked_first refused (Ok x) p q = asked_before p q
-asked_first refused (Err e) p q = asked_then p q
-
--- after calls a result of our own: an answer, or a refusal in other words
-pub concluded : {X E : Type 0} {l : Ending} {a b : State} (result : Result X E) → Leaves l a b → Leaves (ending_of l (λ _. Ended) result) a b
-concluded (Ok x) p = p
-concluded (Err e) p = ended p
-
 pub refuses : {X E : Type 0} {a b : State} (answered : Ending) (result : Result X E) → IsErr result → Leaves Ended a b → Leaves (ending_of answered (λ _. Ended) result) a b
 refuses answered (Ok x) is p = absurd cc
 refuses answered (Err e) is p = p
@@ -63,28 +53,3 @@ same_on_ok (Err e) p clean = tt
 pub kept_on_err : {X E : Type 0} {a b : State} (result : Result X E) → Leaves (ending_of Asked (λ _. Ended) result) a b → KeepsOnErr a b result
 kept_on_err (Ok x) p clean = tt
 kept_on_err (Err e) p clean = keeps_commit p clean
-
--- one statement inside a transaction after another
-pub goes_on_then : {S : Type 0} {g : Ghosts S} {a b c : MutBor (Held S)} → GoesOn g a b → GoesOn g b c → GoesOn g a c
-goes_on_then {S} {g} {a} {b} {c} p q = record {
-  same_reference = q.same_reference ∙ p.same_reference;
-  keeps = λ clean. keeps_then (state g a.now) (state g b.now) (state g c.now) (p.keeps (omega (arith, q.survives.clean))) (q.keeps clean);
-  survives = nothing_left (state g a.now) (state g b.now) (state g c.now) p.survives q.survives;
-}
-
--- a statement keeps what was committed: outside of a transaction it is not run
-statement_keeps : {S : Type 0} (g : Ghosts S) (a b : Held S) (sql : List ℕ) (params : Row) (result : Result ℕ Error) {Refused : Type 0} → ((state g a).in_transaction ≡ false → Refused × (b ≡ a))
-    → (HasCleanDisk (state g b) → IsTrue (state g a).in_transaction → ExecutesInside 0 sql params (state g a) (state g b) result) → HasCleanDisk (state g b) → KeepsCommit (state g a) (state g b)
-statement_keeps g a b sql params result ended runs clean = elim (cases_Bool (state g a).in_transaction) [
-  | inl inside ↦ inside_keeps (state g a) (state g b) 0 false sql params result (runs clean inside)
-  | inr outside ↦ subst (λ h. KeepsCommit (state g a) (state g h)) (sym (ended outside).1) (record { was_open = λ opened. opened; committed = λ opened. refl })
-]
-
-pub statement_goes_on : {S : Type 0} (g : Ghosts S) (a b : MutBor (Held S)) (sql : List ℕ) (params : Row) (result : Result ℕ Error) {Refused : Type 0} → b.ghost_name ≡ a.ghost_name
-    → ((state g a.now).in_transaction ≡ false → Refused × (b.now ≡ a.now)) → (HasCleanDisk (state g b.now) → IsTrue (state g a.now).in_transaction → ExecutesInside 0 sql params (state g a.now) (state g b.now) result)
-    → CommitsNothing (state g a.now) (state g b.now) → GoesOn g a b
-statement_goes_on g a b sql params result same ended runs survives = record { same_reference = same; keeps = statement_keeps g a.now b.now sql params result ended runs; survives = survives }
-
--- no statement was run
-pub goes_on_yet : {S : Type 0} (g : Ghosts S) (a : MutBor (Held S)) → GoesOn g a a
-goes_on_yet g a = record { same_reference = refl; keeps = λ clean. record { was_open = λ opened. opened; committed = λ opened. refl }; survives = nothing_yet (state g a.now) }

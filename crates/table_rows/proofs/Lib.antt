@@ -20,3 +20,4 @@ pub mod TakeLemmas
 pub mod BeforeLemmas
 pub mod LeavingLemmas
 pub mod OutcomeLemmas
+pub mod InsideLemmas

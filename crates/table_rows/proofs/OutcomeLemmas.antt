@@ -7,7 +7,7 @@ use Rattle.sqlite.specs.State.{State, HasCleanDisk, IsUnchanged, QueriesRow, Com
 use Rattle.sqlite.specs.declared.error.Error.{Error}
 use Rattle.sqlite.specs.declared.error.Error.TheVariants.{QueryReturnedNoRows}
 use Rattle.table_rows.specs.Causes.{cause_of}
-use Rattle.table_rows.specs.Leaving.{Leaves, ending_of, OnlyQueries}
+use Rattle.table_rows.specs.Leaving.{Ending, Leaves, ending_of, OnlyQueries}
 use Rattle.table_rows.specs.Leaving.Ending.{Asked, Passed, Ended}
 use Rattle.table_rows.specs.Picking.{IsStopped}
 use Rattle.table_rows.specs.Queries.{IsQueryText}
@@ -17,15 +17,15 @@ use Rattle.table_rows.proofs.StandLemmas.{store_errors}
 use Rattle.table_rows.proofs.StopLemmas.{query_stopped}
 use Rattle.table_rows.proofs.TextLemmas.{query_same, query_survives}
 
--- after an answer, a result that was made without a call
-pub answered : {X E : Type 0} {a b : State} (result : Result X E) → Leaves Asked a b → Leaves (ending_of Asked (λ _. Ended) result) a b
-answered (Ok x) p = p
-answered (Err e) p = ended p
+-- after an answer, a call that may not have asked
+pub asked_first : {X E : Type 0} {a b c : State} (refused : E → Ending) (result : Result X E) → Leaves Asked a b → Leaves (ending_of Passed refused result) b c → Leaves (ending_of Asked refused result) a c
+asked_first refused (Ok x) p q = asked_before p q
+asked_first refused (Err e) p q = asked_then p q
 
--- after an answer, the result of a call that may not have asked
-pub answered_then : {X E : Type 0} {a b c : State} (result : Result X E) → Leaves Asked a b → Leaves (ending_of Passed (λ _. Ended) result) b c → Leaves (ending_of Asked (λ _. Ended) result) a c
-answered_then (Ok x) p q = asked_before p q
-answered_then (Err e) p q = asked_then p q
+-- after calls a result of our own: an answer, or a refusal in other words
+pub concluded : {X E : Type 0} {l : Ending} {a b : State} (result : Result X E) → Leaves l a b → Leaves (ending_of l (λ _. Ended) result) a b
+concluded (Ok x) p = p
+concluded (Err e) p = ended p
 
 -- ---- the first row
 

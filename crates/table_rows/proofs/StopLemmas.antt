@@ -19,7 +19,7 @@ use Rattle.sqlite.specs.Program.{overlay}
 use Rattle.sqlite.specs.Query.{Query, IsAnswerAs, Output, output}
 use Rattle.sqlite.specs.State.{State, Shown, Fails, FailsToQuery, FailsToShow, IsNoStatement, IsNotRun, IsUnchanged, HasCause, IsRolledBack}
 use Rattle.sqlite.specs.declared.error.Error.{Error}
-use Rattle.sqlite.proofs.Callers.{reads_as, one_permutation, unchanged_then}
+use Rattle.sqlite.proofs.Callers.{reads_as, one_permutation}
 use Rattle.sqlite_disk.specs.Disk.{MoreFaults}
 use Rattle.sqlite_trees.specs.declared.error.StoreError.{StoreError}
 use Rattle.sqlite_trees.specs.declared.error.StoreError.TheVariants.{OutOfMemory, Io, Corrupt, Full, Broken, Unstorable}
@@ -87,10 +87,6 @@ failed_after a b c e same low failed = (failed.0, failed.1, caused failed.0 fail
       unmarked = failed.3.unmarked;
       counts = record { changes = failed.3.counts.changes ∙ same.1.changes; last_rowid = failed.3.counts.last_rowid ∙ same.1.last_rowid };
     }
-
-pub stopped_after : (a b c : State) (e : Error) → IsUnchanged a b → a.faults ≤ b.faults → IsStopped b c e → IsStopped a c e
-stopped_after a b c e same low (inl not_run) = inl (unchanged_then a b c same not_run.0, not_run.1)
-stopped_after a b c e same low (inr failed) = inr (failed_after a b c e same low failed)
 
 pub length_mapped : {X Y : Type 0} (f : X → Y) (xs : List X) → length (map f xs) ≡ length xs
 length_mapped f [] = refl

@@ -1,14 +1,12 @@
 -- A text that is a query writes nothing, whatever the tables are.
-use Rattle.std.proofs.Common.{◌≡◌, ◌∙◌, inl, inr, ℕ, ◌+◌, true, false, List, Option, Some, None, Ok, Err, Result, IfOk, IfErr, if◌then◌else◌, refl, sym, subst, true≢false}
+use Rattle.std.proofs.Common.{◌≡◌, ℕ, ◌+◌, true, false, List, Option, Some, None, Ok, Err, if◌then◌else◌, refl, sym, subst, true≢false}
 use Rattle.sqlite.specs.Order.{Row}
 use Rattle.sqlite.specs.Tree.{Trees}
 use Rattle.sqlite.specs.Schema.{Schema}
 use Rattle.sqlite.specs.Clock.{timed}
 use Rattle.sqlite.specs.Command.{Command}
 use Rattle.sqlite.specs.Listing.{understood, reads_listing, if_select, is_select, listing_schema}
-use Rattle.sqlite.specs.declared.error.Error.{Error}
-use Rattle.sqlite.specs.State.{State, IsStatement, IsUnchanged, KeepsCommit, ShowsRows, FailsToShow, FailsToQuery, IsNotRun, Shown, CommitsShowing, Survives}
-use Rattle.sqlite.proofs.Callers.{unchanged_then}
+use Rattle.sqlite.specs.State.{State, IsStatement, IsUnchanged, ShowsRows, Shown, CommitsShowing, Survives}
 use Rattle.sqlite.proofs.StateLemmas.{survives_weaker}
 use Rattle.sqlite_ast.specs.declared.Statement.{Statement}
 use Rattle.sqlite_ast.specs.declared.Statement.TheVariants as written
@@ -20,7 +18,6 @@ use Rattle.sqlite_resolve.specs.Lowering.{Checked, and_then}
 use Rattle.sqlite_resolve.specs.Compile.{first, compiled, planned, meaning, returning, command, small, timed as formats_for, with_command}
 pub use Rattle.table_rows.specs.Queries.{IsQueryText}
 use Rattle.table_rows.specs.Queries.{is_query, begins_with_query}
-use Rattle.table_rows.specs.Standing.{Keeps}
 
 abbrev returning_of : Checked Compiled → Option Returning
 returning_of (Ok c) = c.returning
@@ -69,40 +66,9 @@ module _ (sql : List ℕ) (query : IsQueryText sql) (params : Row) (old new : St
   unfolding Shown
   query_same rows h = shows_same h.0 (timed params h.0.formats h.1.now) rows h.0.returning (no_returning h.0 h.1) h.2
 
-  fails_same : (c : Compiled) (full : Row) (e : Error) (o : Option Returning) → o ≡ None → FailsToShow old new sql c full e o → Keeps old new
-  fails_same c full e None none h = inl h.3
-  fails_same c full e (Some what) none h = absurd cc
-
-  pub query_failed : (e : Error) → FailsToQuery sql params old new e → Keeps old new
-  unfolding FailsToQuery IsNotRun
-  query_failed e (inl (inl none)) = inl none.1
-  query_failed e (inl (inr failed)) = inr failed.3
-  query_failed e (inr h) = fails_same h.0 (timed params h.0.formats h.1.now) e h.0.returning (no_returning h.0 h.1) h.2
-
-  -- whatever it answers
-  pub query_keeps : {V : Type 0} (items : V → List Row) (r : Result V Error) → IfOk r (λ rows. Shown sql params old new (items rows)) → IfErr r (FailsToQuery sql params old new) → Keeps old new
-  query_keeps items (Ok rows) shown failed = inl (query_same (items rows) shown)
-  query_keeps items (Err e) shown failed = query_failed e failed
-
   commits_nothing : (trees : Trees) → ¬ CommitsShowing sql params old trees
   unfolding CommitsShowing
   commits_nothing trees h = let none = no_returning h.0 h.1 in absurd (let some = rw none at h.2 in cc)
 
   pub query_survives : Survives old new (CommitsShowing sql params old) → Survives old new (λ _. ⊥)
   query_survives = survives_weaker old new _ _ (λ _ trees h. commits_nothing trees h)
-
--- after a call that left the connection as it was
-pub keeps_on : (a b c : State) → IsUnchanged a b → Keeps b c → Keeps a c
-keeps_on a b c p (inl q) = inl (unchanged_then a b c p q)
-keeps_on a b c p (inr back) = inr (record {
-  was_open = λ alive. p.0.was_open;
-  undone = λ alive. ((back.undone alive).0 ∙ p.0.committed_is, (back.undone alive).1 ∙ p.0.committed_is);
-  autocommit = back.autocommit;
-  unmarked = back.unmarked;
-  counts = record { changes = back.counts.changes ∙ p.1.changes; last_rowid = back.counts.last_rowid ∙ p.1.last_rowid };
-})
-
--- and so nothing was committed
-pub keeps_commit : (old new : State) → Keeps old new → KeepsCommit old new
-keeps_commit old new (inl same) = record { was_open = λ _. same.0.was_open; committed = λ _. same.0.committed_is }
-keeps_commit old new (inr back) = record { was_open = back.was_open; committed = λ alive. (back.undone alive).1 }

@@ -1,11 +1,12 @@
--- What a call that only reads leaves of its connection.
+-- What a call leaves of its connection, if it only reads, or if it writes inside a transaction.
 use Rattle.std.specs.Prelude.{◌≡◌, ◌⊎◌, false, Result, Ok, Err, IsTrue}
+use Rattle.std.specs.Borrow.{MutBor}
 use Rattle.sqlite.specs.Store.{Ghosts}
 use Rattle.sqlite.specs.Held.{Held, state}
 use Rattle.sqlite.specs.State.{State, HasCleanDisk, IsUnchanged, IsRolledBack, KeepsCounts}
 use Rattle.sqlite.specs.declared.error.Error.{Error}
 use Rattle.table_rows.specs.Picking.{IsStopped}
-use Rattle.table_rows.specs.Standing.{CommitsNothing}
+use Rattle.table_rows.specs.Standing.{CommitsNothing, StaysCommitted}
 
 -- nothing was written; this holds of a connection that is shut too, if it is left alone
 pub record IsUntouched (old new : State) : Type 0 where
@@ -55,3 +56,9 @@ OnlyQueries g old new result = Leaves (ending_of Asked Stopped result) (state g 
 
 abbrev pub MayQuery : {S X : Type 0} → Ghosts S → Held S → Held S → Result X Error → Type 0
 MayQuery g old new result = Leaves (ending_of Passed Stopped result) (state g old) (state g new)
+
+-- A call inside a transaction writes by the connection that it was given, and commits nothing.
+pub record OnlyWrites {S : Type 0} (g : Ghosts S) (old new : MutBor (Held S)) : Type 0 where
+  pub same_reference : new.ghost_name ≡ old.ghost_name
+  pub keeps : StaysCommitted g old.now new.now
+  pub survives : CommitsNothing (state g old.now) (state g new.now)

@@ -1,5 +1,5 @@
 -- The rows of a table that a statement picks by a test, one after another, and why it stops.
-use Rattle.std.specs.Prelude.{true, pos, ◌&&◌, ◌≡◌, ◌⊎◌, ℕ, Bool, List, [], ◌++◌, length, map, filter, IsPermutation, Result, IfErr}
+use Rattle.std.specs.Prelude.{true, pos, ◌&&◌, ◌≡◌, ◌⊎◌, ℕ, Bool, List, [], ◌++◌, length, map, filter, IsPermutation}
 use Rattle.sqlite.specs.declared.types.Value.TheVariants.{Int}
 use Rattle.sqlite.specs.Collation.TheVariants.{Binary}
 use Rattle.sqlite.specs.Order.{Row, column}
@@ -8,7 +8,7 @@ use Rattle.sqlite_sql.specs.declared.ops.BinaryOp.TheVariants.{Compare}
 use Rattle.sqlite_sql.specs.declared.ops.CompareOp.TheVariants.{Eq}
 use Rattle.sqlite.specs.Table.{Table}
 use Rattle.sqlite.specs.Effect.{Database}
-use Rattle.sqlite.specs.State.{State, HasCleanDisk, IsUnchanged, Fails}
+use Rattle.sqlite.specs.State.{State, IsUnchanged, Fails}
 use Rattle.sqlite.specs.declared.error.Error.{Error}
 use Rattle.table_rows.specs.Rows.{shown}
 use Rattle.table_rows.specs.Causes.{cause_of}
@@ -33,10 +33,6 @@ CountsTo table count db = count ≡ length (rows_in db table)
 -- a statement was not run, for another cause than memory or disk, and nothing was written; or the store failed
 abbrev pub IsStopped : State → State → Error → Type 0
 IsStopped old new error = (IsUnchanged old new × (cause_of error ≡ cause.Other)) ⊎ Fails old new ⊥ error
-
--- where the disk is clean at the end, that is why a call was refused
-abbrev pub StopsOnErr : {X : Type 0} → State → State → Result X Error → Type 0
-StopsOnErr old new result = HasCleanDisk new → IfErr result (IsStopped old new)
 
 -- there are no rows to ask for, or the table has these and no others that pass
 abbrev pub Finds : Table → (Row → Bool) → List Row → Database → Type 0
