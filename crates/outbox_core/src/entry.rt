@@ -11,16 +11,13 @@ ghost use Rattle.filing_model.specs.Views.{view_state};
 ghost use Rattle.outbox_core.specs.Reading.{view_pair, state_told};
 
 use crate::columns::{state, states};
-use filing_model::State;
+use filing_model::{State, is_target};
 use http_messages::MAX_BODY_LEN;
 use key_string::{KeyFault, KeyText};
 use outbox_opening::columns::entry;
 use sqlite::Row;
 use std::alloc::Global;
 use table_rows::StoreFault;
-
-/// The greatest number that a column holds.
-const MAX_TARGET: u64 = i64::MAX as u64;
 
 /// A report that is to be sent under its key, and what is known of it.
 #[derive(Debug, Drop)]
@@ -56,16 +53,6 @@ fn key_in(alloc: Global, text: &str) -> Result<KeyText, StoreFault>
         Ok(key) => Ok(key),
         Err(KeyFault::Memory) => Err(StoreFault::Memory),
         Err(_) => Err(StoreFault::Store),
-    }
-}
-
-/// Whether there is no number, or one that a filing may have.
-fn is_target(target: Option<u64>) -> bool
-    ensures { IsTrue result ↔ IsTarget target }
-{
-    match target {
-        Some(number) => 1 <= number && number <= MAX_TARGET,
-        None => true,
     }
 }
 

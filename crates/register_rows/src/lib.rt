@@ -16,4 +16,4 @@ pub use columns::{bytes_at, last_in, text_at};
 pub use filed::Filed;
 pub use items::RowItem;
 pub use segments::{after_filing, after_items, target_of};
-pub use verdict::{MAX_KEPT, Verdict, audit, filer_of, is_kept_row, is_target};
+pub use verdict::{MAX_KEPT, Verdict, audit, filer_of, is_kept_row};

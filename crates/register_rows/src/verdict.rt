@@ -20,6 +20,7 @@ use crate::columns::{bytes_at, text_at};
 use crate::damage::{OtherTables, first_unsound};
 use crate::filed::Filed;
 use crate::segments::{after_filing, after_items, target_of};
+use filing_model::is_target;
 use http_messages::MAX_BODY_LEN;
 use key_string::{is_key, read_filer};
 use sqlite::Row;
@@ -30,9 +31,6 @@ use xbrl_report::{Fact, Finding, Judged};
 
 /// The most requests that a register keeps.
 pub const MAX_KEPT: u64 = 1 << 62;
-
-/// The greatest number that a column holds.
-const MAX_TARGET: u64 = i64::MAX as u64;
 
 /// The rows of the tables beside `kept` that no kept row has accounted for, and the number of the next filing.
 #[derive(Clone, Copy)]
@@ -187,16 +185,6 @@ fn has_more(seq: u64, judged: &Judged, number: u64, rest: RowsLeft<'_>) -> bool
             Judged::Refused(_) => false,
         }
         || begins_with(rest.amends, 0, seq)
-}
-
-/// Whether there is no number, or one that a filing may have.
-pub fn is_target(target: Option<u64>) -> bool
-    ensures { IsTrue result ↔ IsTarget target }
-{
-    match target {
-        Some(number) => 1 <= number && number <= MAX_TARGET,
-        None => true,
-    }
 }
 
 /// The filer of a row whose request may be completed, where it is to replace such a filing.

@@ -22,9 +22,10 @@ ghost use Rattle.register_opening.specs.Walk.{Amounts, Beyond, Passes, Walked};
 
 use crate::opening::watch::Watch;
 use crate::select::picks;
+use filing_model::is_target;
 use register_rows::{
     Filed, MAX_KEPT, RowItem, after_filing, after_items, bytes_at, filer_of, is_kept_row,
-    is_target, target_of, text_at,
+    target_of, text_at,
 };
 use sqlite::{Alter, Connection, Error, Row};
 use std::alloc::Global;
