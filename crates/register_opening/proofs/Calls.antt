@@ -1,24 +1,16 @@
 -- What a call leaves, and one call after another.
-use Rattle.std.proofs.Common.{◌≡◌, inl, inr, ℕ, List, Result, Ok, Err, IfOk, IsErr, IsTrue, false, refl, sym, ap, ◌∙◌, subst, arith}
-use Rattle.std.proofs.lemmas.Bool.{cases_Bool}
-use Rattle.std.specs.Borrow.{MutBor}
-use Rattle.sqlite.specs.Order.{Row}
-use Rattle.sqlite.specs.Store.{Ghosts}
-use Rattle.sqlite.specs.Held.{Held, state}
-use Rattle.sqlite.specs.State.{State, HasCleanDisk, HasCause, IsUnchanged, KeepsCommit, ExecutesInside, store_error}
+use Rattle.std.proofs.Common.{◌≡◌, inl, inr, Result, Ok, Err, IfOk, IsErr, sym, ap, ◌∙◌}
+use Rattle.sqlite.specs.State.{State, HasCleanDisk, HasCause, IsUnchanged, store_error}
 use Rattle.sqlite.specs.declared.error.Error.{Error}
-use Rattle.sqlite.proofs.InsideLemmas.{inside_keeps}
 use Rattle.sqlite_trees.specs.declared.error.StoreError.{StoreError}
 use Rattle.sqlite_trees.specs.declared.error.StoreError.TheVariants.{OutOfMemory, Io, Corrupt, Full, Broken, Unstorable}
-use Rattle.register_opening.specs.Gains.{GoesOn}
 use Rattle.table_rows.specs.Causes.{cause_of}
 use Rattle.table_rows.specs.declared.cause.Cause.TheVariants.{Memory, Disk, Other}
 use Rattle.table_rows.specs.Leaving.{Ending, Leaves, ending_of}
-use Rattle.table_rows.specs.Leaving.Ending.{Asked, Passed, Ended, Stopped}
+use Rattle.table_rows.specs.Leaving.Ending.{Asked, Ended, Stopped}
 use Rattle.table_rows.specs.Picking.{IsStopped}
-use Rattle.table_rows.specs.Standing.{CommitsNothing, StaysOnOk, KeepsOnErr}
-use Rattle.table_rows.proofs.LeavingLemmas.{asked_before, asked_then, ended, keeps_commit}
-use Rattle.table_rows.proofs.StepLemmas.{keeps_then, nothing_left, nothing_yet}
+use Rattle.table_rows.specs.Standing.{StaysOnOk, KeepsOnErr}
+use Rattle.table_rows.proofs.LeavingLemmas.{keeps_commit}
 
 -- a query that was refused for another cause than memory or disk left the connection as it was
 pub not_run : {error : Error} {a b : State} → cause_of error ≡ Other → Leaves (Stopped error) a b → Leaves Asked a b

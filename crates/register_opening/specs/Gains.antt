@@ -1,13 +1,9 @@
 -- What a transaction adds to the tables of a register.
 use Rattle.std.specs.Prelude.{◌≡◌, List, IsTrue}
-use Rattle.std.specs.Borrow.{MutBor}
-use Rattle.sqlite.specs.Store.{Ghosts}
-use Rattle.sqlite.specs.Held.{Held, state}
 use Rattle.sqlite.specs.Order.{Row}
 use Rattle.sqlite.specs.Table.{Table}
 use Rattle.sqlite.specs.State.{State}
 use Rattle.table_rows.specs.Rows.{GainsInside}
-use Rattle.table_rows.specs.Standing.{CommitsNothing, StaysCommitted}
 use Rattle.register_rows.specs.Schema.{register_tables}
 
 -- a table of ours gains these rows inside a transaction, and the others stay
@@ -19,9 +15,3 @@ pub record AddsNothing (old new : State) : Type 0 where
   pub was_open : IsTrue new.is_open → IsTrue old.is_open
   pub now : IsTrue new.is_open → new.now ≡ old.committed
   pub committed : IsTrue new.is_open → new.committed ≡ old.committed
-
--- statements inside a transaction go on with the same connection, and commit nothing
-pub record GoesOn {S : Type 0} (g : Ghosts S) (old new : MutBor (Held S)) : Type 0 where
-  pub same_reference : new.ghost_name ≡ old.ghost_name
-  pub keeps : StaysCommitted g old.now new.now
-  pub survives : CommitsNothing (state g old.now) (state g new.now)

@@ -1,25 +1,23 @@
 //! A register in an earlier form is brought into the present one.
 
-ghost use Rattle.std.specs.Prelude.{◌≡◌, ◌<◌, ◌^◌, ◌∷◌, ℕ, [], pos, false, None, Ok, Err, IsTrue, IfErr, OnOk, OnErr};
+ghost use Rattle.std.specs.Prelude.{◌≡◌, ◌<◌, ◌^◌, false, IsTrue, IfErr, OnOk, OnErr};
 ghost use Rattle.sqlite.specs.Held.{state};
-ghost use Rattle.sqlite.specs.declared.error.Error.{Error};
-ghost use Rattle.sqlite.specs.declared.types.Value.TheVariants.{Int};
-ghost use Rattle.sqlite.specs.State.{HasCleanDisk, Survives, ExecutesInside};
+ghost use Rattle.sqlite.specs.State.{HasCleanDisk, Survives};
+ghost use Rattle.table_rows.specs.Leaving.{OnlyWrites};
 ghost use Rattle.table_rows.specs.Standing.{IsAtRest, IsLasting};
-ghost use Rattle.register_opening.specs.Gains.{AddsNothing, GoesOn};
+ghost use Rattle.register_opening.specs.Gains.{AddsNothing};
 ghost use Rattle.register_opening.specs.Earlier.{is_blocked};
-ghost use Rattle.register_opening.specs.Migrating.{insert_early, write_fault, migrating, AreDone, StopsAt, AreCommitted, AreUndone, AreTreesOf, MigratesRegister};
+ghost use Rattle.register_opening.specs.Migrating.{write_fault, migrating, AreDone, StopsAt, AreCommitted, AreUndone, AreTreesOf, MigratesRegister};
 
 pub(crate) mod earlier;
 
 use crate::fault::OpenFault;
 use crate::migrate::earlier::{Earlier, read_earlier};
 use crate::opening::Counts;
-use crate::schema::create::run;
 use crate::schema::names;
 use sqlite::{Alter, Connection, Error, Transaction, params};
 use std::alloc::Global;
-use table_rows::{Cause, is_settled};
+use table_rows::{Cause, is_settled, run};
 
 fn write_fault(error: Error) -> OpenFault
     ensures { result ≡ write_fault error }
@@ -30,28 +28,10 @@ fn write_fault(error: Error) -> OpenFault
     }
 }
 
-/// Writes the row that says how many requests were kept before there were problem details.
-fn tell_early<S: Alter>(tx: &mut Transaction<'_, S>, early: u64) -> Result<(), Error>
-    requires { early < 2 ^ 63 }
-    ensures on { GoesOn S.Store tx.old.conn tx.new.conn }
-    ensures ran { HasCleanDisk (state S.Store tx.new.conn.now)
-        → OnOk result ((count : ℕ)
-        × ExecutesInside 0 insert_early (Int (pos early) ∷ []) (state S.Store tx.old.conn.now)
-        (state S.Store tx.new.conn.now) (Ok count)) }
-    ensures failed { HasCleanDisk (state S.Store tx.new.conn.now)
-        → IsTrue (state S.Store tx.old.conn.now).in_transaction
-        → IfErr result (λ error.
-        ExecutesInside 0 insert_early (Int (pos early) ∷ []) (state S.Store tx.old.conn.now)
-        (state S.Store tx.new.conn.now) (Err error)) }
-{
-    tx.execute("INSERT INTO migrated VALUES (1, ?1)", params![early as i64])?;
-    Ok(())
-}
-
 /// Writes what a register of the second form has not.
 fn write_second<S: Alter>(tx: &mut Transaction<'_, S>, early: u64) -> Result<(), Error>
     requires { early < 2 ^ 63 }
-    ensures on { GoesOn S.Store tx.old.conn tx.new.conn }
+    ensures leaves { OnlyWrites S.Store tx.old.conn tx.new.conn }
     ensures done { HasCleanDisk (state S.Store tx.new.conn.now)
         → OnOk result (AreDone S.Store (migrating Earlier.Second early) tx.old.conn.now tx.new.conn.now) }
     ensures stopped { HasCleanDisk (state S.Store tx.new.conn.now)
@@ -62,18 +42,24 @@ fn write_second<S: Alter>(tx: &mut Transaction<'_, S>, early: u64) -> Result<(),
     run(
         tx,
         "CREATE TABLE migrated (id INTEGER PRIMARY KEY, last INTEGER NOT NULL) STRICT",
+        &[],
     )?;
     run(
         tx,
         "CREATE TABLE amends (seq INTEGER PRIMARY KEY, target INTEGER NOT NULL) STRICT",
+        &[],
     )?;
-    tell_early(tx, early)?;
-    run(tx, "UPDATE intake_meta SET form = 4 WHERE id = 1")
+    run(
+        tx,
+        "INSERT INTO migrated VALUES (1, ?1)",
+        params![early as i64],
+    )?;
+    run(tx, "UPDATE intake_meta SET form = 4 WHERE id = 1", &[])
 }
 
 /// Writes what a register of the third form has not.
 fn write_third<S: Alter>(tx: &mut Transaction<'_, S>) -> Result<(), Error>
-    ensures on { GoesOn S.Store tx.old.conn tx.new.conn }
+    ensures leaves { OnlyWrites S.Store tx.old.conn tx.new.conn }
     ensures done { HasCleanDisk (state S.Store tx.new.conn.now)
         → OnOk result (AreDone S.Store (migrating Earlier.Third 0) tx.old.conn.now tx.new.conn.now) }
     ensures stopped { HasCleanDisk (state S.Store tx.new.conn.now)
@@ -83,13 +69,14 @@ fn write_third<S: Alter>(tx: &mut Transaction<'_, S>) -> Result<(), Error>
     run(
         tx,
         "CREATE TABLE amends (seq INTEGER PRIMARY KEY, target INTEGER NOT NULL) STRICT",
+        &[],
     )?;
-    run(tx, "UPDATE intake_meta SET form = 4 WHERE id = 1")
+    run(tx, "UPDATE intake_meta SET form = 4 WHERE id = 1", &[])
 }
 
 fn write_all<S: Alter>(tx: &mut Transaction<'_, S>, form: Earlier, early: u64) -> Result<(), Error>
     requires { early < 2 ^ 63 }
-    ensures on { GoesOn S.Store tx.old.conn tx.new.conn }
+    ensures leaves { OnlyWrites S.Store tx.old.conn tx.new.conn }
     ensures done { HasCleanDisk (state S.Store tx.new.conn.now)
         → OnOk result (AreDone S.Store (migrating form early) tx.old.conn.now tx.new.conn.now) }
     ensures stopped { HasCleanDisk (state S.Store tx.new.conn.now)

@@ -1,37 +1,22 @@
 //! The tables of a register are made.
 
-ghost use Rattle.register_opening.specs.Gains.{GoesOn};
-ghost use Rattle.std.specs.Prelude.{◌≡◌, ◌≢◌, ◌↔◌, ℕ, false, [], Ok, Err, IsTrue, IfErr, OnOk};
+ghost use Rattle.std.specs.Prelude.{◌≡◌, ◌≢◌, ◌↔◌, false, Err, IsTrue, IfErr, OnOk};
 ghost use Rattle.sqlite.specs.Held.{state};
 ghost use Rattle.sqlite.specs.declared.error.Error.{Error};
-ghost use Rattle.sqlite.specs.State.{HasCleanDisk, ExecutesInside};
+ghost use Rattle.sqlite.specs.State.{HasCleanDisk};
 ghost use Rattle.register_opening.specs.Faults.{create_fault};
 ghost use Rattle.register_opening.specs.Making.{common_texts, later_texts, making_texts, AreRun, StopsWith, FailsToMake, MakesRegister};
 ghost use Rattle.register_rows.specs.Schema.{is_taken};
+ghost use Rattle.table_rows.specs.Leaving.{OnlyWrites};
 
 use crate::fault::CreateFault;
 use crate::schema::names;
 use sqlite::{Alter, Connection, Error, Transaction};
-use table_rows::is_settled;
-
-/// Runs a statement that has no parameter.
-pub(crate) fn run<S: Alter>(tx: &mut Transaction<'_, S>, sql: &str) -> Result<(), Error>
-    ensures on { GoesOn S.Store tx.old.conn tx.new.conn }
-    ensures ran { HasCleanDisk (state S.Store tx.new.conn.now)
-        → OnOk result ((count : ℕ)
-        × ExecutesInside 0 sql.now [] (state S.Store tx.old.conn.now) (state S.Store tx.new.conn.now) (Ok count)) }
-    ensures failed { HasCleanDisk (state S.Store tx.new.conn.now)
-        → IsTrue (state S.Store tx.old.conn.now).in_transaction
-        → IfErr result (λ error.
-        ExecutesInside 0 sql.now [] (state S.Store tx.old.conn.now) (state S.Store tx.new.conn.now) (Err error)) }
-{
-    tx.execute(sql, &[])?;
-    Ok(())
-}
+use table_rows::{is_settled, run};
 
 /// Makes the tables of every form.
 fn make_common<S: Alter>(tx: &mut Transaction<'_, S>) -> Result<(), Error>
-    ensures on { GoesOn S.Store tx.old.conn tx.new.conn }
+    ensures leaves { OnlyWrites S.Store tx.old.conn tx.new.conn }
     ensures ran { HasCleanDisk (state S.Store tx.new.conn.now)
         → OnOk result (AreRun S.Store common_texts tx.old.conn.now tx.new.conn.now) }
     ensures failed { HasCleanDisk (state S.Store tx.new.conn.now)
@@ -43,28 +28,33 @@ fn make_common<S: Alter>(tx: &mut Transaction<'_, S>) -> Result<(), Error>
     run(
         tx,
         "CREATE TABLE intake_meta (id INTEGER PRIMARY KEY, kind TEXT NOT NULL, form INTEGER NOT NULL) STRICT",
+        &[],
     )?;
     run(
         tx,
         "CREATE TABLE kept (seq INTEGER PRIMARY KEY, filer TEXT NOT NULL, idem TEXT NOT NULL, body BLOB NOT NULL, number INTEGER, UNIQUE (filer, idem)) STRICT",
+        &[],
     )?;
     run(
         tx,
         "CREATE TABLE finding (seq INTEGER NOT NULL, pos INTEGER NOT NULL, code INTEGER NOT NULL, place BLOB NOT NULL, PRIMARY KEY (seq, pos)) STRICT",
+        &[],
     )?;
     run(
         tx,
         "CREATE TABLE filing (number INTEGER PRIMARY KEY, seq INTEGER NOT NULL UNIQUE) STRICT",
+        &[],
     )?;
     run(
         tx,
         "CREATE TABLE fact (number INTEGER NOT NULL, pos INTEGER NOT NULL, id BLOB NOT NULL, concept BLOB NOT NULL, dimensions BLOB NOT NULL, value BLOB, decimals INTEGER, PRIMARY KEY (number, pos)) STRICT",
+        &[],
     )
 }
 
 /// Makes the other tables, and the rows that every register has.
 fn make_later<S: Alter>(tx: &mut Transaction<'_, S>) -> Result<(), Error>
-    ensures on { GoesOn S.Store tx.old.conn tx.new.conn }
+    ensures leaves { OnlyWrites S.Store tx.old.conn tx.new.conn }
     ensures ran { HasCleanDisk (state S.Store tx.new.conn.now)
         → OnOk result (AreRun S.Store later_texts tx.old.conn.now tx.new.conn.now) }
     ensures failed { HasCleanDisk (state S.Store tx.new.conn.now)
@@ -76,17 +66,19 @@ fn make_later<S: Alter>(tx: &mut Transaction<'_, S>) -> Result<(), Error>
     run(
         tx,
         "CREATE TABLE migrated (id INTEGER PRIMARY KEY, last INTEGER NOT NULL) STRICT",
+        &[],
     )?;
     run(
         tx,
         "CREATE TABLE amends (seq INTEGER PRIMARY KEY, target INTEGER NOT NULL) STRICT",
+        &[],
     )?;
-    run(tx, "INSERT INTO intake_meta VALUES (1, 'register', 4)")?;
-    run(tx, "INSERT INTO migrated VALUES (1, 0)")
+    run(tx, "INSERT INTO intake_meta VALUES (1, 'register', 4)", &[])?;
+    run(tx, "INSERT INTO migrated VALUES (1, 0)", &[])
 }
 
 fn make_tables<S: Alter>(tx: &mut Transaction<'_, S>) -> Result<(), Error>
-    ensures on { GoesOn S.Store tx.old.conn tx.new.conn }
+    ensures leaves { OnlyWrites S.Store tx.old.conn tx.new.conn }
     ensures ran { HasCleanDisk (state S.Store tx.new.conn.now)
         → OnOk result (AreRun S.Store making_texts tx.old.conn.now tx.new.conn.now) }
     ensures failed { HasCleanDisk (state S.Store tx.new.conn.now)

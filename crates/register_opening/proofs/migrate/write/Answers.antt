@@ -16,7 +16,7 @@ pub returns-clause-written : goal.returns-clause-written
 returns-clause-written g c clean =
     let last = c.write_all.new.tx.conn.now in
     let end = c.commit.new.self.0 in
-    let same : end ≡ c.conn-2-1.given.0 = sym (c.conn-2-1.given.1 (sym (c.write_all.ensures.on.same_reference ∙ c.transaction-tx.ensures.same_reference))) in
+    let same : end ≡ c.conn-2-1.given.0 = sym (c.conn-2-1.given.1 (sym (c.write_all.ensures.leaves.same_reference ∙ c.transaction-tx.ensures.same_reference))) in
     let late : HasCleanDisk (state g.S.Store end) = rw same clean in
     let mid : HasCleanDisk (state g.S.Store last) = omega (arith, c.commit.ensures.survives.clean) in
     let ran : AreDone g.S.Store (migrating c.args.form c.args.early) (begun c.args.conn.now) last = rw c.transaction-tx.ensures.begun at c.in_ok-write_all.ensures.done mid in
@@ -31,17 +31,17 @@ returns-clause-crash g c =
     let begins = c.transaction-tx.ensures.begun in
     let end = c.commit.new.self.0 in
     let all = migrating c.args.form c.args.early in
-    let same : end ≡ c.conn-2-1.given.0 = sym (c.conn-2-1.given.1 (sym (c.write_all.ensures.on.same_reference ∙ c.transaction-tx.ensures.same_reference))) in
+    let same : end ≡ c.conn-2-1.given.0 = sym (c.conn-2-1.given.1 (sym (c.write_all.ensures.leaves.same_reference ∙ c.transaction-tx.ensures.same_reference))) in
     let ran : HasCleanDisk (state g.S.Store last) → AreDone g.S.Store all (begun old) last = λ mid. rw begins at c.in_ok-write_all.ensures.done mid in
     let whole = survives_then (state g.S.Store old) (state g.S.Store last) (state g.S.Store end) _ _ (AreTreesOf g.S.Store all old) (λ _ db none. absurd none)
-    (λ late db is. record { last = last; done = ran (omega (arith, c.commit.ensures.survives.clean)); is = is }) (survives_begin g.S.Store old (state g.S.Store last) _ (rw begins at c.in_ok-write_all.ensures.on.survives)) c.commit.ensures.survives in
+    (λ late db is. record { last = last; done = ran (omega (arith, c.commit.ensures.survives.clean)); is = is }) (survives_begin g.S.Store old (state g.S.Store last) _ (rw begins at c.in_ok-write_all.ensures.leaves.survives)) c.commit.ensures.survives in
     subst (λ h. Survives (state g.S.Store old) (state g.S.Store h) (AreTreesOf g.S.Store all old)) same whole
 
 -- once they are done, a crash leaves what they made
 pub returns-clause-durable : goal.returns-clause-durable
 returns-clause-durable g c clean =
     let end = c.commit.new.self.0 in
-    let same : end ≡ c.conn-2-1.given.0 = sym (c.conn-2-1.given.1 (sym (c.write_all.ensures.on.same_reference ∙ c.transaction-tx.ensures.same_reference))) in
+    let same : end ≡ c.conn-2-1.given.0 = sym (c.conn-2-1.given.1 (sym (c.write_all.ensures.leaves.same_reference ∙ c.transaction-tx.ensures.same_reference))) in
     let late : HasCleanDisk (state g.S.Store end) = rw same clean in
     let lasts : OnOk c.commit.result (IsLasting (state g.S.Store end)) =
     IfOk-weaker c.commit.result _ _ (λ _ done trees left. g.met.S.Store.settled end.store trees done.1.is_open left ∙ ap (λ (d : Database). d.trees) (done.1.committed_is ∙ sym done.1.now_is)) (c.commit.ensures.ok late) in
@@ -51,7 +51,7 @@ pub returns-in_err-write_all-clause-undone : goal.returns-in_err-write_all-claus
 returns-in_err-write_all-clause-undone g c clean =
     let last = c.write_all.new.tx.conn.now in
     let end = c.drop-tx.new.self.0 in
-    let same : end ≡ c.conn-1.given.0 = sym (c.conn-1.given.1 (sym (c.write_all.ensures.on.same_reference ∙ c.transaction-tx.ensures.same_reference))) in
+    let same : end ≡ c.conn-1.given.0 = sym (c.conn-1.given.1 (sym (c.write_all.ensures.leaves.same_reference ∙ c.transaction-tx.ensures.same_reference))) in
     let late : HasCleanDisk (state g.S.Store end) = rw same clean in
     let mid : HasCleanDisk (state g.S.Store last) = omega (arith, c.drop-tx.ensures.survives.clean) in
     let begins = c.transaction-tx.ensures.begun in
@@ -64,7 +64,7 @@ pub returns-clause-undone : goal.returns-clause-undone
 returns-clause-undone g c clean =
     let last = c.write_all.new.tx.conn.now in
     let end = c.commit.new.self.0 in
-    let same : end ≡ c.conn-2-1.given.0 = sym (c.conn-2-1.given.1 (sym (c.write_all.ensures.on.same_reference ∙ c.transaction-tx.ensures.same_reference))) in
+    let same : end ≡ c.conn-2-1.given.0 = sym (c.conn-2-1.given.1 (sym (c.write_all.ensures.leaves.same_reference ∙ c.transaction-tx.ensures.same_reference))) in
     let late : HasCleanDisk (state g.S.Store end) = rw same clean in
     let all = migrating c.args.form c.args.early in
     let ran : AreDone g.S.Store all (begun c.args.conn.now) last = rw c.transaction-tx.ensures.begun at c.in_ok-write_all.ensures.done (omega (arith, c.commit.ensures.survives.clean)) in
@@ -76,11 +76,11 @@ returns-clause-neither g c clean =
     let last = c.write_all.new.tx.conn.now in
     let end = c.commit.new.self.0 in
     let all = migrating c.args.form c.args.early in
-    let same : end ≡ c.conn-2-1.given.0 = sym (c.conn-2-1.given.1 (sym (c.write_all.ensures.on.same_reference ∙ c.transaction-tx.ensures.same_reference))) in
+    let same : end ≡ c.conn-2-1.given.0 = sym (c.conn-2-1.given.1 (sym (c.write_all.ensures.leaves.same_reference ∙ c.transaction-tx.ensures.same_reference))) in
     let late : HasCleanDisk (state g.S.Store end) = rw same clean in
     let mid : HasCleanDisk (state g.S.Store last) = omega (arith, c.commit.ensures.survives.clean) in
     let begins = c.transaction-tx.ensures.begun in
-    let kept = rw begins at c.write_all.ensures.on.keeps mid in
+    let kept = rw begins at c.write_all.ensures.leaves.keeps mid in
     let ran : AreDone g.S.Store all (begun old) last = rw begins at c.in_ok-write_all.ensures.done mid in
     IfErr-weaker c.commit.result _ _ (λ error h. subst (λ h. AddsNothing (state g.S.Store old) (state g.S.Store h)) same (not_committed g.S.Store old last end kept error (done_inside g.S.Store all (begun old) last refl ran) h)) (c.commit.ensures.err late)
 
@@ -89,9 +89,9 @@ returns-in_err-write_all-clause-neither g c clean =
     let old = c.args.conn.now in
     let last = c.write_all.new.tx.conn.now in
     let end = c.drop-tx.new.self.0 in
-    let same : end ≡ c.conn-1.given.0 = sym (c.conn-1.given.1 (sym (c.write_all.ensures.on.same_reference ∙ c.transaction-tx.ensures.same_reference))) in
+    let same : end ≡ c.conn-1.given.0 = sym (c.conn-1.given.1 (sym (c.write_all.ensures.leaves.same_reference ∙ c.transaction-tx.ensures.same_reference))) in
     let late : HasCleanDisk (state g.S.Store end) = rw same clean in
-    let kept = rw c.transaction-tx.ensures.begun at c.write_all.ensures.on.keeps (omega (arith, c.drop-tx.ensures.survives.clean)) in
+    let kept = rw c.transaction-tx.ensures.begun at c.write_all.ensures.leaves.keeps (omega (arith, c.drop-tx.ensures.survives.clean)) in
     let p = err_from_is_err_and c.from_residual.result c.from_residual.ensures.1 in
     rw (← same, p.1) (undone_adds_nothing g.S.Store old last end kept (c.drop-tx.ensures.undone late))
 
@@ -100,18 +100,18 @@ returns-in_err-write_all-clause-crash g c =
     let old = c.args.conn.now in
     let last = c.write_all.new.tx.conn.now in
     let end = c.drop-tx.new.self.0 in
-    let same : end ≡ c.conn-1.given.0 = sym (c.conn-1.given.1 (sym (c.write_all.ensures.on.same_reference ∙ c.transaction-tx.ensures.same_reference))) in
+    let same : end ≡ c.conn-1.given.0 = sym (c.conn-1.given.1 (sym (c.write_all.ensures.leaves.same_reference ∙ c.transaction-tx.ensures.same_reference))) in
     let made = AreTreesOf g.S.Store (migrating c.args.form c.args.early) old in
     let whole = survives_then (state g.S.Store old) (state g.S.Store last) (state g.S.Store end) _ _ made (λ _ db none. absurd none) (λ _ db none. absurd none)
-    (survives_begin g.S.Store old (state g.S.Store last) _ (rw c.transaction-tx.ensures.begun at c.write_all.ensures.on.survives)) c.drop-tx.ensures.survives in
+    (survives_begin g.S.Store old (state g.S.Store last) _ (rw c.transaction-tx.ensures.begun at c.write_all.ensures.leaves.survives)) c.drop-tx.ensures.survives in
     subst (λ h. Survives (state g.S.Store old) (state g.S.Store h) made) same whole
 
 pub returns-clause-autocommit : goal.returns-clause-autocommit
 returns-clause-autocommit g c =
-    let same : c.commit.new.self.0 ≡ c.conn-2-1.given.0 = sym (c.conn-2-1.given.1 (sym (c.write_all.ensures.on.same_reference ∙ c.transaction-tx.ensures.same_reference))) in
+    let same : c.commit.new.self.0 ≡ c.conn-2-1.given.0 = sym (c.conn-2-1.given.1 (sym (c.write_all.ensures.leaves.same_reference ∙ c.transaction-tx.ensures.same_reference))) in
     rw (← same) c.commit.ensures.ended
 
 pub returns-in_err-write_all-clause-autocommit : goal.returns-in_err-write_all-clause-autocommit
 returns-in_err-write_all-clause-autocommit g c =
-    let same : c.drop-tx.new.self.0 ≡ c.conn-1.given.0 = sym (c.conn-1.given.1 (sym (c.write_all.ensures.on.same_reference ∙ c.transaction-tx.ensures.same_reference))) in
+    let same : c.drop-tx.new.self.0 ≡ c.conn-1.given.0 = sym (c.conn-1.given.1 (sym (c.write_all.ensures.leaves.same_reference ∙ c.transaction-tx.ensures.same_reference))) in
     rw (← same) c.drop-tx.ensures.ended

@@ -17,7 +17,7 @@ use Rattle.register_opening.specs.declared.opening.Later.{Later}
 use Rattle.register_opening.specs.declared.opening.Tables.{Tables}
 use Rattle.register_opening.proofs.OpenLemmas.{got_four}
 use Rattle.register_opening.proofs.WalkOpens.{are_read_before, stops_before, counted_whole}
-use Rattle.register_opening.proofs.Calls.{concluded}
+use Rattle.table_rows.proofs.OutcomeLemmas.{concluded}
 use Rattle.table_rows.proofs.LeavingLemmas.{asked_then, clean_before, ended}
 use Rattle.register_opening.proofs.opening.count_all.Goals as goal
 

@@ -6,7 +6,8 @@ use Rattle.register_opening.proofs.EarlierReads.{third_counted, third_unsaid, th
 use Rattle.register_opening.proofs.OpenLemmas.{is_read}
 use Rattle.table_rows.proofs.LeavingLemmas.{asked_then, clean_before}
 use Rattle.table_rows.specs.Leaving.Ending.{Asked}
-use Rattle.register_opening.proofs.Calls.{concluded, refuses}
+use Rattle.register_opening.proofs.Calls.{refuses}
+use Rattle.table_rows.proofs.OutcomeLemmas.{concluded}
 use Rattle.register_opening.proofs.migrate.earlier.count_third.Goals as goal
 
 pub returns-in_ok-totals-in-Ok-clause-counted : goal.returns-in_ok-totals-in-Ok-clause-counted

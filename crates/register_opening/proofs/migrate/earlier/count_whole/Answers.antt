@@ -3,7 +3,7 @@ use Rattle.std.proofs.lemmas.Result.{IfOk-weaker, IfErr-weaker}
 use Rattle.register_rows.specs.Audit.{OtherRows}
 use Rattle.register_opening.specs.declared.opening.Tables.{Tables}
 use Rattle.register_opening.proofs.EarlierReads.{whole_totals, whole_refused, whole_unread}
-use Rattle.register_opening.proofs.Calls.{concluded}
+use Rattle.table_rows.proofs.OutcomeLemmas.{concluded}
 use Rattle.register_opening.proofs.migrate.earlier.count_whole.Goals as goal
 
 abbrev others_of : Tables → OtherRows

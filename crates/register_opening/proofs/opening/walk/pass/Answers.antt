@@ -11,7 +11,7 @@ use Rattle.table_rows.proofs.OrderLemmas.{one_row}
 use Rattle.register_opening.proofs.WalkLemmas.{passes_all}
 use Rattle.table_rows.proofs.LeavingLemmas.{asked_then, clean_before}
 use Rattle.table_rows.specs.Leaving.Ending.{Stopped}
-use Rattle.register_opening.proofs.Calls.{asked_first}
+use Rattle.table_rows.proofs.OutcomeLemmas.{asked_first}
 use Rattle.register_opening.proofs.opening.walk.pass.Goals as goal
 
 pub returns-in-len1-clause-passes : goal.returns-in-len1-clause-passes

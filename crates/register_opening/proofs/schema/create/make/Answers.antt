@@ -16,7 +16,7 @@ returns-clause-makes g c =
     let old = c.args.conn.now in
     let last = c.make_tables.new.tx.conn.now in
     let end = c.commit.new.self.0 in
-    let same : end ≡ c.conn-2-1.given.0 = sym (c.conn-2-1.given.1 (sym (c.make_tables.ensures.on.same_reference ∙ c.transaction-tx.ensures.same_reference))) in
+    let same : end ≡ c.conn-2-1.given.0 = sym (c.conn-2-1.given.1 (sym (c.make_tables.ensures.leaves.same_reference ∙ c.transaction-tx.ensures.same_reference))) in
     let begins : c.transaction-tx.result.conn.now ≡ begun old = c.transaction-tx.ensures.begun in
     let ran : HasCleanDisk (state g.S.Store last) → AreRun g.S.Store making_texts (begun old) last = λ mid. subst (λ h. AreRun g.S.Store making_texts h last) begins (c.in_ok-make_tables.ensures.ran mid) in
     let made : MakesRegister g.S.Store old end c.commit.result = record {
@@ -28,10 +28,10 @@ returns-clause-makes g c =
       durable = λ clean. IfOk-weaker c.commit.result _ _ (λ _ done trees left. g.met.S.Store.settled end.store trees done.1.is_open left ∙ ap (λ (d : Database). d.trees) (done.1.committed_is ∙ sym done.1.now_is)) (c.commit.ensures.ok clean);
       neither = λ clean.
           let mid : HasCleanDisk (state g.S.Store last) = omega (arith, c.commit.ensures.survives.clean) in
-          let kept = rw begins at c.make_tables.ensures.on.keeps mid in
+          let kept = rw begins at c.make_tables.ensures.leaves.keeps mid in
           IfErr-weaker c.commit.result _ _ (λ error h. not_committed g.S.Store old last end kept error (c.in_ok-make_tables.ensures.inside mid) h) (c.commit.ensures.err clean);
       crash = survives_then (state g.S.Store old) (state g.S.Store last) (state g.S.Store end) _ _ (Makes g.S.Store old) (λ _ db none. absurd none)
-          (λ late db is. record { last = last; ran = ran (omega (arith, c.commit.ensures.survives.clean)); is = is }) (survives_begin g.S.Store old (state g.S.Store last) _ (rw begins at c.in_ok-make_tables.ensures.on.survives)) c.commit.ensures.survives;
+          (λ late db is. record { last = last; ran = ran (omega (arith, c.commit.ensures.survives.clean)); is = is }) (survives_begin g.S.Store old (state g.S.Store last) _ (rw begins at c.in_ok-make_tables.ensures.leaves.survives)) c.commit.ensures.survives;
     } in
     subst (λ h. MakesRegister g.S.Store old h c.commit.result) same made
 
@@ -40,7 +40,7 @@ returns-in_err-make_tables-clause-makes g c =
     let old = c.args.conn.now in
     let last = c.make_tables.new.tx.conn.now in
     let end = c.drop-tx.new.self.0 in
-    let same : end ≡ c.conn-1.given.0 = sym (c.conn-1.given.1 (sym (c.make_tables.ensures.on.same_reference ∙ c.transaction-tx.ensures.same_reference))) in
+    let same : end ≡ c.conn-1.given.0 = sym (c.conn-1.given.1 (sym (c.make_tables.ensures.leaves.same_reference ∙ c.transaction-tx.ensures.same_reference))) in
     let begins = c.transaction-tx.ensures.begun in
     let p = err_from_is_err_and c.from_residual.result c.from_residual.ensures.1 in
     let made : MakesRegister g.S.Store old end c.from_residual.result = record {
@@ -48,10 +48,10 @@ returns-in_err-make_tables-clause-makes g c =
       made = λ clean none. rw p.1 tt;
       durable = λ clean. rw p.1 tt;
       neither = λ clean.
-          let kept = rw begins at c.make_tables.ensures.on.keeps (omega (arith, c.drop-tx.ensures.survives.clean)) in
+          let kept = rw begins at c.make_tables.ensures.leaves.keeps (omega (arith, c.drop-tx.ensures.survives.clean)) in
           rw p.1 (undone_adds_nothing g.S.Store old last end kept (c.drop-tx.ensures.undone clean));
       crash = survives_then (state g.S.Store old) (state g.S.Store last) (state g.S.Store end) _ _ (Makes g.S.Store old) (λ _ db none. absurd none) (λ _ db none. absurd none)
-          (survives_begin g.S.Store old (state g.S.Store last) _ (rw begins at c.make_tables.ensures.on.survives)) c.drop-tx.ensures.survives;
+          (survives_begin g.S.Store old (state g.S.Store last) _ (rw begins at c.make_tables.ensures.leaves.survives)) c.drop-tx.ensures.survives;
     } in
     subst (λ h. MakesRegister g.S.Store old h c.from_residual.result) same made
 
@@ -59,7 +59,7 @@ pub returns-in_err-make_tables-clause-failed : goal.returns-in_err-make_tables-c
 returns-in_err-make_tables-clause-failed g c clean =
     let last = c.make_tables.new.tx.conn.now in
     let end = c.drop-tx.new.self.0 in
-    let same : end ≡ c.conn-1.given.0 = sym (c.conn-1.given.1 (sym (c.make_tables.ensures.on.same_reference ∙ c.transaction-tx.ensures.same_reference))) in
+    let same : end ≡ c.conn-1.given.0 = sym (c.conn-1.given.1 (sym (c.make_tables.ensures.leaves.same_reference ∙ c.transaction-tx.ensures.same_reference))) in
     let late : HasCleanDisk (state g.S.Store end) = rw same clean in
     let mid : HasCleanDisk (state g.S.Store last) = omega (arith, c.drop-tx.ensures.survives.clean) in
     let begins = c.transaction-tx.ensures.begun in
@@ -72,7 +72,7 @@ pub returns-clause-failed : goal.returns-clause-failed
 returns-clause-failed g c clean =
     let last = c.make_tables.new.tx.conn.now in
     let end = c.commit.new.self.0 in
-    let same : end ≡ c.conn-2-1.given.0 = sym (c.conn-2-1.given.1 (sym (c.make_tables.ensures.on.same_reference ∙ c.transaction-tx.ensures.same_reference))) in
+    let same : end ≡ c.conn-2-1.given.0 = sym (c.conn-2-1.given.1 (sym (c.make_tables.ensures.leaves.same_reference ∙ c.transaction-tx.ensures.same_reference))) in
     let late : HasCleanDisk (state g.S.Store end) = rw same clean in
     let ran : AreRun g.S.Store making_texts (begun c.args.conn.now) last =
     subst (λ h. AreRun g.S.Store making_texts h last) c.transaction-tx.ensures.begun (c.in_ok-make_tables.ensures.ran (omega (arith, c.commit.ensures.survives.clean))) in
