@@ -3,7 +3,7 @@ use Rattle.std.proofs.Common.{◌≡◌, ℕ, ◌+◌, suc, true, false, List, [
 use Rattle.std.specs.declared.alloc.AllocError.{AllocError}
 use Rattle.sqlite.specs.Order.{Row}
 use Rattle.filing_model.specs.Request.{Request, has_key}
-use Rattle.filing_model.specs.Register.{Outcome, Kept, filings, judged, kept, register}
+use Rattle.filing_model.specs.Register.{Outcome, Kept, judged, kept, register}
 use Rattle.filing_model.proofs.Keeping.{kept_new}
 use Rattle.std.proofs.lemmas.List.{append_cancel_left}
 use Rattle.register_rows.specs.declared.verdict.RowsLeft.{RowsLeft}
@@ -54,8 +54,8 @@ module _ (F : List Request) (row : Row) (seq : ℕ) (target : Option ℕ) (rest 
 
   -- the filings with it
   pub filed_more : has_key F (request_in target row) ≡ false → (filed : Filed)
-      → AreFiled (filings (kept F ++ judged (kept F) (request_in target row) ∷ [])) filed → AreFiled (register (F ++ request_in target row ∷ [])) filed
-  filed_more fresh filed are = subst (λ fs. AreFiled fs filed) (ap filings (sym (kept_new F r fresh))) are
+      → AreFiled (kept F ++ judged (kept F) (request_in target row) ∷ []) filed → AreFiled (kept (F ++ request_in target row ∷ [])) filed
+  filed_more fresh filed are = subst (λ ks. AreFiled ks filed) (sym (kept_new F r fresh)) are
 
   pub number_more : has_key F (request_in target row) ≡ false → (number next : ℕ) → number ≡ suc (length (register F)) → next ≡ number + filings_by o
       → next ≡ suc (length (register (F ++ request_in target row ∷ [])))
@@ -69,12 +69,12 @@ module _ (F : List Request) (row : Row) (seq : ℕ) (target : Option ℕ) (all o
     (only : (t : Option ℕ) (tail : OtherRows) → IsNext F seq row t all tail → t ≡ target) where
   abbrev Told : Option RowsLeft → Type 0
   Told next = MatchOption next ((tail : OtherRows) → IsNext F seq row target others tail → ⊥)
-      (λ tail. IsNext F seq row target others (view_rows_left tail) × AreFiled (register (F ++ request_in target row ∷ [])) filed
+      (λ tail. IsNext F seq row target others (view_rows_left tail) × AreFiled (kept (F ++ request_in target row ∷ [])) filed
       × (tail.number ≡ suc (length (register (F ++ request_in target row ∷ [])))))
 
   abbrev ToldOfAny : Option RowsLeft → Type 0
   ToldOfAny next = MatchOption next ((t : Option ℕ) (tail : OtherRows) → IsNext F seq row t all tail → ⊥)
-      (λ tail. (t : Option ℕ) × IsNext F seq row t all (view_rows_left tail) × AreFiled (register (F ++ request_in t row ∷ [])) filed
+      (λ tail. (t : Option ℕ) × IsNext F seq row t all (view_rows_left tail) × AreFiled (kept (F ++ request_in t row ∷ [])) filed
       × (tail.number ≡ suc (length (register (F ++ request_in t row ∷ [])))))
 
   of_any : (next : Option RowsLeft) → Told next → ToldOfAny next

@@ -7,15 +7,19 @@ use Rattle.sqlite.specs.Order.{Row}
 use Rattle.filing_model.specs.Request.{Request, firsts, has_key}
 use Rattle.filing_model.specs.Register.{Kept, filings, kept_after, judged, kept, register}
 use Rattle.filing_model.proofs.Keeping.{kept_new, kept_grows}
+use Rattle.filing_model.proofs.Lists.{length-map}
 use Rattle.table_rows.specs.Rows.{counted_from}
 use Rattle.register_rows.specs.declared.filed.Filed.{Filed}
-use Rattle.register_rows.specs.Audit.{has_more, OtherRows, IsNext, AreRowsOf, IsVerdict, StandForNone}
+use Rattle.register_rows.specs.Audit.{has_more, OtherRows, IsNext, AreRowsOf, IsSoundAs, IsVerdict, StandForNone}
 use Rattle.register_rows.specs.Columns.{request_in}
 use Rattle.register_rows.specs.Filed.{AreFiled}
 use Rattle.register_rows.specs.declared.verdict.Verdict.{Verdict}
 use Rattle.register_rows.specs.declared.verdict.Verdict.TheVariants.{Sound, Damaged}
+use Rattle.register_rows.specs.Catalogue.{catalogue_of, entries_among, entry_of, placed_from, view_lines}
+use Rattle.register_rows.specs.declared.catalogue.Catalogue.{Catalogue}
 use Rattle.register_rows.specs.Register.{IsCompleted, kept_row, finding_rows, filing_rows, fact_rows, amends_rows, joined_from}
 use Rattle.register_rows.proofs.AuditSteps.{AreFirst, first_more, register_more, joined_append, counted_append, all_at, apart_from, one_filing}
+use Rattle.register_rows.proofs.CatalogueLemmas.{placed_many}
 use Rattle.register_rows.proofs.MoreRequests.{kept_length}
 use Rattle.register_rows.proofs.NextLemmas.{goes_on}
 use Rattle.register_rows.proofs.SeenLemmas.{get_at}
@@ -137,7 +141,7 @@ pub record Stood (rows : List Row) (all rest : OtherRows) (i number : ℕ) (file
   pub fewer : length (register requests) ≤ length requests
   pub first : AreFirst (take i rows) all rest requests
   pub front : (G : List Request) → AreRowsOf rows all G → IsFront requests G
-  pub filed_are : AreFiled (register requests) filed
+  pub filed_are : AreFiled (kept requests) filed
 
 pub none_yet : (rows : List Row) (all : OtherRows) (filed : Filed) → AreFiled [] filed → Stood rows all all 0 1 filed
 unfolding firsts kept_after filings
@@ -163,7 +167,7 @@ module _ (rows : List Row) (all rest : OtherRows) (i number : ℕ) (filed : File
       subst₂ (λ s r. GoesOn F G s r rest) seq place (goes_on_there rows all rest F G i below stood.many stood.first whole (stood.front G whole))
 
   pub one_more : (target : Option ℕ) (tail : OtherRows) (next : ℕ) (new : Filed) → IsNext F (i + 1) row target rest tail
-      → AreFiled (register (F ++ request_in target row ∷ [])) new
+      → AreFiled (kept (F ++ request_in target row ∷ [])) new
       → next ≡ suc (length (register (F ++ request_in target row ∷ []))) → Stood rows all tail (i + 1) next new
   one_more target tail next new sound are told =
       let seq : i + 1 ≡ suc (length F) = omega (arith, stood.many) in
@@ -213,9 +217,39 @@ module _ (rows : List Row) (all rest : OtherRows) (i number : ℕ) (filed : File
       all_of [] is many = sym (is ∙ append-nil stood.requests)
       all_of (r ∷ later) is many = let long = ap length is ∙ length-append stood.requests (r ∷ later) in absurd (omega (arith, long, many, end, stood.many))
 
+  no_row : (rows : List Row) → length rows ≡ 0 → rows ≡ []
+  no_row [] none = refl
+  no_row (row ∷ more) none = absurd (omega (arith, none))
+
+  all_are : (whole front left : List Row) → whole ≡ front ++ left → length left ≡ 0 → whole ≡ front
+  all_are whole front left is none = is ∙ ap (λ l. front ++ l) (no_row left none) ∙ append-nil front
+
+  -- and rows of which none is left over stand for requests, whose filings are those that are held
+  pub sound_whole : length rest.finding ≡ 0 → length rest.filing ≡ 0 → length rest.fact ≡ 0 → length rest.amends ≡ 0 → (catalogue : Catalogue)
+      → ((ks : List Kept) → AreFiled ks filed → view_lines catalogue ≡ entries_among ks) → IsVerdict rows all (Sound catalogue) × (length (view_lines catalogue) ≤ length rows)
+  sound_whole one two three four catalogue held =
+      let F = stood.requests in
+      let says : view_lines catalogue ≡ catalogue_of F = held (kept F) stood.filed_are in
+      let many : length (view_lines catalogue) ≡ length (register F) = ap length says ∙ length-map (entry_of (register F)) (placed_from 1 (kept F)) ∙ placed_many (kept F) in (
+        (
+          F,
+          record {
+            distinct = first_are.distinct;
+            completed = first_are.completed;
+            kept_is = first_are.kept_is;
+            finding_is = all_are all.finding _ rest.finding first_are.finding_is one;
+            filing_is = all_are all.filing _ rest.filing first_are.filing_is two;
+            fact_is = all_are all.fact _ rest.fact first_are.fact_is three;
+            amends_is = all_are all.amends _ rest.amends first_are.amends_is four;
+          },
+          says,
+        ),
+        omega (arith, many, stood.fewer, stood.many, end),
+      )
+
 -- rows that stand for requests are found to do so
-pub complete : (rows : List Row) (all : OtherRows) (verdict : Verdict) → IsVerdict rows all verdict → (G : List Request) → AreRowsOf rows all G → verdict ≡ Sound (length (register G))
-complete rows all (Sound count) is G whole =
+pub complete : (rows : List Row) (all : OtherRows) (verdict : Verdict) → IsVerdict rows all verdict → (G : List Request) → AreRowsOf rows all G → IsSoundAs G verdict
+complete rows all (Sound catalogue) is G whole =
     let same = same_requests is.0 G is.1.distinct whole.distinct (sym is.1.kept_is ∙ whole.kept_is) (sym is.1.amends_is ∙ whole.amends_is) in
-    ap Sound (is.2 ∙ ap (λ H. length (register H)) same)
+    is.2 ∙ ap (λ H. catalogue_of H) same
 complete rows all (Damaged _) damaged G whole = absurd (damaged.0 G whole)

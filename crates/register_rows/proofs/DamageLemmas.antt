@@ -143,11 +143,12 @@ pub record Held (rows : List Row) (others : OtherRows) (at number : ℕ) (filed 
   pub fewer : number ≤ at + 1
   pub said : map (request_in None) (take at rows) ≡ map untargeted requests
   pub sound : AreSound rows others [] requests
-  pub filed_are : AreFiled (register requests) filed
+  pub many_kept : length (kept requests) ≡ at
+  pub filed_are : AreFiled (kept requests) filed
 
 pub none_held : (rows : List Row) (others : OtherRows) (filed : Filed) → AreFiled [] filed → Held rows others 0 1 filed
 unfolding firsts kept_after filings
-none_held rows others filed are = record { requests = []; many = refl; number_is = refl; fewer = omega arith; said = refl; sound = tt; filed_are = are }
+none_held rows others filed are = record { requests = []; many = refl; number_is = refl; fewer = omega arith; said = refl; sound = tt; many_kept = refl; filed_are = are }
 
 sound_more : (rows : List Row) (others : OtherRows) (before F : List Request) (r : Request) → AreSound rows others before F → IsSound rows others (before ++ F) r
     → AreSound rows others before (F ++ r ∷ [])
@@ -174,7 +175,7 @@ module _ (rows : List Row) (others : OtherRows) (at number : ℕ) (filed : Filed
 
   pub held_more : (r : Request) (next : ℕ) (new : Filed) → is_repeated_at rows at ≡ false → IsCompleted r
       → IsKeptAs (at + 1) (judged (kept held.requests) r) row others
-      → AreFiled (filings (kept held.requests ++ judged (kept held.requests) r ∷ [])) new
+      → AreFiled (kept held.requests ++ judged (kept held.requests) r ∷ []) new
       → next ≡ number + filings_by (judged (kept held.requests) r).outcome → Held rows others (at + 1) next new
   held_more r next new once completed kept_as are told =
       let asked : request_in None row ≡ untargeted r = ap (request_in None) kept_as.row_is in
@@ -191,7 +192,8 @@ module _ (rows : List Row) (others : OtherRows) (at number : ℕ) (filed : Filed
             ∙ map-append (request_in None) (take at rows) (row ∷ [])
             ∙ ap₂ (λ l x. l ++ x ∷ []) held.said asked ∙ sym (map-append untargeted F (r ∷ []));
         sound = sound_more rows others [] F r held.sound (record { completed = completed; fresh = fresh; kept_as = subst₂ (KeptAs r) seq place kept_as });
-        filed_are = subst (λ fs. AreFiled fs new) (ap filings (sym (kept_new F r fresh))) are;
+        many_kept = let grown = ap length (kept_new F r fresh) ∙ length-append (kept F) (judged (kept F) r ∷ []) in omega (arith, grown, held.many_kept);
+        filed_are = subst (λ ks. AreFiled ks new) (sym (kept_new F r fresh)) are;
       }
 
   told_first : ((r : Request) → IsSound rows others held.requests r → ⊥) → IsFirstUnsound rows others (at + 1)

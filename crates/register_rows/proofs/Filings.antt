@@ -9,14 +9,17 @@ use Rattle.std.proofs.lemmas.Bool.Decides.{nat_tests}
 use Rattle.std.proofs.lemmas.List.{get_or-map, map-append}
 use Rattle.std.proofs.lemmas.List.Folds.{find-append}
 use Rattle.std.proofs.lemmas.List.FromFn.{get_or-range_with_len}
-use Rattle.filing_model.proofs.Lists.{length-map, find_none}
+use Rattle.filing_model.proofs.Lists.{find_none}
+use Rattle.xbrl_report.specs.ReportParts.{fact_count}
 use Rattle.filing_model.specs.Listing.{replacing}
 use Rattle.filing_model.specs.Request.{Request, same_target}
 use Rattle.filing_model.specs.Register.{Filing, is_amendment_of, is_filing_of, is_replaceable, is_free}
 use Rattle.register_rows.specs.Columns.{request_in}
-use Rattle.register_rows.specs.declared.filed.Entry.{Entry}
-use Rattle.register_rows.specs.declared.filed.Filed.{Filed}
-use Rattle.register_rows.specs.Filed.{AreFiled, Line, Reaches, line_of, next_filing, view_entry}
+use Rattle.register_rows.specs.Catalogue.{Entry, Placed, entry_of}
+
+-- the filing that the request is after these
+abbrev pub next_filing : List Filing → Request → Filing
+next_filing filings r = record { number = suc (length filings); request = r }
 
 -- these filings count on from this number
 abbrev pub CountFrom : ℕ → List Filing → Type 0
@@ -25,6 +28,10 @@ CountFrom start fs = map (λ f. f.number) fs ≡ range_with_len start (length fs
 -- the number is not that of any of them
 abbrev pub IsOutside : ℕ → ℕ → ℕ → Type 0
 IsOutside n start many = (n < start) ⊎ (start + many ≤ n)
+
+-- the filings at these places
+abbrev pub placed_filings : List Placed → List Filing
+placed_filings ps = map (λ (p : Placed). p.filing) ps
 
 pub first_counts : (start : ℕ) (f : Filing) (fs : List Filing) → CountFrom start (f ∷ fs) → (f.number ≡ start) × CountFrom (start + 1) fs
 first_counts start f fs h = (cc h, cc h)
@@ -104,138 +111,120 @@ module _ (fs : List Filing) (f : Filing) where
       by_found None e = refl
       by_found (Some g) e = absurd (cc e)
 
-  line_as_before : (g : Filing) → same_target f.request.target (Some g.number) ≡ false → line_of (fs ++ f ∷ []) g ≡ line_of fs g
-  line_as_before g other = ap (λ (by : Option ℕ). record { filer = g.request.filer; replaces = g.request.target; replaced_by = by }) (replaced_as_before g.number other)
+  line_as_before : (p : Placed) → same_target f.request.target (Some p.filing.number) ≡ false → entry_of (fs ++ f ∷ []) p ≡ entry_of fs p
+  line_as_before p other =
+      ap (λ (by : Option ℕ). record { seq = p.seq; facts = fact_count p.filing.request.body; replaces = p.filing.request.target; replaced_by = by }) (replaced_as_before p.filing.number other)
 
   -- which replaces none
-  pub lines_as_before : f.request.target ≡ None → (gs : List Filing) → map (line_of (fs ++ f ∷ [])) gs ≡ map (line_of fs) gs
+  pub lines_as_before : f.request.target ≡ None → (ps : List Placed) → map (entry_of (fs ++ f ∷ [])) ps ≡ map (entry_of fs) ps
   lines_as_before none [] = refl
-  lines_as_before none (g ∷ gs) = rw (line_as_before g (rw none refl), lines_as_before none gs) refl
+  lines_as_before none (p ∷ ps) = rw (line_as_before p (rw none refl), lines_as_before none ps) refl
 
   -- which replaces one that is not among these
-  lines_outside : (t start : ℕ) → f.request.target ≡ Some t → (gs : List Filing) → CountFrom start gs → IsOutside t start (length gs) → map (line_of (fs ++ f ∷ [])) gs ≡ map (line_of fs) gs
+  lines_outside : (t start : ℕ) → f.request.target ≡ Some t → (ps : List Placed) → CountFrom start (placed_filings ps) → IsOutside t start (length ps) → map (entry_of (fs ++ f ∷ [])) ps ≡ map (entry_of fs) ps
   lines_outside t start is [] counts outside = refl
-  lines_outside t start is (g ∷ gs) counts outside =
-      let first = first_counts start g gs counts in
-      let other = not_number start t (length gs) gs outside in
-      rw (line_as_before g (rw is (other_number t g.number (λ e. other.0 (omega (arith, e, first.0))))), lines_outside t (start + 1) is gs first.1 other.1) refl
+  lines_outside t start is (p ∷ ps) counts outside =
+      let first = first_counts start p.filing (placed_filings ps) counts in
+      let other = not_number start t (length ps) (placed_filings ps) outside in
+      rw (line_as_before p (rw is (other_number t p.filing.number (λ e. other.0 (omega (arith, e, first.0))))), lines_outside t (start + 1) is ps first.1 other.1) refl
 
   -- which replaces one of these
   pub line_replaced : (t start at : ℕ) → f.request.target ≡ Some t → list_any (is_amendment_of t) fs ≡ false
-      → (gs : List Filing) (line : Line) → CountFrom start gs → at < length gs → t ≡ start + at → line ≡ get_or (map (line_of fs) gs) at line
-      → map (line_of (fs ++ f ∷ [])) gs ≡ set (map (line_of fs) gs) at (record { filer = line.filer; replaces = line.replaces; replaced_by = Some f.number })
+      → (ps : List Placed) (line : Entry) → CountFrom start (placed_filings ps) → at < length ps → t ≡ start + at → line ≡ get_or (map (entry_of fs) ps) at line
+      → map (entry_of (fs ++ f ∷ [])) ps ≡ set (map (entry_of fs) ps) at (record { seq = line.seq; facts = line.facts; replaces = line.replaces; replaced_by = Some f.number })
   line_replaced t start at is none [] line counts within place from = absurd (omega (arith, within))
-  line_replaced t start zero is none (g ∷ gs) line counts within place from =
-      let first = first_counts start g gs counts in
-      let number : g.number ≡ t = omega (arith, first.0, place) in
-      rw (lines_outside t (start + 1) is gs first.1 (inl (omega (arith, place))), from, now_replaced g.number (ap (λ n. list_any (is_amendment_of n) fs) number ∙ none) (rw is (own_number t g.number (sym number)))) refl
-  line_replaced t start (suc at) is none (g ∷ gs) line counts within place from =
-      let first = first_counts start g gs counts in
-      rw (line_as_before g (rw is (other_number t g.number (λ e. omega (arith, e, first.0, place)))), line_replaced t (start + 1) at is none gs line first.1 (omega (arith, within)) (omega (arith, place)) from) refl
+  line_replaced t start zero is none (p ∷ ps) line counts within place from =
+      let first = first_counts start p.filing (placed_filings ps) counts in
+      let number : p.filing.number ≡ t = omega (arith, first.0, place) in
+      rw (lines_outside t (start + 1) is ps first.1 (inl (omega (arith, place))), from, now_replaced p.filing.number (ap (λ n. list_any (is_amendment_of n) fs) number ∙ none) (rw is (own_number t p.filing.number (sym number)))) refl
+  line_replaced t start (suc at) is none (p ∷ ps) line counts within place from =
+      let first = first_counts start p.filing (placed_filings ps) counts in
+      rw (line_as_before p (rw is (other_number t p.filing.number (λ e. omega (arith, e, first.0, place)))), line_replaced t (start + 1) at is none ps line first.1 (omega (arith, within)) (omega (arith, place)) from) refl
 
 -- no filing has such a number
 pub none_there : (fs : List Filing) (filer : List ℕ) (n : ℕ) → CountFrom 1 fs → IsOutside n 1 (length fs) → is_replaceable fs filer n ≡ false
 none_there fs filer n counts outside = let none = none_outside filer n 1 fs counts outside in rw none refl
 
--- ---- as they are held
-
-pub own_default : {X : Type 0} (xs : List X) (at : ℕ) (d : X) → at < length xs → get_or xs at d ≡ get_or xs at (get_or xs at d)
-own_default [] at d low = absurd (omega (arith, low))
-own_default (x ∷ xs) zero d low = refl
-own_default (x ∷ xs) (suc at) d low = own_default xs at d (omega (arith, low))
-
 pub no_filing : Filing
 no_filing = record { number = 0; request = request_in None [] }
 
-module _ (fs : List Filing) (filed : Filed) (held : AreFiled fs filed) where
-  pub as_many : length filed.entries.items ≡ length fs
-  as_many = sym (length-map view_entry filed.entries.items) ∙ ap length held.are ∙ length-map (line_of fs) fs
-
-  -- the entry at a place is that of the filing there
-  pub entry_there : (at : ℕ) (entry : Entry) (f : Filing) → at < length filed.entries.items → entry ≡ get_or filed.entries.items at entry → f ≡ get_or fs at f → view_entry entry ≡ line_of fs f
-  entry_there at entry f within is its =
-      ap view_entry is ∙ sym (get_or-map view_entry filed.entries.items at entry (view_entry entry) within)
-      ∙ ap (λ ls. get_or ls at (view_entry entry)) held.are
-      ∙ get_or-map (line_of fs) fs at f (view_entry entry) (omega (arith, within, as_many)) ∙ sym (ap (line_of fs) its)
-
+module _ (fs : List Filing) (numbered : CountFrom 1 fs) where
   pub number_there : (at : ℕ) (f : Filing) → at < length fs → f ≡ get_or fs at f → f.number ≡ at + 1
   number_there at f within its =
-      let there : get_or (map (λ (g : Filing). g.number) fs) at 0 ≡ at + 1 = ap (λ ns. get_or ns at 0) held.numbered ∙ get_or-range_with_len 1 (length fs) at 0 within ∙ omega arith in
+      let there : get_or (map (λ (g : Filing). g.number) fs) at 0 ≡ at + 1 = ap (λ ns. get_or ns at 0) numbered ∙ get_or-range_with_len 1 (length fs) at 0 within ∙ omega arith in
       ap (λ (g : Filing). g.number) its ∙ sym (get_or-map (λ (g : Filing). g.number) fs at f 0 within) ∙ there
 
-  pub not_there : (filer : List ℕ) (n : ℕ) → IsOutside n 1 (length filed.entries.items) → is_replaceable fs filer n ≡ false
-  not_there filer n outside = none_there fs filer n held.numbered (rw (sym as_many) outside)
-
-  pub replaceable_there : (filer : List ℕ) (n at : ℕ) (entry : Entry) → n ≡ at + 1 → at < length filed.entries.items → entry ≡ get_or filed.entries.items at entry
-      → is_replaceable fs filer n ≡ (bytes_eq (view_entry entry).filer filer && is_none entry.replaced_by)
-  replaceable_there filer n at entry place within is =
-      let f = get_or fs at no_filing in
-      let low : at < length fs = omega (arith, within, as_many) in
-      let its : f ≡ get_or fs at f = own_default fs at no_filing low in
-      let line = entry_there at entry f within is its in
-      let number : f.number ≡ n = number_there at f low its ∙ sym place in
-      let owner = one_there filer n 1 at fs no_filing held.numbered low (omega (arith, place)) in
-      let free : is_none entry.replaced_by ≡ not (list_any (is_amendment_of n) fs) = ap (λ (l : Line). is_none l.replaced_by) line ∙ ap (λ m. is_none (replacing fs m)) number ∙ is_unreplaced fs n in
-      rw (owner, sym free, sym (ap (λ (l : Line). l.filer) line)) refl
-
-module _ (fs : List Filing) (filed : Filed) (held : AreFiled fs filed) where
   -- what may be replaced is one of these, and none of these replaces it
   pub free_within : (filer : List ℕ) (target : Option ℕ) (n : ℕ) → is_free fs filer target ≡ true → target ≡ Some n → (0 < n) × (n ≤ length fs)
   free_within filer None n free is = absurd (cc)
   free_within filer (Some m) n free is =
       let same : m ≡ n = cc is in
-      let there : is_replaceable fs filer n ≡ true = ap (is_replaceable fs filer) (sym same) ∙ free in
-      let many = as_many fs filed held in (
+      let there : is_replaceable fs filer n ≡ true = ap (is_replaceable fs filer) (sym same) ∙ free in (
         ⊎_elim (λ (t : nat_lt 0 n ≡ true). let low : 0 < n = grind (arith, nat_tests, t) in low)
-            (λ (t : nat_lt 0 n ≡ false). let e : true ≡ false = sym there ∙ not_there fs filed held filer n (inl (grind (arith, nat_tests, t))) in absurd (cc e)) (cases_Bool (nat_lt 0 n)),
+            (λ (t : nat_lt 0 n ≡ false). let e : true ≡ false = sym there ∙ none_there fs filer n numbered (inl (grind (arith, nat_tests, t))) in absurd (cc e)) (cases_Bool (nat_lt 0 n)),
         ⊎_elim (λ (t : nat_le n (length fs) ≡ true). let low : n ≤ length fs = grind (arith, nat_tests, t) in low)
             (λ (t : nat_le n (length fs) ≡ false).
             let above : length fs < n = grind (arith, nat_tests, t) in
-            let e : true ≡ false = sym there ∙ not_there fs filed held filer n (inr (omega (arith, above, many))) in absurd (cc e)) (cases_Bool (nat_le n (length fs))),
+            let e : true ≡ false = sym there ∙ none_there fs filer n numbered (inr (omega (arith, above))) in absurd (cc e)) (cases_Bool (nat_le n (length fs))),
       )
 
-  pub free_unreplaced : (filer : List ℕ) (target : Option ℕ) (n : ℕ) → is_free fs filer target ≡ true → target ≡ Some n → list_any (is_amendment_of n) fs ≡ false
-  free_unreplaced filer None n free is = absurd (cc)
-  free_unreplaced filer (Some m) n free is =
-      let same : m ≡ n = cc is in
-      ap (λ k. list_any (is_amendment_of k) fs) (sym same) ∙ not-true (list_any (is_amendment_of m) fs) (and_parts _ _ free).1
+pub free_unreplaced : (fs : List Filing) (filer : List ℕ) (target : Option ℕ) (n : ℕ) → is_free fs filer target ≡ true → target ≡ Some n → list_any (is_amendment_of n) fs ≡ false
+free_unreplaced fs filer None n free is = absurd (cc)
+free_unreplaced fs filer (Some m) n free is =
+    let same : m ≡ n = cc is in
+    ap (λ k. list_any (is_amendment_of k) fs) (sym same) ∙ not-true (list_any (is_amendment_of m) fs) (and_parts _ _ free).1
 
-  -- a filing more
-  module _ (r : Request) (free : is_free fs r.filer r.target ≡ true) where
-    range_more : (m n k : ℕ) → k ≡ m + n → range_with_len m (suc n) ≡ range_with_len m n ++ k ∷ []
-    range_more m zero k is = ap (λ j. j ∷ []) (omega (arith, is))
-    range_more m (suc n) k is = ap (λ ns. m ∷ ns) (range_more (m + 1) n k (omega (arith, is)))
+-- ---- in the order of their numbers
 
-    -- none replaces it
-    pub last_unreplaced : replacing (fs ++ next_filing fs r ∷ []) (suc (length fs)) ≡ None
-    last_unreplaced = replaced_as_before fs (next_filing fs r) (suc (length fs)) (own r.target refl) ∙ unreplaced fs (suc (length fs)) (none_reaches fs held.reach)
+-- the filing replaces none of a number above this one
+abbrev pub Reaches : ℕ → Filing → Type 0
+Reaches most f = (n : ℕ) → f.request.target ≡ Some n → n ≤ most
+
+-- these count from 1, and each replaces one of them, if any
+pub record AreInOrder (fs : List Filing) : Type 0 where
+  pub numbered : CountFrom 1 fs
+  pub reach : AllByRecursion (Reaches (length fs)) fs
+
+-- none replaces the next one
+pub next_unreplaced : (fs : List Filing) → AllByRecursion (Reaches (length fs)) fs → list_any (is_amendment_of (suc (length fs))) fs ≡ false
+next_unreplaced fs reach = none_reaches fs reach
+  where
+    none_reaches : (gs : List Filing) → AllByRecursion (Reaches (length fs)) gs → list_any (is_amendment_of (suc (length fs))) gs ≡ false
+    none_reaches [] all = refl
+    none_reaches (g ∷ gs) all = rw (not_it g.request.target refl) (none_reaches gs all.1)
       where
-        own : (t : Option ℕ) → r.target ≡ t → same_target t (Some (suc (length fs))) ≡ false
-        own None is = refl
-        own (Some n) is = let low = (free_within r.filer r.target n free is).1 in other_number n (suc (length fs)) (λ e. omega (arith, e, low))
+        not_it : (t : Option ℕ) → g.request.target ≡ t → same_target t (Some (suc (length fs))) ≡ false
+        not_it None is = refl
+        not_it (Some n) is = let low = all.0 n is in other_number n (suc (length fs)) (λ e. omega (arith, e, low))
 
-        none_reaches : (gs : List Filing) → AllByRecursion (Reaches (length fs)) gs → list_any (is_amendment_of (suc (length fs))) gs ≡ false
-        none_reaches [] all = refl
-        none_reaches (g ∷ gs) all = rw (not_it g.request.target refl) (none_reaches gs all.1)
-          where
-            not_it : (t : Option ℕ) → g.request.target ≡ t → same_target t (Some (suc (length fs))) ≡ false
-            not_it None is = refl
-            not_it (Some n) is = let low = all.0 n is in other_number n (suc (length fs)) (λ e. omega (arith, e, low))
+-- a filing more
+module _ (fs : List Filing) (r : Request) (held : AreInOrder fs) (free : is_free fs r.filer r.target ≡ true) where
+  range_more : (m n k : ℕ) → k ≡ m + n → range_with_len m (suc n) ≡ range_with_len m n ++ k ∷ []
+  range_more m zero k is = ap (λ j. j ∷ []) (omega (arith, is))
+  range_more m (suc n) k is = ap (λ ns. m ∷ ns) (range_more (m + 1) n k (omega (arith, is)))
 
-    pub numbered_more : CountFrom 1 (fs ++ next_filing fs r ∷ [])
-    numbered_more =
-        map-append (λ (g : Filing). g.number) fs (next_filing fs r ∷ []) ∙ ap (λ ns. ns ++ suc (length fs) ∷ []) held.numbered
-        ∙ sym (range_more 1 (length fs) (suc (length fs)) (omega arith)) ∙ ap (range_with_len 1) (sym many)
-      where
-        many : length (fs ++ next_filing fs r ∷ []) ≡ suc (length fs)
-        many = length-append fs (next_filing fs r ∷ []) ∙ omega arith
+  -- none replaces it
+  pub last_unreplaced : replacing (fs ++ next_filing fs r ∷ []) (suc (length fs)) ≡ None
+  last_unreplaced = replaced_as_before fs (next_filing fs r) (suc (length fs)) (own r.target refl) ∙ unreplaced fs (suc (length fs)) (next_unreplaced fs held.reach)
+    where
+      own : (t : Option ℕ) → r.target ≡ t → same_target t (Some (suc (length fs))) ≡ false
+      own None is = refl
+      own (Some n) is = let low = (free_within fs held.numbered r.filer r.target n free is).1 in other_number n (suc (length fs)) (λ e. omega (arith, e, low))
 
-    pub reach_more : AllByRecursion (Reaches (length (fs ++ next_filing fs r ∷ []))) (fs ++ next_filing fs r ∷ [])
-    reach_more = rw (length-append fs (next_filing fs r ∷ [])) (grown fs held.reach)
-      where
-        grown : (gs : List Filing) → AllByRecursion (Reaches (length fs)) gs → AllByRecursion (Reaches (length fs + 1)) (gs ++ next_filing fs r ∷ [])
-        grown [] all = (λ n is. let low = (free_within r.filer r.target n free is).1 in omega (arith, low), tt)
-        grown (g ∷ gs) all = (λ n is. let low = all.0 n is in omega (arith, low), grown gs all.1)
+  pub in_order_more : AreInOrder (fs ++ next_filing fs r ∷ [])
+  in_order_more = record { numbered = numbered_more; reach = rw (length-append fs (next_filing fs r ∷ [])) (grown fs held.reach) }
+    where
+      many : length (fs ++ next_filing fs r ∷ []) ≡ suc (length fs)
+      many = length-append fs (next_filing fs r ∷ []) ∙ omega arith
+
+      numbered_more : CountFrom 1 (fs ++ next_filing fs r ∷ [])
+      numbered_more =
+          map-append (λ (g : Filing). g.number) fs (next_filing fs r ∷ []) ∙ ap (λ ns. ns ++ suc (length fs) ∷ []) held.numbered
+          ∙ sym (range_more 1 (length fs) (suc (length fs)) (omega arith)) ∙ ap (range_with_len 1) (sym many)
+
+      grown : (gs : List Filing) → AllByRecursion (Reaches (length fs)) gs → AllByRecursion (Reaches (length fs + 1)) (gs ++ next_filing fs r ∷ [])
+      grown [] all = (λ n is. let low = (free_within fs held.numbered r.filer r.target n free is).1 in omega (arith, low), tt)
+      grown (g ∷ gs) all = (λ n is. let low = all.0 n is in omega (arith, low), grown gs all.1)
 
 pub none_told : {X : Type 0} (o : Option X) (b : Bool) → is_some o ≡ not b → b ≡ is_none o
 none_told None true e = refl

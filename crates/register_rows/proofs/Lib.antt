@@ -1,10 +1,12 @@
 pub mod AuditLemmas
 pub mod AuditRefutes
 pub mod AuditSteps
+pub mod CatalogueLemmas
 pub mod DamageLemmas
 pub mod FactRows
 pub mod FiledLemmas
 pub mod Filings
+pub mod HeldLemmas
 pub mod MoreRequests
 pub mod NextLemmas
 pub mod SeenLemmas

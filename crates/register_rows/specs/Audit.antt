@@ -6,12 +6,13 @@ use Rattle.sqlite.specs.declared.types.Value.{Value}
 use Rattle.sqlite.specs.declared.types.Value.TheVariants.{Int}
 use Rattle.sqlite.specs.Order.{Row, column}
 use Rattle.filing_model.specs.Request.{Request, firsts, has_key}
-use Rattle.filing_model.specs.Register.{Outcome, Kept, judged, kept, register}
+use Rattle.filing_model.specs.Register.{Outcome, Kept, judged, kept}
 use Rattle.table_rows.specs.Rows.{counted_from}
 use Rattle.register_rows.specs.declared.verdict.RowsLeft.{RowsLeft}
 use Rattle.register_rows.specs.declared.verdict.Verdict.{Verdict}
 use Rattle.register_rows.specs.declared.damage.OtherTables.{OtherTables}
 use Rattle.register_rows.specs.declared.verdict.Verdict.TheVariants.{Sound, Damaged}
+use Rattle.register_rows.specs.Catalogue.{catalogue_of, view_lines}
 use Rattle.register_rows.specs.Columns.{request_in}
 use Rattle.register_rows.specs.Outcomes.{filings_by}
 use Rattle.register_rows.specs.Register.{IsCompleted, kept_row, finding_rows, filing_rows, fact_rows, amends_rows, amends_rows_by, joined_from}
@@ -145,7 +146,12 @@ IsTold kept_are others row = IsFirstUnsound kept_are others row ⊎ ((row ≡ 0)
 abbrev pub StandForNone : List Row → OtherRows → Type 0
 StandForNone kept_are others = (F : List Request) → AreRowsOf kept_are others F → ⊥
 
--- the rows stand for requests, so many of which are registered; or for none, and this row is told
+-- the rows stand for requests, and these are the filings; or for none, and this row is told
 abbrev pub IsVerdict : List Row → OtherRows → Verdict → Type 0
-IsVerdict kept_are others (Sound filings) = (F : List Request) × AreRowsOf kept_are others F × (filings ≡ length (register F))
+IsVerdict kept_are others (Sound catalogue) = (F : List Request) × AreRowsOf kept_are others F × (view_lines catalogue ≡ catalogue_of F)
 IsVerdict kept_are others (Damaged row) = StandForNone kept_are others × IsTold kept_are others row
+
+-- the rows are told to be those of these requests
+abbrev pub IsSoundAs : List Request → Verdict → Type 0
+IsSoundAs F (Sound catalogue) = view_lines catalogue ≡ catalogue_of F
+IsSoundAs F (Damaged row) = ⊥

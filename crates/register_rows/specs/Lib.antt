@@ -1,4 +1,5 @@
 pub mod Audit
+pub mod Catalogue
 pub mod Cells
 pub mod Columns
 pub mod Filed

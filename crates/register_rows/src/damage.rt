@@ -6,7 +6,7 @@ ghost use Rattle.sqlite.specs.Order.{column};
 ghost use Rattle.sqlite.specs.declared.types.Value.TheVariants.{Int};
 ghost use Rattle.xbrl_report.specs.ReportParts.{facts as facts_of};
 ghost use Rattle.xbrl_report.specs.Judgement.{HasFacts};
-ghost use Rattle.filing_model.specs.Register.{Outcome, filings, judged, kept, register};
+ghost use Rattle.filing_model.specs.Register.{Outcome, judged, kept, register};
 ghost use Rattle.filing_model.specs.Request.{Request};
 ghost use Rattle.http_messages.specs.Posting.{IsTarget};
 ghost use Rattle.table_rows.specs.Rows.{counted_from};
@@ -201,14 +201,15 @@ fn filings_if_sound(
 ) -> Result<Option<u64>, AllocError>
     requires seq { seq < 2 ^ 63 }
     requires number { number < 2 ^ 63 }
-    ensures { (F : List Request) → AreFiled (register F) filed.old → number ≡ suc (length (register F))
+    ensures { (F : List Request) → AreFiled (kept F) filed.old → number ≡ suc (length (register F))
+        → seq ≡ suc (length (kept F))
         → IfOk result (λ found.
         MatchOption found
         ((r : Request) → IsCompleted r → IsKeptAs seq (judged (kept F) r) row.now (view_other_tables beside.entry)
         → ⊥)
         (λ more.
         (r : Request) × IsCompleted r × IsKeptAs seq (judged (kept F) r) row.now (view_other_tables beside.entry)
-        × AreFiled (filings (kept F ++ judged (kept F) r ∷ [])) filed.new
+        × AreFiled (kept F ++ judged (kept F) r ∷ []) filed.new
         × (more ≡ filings_by (judged (kept F) r).outcome))) }
 {
     let Some(target) = target_at(beside.amends, seq) else {
@@ -221,7 +222,7 @@ fn filings_if_sound(
     if !is_kept_as(row, seq, number, &judged, beside) {
         return Ok(None);
     }
-    filed.note(alloc, filer, target, &judged)?;
+    filed.note(alloc, filer, seq, target, &judged)?;
     Ok(Some(filings_as_judged(&judged)))
 }
 

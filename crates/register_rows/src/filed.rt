@@ -1,27 +1,22 @@
-//! The filings of a register, by number: whose each is, which filing it replaces, and which one replaces it.
+//! The filings of a register, by number: whose each is, where it is kept, and what a list shows of it.
 
-ghost use Rattle.std.specs.Prelude.{◌≡◌, ◌++◌, ◌∷◌, [], suc, true, List, length, map, IfOk, OnOk};
+ghost use Rattle.std.specs.Prelude.{◌≡◌, ◌++◌, ◌∷◌, [], suc, List, length, IfOk, OnOk};
 ghost use Rattle.xbrl_report.specs.Judgement.{HasFacts};
 ghost use Rattle.filing_model.specs.Request.{Request};
-ghost use Rattle.filing_model.specs.Register.{Filing, filings, is_free, is_replaceable, judged, kept, register};
-ghost use Rattle.register_rows.specs.Filed.{AreFiled, line_of, next_filing, view_entry};
+ghost use Rattle.filing_model.specs.Register.{Kept, is_free, is_replaceable, judged, kept, register};
+ghost use Rattle.register_rows.specs.Catalogue.{IsRegisteredNext, entries_among, view_lines};
+ghost use Rattle.register_rows.specs.Filed.{AreFiled};
 ghost use Rattle.register_rows.specs.Outcomes.{outcome_of};
 
+use crate::catalogue::Catalogue;
 use std::alloc::{AllocError, Global};
 use xbrl_report::{Judged, judge_amendment};
-
-/// A filing: whose it is, which filing it replaces, and which one replaces it.
-#[derive(Drop)]
-pub(crate) struct Entry {
-    pub(crate) filer: String,
-    pub(crate) replaces: Option<u64>,
-    pub(crate) replaced_by: Option<u64>,
-}
 
 /// The filings, from number 1 on.
 #[derive(Drop)]
 pub struct Filed {
-    pub(crate) entries: Vec<Entry>,
+    pub(crate) filers: Vec<String>,
+    pub(crate) catalogue: Catalogue,
 }
 
 impl Filed {
@@ -30,24 +25,29 @@ impl Filed {
         ensures { AreFiled [] result }
     {
         Filed {
-            entries: Vec::new(alloc),
+            filers: Vec::new(alloc),
+            catalogue: Catalogue::new(alloc),
         }
     }
 
     /// Whether the filer may replace the filing of this number: it is the filer's, and none replaces it.
     fn is_replaceable(&self, filer: &str, number: u64) -> bool
-        ensures { (fs : List Filing) → AreFiled fs self.now → result ≡ is_replaceable fs filer.now number }
+        ensures { (F : List Request) → AreFiled (kept F) self.now
+            → result ≡ is_replaceable (register F) filer.now number }
     {
-        if number == 0 || number > self.entries.len() as u64 {
+        if number == 0 || number > self.filers.len() as u64 {
             return false;
         }
-        let entry = &self.entries[(number - 1) as usize];
-        entry.filer.as_bytes() == filer.as_bytes() && entry.replaced_by.is_none()
+        let owner = &self.filers[(number - 1) as usize];
+        match self.catalogue.line(number) {
+            Some(line) => owner.as_bytes() == filer.as_bytes() && line.replaced_by().is_none(),
+            None => false,
+        }
     }
 
     /// Whether the filer may replace the filing of this number, or none.
     pub(crate) fn is_free(&self, filer: &str, target: Option<u64>) -> bool
-        ensures { (fs : List Filing) → AreFiled fs self.now → result ≡ is_free fs filer.now target }
+        ensures { (F : List Request) → AreFiled (kept F) self.now → result ≡ is_free (register F) filer.now target }
     {
         match target {
             Some(number) => self.is_replaceable(filer, number),
@@ -55,37 +55,23 @@ impl Filed {
         }
     }
 
-    /// The next filing replaces the one of this number, if it replaces one.
-    fn replace(&mut self, target: Option<u64>)
-        ensures { (fs : List Filing) (r : Request) → AreFiled fs self.old → r.target ≡ target
-            → is_free fs r.filer r.target ≡ true
-            → map view_entry self.new.entries.items ≡ map (line_of (fs ++ next_filing fs r ∷ [])) fs }
-    {
-        let next = self.entries.len() as u64 + 1;
-        if let Some(number) = target {
-            if 0 < number && number <= self.entries.len() as u64 {
-                self.entries[(number - 1) as usize].replaced_by = Some(next);
-            }
-        }
-    }
-
-    /// The filer has a filing more, which replaces another one, if this is its number.
-    pub(crate) fn add(
+    /// The filer has a filing more, which has this place and so many facts, and replaces another one, if this is its number.
+    fn add(
         &mut self,
         alloc: Global,
         filer: &str,
+        seq: u64,
+        facts: u64,
         target: Option<u64>,
     ) -> Result<(), AllocError>
-        ensures { (fs : List Filing) (r : Request) → AreFiled fs self.old → r.filer ≡ filer.now → r.target ≡ target
-            → is_free fs r.filer r.target ≡ true → OnOk result (AreFiled (fs ++ next_filing fs r ∷ []) self.new) }
+        ensures { (F : List Request) (r : Request) → AreFiled (kept F) self.old → r.filer ≡ filer.now
+            → IsRegisteredNext (kept F) r seq facts target
+            → OnOk result (AreFiled (kept F ++ judged (kept F) r ∷ []) self.new) }
     {
-        self.replace(target);
+        self.catalogue.reserve()?;
         let filer = String::from_str(alloc, filer)?;
-        self.entries.push(Entry {
-            filer,
-            replaces: target,
-            replaced_by: None,
-        })?;
+        self.filers.push(filer)?;
+        self.catalogue.note(seq, facts, target);
         Ok(())
     }
 
@@ -97,7 +83,7 @@ impl Filed {
         target: Option<u64>,
         body: &[u8],
     ) -> Result<Judged, AllocError>
-        ensures judged { (F : List Request) (r : Request) → AreFiled (register F) self.now → r.filer ≡ filer.now
+        ensures judged { (F : List Request) (r : Request) → AreFiled (kept F) self.now → r.filer ≡ filer.now
             → r.target ≡ target → r.body ≡ body.now
             → IfOk result (λ j. (judged (kept F) r).outcome ≡ outcome_of (suc (length (register F))) j) }
         ensures facts { IfOk result (HasFacts body.now) }
@@ -105,21 +91,36 @@ impl Filed {
         judge_amendment(alloc, filer, body, self.is_free(filer, target))
     }
 
-    /// A report was judged so after these filings: it is one more where it is valid.
+    /// A report of the kept request at this place was judged so after these filings: it is one more if it is valid.
     pub fn note(
         &mut self,
         alloc: Global,
         filer: &str,
+        seq: u64,
         target: Option<u64>,
         found: &Judged,
     ) -> Result<(), AllocError>
-        ensures { (F : List Request) (r : Request) → AreFiled (register F) self.old → r.filer ≡ filer.now
-            → r.target ≡ target → (judged (kept F) r).outcome ≡ outcome_of (suc (length (register F))) found.now
-            → OnOk result (AreFiled (filings (kept F ++ judged (kept F) r ∷ [])) self.new) }
+        ensures { (F : List Request) (r : Request) → AreFiled (kept F) self.old → r.filer ≡ filer.now
+            → r.target ≡ target → HasFacts r.body found.now → seq ≡ suc (length (kept F))
+            → (judged (kept F) r).outcome ≡ outcome_of (suc (length (register F))) found.now
+            → OnOk result (AreFiled (kept F ++ judged (kept F) r ∷ []) self.new) }
     {
         match found {
-            Judged::Valid(_) => self.add(alloc, filer, target),
+            Judged::Valid(report) => {
+                self.add(alloc, filer, seq, report.facts().len() as u64, target)
+            }
             Judged::Refused(_) => Ok(()),
         }
+    }
+
+    /// What is said of the filings.
+    pub fn into_catalogue(self) -> Catalogue
+        ensures { (ks : List Kept) → AreFiled ks self → view_lines result ≡ entries_among ks }
+    {
+        let Filed {
+            filers: _,
+            catalogue,
+        } = self;
+        catalogue
     }
 }

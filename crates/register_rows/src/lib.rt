@@ -2,6 +2,7 @@
 //! request puts into each, and whether rows that were read are those of a list of requests. No statement is known here.
 #![tactic(auto)]
 
+mod catalogue;
 mod cells;
 mod columns;
 mod damage;
@@ -11,6 +12,7 @@ mod segments;
 mod spans;
 mod verdict;
 
+pub use catalogue::{Catalogue, Line};
 pub use cells::{Cell, is_row};
 pub use columns::{bytes_at, last_in, text_at};
 pub use filed::Filed;

@@ -6,15 +6,18 @@ ghost use Rattle.sqlite.specs.Values.{or_null};
 ghost use Rattle.xbrl_report.specs.ReportParts.{facts as facts_of};
 ghost use Rattle.http_messages.specs.Posting.{IsTarget};
 ghost use Rattle.xbrl_report.specs.Judgement.{HasFacts};
-ghost use Rattle.filing_model.specs.Register.{Outcome, register};
+ghost use Rattle.filing_model.specs.Register.{Outcome, kept, register};
 ghost use Rattle.filing_model.specs.Request.{Request, has_key};
-ghost use Rattle.register_rows.specs.Audit.{OtherRows, AreRowsOf, IsAfter, IsNext, IsVerdict, StandForNone, rows_beside, is_repeated_at, begins_with, has_more, view_rows_left, with_target};
+ghost use Rattle.register_rows.specs.Audit.{OtherRows, AreRowsOf, IsAfter, IsSoundAs, IsNext, IsVerdict, StandForNone, rows_beside, is_repeated_at, begins_with, has_more, view_rows_left, with_target};
+ghost use Rattle.register_rows.specs.Catalogue.{view_lines};
+ghost use Rattle.register_rows.specs.declared.catalogue.Catalogue.{Catalogue};
 ghost use Rattle.register_rows.specs.Filed.{AreFiled};
 ghost use Rattle.register_rows.specs.Cells.{value_of};
 ghost use Rattle.register_rows.specs.Columns.{request_in};
 ghost use Rattle.register_rows.specs.Outcomes.{outcome_of};
 ghost use Rattle.register_rows.specs.Register.{IsCompleted};
 
+use crate::catalogue::Catalogue;
 use crate::cells::{Cell, is_row};
 use crate::columns::{bytes_at, text_at};
 use crate::damage::{OtherTables, first_unsound};
@@ -43,10 +46,10 @@ pub(crate) struct RowsLeft<'a> {
 }
 
 /// What an audit found.
-#[derive(Clone, Copy)]
+#[derive(Drop)]
 pub enum Verdict {
-    /// The rows stand for a list of requests, of which so many are registered.
-    Sound { filings: u64 },
+    /// The rows stand for a list of requests, and these are its filings.
+    Sound { catalogue: Catalogue },
     /// They stand for none: the kept row at this place, counted from 1, is the first that is not sound, or at 0 each one is,
     /// and rows of the other tables are left over.
     Damaged { row: u64 },
@@ -219,14 +222,14 @@ fn check_filed<'a>(
     requires seq { seq < 2 ^ 63 }
     requires number { rest.number < 2 ^ 63 }
     requires filer { filer.now ≡ (request_in None row.now).filer }
-    ensures { (F : List Request) → AreFiled (register F) filed.old → rest.entry.number ≡ suc (length (register F))
-        → IsCompleted (request_in target row.now) → has_key F (request_in target row.now) ≡ false
+    ensures { (F : List Request) → AreFiled (kept F) filed.old → rest.entry.number ≡ suc (length (register F))
+        → seq ≡ suc (length (kept F)) → IsCompleted (request_in target row.now) → has_key F (request_in target row.now) ≡ false
         → IfOk result (λ next.
         MatchOption next
         ((tail : OtherRows) → IsNext F seq row.now target (with_target seq target (view_rows_left rest.entry)) tail → ⊥)
         (λ tail.
         IsNext F seq row.now target (with_target seq target (view_rows_left rest.entry)) (view_rows_left tail)
-        × AreFiled (register (F ++ request_in target row.now ∷ [])) filed.new
+        × AreFiled (kept (F ++ request_in target row.now ∷ [])) filed.new
         × (tail.number ≡ suc (length (register (F ++ request_in target row.now ∷ [])))))) }
 {
     let judged = filed.judge(alloc, filer, target, bytes_at(row, 3))?;
@@ -235,7 +238,7 @@ fn check_filed<'a>(
             if has_more(seq, &judged, rest.number, tail) {
                 Ok(None)
             } else {
-                filed.note(alloc, filer, target, &judged)?;
+                filed.note(alloc, filer, seq, target, &judged)?;
                 Ok(Some(tail))
             }
         }
@@ -255,14 +258,14 @@ fn check_next<'a>(
 ) -> Result<Option<RowsLeft<'a>>, AllocError>
     requires seq { seq < 2 ^ 63 }
     requires number { rest.number < 2 ^ 63 }
-    ensures { (F : List Request) → AreFiled (register F) filed.old → rest.entry.number ≡ suc (length (register F))
-        → is_repeated ≡ has_key F (request_in None row.now)
+    ensures { (F : List Request) → AreFiled (kept F) filed.old → rest.entry.number ≡ suc (length (register F))
+        → seq ≡ suc (length (kept F)) → is_repeated ≡ has_key F (request_in None row.now)
         → IfOk result (λ next.
         MatchOption next
         ((target : Option ℕ) (tail : OtherRows) → IsNext F seq row.now target (view_rows_left rest.entry) tail → ⊥)
         (λ tail.
         (target : Option ℕ) × IsNext F seq row.now target (view_rows_left rest.entry) (view_rows_left tail)
-        × AreFiled (register (F ++ request_in target row.now ∷ [])) filed.new
+        × AreFiled (kept (F ++ request_in target row.now ∷ [])) filed.new
         × (tail.number ≡ suc (length (register (F ++ request_in target row.now ∷ [])))))) }
 {
     if is_repeated {
@@ -286,8 +289,8 @@ fn check_next<'a>(
     )
 }
 
-/// Audits one kept row after the other, as the tables are in the order of their keys: how many filings the requests are that
-/// the rows stand for, or `None` where they stand for none. It fails where memory runs out.
+/// Audits one kept row after the other, as the tables are in the order of their keys: the filings of the requests that
+/// the rows stand for, or `None` if they stand for none. It fails where memory runs out.
 fn audit_in_order(
     alloc: Global,
     kept: &[Row],
@@ -295,7 +298,7 @@ fn audit_in_order(
     filings: &[Row],
     facts: &[Row],
     amends: &[Row],
-) -> Result<Option<u64>, AllocError>
+) -> Result<Option<Catalogue>, AllocError>
     requires { length kept.now ≤ 2 ^ 62 }
     ensures found { IfOk result (λ found.
         MatchOption found
@@ -305,11 +308,11 @@ fn audit_in_order(
           fact = facts.now;
           amends = amends.now;
         }))
-        (λ filings_are.
+        (λ catalogue.
         IsVerdict kept.now
         (record { finding = findings.now; filing = filings.now; fact = facts.now; amends = amends.now })
-        (Verdict.Sound filings_are)
-        × (filings_are ≤ length kept.now))) }
+        (Verdict.Sound catalogue)
+        × (length (view_lines catalogue) ≤ length kept.now))) }
 {
     let mut rest = RowsLeft {
         findings,
@@ -332,7 +335,7 @@ fn audit_in_order(
         && rest.facts.is_empty()
         && rest.amends.is_empty()
     {
-        Ok(Some(rest.number - 1))
+        Ok(Some(filed.into_catalogue()))
     } else {
         Ok(None)
     }
@@ -351,16 +354,16 @@ pub fn audit(
     ensures verdict { IfOk result (IsVerdict kept.now (rows_beside findings.now filings.now facts.now amends.now)) }
     ensures complete { IfOk result (λ verdict. (F : List Request)
         → AreRowsOf kept.now (rows_beside findings.now filings.now facts.now amends.now) F
-        → verdict ≡ Verdict.Sound (length (register F))) }
+        → IsSoundAs F verdict) }
     ensures few { IfOk result (λ verdict.
-        (filings : ℕ) → verdict ≡ Verdict.Sound filings
-        → (filings ≤ length kept.now) × (length kept.now ≤ 2 ^ 62)) }
+        (catalogue : Catalogue) → verdict ≡ Verdict.Sound catalogue
+        → (length (view_lines catalogue) ≤ length kept.now) × (length kept.now ≤ 2 ^ 62)) }
 {
     if kept.len() as u64 > MAX_KEPT {
         return Err(AllocError);
     }
     match audit_in_order(alloc, kept, findings, filings, facts, amends)? {
-        Some(filings) => Ok(Verdict::Sound { filings }),
+        Some(catalogue) => Ok(Verdict::Sound { catalogue }),
         None => {
             let row = first_unsound(
                 alloc,

@@ -17,7 +17,7 @@ loop-at-preserved c =
     let whole = view_other_tables c.args.beside in
     let before : c.loop-at.at < c.in_ok-first.first = omega (arith, was.0, c.if-at-first.false) in
     let fresh = c.in_ok-first.ensures.1 c.loop-at.at before in
-    let told = rw c.in-Some.is at (c.in_ok-filings.ensures held.requests held.filed_are held.number_is) in
+    let told = rw c.in-Some.is at (c.in_ok-filings.ensures held.requests held.filed_are held.number_is (omega (arith, held.many_kept))) in
     let kept_as = kept_whole (c.loop-at.at + 1) c.loop-at.number row part whole c.part_of-part.ensures held.requests held.number_is told.0 told.2 in (
       omega (arith, before),
       held_more c.args.kept.now whole c.loop-at.at c.loop-at.number c.loop-at.filed row c.loop-at-test.true c.index-kept-at.is held told.0 (c.loop-at.number + c.in-Some.filings) c.filings_if_sound.new.filed fresh told.1 kept_as told.3
@@ -30,7 +30,7 @@ returns-in-None c =
     let row = c.index-kept-at.result in
     let part = view_other_tables c.part_of-part.result in
     let whole = view_other_tables c.args.beside in
-    let none = rw c.in-None.is at (c.in_ok-filings.ensures held.requests held.filed_are held.number_is) in
+    let none = rw c.in-None.is at (c.in_ok-filings.ensures held.requests held.filed_are held.number_is (omega (arith, held.many_kept))) in
     inl (unsound_at c.args.kept.now whole c.loop-at.at c.loop-at.number c.loop-at.filed row c.loop-at-test.true c.index-kept-at.is held
     (λ r completed kept_as. none r completed (kept_in_part (c.loop-at.at + 1) c.loop-at.number row part whole c.part_of-part.ensures held.requests held.number_is r kept_as)))
 

@@ -1,20 +1,17 @@
-use Rattle.std.proofs.Common.{◌≡◌, ℕ, List, Option, string_bytes, ◌∷◌, ◌++◌, [], map, None, ap, ap₂, sym, ◌∙◌}
+use Rattle.std.proofs.Common.{◌≡◌, ℕ, List, ◌∷◌, ◌++◌, [], map, ap, ap₂, sym, string_bytes, ◌∙◌}
 use Rattle.std.proofs.lemmas.List.{map-append}
-use Rattle.register_rows.specs.Filed.{line_of, next_filing, view_entry}
-use Rattle.register_rows.proofs.Filings.{last_unreplaced, numbered_more, reach_more}
+use Rattle.filing_model.specs.Register.{Filing, kept, register}
+use Rattle.register_rows.proofs.FiledLemmas.{filing_more}
+use Rattle.register_rows.proofs.Filings.{next_filing}
 use Rattle.register_rows.proofs.filed.Filed.add.Goals as goal
 
 pub returns : goal.returns
-returns c fs r are filer target free =
-    let f = next_filing fs r in
-    let all = fs ++ f ∷ [] in
+returns c F r are filer next =
     let copied : string_bytes c.in_ok-filer.filer ≡ r.filer = c.in_ok-filer.ensures.ok ∙ sym filer in
-    let last : view_entry (record { filer = c.in_ok-filer.filer; replaces = c.args.target; replaced_by = None }) ≡ line_of all f =
-    ap₂ (λ (s : List ℕ) (t : Option ℕ). record { filer = s; replaces = t; replaced_by = None }) copied (sym target) ∙ ap (λ (by : Option ℕ). record { filer = r.filer; replaces = r.target; replaced_by = by }) (sym (last_unreplaced fs c.args.self.now are r free)) in
+    let whose : Filing → List ℕ = λ f. f.request.filer in
     record {
-      are = ap (map view_entry) c.in_ok-push.ensures.items ∙ map-append view_entry _ _
-          ∙ ap₂ ◌++◌ (c.replace.ensures fs r are target free) (ap (λ l. l ∷ []) last)
-          ∙ sym (map-append (line_of all) fs (f ∷ []));
-      numbered = numbered_more fs c.args.self.now are r free;
-      reach = reach_more fs c.args.self.now are r free;
+      filers_are = ap (map (λ o. string_bytes o)) c.in_ok-push.ensures.items ∙ map-append (λ o. string_bytes o) _ _
+          ∙ ap₂ (λ l o. l ++ o ∷ []) are.filers_are copied
+          ∙ sym (ap (map whose) (filing_more (kept F) r next.number next.registered) ∙ map-append whose (register F) (next_filing (register F) r ∷ []));
+      lines_are = c.note.ensures F r (c.in_ok-reserve.ensures.same ∙ are.lines_are) next;
     }
