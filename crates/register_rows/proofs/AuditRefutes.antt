@@ -7,7 +7,6 @@ use Rattle.sqlite.specs.Order.{Row}
 use Rattle.filing_model.specs.Request.{Request, firsts, has_key}
 use Rattle.filing_model.specs.Register.{Kept, filings, kept_after, judged, kept, register}
 use Rattle.filing_model.proofs.Keeping.{kept_new, kept_grows}
-use Rattle.filing_model.proofs.Lists.{length-map}
 use Rattle.table_rows.specs.Rows.{counted_from}
 use Rattle.register_rows.specs.declared.filed.Filed.{Filed}
 use Rattle.register_rows.specs.Audit.{has_more, OtherRows, IsNext, AreRowsOf, IsSoundAs, IsVerdict, StandForNone}
@@ -15,11 +14,11 @@ use Rattle.register_rows.specs.Columns.{request_in}
 use Rattle.register_rows.specs.Filed.{AreFiled}
 use Rattle.register_rows.specs.declared.verdict.Verdict.{Verdict}
 use Rattle.register_rows.specs.declared.verdict.Verdict.TheVariants.{Sound, Damaged}
-use Rattle.register_rows.specs.Catalogue.{catalogue_of, entries_among, entry_of, placed_from, view_lines}
+use Rattle.register_rows.specs.Catalogue.{catalogue_of, entries_among, view_lines}
 use Rattle.register_rows.specs.declared.catalogue.Catalogue.{Catalogue}
 use Rattle.register_rows.specs.Register.{IsCompleted, kept_row, finding_rows, filing_rows, fact_rows, amends_rows, joined_from}
 use Rattle.register_rows.proofs.AuditSteps.{AreFirst, first_more, register_more, joined_append, counted_append, all_at, apart_from, one_filing}
-use Rattle.register_rows.proofs.CatalogueLemmas.{placed_many}
+use Rattle.register_rows.proofs.CatalogueLemmas.{catalogue_many}
 use Rattle.register_rows.proofs.MoreRequests.{kept_length}
 use Rattle.register_rows.proofs.NextLemmas.{goes_on}
 use Rattle.register_rows.proofs.SeenLemmas.{get_at}
@@ -230,7 +229,7 @@ module _ (rows : List Row) (all rest : OtherRows) (i number : ℕ) (filed : File
   sound_whole one two three four catalogue held =
       let F = stood.requests in
       let says : view_lines catalogue ≡ catalogue_of F = held (kept F) stood.filed_are in
-      let many : length (view_lines catalogue) ≡ length (register F) = ap length says ∙ length-map (entry_of (register F)) (placed_from 1 (kept F)) ∙ placed_many (kept F) in (
+      let many : length (view_lines catalogue) ≡ length (register F) = ap length says ∙ catalogue_many F in (
         (
           F,
           record {

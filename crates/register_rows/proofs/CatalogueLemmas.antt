@@ -39,6 +39,10 @@ placed_are seq (k ∷ ks) = go k.outcome (placed_are (seq + 1) ks)
 pub placed_many : (ks : List Kept) → length (placed_from 1 ks) ≡ length (filings ks)
 placed_many ks = sym (length-map (λ (p : Placed). p.filing) (placed_from 1 ks)) ∙ ap length (placed_are 1 ks)
 
+-- as much is said as there are filings
+pub catalogue_many : (F : List Request) → length (catalogue_of F) ≡ length (register F)
+catalogue_many F = length-map (entry_of (register F)) (placed_from 1 (kept F)) ∙ placed_many (kept F)
+
 -- ---- a request that is registered
 
 module _ (F : List Request) (r : Request) (seq facts : ℕ) (target : Option ℕ) (next : IsRegisteredNext (kept F) r seq facts target) where
@@ -85,7 +89,7 @@ module _ (F : List Request) (r : Request) (seq facts : ℕ) (target : Option ℕ
 
   module _ (old : List Line) (held : map view_line old ≡ catalogue_of F) where
     pub held_many : length old ≡ length (register F)
-    held_many = sym (length-map view_line old) ∙ ap length held ∙ length-map (entry_of fs) (placed_from 1 (kept F)) ∙ placed_many (kept F)
+    held_many = sym (length-map view_line old) ∙ ap length held ∙ catalogue_many F
 
     -- where it replaces none
     pub noted : target ≡ None → (new : List Line) → new ≡ old ++ line ∷ [] → map view_line new ≡ entries_among (kept F ++ judged (kept F) r ∷ [])

@@ -12,7 +12,7 @@ use Rattle.register_rows.specs.Catalogue.{Entry, Placed, entry_numbered, entry_o
 use Rattle.register_rows.specs.Filed.{AreFiled}
 use Rattle.register_rows.specs.declared.catalogue.Line.{Line}
 use Rattle.register_rows.specs.declared.filed.Filed.{Filed}
-use Rattle.register_rows.proofs.CatalogueLemmas.{placed_are, placed_many}
+use Rattle.register_rows.proofs.CatalogueLemmas.{catalogue_many, placed_are, placed_many}
 use Rattle.register_rows.proofs.FiledLemmas.{in_order}
 use Rattle.register_rows.proofs.Filings.{IsOutside, is_unreplaced, no_filing, none_there, number_there, one_there}
 
@@ -27,7 +27,7 @@ module _ (F : List Request) (filed : Filed) (held : AreFiled (kept F) filed) whe
   filers_many = sym (length-map (λ filer. string_bytes filer) filed.filers.items) ∙ ap length held.filers_are ∙ length-map (λ (f : Filing). f.request.filer) fs
 
   lines_many : length (view_lines filed.catalogue) ≡ length fs
-  lines_many = ap length held.lines_are ∙ length-map (entry_of fs) places ∙ placed_many (kept F)
+  lines_many = ap length held.lines_are ∙ catalogue_many F
 
   pub not_there : (filer : List ℕ) (n : ℕ) → IsOutside n 1 (length filed.filers.items) → is_replaceable fs filer n ≡ false
   not_there filer n outside = none_there fs filer n (in_order F).numbered (rw (sym filers_many) outside)
