@@ -1,5 +1,5 @@
 -- What is read of a register in an earlier form.
-use Rattle.std.proofs.Common.{◌≡◌, ◌⊎◌, inl, inr, ◌≤◌, ℕ, List, [], ◌∷◌, length, refl, sym, subst, ◌∙◌}
+use Rattle.std.proofs.Common.{◌≡◌, ◌⊎◌, inl, inr, ◌≤◌, ℕ, List, [], ◌∷◌, length, refl, sym, ap, subst, ◌∙◌}
 use Rattle.sqlite.specs.Order.{Row}
 use Rattle.sqlite.specs.Effect.{Database}
 use Rattle.sqlite.specs.Store.{Ghosts}
@@ -18,6 +18,8 @@ use Rattle.register_opening.specs.declared.fault.OpenFault.TheVariants as fault
 use Rattle.register_opening.specs.declared.opening.Counts.{Counts}
 use Rattle.register_opening.specs.declared.opening.walk.Totals.{Totals}
 use Rattle.register_rows.specs.Audit.{OtherRows, IsVerdict}
+use Rattle.register_rows.specs.Catalogue.{view_lines}
+use Rattle.register_rows.proofs.CatalogueLemmas.{catalogue_many}
 use Rattle.register_opening.specs.Faults.{table_fault, table_fault_by}
 use Rattle.register_opening.specs.Migrating.{AreTotals, HasNoTotals, HasNoCounts, IsCounted, SaysNone}
 use Rattle.register_opening.specs.Opening.{all_kept, all_findings, all_filings, all_facts, all_migrated, row_texts, IsRead, AreRead, StopsFor}
@@ -38,15 +40,16 @@ module _ {S : Type 0} (g : Ghosts S) where
   -- ---- the four tables, read whole
 
   pub whole_totals : (a e : Held S) (kept_are : List Row) (others : OtherRows) (totals : Totals) → AreRead g row_texts a e (kept_are ∷ others.finding ∷ others.filing ∷ others.fact ∷ [])
-      → others.amends ≡ [] → totals.kept ≡ length kept_are → IsVerdict kept_are others (Sound totals.filings) → AreTotals totals (state g a) (state g e)
-  whole_totals a e kept_are others totals h none many is = record {
+      → others.amends ≡ [] → totals.kept ≡ length kept_are → IsVerdict kept_are others (Sound totals.catalogue) → totals.filings ≡ length (view_lines totals.catalogue) → AreTotals totals (state g a) (state g e)
+  whole_totals a e kept_are others totals h none many is size = record {
     same = reads_on g (all_findings ∷ all_filings ∷ all_facts ∷ []) (query_findings, (query_filings, (query_facts, tt))) a h.0 e (query_same all_kept query_kept [] (state g a) (state g h.0) kept_are h.1.shown)
         (others.finding ∷ others.filing ∷ others.fact ∷ []) h.2;
     amounts = λ d. record {
       requests = is.0;
       are = subst (λ l. AreAllOf is.0 l (state g a).now) none (all_of is.0 (state g a).now kept_are others (got_four g a e kept_are others d h).1 is.1);
       kept_is = many ∙ rows_many kept_are is.0 is.1.distinct is.1.kept_is;
-      filings_is = is.2;
+      filings_is = size ∙ ap length is.2 ∙ catalogue_many is.0;
+      catalogue_is = is.2;
     };
   }
 
@@ -77,12 +80,14 @@ module _ {S : Type 0} (g : Ghosts S) where
   -- ---- with the row of the third form
 
   pub third_counted : (a b e : Held S) (rows : List Row) (totals : Totals) (counts : Counts) → IsRead g all_migrated a b rows → AreTotals totals (state g b) (state g e)
-      → (counts.kept ≡ totals.kept) × (counts.filings ≡ totals.filings) × (rows ≡ migrated_row counts.early ∷ []) × (counts.early ≤ counts.kept) → IsCounted g Third counts a e
-  third_counted a b e rows totals counts read are told = record {
-    mid = b;
-    early_is = (subst (IsRead g all_migrated a b) told.2 read, told.3);
-    totals_are = subst (λ n. AreTotals (record { kept = counts.kept; filings = n }) (state g b) (state g e)) (sym told.1) (subst (λ n. AreTotals (record { kept = n; filings = totals.filings }) (state g b) (state g e)) (sym told.0) are);
-  }
+      → (counts.kept ≡ totals.kept) × (counts.filings ≡ totals.filings) × (counts.catalogue ≡ totals.catalogue) × (rows ≡ migrated_row counts.early ∷ []) × (counts.early ≤ counts.kept) → IsCounted g Third counts a e
+  third_counted a b e rows totals counts read are told =
+      let same : totals ≡ record { kept = counts.kept; filings = counts.filings; catalogue = counts.catalogue } = λ i. record { kept = sym told.0 i; filings = sym told.1 i; catalogue = sym told.2 i } in
+      record {
+        mid = b;
+        early_is = (subst (IsRead g all_migrated a b) told.3 read, told.4);
+        totals_are = subst (λ t. AreTotals t (state g b) (state g e)) same are;
+      }
 
   pub third_unsaid : (a b e : Held S) (rows : List Row) (totals : Totals) (why : OpenFault) → IsRead g all_migrated a b rows → AreTotals totals (state g b) (state g e)
       → (why ≡ fault.Damaged 0) × SaysNone totals.kept rows → HasNoCounts g Third why a e

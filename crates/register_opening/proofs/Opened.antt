@@ -16,6 +16,7 @@ use Rattle.table_rows.specs.declared.cause.Cause.TheVariants as cause
 use Rattle.table_rows.proofs.StandLemmas.{stands_on}
 use Rattle.table_rows.proofs.TextLemmas.{query_same}
 use Rattle.register_rows.specs.Audit.{OtherRows}
+use Rattle.register_rows.specs.Catalogue.{catalogue_of, view_lines}
 use Rattle.register_opening.specs.declared.fault.OpenFault.{OpenFault}
 use Rattle.register_opening.specs.declared.fault.OpenFault.TheVariants as fault
 use Rattle.register_opening.specs.declared.opening.Counts.{Counts}
@@ -179,13 +180,13 @@ module _ {S : Type 0} (g : Ghosts S) (a b c e : Held S) (later : Later) (one : I
     stood : (early : ℕ) (F : List Request) → IsRegisterOf early F (state g a).now → HasCommitted (IsRegisterOf early F) (state g e)
     stood early F here = stands_on (IsRegisterOf early F) (state g a) (state g e) (inl same_all) (record { autocommit = idle; now = λ _. here; committed = λ alive. sym (settled alive) })
 
-    pub finds : (F : List Request) × IsRegisterOf counts.early F (state g a).now × HasCommitted (IsRegisterOf counts.early F) (state g e) × (counts.kept ≡ length F) × (counts.filings ≡ length (register F))
+    pub finds : (F : List Request) × IsRegisterOf counts.early F (state g a).now × HasCommitted (IsRegisterOf counts.early F) (state g e) × (counts.kept ≡ length F) × (counts.filings ≡ length (register F)) × (view_lines counts.catalogue ≡ catalogue_of F)
     finds =
         let here = counted_register (state g a).now counts later it (live got_one.0.0.was_open).0 d got_one.1 both in
-        (it.requests, here, stood counts.early it.requests here, it.kept_is, it.filings_is)
+        (it.requests, here, stood counts.early it.requests here, it.kept_is, it.filings_is, it.catalogue_is)
 
     -- it stands for no others
-    pub counts_them : (early : ℕ) (F : List Request) → IsRegisterOf early F (state g a).now → (counts.early ≡ early) × HasCommitted (IsRegisterOf early F) (state g e) × (counts.kept ≡ length F) × (counts.filings ≡ length (register F))
+    pub counts_them : (early : ℕ) (F : List Request) → IsRegisterOf early F (state g a).now → (counts.early ≡ early) × HasCommitted (IsRegisterOf early F) (state g e) × (counts.kept ≡ length F) × (counts.filings ≡ length (register F)) × (view_lines counts.catalogue ≡ catalogue_of F)
     counts_them early F here =
         let same = counted_only (state g a).now counts later it both early F here in
-        (same.0, stood early F here, it.kept_is ∙ ap length same.1, it.filings_is ∙ ap (λ H. length (register H)) same.1)
+        (same.0, stood early F here, it.kept_is ∙ ap length same.1, it.filings_is ∙ ap (λ H. length (register H)) same.1, it.catalogue_is ∙ ap (λ H. catalogue_of H) same.1)

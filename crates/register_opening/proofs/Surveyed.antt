@@ -41,6 +41,7 @@ use Rattle.register_opening.specs.Making.{begun}
 use Rattle.register_opening.specs.Migrating.{ReadsEarly, IsSurveyed, IsMigrated, Migrates, MigratesTo, AreDone, AreTreesOf, migrating}
 use Rattle.register_opening.specs.Opening.{all_meta, all_migrated, IsRead}
 use Rattle.register_opening.specs.Reads.{every, whole, by_first}
+use Rattle.register_rows.specs.Catalogue.{catalogue_of, view_lines}
 use Rattle.register_rows.specs.Register.{form_row, migrated_row}
 use Rattle.register_rows.specs.Schema.{HasCommon, meta_table, migrated_table}
 use Rattle.register_opening.specs.Registers.{IsRegisterOf, LeavesRegister}
@@ -150,9 +151,9 @@ module _ {S : Type 0} (g : Ghosts S) (a : Held S) where
     pub to_end : IsUnchanged (state g a) (state g e)
     to_end = unchanged_then (state g a) (state g s.counted.mid) (state g e) to_second s.counted.totals_are.same
 
-    amounts : HasCommon (state g a).now.schema → Amounts (record { kept = counts.kept; filings = counts.filings }) [] (state g a).now
+    amounts : HasCommon (state g a).now.schema → Amounts (record { kept = counts.kept; filings = counts.filings; catalogue = counts.catalogue }) [] (state g a).now
     amounts d =
-        subst (Amounts (record { kept = counts.kept; filings = counts.filings }) []) to_second.0.now_is
+        subst (Amounts (record { kept = counts.kept; filings = counts.filings; catalogue = counts.catalogue }) []) to_second.0.now_is
         (s.counted.totals_are.amounts (subst (λ (db : Database). HasCommon db.schema) (sym to_second.0.now_is) d))
 
     meta_gets : HasCommon (state g a).now.schema → Gets meta_table by_first (form_row (form_number form) ∷ []) (state g a).now
@@ -160,7 +161,7 @@ module _ {S : Type 0} (g : Ghosts S) (a : Held S) where
 
     -- it is a register in that form
     pub survey_finds : BeginsWith (tables_of form) (state g a).now.schema → IsDatabase (state g a).now
-        → (F : List Request) × IsEarlierOf form counts.early F (state g a).now × (counts.kept ≡ length F) × (counts.filings ≡ length (register F))
+        → (F : List Request) × IsEarlierOf form counts.early F (state g a).now × (counts.kept ≡ length F) × (counts.filings ≡ length (register F)) × (view_lines counts.catalogue ≡ catalogue_of F)
     survey_finds d sound =
         let common = common_in form (state g a).now.schema d in
         let it = amounts common in (
@@ -176,6 +177,7 @@ module _ {S : Type 0} (g : Ghosts S) (a : Held S) where
           },
           it.kept_is,
           it.filings_is,
+          it.catalogue_is,
         )
 
     -- and no other
@@ -184,12 +186,12 @@ module _ {S : Type 0} (g : Ghosts S) (a : Held S) where
         same_form form f (same_number (form_number form) (form_number f)
         ((meta_gets (common_in f (state g a).now.schema is.rows.declared)).ordered (form_row (form_number f) ∷ []) is.rows.meta_is (tt, tt)))
 
-    pub survey_only : (early : ℕ) (F : List Request) → IsEarlierOf form early F (state g a).now → (counts.early ≡ early) × (counts.kept ≡ length F) × (counts.filings ≡ length (register F))
+    pub survey_only : (early : ℕ) (F : List Request) → IsEarlierOf form early F (state g a).now → (counts.early ≡ early) × (counts.kept ≡ length F) × (counts.filings ≡ length (register F)) × (view_lines counts.catalogue ≡ catalogue_of F)
     survey_only early F is =
         let it = amounts (common_in form (state g a).now.schema is.rows.declared) in
         let same = only_these it.requests [] (state g a).now it.are F is.rows.are.distinct is.rows.are.kept_is is.rows.are.amends_is in
         let many : counts.kept ≡ length F = it.kept_is ∙ ap length same in
-        (early_only form counts.early early counts.kept F s.mid s.counted.mid is to_first many s.counted.early_is, many, it.filings_is ∙ ap (λ H. length (register H)) same)
+        (early_only form counts.early early counts.kept F s.mid s.counted.mid is to_first many s.counted.early_is, many, it.filings_is ∙ ap (λ H. length (register H)) same, it.catalogue_is ∙ ap (λ H. catalogue_of H) same)
 
     -- the tables are those of the form that it tells
     pub form_alone : (f : Earlier) → IsAlone f (state g a).now.schema → is_blocked (state g e).now.schema form ≡ false → form ≡ f
@@ -226,16 +228,16 @@ module _ {S : Type 0} (g : Ghosts S) (a : Held S) where
       go : IsMigrated g f counts a z → Migrates g f counts a z
       go n =
           let found = survey_finds n.mid f counts n.surveyed (alone_begins f (state g a).now.schema alone) (live (to_end n.mid f counts n.surveyed).0.was_open).0 in
-          record { requests = found.0; were = found.1; are = stands_current z f counts n idle counts.early found.0 alone found.1 refl; kept_is = found.2; filings_is = found.3 }
+          record { requests = found.0; were = found.1; are = stands_current z f counts n idle counts.early found.0 alone found.1 refl; kept_is = found.2; filings_is = found.3; catalogue_is = found.4 }
 
   pub migrates_only : (z : Held S) (form f : Earlier) (counts : Counts) → IsMigrated g form counts a z → z.in_transaction ≡ false → (early : ℕ) (F : List Request) → IsAlone f (state g a).now.schema
-      → IsEarlierOf f early F (state g a).now → (counts.early ≡ early) × HasCommitted (IsRegisterOf early F) (state g z) × (counts.kept ≡ length F) × (counts.filings ≡ length (register F))
+      → IsEarlierOf f early F (state g a).now → (counts.early ≡ early) × HasCommitted (IsRegisterOf early F) (state g z) × (counts.kept ≡ length F) × (counts.filings ≡ length (register F)) × (view_lines counts.catalogue ≡ catalogue_of F)
   migrates_only z form f counts m idle early F alone is = go (subst (λ k. IsMigrated g k counts a z) (form_only m.mid form counts m.surveyed f early F is) m)
     where
-      go : IsMigrated g f counts a z → (counts.early ≡ early) × HasCommitted (IsRegisterOf early F) (state g z) × (counts.kept ≡ length F) × (counts.filings ≡ length (register F))
+      go : IsMigrated g f counts a z → (counts.early ≡ early) × HasCommitted (IsRegisterOf early F) (state g z) × (counts.kept ≡ length F) × (counts.filings ≡ length (register F)) × (view_lines counts.catalogue ≡ catalogue_of F)
       go n =
           let only = survey_only n.mid f counts n.surveyed early F is in
-          (only.0, stands_current z f counts n idle early F alone is only.0, only.1, only.2)
+          (only.0, stands_current z f counts n idle early F alone is only.0, only.1, only.2, only.3)
 
   -- what a crash leaves of them
   pub leaves_migrated : (trees : Trees) → MigratesTo g a trees → (f : Earlier) (early : ℕ) (F : List Request) → IsAlone f (state g a).now.schema → IsEarlierOf f early F (state g a).now → LeavesRegister early F trees

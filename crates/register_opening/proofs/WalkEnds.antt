@@ -8,6 +8,8 @@ use Rattle.filing_model.specs.Register.{kept}
 use Rattle.table_rows.specs.Picking.{HasLeft}
 use Rattle.table_rows.specs.Rows.{TableHas}
 use Rattle.table_rows.proofs.TakeLemmas.{all_taken}
+use Rattle.register_rows.specs.Catalogue.{catalogue_of, view_lines}
+use Rattle.register_rows.specs.declared.catalogue.Catalogue.{Catalogue}
 use Rattle.register_rows.specs.Register.{amends_rows, joined_from}
 use Rattle.register_rows.specs.Schema.{kept_table, finding_table, filing_table, fact_table}
 use Rattle.register_opening.specs.declared.opening.walk.Left.{Left}
@@ -20,11 +22,11 @@ module _ (db : Database) (table : Table) (rows : List Row) where
   none_left n none has = all_taken table db rows (subst (λ m. HasLeft table rows m db) none has)
 
 -- the requests that were walked past are all, and the counts are theirs
-pub all_walked : (amends_are : List Row) (total : ℕ) (left : Left) (db : Database) (F : List Request) → Walked amends_are total total left db F → (found : Option Totals)
-    → IfSome found (λ counts. (counts.kept ≡ total) × (left.findings ≡ 0) × (left.filings ≡ 0) × (left.facts ≡ 0) × (left.number ≡ counts.filings + 1) × (left.amends.now ≡ []))
+pub all_walked : (amends_are : List Row) (total : ℕ) (left : Left) (db : Database) (F : List Request) → Walked amends_are total total left db F → (catalogue : Catalogue) → view_lines catalogue ≡ catalogue_of F → (found : Option Totals)
+    → IfSome found (λ counts. (counts.kept ≡ total) × (left.findings ≡ 0) × (left.filings ≡ 0) × (left.facts ≡ 0) × (left.number ≡ counts.filings + 1) × (left.amends.now ≡ []) × (counts.catalogue ≡ catalogue))
     → IfSome found (λ counts. Amounts counts amends_are db)
-all_walked amends_are total left db F w None says = tt
-all_walked amends_are total left db F w (Some counts) says =
+all_walked amends_are total left db F w catalogue lines None says = tt
+all_walked amends_are total left db F w catalogue lines (Some counts) says =
     let had = w.number_is in
     let next = says.4 in
     let all = w.in_all in
@@ -41,4 +43,5 @@ all_walked amends_are total left db F w (Some counts) says =
       };
       kept_is = says.0 ∙ sym w.many;
       filings_is = omega (arith, had, next);
+      catalogue_is = ap (λ c. view_lines c) says.6 ∙ lines;
     }

@@ -209,8 +209,8 @@ module _ (amends_are : List Row) (total count : ℕ) (left tail : Left) (db : Da
       }
 
   -- the filings are those of the requests with this one
-  pub filed_on : (filed : Filed) → AreFiled (filings (kept F ++ judged (kept F) r ∷ [])) filed → AreFiled (register (F ++ r ∷ [])) filed
-  filed_on filed are = subst (λ ks. AreFiled (filings ks) filed) (sym kept_are) are
+  pub filed_on : (filed : Filed) → AreFiled (kept F ++ judged (kept F) r ∷ []) filed → AreFiled (kept (F ++ r ∷ [])) filed
+  filed_on filed are = subst (λ ks. AreFiled ks filed) (sym kept_are) are
 
 -- before the first
 pub none_walked : (amends_are : List Row) (total : ℕ) (left : Left) (db : Database) → left.number ≡ 1 → left.amends.now ≡ amends_are → CountsTo kept_table total db
@@ -231,7 +231,7 @@ none_walked amends_are total left db first same kept_are findings_are filings_ar
   amends_is = sym same;
 }
 
-pub none_filed : (filed : Filed) → AreFiled [] filed → AreFiled (register []) filed
+pub none_filed : (filed : Filed) → AreFiled [] filed → AreFiled (kept []) filed
 unfolding firsts kept_after filings
 none_filed filed are = are
 
@@ -323,12 +323,12 @@ module _ (F : List Request) (seq : ℕ) (left : Left) (row : Row) (held : Filed)
 
   -- the row is the next one's, and the filings that are held are those with it
   abbrev IsNext : Option ℕ → Type 0
-  IsNext target = (row ≡ kept_row seq (next target)) × AreFiled (filings (kept F ++ next target ∷ [])) held
+  IsNext target = (row ≡ kept_row seq (next target)) × AreFiled (kept F ++ next target ∷ []) held
 
   -- so it is, behind its row of `amends`, and beyond the other rows where the disk is clean
   abbrev IsPassed : Type 0 → Database → Left → Type 0
   IsPassed Clean db tail = (target : Option ℕ) × IsCompleted (request_in target row) × (row ≡ kept_row seq (next target))
-      × (left.amends.now ≡ amends_rows_by seq target ++ tail.amends.now) × AreFiled (filings (kept F ++ next target ∷ [])) held
+      × (left.amends.now ≡ amends_rows_by seq target ++ tail.amends.now) × AreFiled (kept F ++ next target ∷ []) held
       × (Clean → HasCommon db.schema → Beyond seq (next target) left tail db)
 
   pub judged_passes : (Clean : Type 0) (db : Database) (target : Option ℕ) (other : Left) → LeavesAsMany left other → IsCompleted (request_in target row)
@@ -350,7 +350,7 @@ module _ (F : List Request) (seq : ℕ) (left : Left) (row : Row) (held : Filed)
   pub passes_all : (Clean : Type 0) (seen db : Database) → Clean → HasCommon seen.schema → seen ≡ db → Picks kept_table (has_number seq) (row ∷ []) db
       → length (filter (has_texts (request_in None row).filer (request_in None row).key) (rows_in db kept_table)) ≡ 1
       → (result : Result (Option Left) Error) → IfOk result (λ passed. IfSome passed (IsPassed Clean seen))
-      → IfOk result (λ passed. IfSome passed (λ tail. (r : Request) × Passes F seq left tail db r × AreFiled (filings (kept F ++ judged (kept F) r ∷ [])) held))
+      → IfOk result (λ passed. IfSome passed (λ tail. (r : Request) × Passes F seq left tail db r × AreFiled (kept F ++ judged (kept F) r ∷ []) held))
   passes_all Clean seen db clean there same picked alone (Ok None) is = tt
   passes_all Clean seen db clean there same picked alone (Ok (Some tail)) is = (
     request_in is.0 row,

@@ -22,6 +22,8 @@ use Rattle.table_rows.proofs.BeforeLemmas.{failed_by, shown_before, fails_before
 use Rattle.register_opening.specs.declared.opening.Counts.{Counts}
 use Rattle.register_rows.specs.declared.verdict.Verdict.TheVariants.{Sound}
 use Rattle.register_rows.specs.Audit.{OtherRows, AreRowsOf, IsVerdict}
+use Rattle.register_rows.specs.Catalogue.{view_lines}
+use Rattle.register_rows.proofs.CatalogueLemmas.{catalogue_many}
 use Rattle.register_opening.specs.Opening.{all_kept, row_texts, Later, SaysEarly, IsRead, AreRead, StopsFor}
 use Rattle.register_opening.specs.Reads.{by_first}
 use Rattle.table_rows.specs.Picking.{has_number, IsStopped}
@@ -111,12 +113,13 @@ all_of F db kept_are others four are = record {
 }
 
 pub counted_whole : (counts : Counts) (later : Later) (db : Database) (kept_are : List Row) (others : OtherRows) → others.amends ≡ later.amends → Four kept_are others db → counts.kept ≡ length kept_are
-    → SaysEarly counts.kept counts.early later → IsVerdict kept_are others (Sound counts.filings) → AreCounted counts later db
-counted_whole counts later db kept_are others same four many says is = record {
+    → SaysEarly counts.kept counts.early later → IsVerdict kept_are others (Sound counts.catalogue) → counts.filings ≡ length (view_lines counts.catalogue) → AreCounted counts later db
+counted_whole counts later db kept_are others same four many says is size = record {
   requests = is.0;
   are = subst (λ l. AreAllOf is.0 l db) same (all_of is.0 db kept_are others four is.1);
   kept_is = many ∙ rows_many kept_are is.0 is.1.distinct is.1.kept_is;
-  filings_is = is.2;
+  filings_is = size ∙ ap length is.2 ∙ catalogue_many is.0;
+  catalogue_is = is.2;
   early_is = says;
 }
 

@@ -22,6 +22,7 @@ use Rattle.register_opening.specs.declared.fault.OpenFault.TheVariants as fault
 use Rattle.register_opening.specs.declared.opening.Counts.{Counts}
 use Rattle.register_opening.specs.declared.opening.walk.Totals.{Totals}
 use Rattle.register_rows.specs.Audit.{OtherRows, IsVerdict}
+use Rattle.register_rows.specs.Catalogue.{catalogue_of, view_lines}
 use Rattle.register_opening.specs.Gains.{AddsNothing}
 use Rattle.register_opening.specs.Earlier.{form_number, is_blocked, ForEarlier, IsAlone, IsEarlierOf}
 use Rattle.register_opening.specs.Faults.{table_fault, IsFailure}
@@ -49,7 +50,7 @@ ReadsEarly g Third early kept old new = IsRead g all_migrated old new (migrated_
 pub record IsCounted {S : Type 0} (g : Ghosts S) (form : Earlier) (counts : Counts) (old new : Held S) : Type 0 where
   pub mid : Held S
   pub early_is : ReadsEarly g form counts.early counts.kept old mid
-  pub totals_are : AreTotals (record { kept = counts.kept; filings = counts.filings }) (state g mid) (state g new)
+  pub totals_are : AreTotals (record { kept = counts.kept; filings = counts.filings; catalogue = counts.catalogue }) (state g mid) (state g new)
 
 -- one in this form was found, and holds so much
 pub record IsSurveyed {S : Type 0} (g : Ghosts S) (form : Earlier) (counts : Counts) (old new : Held S) : Type 0 where
@@ -167,6 +168,7 @@ pub record Migrates {S : Type 0} (g : Ghosts S) (form : Earlier) (counts : Count
   pub are : HasCommitted (IsRegisterOf counts.early requests) (state g new)
   pub kept_is : counts.kept ≡ length requests
   pub filings_is : counts.filings ≡ length (register requests)
+  pub catalogue_is : view_lines counts.catalogue ≡ catalogue_of requests
 
 -- a fault of a statement that writes, which is not one of the rows
 abbrev pub write_fault_by : Cause → OpenFault

@@ -15,7 +15,8 @@ use Rattle.register_opening.specs.declared.opening.Counts.{Counts}
 use Rattle.register_rows.specs.declared.verdict.Verdict.TheVariants as verdict
 use Rattle.register_opening.specs.declared.fault.OpenFault.{OpenFault}
 use Rattle.register_opening.specs.declared.fault.OpenFault.TheVariants as fault
-use Rattle.register_rows.specs.Audit.{OtherRows, IsVerdict}
+use Rattle.register_rows.specs.Audit.{AreRowsOf, OtherRows, IsVerdict}
+use Rattle.register_rows.specs.Catalogue.{catalogue_of, view_lines}
 use Rattle.register_opening.specs.Faults.{IsFailure}
 use Rattle.register_rows.specs.Register.{meta_row, migrated_row}
 use Rattle.register_rows.specs.Schema.{IsDeclared}
@@ -93,7 +94,7 @@ SaysNothing kept later = (early : ℕ) → SaysEarly kept early later → ⊥
 -- why the rows stand for no register: the first kept row that is not sound, or 0; and 0 where the five tables are sound, but not `migrated`
 abbrev pub AreDamaged : List Row → OtherRows → Later → ℕ → Type 0
 AreDamaged kept others later row =
-    IsVerdict kept others (verdict.Damaged row) ⊎ ((row ≡ 0) × ((filings : ℕ) × IsVerdict kept others (verdict.Sound filings)) × SaysNothing (length kept) later)
+    IsVerdict kept others (verdict.Damaged row) ⊎ ((row ≡ 0) × ((F : List Request) × AreRowsOf kept others F) × SaysNothing (length kept) later)
 
 -- ---- why a database is not opened
 
@@ -135,10 +136,11 @@ IsRefused g fault.Disk old new = StopsFor g cause.Disk (all_meta ∷ table_texts
 
 -- ---- what is told where it is one
 
--- The rows stand for these requests, which are committed, and these are the counts.
+-- The rows stand for these requests, which are committed, these are the counts, and that is said of the filings.
 abbrev pub IsCounted : {S : Type 0} → Ghosts S → Held S → Counts → ℕ → List Request → Type 0
 IsCounted g conn counts early F =
     (counts.early ≡ early) × HasCommitted (IsRegisterOf early F) (state g conn) × (counts.kept ≡ length F) × (counts.filings ≡ length (register F))
+    × (view_lines counts.catalogue ≡ catalogue_of F)
 
 abbrev pub AreWithin : Counts → Type 0
 AreWithin counts = (counts.kept ≤ 2 ^ 62) × (counts.filings ≤ counts.kept) × (counts.early ≤ counts.kept)
@@ -150,7 +152,8 @@ pub record ReadsRegister {S : Type 0} (g : Ghosts S) (old new : Held S) (result 
   -- The rows stand for requests, and these are counted. Others than those that are counted they don't stand for.
   pub found : HasCleanDisk (state g new) → IsDeclared (state g old).now.schema
       → IfOk result (λ counts. (F : List Request) × IsRegisterOf counts.early F (state g old).now
-      × HasCommitted (IsRegisterOf counts.early F) (state g new) × (counts.kept ≡ length F) × (counts.filings ≡ length (register F)))
+      × HasCommitted (IsRegisterOf counts.early F) (state g new) × (counts.kept ≡ length F) × (counts.filings ≡ length (register F))
+      × (view_lines counts.catalogue ≡ catalogue_of F))
   pub only : HasCleanDisk (state g new) → IfOk result (λ counts. ForRows g old (IsCounted g new counts))
   pub few : IfOk result AreWithin
   -- A refusal says why; where the rows stand for requests, it is by memory or disk.

@@ -12,6 +12,7 @@ use Rattle.register_opening.specs.declared.opening.walk.Left.{Left}
 use Rattle.register_opening.specs.declared.opening.Counts.{Counts}
 use Rattle.register_opening.specs.Opening.{Later, SaysEarly}
 use Rattle.register_opening.specs.Reads.{has_texts}
+use Rattle.register_rows.specs.Catalogue.{catalogue_of, view_lines}
 use Rattle.register_rows.specs.Outcomes.{filings_by}
 use Rattle.register_rows.specs.Register.{IsCompleted, kept_row, finding_rows, filing_rows, fact_rows, amends_rows, joined_from}
 use Rattle.register_rows.specs.Schema.{kept_table, finding_table, filing_table, fact_table}
@@ -63,12 +64,13 @@ pub record AreAllOf (requests : List Request) (amends_are : List Row) (db : Data
   pub fact_is : TableHas db fact_table (joined_from fact_rows 1 (kept requests))
   pub amends_is : amends_are ≡ joined_from amends_rows 1 (kept requests)
 
--- so they have, and so many requests are kept and registered
+-- so they have, so many requests are kept and registered, and that is said of the filings
 pub record Amounts (counts : Totals) (amends_are : List Row) (db : Database) : Type 0 where
   pub requests : List Request
   pub are : AreAllOf requests amends_are db
   pub kept_is : counts.kept ≡ length requests
   pub filings_is : counts.filings ≡ length (register requests)
+  pub catalogue_is : view_lines counts.catalogue ≡ catalogue_of requests
 
 -- so it is of the rows that were counted, where those of the later tables say how many were kept before there were problem details
 pub record AreCounted (counts : Counts) (later : Later) (db : Database) : Type 0 where
@@ -76,4 +78,5 @@ pub record AreCounted (counts : Counts) (later : Later) (db : Database) : Type 0
   pub are : AreAllOf requests later.amends db
   pub kept_is : counts.kept ≡ length requests
   pub filings_is : counts.filings ≡ length (register requests)
+  pub catalogue_is : view_lines counts.catalogue ≡ catalogue_of requests
   pub early_is : SaysEarly counts.kept counts.early later

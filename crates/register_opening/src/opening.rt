@@ -8,6 +8,7 @@ ghost use Rattle.sqlite.specs.State.{HasCleanDisk};
 ghost use Rattle.table_rows.specs.Leaving.{OnlyQueries, OnlyReads};
 ghost use Rattle.table_rows.specs.Causes.{cause_of};
 ghost use Rattle.register_rows.specs.Audit.{IsVerdict};
+ghost use Rattle.register_rows.specs.Catalogue.{view_lines};
 ghost use Rattle.register_opening.specs.Faults.{meta_fault, table_fault};
 ghost use Rattle.register_opening.specs.Opening.{all_meta, row_texts, new_texts, IsRead, AreRead, StopsFor, SaysEarly, SaysNothing, AreDamaged, IsRefused, IsRefusedAfter, AreWithin, ReadsRegister};
 ghost use Rattle.register_rows.specs.Register.{meta_row, migrated_row};
@@ -22,7 +23,7 @@ use crate::fault::OpenFault;
 use crate::opening::walk::{Totals, count_by_walk};
 use crate::opening::watch::Watch;
 use crate::select::reads;
-use register_rows::{Cell, Verdict, audit, is_row, last_in};
+use register_rows::{Catalogue, Cell, Verdict, audit, is_row, last_in};
 use sqlite::types::ValueRef;
 use sqlite::{Alter, Connection, Error, Row};
 use std::alloc::Global;
@@ -135,13 +136,14 @@ fn read_later<S: Alter>(conn: &mut Connection<S>) -> Result<Later, Error>
     Ok(Later { migrated, amends })
 }
 
-/// How much a register holds: how many requests are kept, how many of them are registered, and how many were kept before
-/// there were problem details.
-#[derive(Clone, Copy, Debug, PartialEq, Eq)]
+/// How much a register holds: how many requests are kept, how many of them are registered, how many were kept before
+/// there were problem details, and what is said of the filings.
+#[derive(Debug, Drop)]
 pub struct Counts {
     pub kept: u64,
     pub filings: u64,
     pub early: u64,
+    pub catalogue: Catalogue,
 }
 
 /// The number in the row, where it is the row of `migrated` and the number one of so many kept requests.
@@ -186,7 +188,8 @@ fn count(
         })
         × IsVerdict kept.now
         (record { finding = findings.now; filing = filings.now; fact = facts.now; amends = later.now.amends.items })
-        (Verdict.Sound counts.filings)) }
+        (Verdict.Sound counts.catalogue)
+        × (counts.filings ≡ length (view_lines counts.catalogue))) }
     ensures few { IfOk result AreWithin }
     ensures refused { IfErr result (λ fault.
         (fault ≡ OpenFault.Memory)
@@ -201,11 +204,12 @@ fn count(
         (record { migrated = later.now.migrated.items; amends = later.now.amends.items }) row)) }
 {
     match audit(alloc, kept, findings, filings, facts, &later.amends) {
-        Ok(Verdict::Sound { filings }) => match early_in(kept.len() as u64, later) {
+        Ok(Verdict::Sound { catalogue }) => match early_in(kept.len() as u64, later) {
             Some(early) => Ok(Counts {
                 kept: kept.len() as u64,
-                filings,
+                filings: catalogue.len(),
                 early,
+                catalogue,
             }),
             None => Err(OpenFault::Damaged { row: 0 }),
         },
@@ -217,7 +221,7 @@ fn count(
 /// So much is held, where the rows of the later tables are those of so many kept requests.
 fn counts_of(totals: Totals, later: &Later) -> Option<Counts>
     ensures { IfSome result (λ counts.
-        (counts.kept ≡ totals.kept) × (counts.filings ≡ totals.filings)
+        (counts.kept ≡ totals.kept) × (counts.filings ≡ totals.filings) × (counts.catalogue ≡ totals.catalogue)
         × SaysEarly counts.kept counts.early (record {
           migrated = later.now.migrated.items;
           amends = later.now.amends.items;
@@ -227,6 +231,7 @@ fn counts_of(totals: Totals, later: &Later) -> Option<Counts>
         kept: totals.kept,
         filings: totals.filings,
         early: early_in(totals.kept, later)?,
+        catalogue: totals.catalogue,
     })
 }
 

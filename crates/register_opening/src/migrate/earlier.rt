@@ -4,6 +4,7 @@ ghost use Rattle.std.specs.Prelude.{◌≡◌, ◌≢◌, ◌≤◌, ◌^◌, �
 ghost use Rattle.sqlite.specs.Held.{state};
 ghost use Rattle.sqlite.specs.State.{HasCleanDisk};
 ghost use Rattle.register_rows.specs.Audit.{IsVerdict};
+ghost use Rattle.register_rows.specs.Catalogue.{view_lines};
 ghost use Rattle.register_opening.specs.Earlier.{form_number};
 ghost use Rattle.register_opening.specs.Migrating.{AreTotals, IsCounted, IsSurveyed, IsNotSurveyed, HasNoForm, HasNoTotals, HasNoCounts, SaysNone};
 ghost use Rattle.register_opening.specs.Opening.{AreWithin, all_meta, IsRead};
@@ -108,7 +109,8 @@ fn totals_in(
         (totals.kept ≡ length kept.now)
         × IsVerdict kept.now
         (record { finding = findings.now; filing = filings.now; fact = facts.now; amends = [] })
-        (Verdict.Sound totals.filings)) }
+        (Verdict.Sound totals.catalogue)
+        × (totals.filings ≡ length (view_lines totals.catalogue))) }
     ensures few { IfOk result (λ totals. (totals.kept ≤ 2 ^ 62) × (totals.filings ≤ totals.kept)) }
     ensures refused { IfErr result (λ fault.
         (fault ≡ OpenFault.Memory)
@@ -118,9 +120,10 @@ fn totals_in(
         (Verdict.Damaged row))) }
 {
     match audit(alloc, kept, findings, filings, facts, &[]) {
-        Ok(Verdict::Sound { filings }) => Ok(Totals {
+        Ok(Verdict::Sound { catalogue }) => Ok(Totals {
             kept: kept.len() as u64,
-            filings,
+            filings: catalogue.len(),
+            catalogue,
         }),
         Ok(Verdict::Damaged { row }) => Err(OpenFault::Damaged { row }),
         Err(_) => Err(OpenFault::Memory),
@@ -212,13 +215,14 @@ fn count_second<S: Alter>(alloc: Global, conn: &mut Connection<S>) -> Result<Cou
         kept: totals.kept,
         filings: totals.filings,
         early: totals.kept,
+        catalogue: totals.catalogue,
     })
 }
 
 /// So much is held in the third form, where the rows of `migrated` are these.
 fn counts_with(totals: Totals, migrated: &[Row]) -> Result<Counts, OpenFault>
     ensures told { IfOk result (λ counts.
-        (counts.kept ≡ totals.kept) × (counts.filings ≡ totals.filings)
+        (counts.kept ≡ totals.kept) × (counts.filings ≡ totals.filings) × (counts.catalogue ≡ totals.catalogue)
         × (migrated.now ≡ migrated_row counts.early ∷ []) × (counts.early ≤ counts.kept)) }
     ensures refused { IfErr result (λ fault. (fault ≡ OpenFault.Damaged 0) × SaysNone totals.kept migrated.now) }
 {
@@ -227,6 +231,7 @@ fn counts_with(totals: Totals, migrated: &[Row]) -> Result<Counts, OpenFault>
             kept: totals.kept,
             filings: totals.filings,
             early,
+            catalogue: totals.catalogue,
         }),
         None => Err(OpenFault::Damaged { row: 0 }),
     }
@@ -251,7 +256,7 @@ fn count_third<S: Alter>(alloc: Global, conn: &mut Connection<S>) -> Result<Coun
 }
 
 /// A register in an earlier form, and how much it holds.
-#[derive(Clone, Copy)]
+#[derive(Drop)]
 pub(crate) struct Survey {
     pub(crate) form: Earlier,
     pub(crate) counts: Counts,

@@ -8,9 +8,10 @@ ghost use Rattle.table_rows.specs.Leaving.{MayQuery, OnlyQueries};
 ghost use Rattle.table_rows.specs.Rows.{counted_from};
 ghost use Rattle.xbrl_report.specs.ReportParts.{facts as facts_of};
 ghost use Rattle.xbrl_report.specs.Judgement.{HasFacts};
-ghost use Rattle.filing_model.specs.Register.{Outcome, Kept, filings, judged, kept, register};
+ghost use Rattle.filing_model.specs.Register.{Outcome, Kept, judged, kept, register};
 ghost use Rattle.filing_model.specs.Request.{Request};
 ghost use Rattle.register_rows.specs.Audit.{request_outcome};
+ghost use Rattle.register_rows.specs.Catalogue.{catalogue_of, view_lines};
 ghost use Rattle.register_rows.specs.Columns.{request_in};
 ghost use Rattle.register_rows.specs.Filed.{AreFiled};
 ghost use Rattle.register_opening.specs.Reads.{has_texts};
@@ -24,8 +25,8 @@ use crate::opening::watch::Watch;
 use crate::select::picks;
 use filing_model::is_target;
 use register_rows::{
-    Filed, MAX_KEPT, RowItem, after_filing, after_items, bytes_at, filer_of, is_kept_row,
-    target_of, text_at,
+    Catalogue, Filed, MAX_KEPT, RowItem, after_filing, after_items, bytes_at, filer_of,
+    is_kept_row, target_of, text_at,
 };
 use sqlite::{Alter, Connection, Error, Row};
 use std::alloc::Global;
@@ -262,13 +263,15 @@ fn pass_filed<'a, S: Alter>(
     requires seq { seq < 2 ^ 63 }
     requires number { left.number < 2 ^ 63 }
     requires filer { filer.now ≡ (request_in None row.now).filer }
-    ensures row { (F : List Request) → AreFiled (register F) filed.old → left.entry.number ≡ suc (length (register F))
+    ensures row { (F : List Request) → AreFiled (kept F) filed.old → left.entry.number ≡ suc (length (register F))
+        → seq ≡ suc (length (kept F))
         → IfOk result (λ passed.
         IfSome passed (λ tail.
         (row.now ≡ kept_row seq (judged (kept F) (request_in target row.now)))
-        × AreFiled (filings (kept F ++ judged (kept F) (request_in target row.now) ∷ [])) filed.new)) }
+        × AreFiled (kept F ++ judged (kept F) (request_in target row.now) ∷ []) filed.new)) }
     ensures beyond { HasCleanDisk (state S.Store conn.new) → HasCommon (state S.Store conn.old).now.schema
-        → (F : List Request) → AreFiled (register F) filed.old → left.entry.number ≡ suc (length (register F))
+        → (F : List Request) → AreFiled (kept F) filed.old → left.entry.number ≡ suc (length (register F))
+        → seq ≡ suc (length (kept F))
         → IfOk result (λ passed.
         IfSome passed (λ tail.
         Beyond seq (judged (kept F) (request_in target row.now)) left.entry tail
@@ -283,7 +286,7 @@ fn pass_filed<'a, S: Alter>(
     let Some(tail) = pass_as(conn, row, seq, &judged, left)? else {
         return Ok(None);
     };
-    match filed.note(alloc, filer, target, &judged) {
+    match filed.note(alloc, filer, seq, target, &judged) {
         Ok(()) => Ok(Some(tail)),
         Err(_) => Ok(None),
     }
@@ -300,13 +303,14 @@ fn pass_judged<'a, S: Alter>(
 ) -> Result<Option<Left<'a>>, Error>
     requires seq { seq < 2 ^ 63 }
     requires number { left.number < 2 ^ 63 }
-    ensures row { (F : List Request) → AreFiled (register F) filed.old → left.entry.number ≡ suc (length (register F))
+    ensures row { (F : List Request) → AreFiled (kept F) filed.old → left.entry.number ≡ suc (length (register F))
+        → seq ≡ suc (length (kept F))
         → IfOk result (λ passed.
         IfSome passed (λ tail.
         (target : Option ℕ) × IsCompleted (request_in target row.now)
         × (row.now ≡ kept_row seq (judged (kept F) (request_in target row.now)))
         × (left.entry.amends.now ≡ amends_rows_by seq target ++ tail.amends.now)
-        × AreFiled (filings (kept F ++ judged (kept F) (request_in target row.now) ∷ [])) filed.new
+        × AreFiled (kept F ++ judged (kept F) (request_in target row.now) ∷ []) filed.new
         × (HasCleanDisk (state S.Store conn.new) → HasCommon (state S.Store conn.old).now.schema
         → Beyond seq (judged (kept F) (request_in target row.now)) left.entry tail
         (state S.Store conn.old).now))) }
@@ -335,11 +339,12 @@ fn pass<'a, S: Alter>(
     requires seq { seq < 2 ^ 63 }
     requires number { left.number < 2 ^ 63 }
     ensures passes { HasCleanDisk (state S.Store conn.new) → HasCommon (state S.Store conn.old).now.schema
-        → (F : List Request) → AreFiled (register F) filed.old → left.entry.number ≡ suc (length (register F))
+        → (F : List Request) → AreFiled (kept F) filed.old → left.entry.number ≡ suc (length (register F))
+        → seq ≡ suc (length (kept F))
         → IfOk result (λ passed.
         IfSome passed (λ tail.
         (r : Request) × Passes F seq left.entry tail (state S.Store conn.old).now r
-        × AreFiled (filings (kept F ++ judged (kept F) r ∷ [])) filed.new)) }
+        × AreFiled (kept F ++ judged (kept F) r ∷ []) filed.new)) }
     ensures number { IfOk result (λ passed. IfSome passed (λ tail. tail.number ≤ left.entry.number + 1)) }
     ensures leaves { OnlyQueries S.Store conn.old conn.new result }
 {
@@ -355,23 +360,24 @@ fn pass<'a, S: Alter>(
     }
 }
 
-/// What is left behind all kept requests, if their rows are those of requests.
+/// What is left behind all kept requests, if their rows are those of requests, and what is said of their filings.
 fn walk<'a, S: Alter, W: Watch>(
     alloc: Global,
     conn: &mut Connection<S>,
     total: u64,
     start: Left<'a>,
     watch: &mut W,
-) -> Result<Option<Left<'a>>, Error>
+) -> Result<Option<(Left<'a>, Catalogue)>, Error>
     requires total { total ≤ 2 ^ 62 }
     requires first { start.number ≡ 1 }
     ensures walked { HasCleanDisk (state S.Store conn.new) → HasCommon (state S.Store conn.old).now.schema
         → IsTrue (state S.Store conn.old).is_open
         → Walked start.entry.amends.now total 0 start.entry (state S.Store conn.old).now []
         → IfOk result (λ passed.
-        IfSome passed (λ tail.
-        (F : List Request) × Walked start.entry.amends.now total total tail (state S.Store conn.old).now F)) }
-    ensures number { IfOk result (λ passed. IfSome passed (λ tail. tail.number ≤ total + 1)) }
+        IfSome passed (λ all.
+        (F : List Request) × Walked start.entry.amends.now total total all.0 (state S.Store conn.old).now F
+        × (view_lines all.1 ≡ catalogue_of F))) }
+    ensures number { IfOk result (λ passed. IfSome passed (λ all. all.0.number ≤ total + 1)) }
     ensures leaves { MayQuery S.Store conn.old conn.new result }
 {
     let mut filed = Filed::new(alloc);
@@ -383,7 +389,7 @@ fn walk<'a, S: Alter, W: Watch>(
         left = tail;
         watch.passed(at + 1, total);
     }
-    Ok(Some(left))
+    Ok(Some((left, filed.into_catalogue())))
 }
 
 /// How many rows the tables have that are walked over.
@@ -434,18 +440,20 @@ fn sizes_of<'a>(
     })
 }
 
-/// How many requests are kept, and how many of them are registered.
-#[derive(Clone, Copy)]
+/// How many requests are kept, how many of them are registered, and what is said of these filings.
+#[derive(Drop)]
 pub(crate) struct Totals {
     pub(crate) kept: u64,
     pub(crate) filings: u64,
+    pub(crate) catalogue: Catalogue,
 }
 
 /// How much was walked past, if nothing is left.
-fn counts_of(kept: u64, left: Left<'_>) -> Option<Totals>
+fn counts_of(kept: u64, left: Left<'_>, catalogue: Catalogue) -> Option<Totals>
     ensures { IfSome result (λ counts.
         (counts.kept ≡ kept) × (left.entry.findings ≡ 0) × (left.entry.filings ≡ 0) × (left.entry.facts ≡ 0)
-        × (left.entry.number ≡ counts.filings + 1) × (left.entry.amends.now ≡ [])) }
+        × (left.entry.number ≡ counts.filings + 1) × (left.entry.amends.now ≡ [])
+        × (counts.catalogue ≡ catalogue)) }
 {
     if left.findings == 0
         && left.filings == 0
@@ -456,6 +464,7 @@ fn counts_of(kept: u64, left: Left<'_>) -> Option<Totals>
         Some(Totals {
             kept,
             filings: left.number - 1,
+            catalogue,
         })
     } else {
         None
@@ -481,8 +490,8 @@ pub(crate) fn count_by_walk<S: Alter, W: Watch>(
     if sizes.kept > MAX_KEPT {
         return Ok(None);
     }
-    let Some(left) = walk(alloc, conn, sizes.kept, sizes.others, watch)? else {
+    let Some((left, catalogue)) = walk(alloc, conn, sizes.kept, sizes.others, watch)? else {
         return Ok(None);
     };
-    Ok(counts_of(sizes.kept, left))
+    Ok(counts_of(sizes.kept, left, catalogue))
 }

@@ -52,7 +52,7 @@ returns-in-Ok-clause-counted g c clean =
     let more = are_read_before g.S.Store c.args.conn.now c.count_one_by_one.new.conn c.read_tables.new.conn same c.count_one_by_one.ensures.leaves.survives.limit (rows_in t) (c.in-Ok.ensures.read clean) in
     let counted = rw (c.deref.ensures.value, c.deref-in-Ok.ensures.value, c.deref-in-Ok-2.ensures.value, c.deref-in-Ok-3.ensures.value) at c.count.ensures.counted in
     IfOk-weaker c.count.result _ _ (λ counts h common. counted_whole counts (rows_of c.args.later.now) (state g.S.Store c.args.conn.now).now t.kept.items (others_in (rows_of c.args.later.now) t) refl
-    (got_four g.S.Store c.args.conn.now c.read_tables.new.conn t.kept.items (others_in (rows_of c.args.later.now) t) common more).1 h.0 h.1 h.2) counted
+    (got_four g.S.Store c.args.conn.now c.read_tables.new.conn t.kept.items (others_in (rows_of c.args.later.now) t) common more).1 h.0 h.1 h.2 h.3) counted
 
 pub returns-in-Ok-clause-refused : goal.returns-in-Ok-clause-refused
 returns-in-Ok-clause-refused g c clean =

@@ -1,5 +1,6 @@
 use Rattle.std.proofs.Common.{sym, ap, ◌∙◌}
 use Rattle.table_rows.specs.declared.cause.Cause.TheVariants as cause
+use Rattle.register_rows.specs.Catalogue.{view_lines}
 use Rattle.register_opening.specs.Faults.{table_fault_by}
 use Rattle.register_opening.proofs.WalkOpens.{stops_for}
 use Rattle.std.proofs.lemmas.Option.{IfSome_then}
@@ -20,7 +21,7 @@ pub returns-in-Ok-Some-clause-found : goal.returns-in-Ok-Some-clause-found
 returns-in-Ok-Some-clause-found g c clean d =
     let amounts = rw (c.in-Ok-Some.field-0-is, c.deref.ensures.value) at c.in-Ok-Some.ensures.found clean d in
     IfSome_then c.counts_of.result c.counts_of.ensures
-    (λ counts h. record { requests = amounts.requests; are = amounts.are; kept_is = h.0 ∙ amounts.kept_is; filings_is = h.1 ∙ amounts.filings_is; early_is = h.2 })
+    (λ counts h. record { requests = amounts.requests; are = amounts.are; kept_is = h.0 ∙ amounts.kept_is; filings_is = h.1 ∙ amounts.filings_is; catalogue_is = ap (λ c. view_lines c) h.2 ∙ amounts.catalogue_is; early_is = h.3 })
 
 pub returns-in-Other-clause-leaves : goal.returns-in-Other-clause-leaves
 returns-in-Other-clause-leaves g c = not_run (sym c.in-Other.ensures) c.in-Err.ensures.leaves

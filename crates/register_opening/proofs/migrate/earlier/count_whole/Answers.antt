@@ -12,7 +12,7 @@ others_of t = record { finding = t.findings.items; filing = t.filings.items; fac
 pub returns-in-Ok-clause-counted : goal.returns-in-Ok-clause-counted
 returns-in-Ok-clause-counted g c clean =
     let counted = rw (c.deref.ensures.value, c.deref-in-Ok.ensures.value, c.deref-in-Ok-2.ensures.value, c.deref-in-Ok-3.ensures.value) at c.totals_in.ensures.counted in
-    IfOk-weaker c.totals_in.result _ _ (λ totals h. whole_totals g.S.Store c.args.conn.now c.read_tables.new.conn c.in-Ok.tables.kept.items (others_of c.in-Ok.tables) totals (c.in-Ok.ensures.read clean) refl h.0 h.1) counted
+    IfOk-weaker c.totals_in.result _ _ (λ totals h. whole_totals g.S.Store c.args.conn.now c.read_tables.new.conn c.in-Ok.tables.kept.items (others_of c.in-Ok.tables) totals (c.in-Ok.ensures.read clean) refl h.0 h.1 h.2) counted
 
 pub returns-in-Ok-clause-refused : goal.returns-in-Ok-clause-refused
 returns-in-Ok-clause-refused g c clean =

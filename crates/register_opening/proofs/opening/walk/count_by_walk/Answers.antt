@@ -20,8 +20,10 @@ returns-clause-found g c clean d =
     let start = rw c.in-Some.is at c.in_ok-sizes.ensures.start early d in
     let begins = subst (λ (db : Database). Walked sizes.others.amends.now sizes.kept 0 sizes.others db []) (sym same.0.now_is) (subst (λ l. Walked l sizes.kept 0 sizes.others old.now []) (sym first.1) start) in
     let walked = rw c.in-Some-2.is at c.in_ok-left.ensures.walked clean there same.0.is_open begins in
-    all_walked c.args.amends.now sizes.kept c.in-Some-2.left old.now walked.0
-    (subst (λ (db : Database). Walked c.args.amends.now sizes.kept sizes.kept c.in-Some-2.left db walked.0) same.0.now_is (subst (λ l. Walked l sizes.kept sizes.kept c.in-Some-2.left mid.now walked.0) first.1 walked.1))
+    let left = c.in-Some-2.left in
+    let catalogue = c.in-Some-2.catalogue in
+    all_walked c.args.amends.now sizes.kept left old.now walked.0
+    (subst (λ (db : Database). Walked c.args.amends.now sizes.kept sizes.kept left db walked.0) same.0.now_is (subst (λ l. Walked l sizes.kept sizes.kept left mid.now walked.0) first.1 walked.1)) catalogue walked.2
     c.counts_of.result c.counts_of.ensures
 
 pub returns-in_err-left-clause-leaves : goal.returns-in_err-left-clause-leaves

@@ -15,7 +15,7 @@ use Rattle.table_rows.proofs.OutcomeLemmas.{asked_first}
 use Rattle.register_opening.proofs.opening.walk.pass.Goals as goal
 
 pub returns-in-len1-clause-passes : goal.returns-in-len1-clause-passes
-returns-in-len1-clause-passes g c clean d F held number =
+returns-in-len1-clause-passes g c clean d F held number place =
     let old = state g.S.Store c.args.conn.now in
     let one = state g.S.Store c.kept_at.new.conn in
     let two = state g.S.Store c.is_alone.new.conn in
@@ -35,7 +35,7 @@ returns-in-len1-clause-passes g c clean d F held number =
     (subst (λ l. Picks kept_table (has_number seq) l old.now) is (c.in_ok-rows.ensures.picks first d))
     (subst (λ (db : Database). length (filter (has_texts (request_in None row).filer (request_in None row).key) (rows_in db kept_table)) ≡ 1) u.0.now_is
     (c.in_ok-is_alone-in-len1.ensures.found second there so))
-    c.pass_judged.result (c.pass_judged.ensures.row F held number)
+    c.pass_judged.result (c.pass_judged.ensures.row F held number place)
 
 pub returns-in_err-is_alone-in-len1-clause-leaves : goal.returns-in_err-is_alone-in-len1-clause-leaves
 returns-in_err-is_alone-in-len1-clause-leaves g c =

@@ -11,15 +11,15 @@ use Rattle.xbrl_report.specs.Judgement.{HasFacts}
 use Rattle.register_opening.proofs.opening.walk.pass_filed.Goals as goal
 
 pub returns-in-Ok-note-clause-row : goal.returns-in-Ok-note-clause-row
-returns-in-Ok-note-clause-row g c F held number =
+returns-in-Ok-note-clause-row g c F held number place =
     let r : Request = request_in c.args.target c.args.row.now in
     let j = c.in-Ok.judged in
     let told : (judged (kept F) r).outcome ≡ outcome_of (suc (length (register F))) j = c.in-Ok.ensures.judged F r held (sym c.requires.filer) refl (sym c.bytes_at.ensures) in
     let row_is = rw c.in-Some.is at c.in_ok-tail.ensures.row c.args.target in
-    (row_is ∙ ap (kept_row c.args.seq) (judged_so F r j c.args.left.number number told), c.in-Ok-note.ensures F r held (sym c.requires.filer) refl told)
+    (row_is ∙ ap (kept_row c.args.seq) (judged_so F r j c.args.left.number number told), c.in-Ok-note.ensures F r held (sym c.requires.filer) refl (subst (λ body. HasFacts body j) c.bytes_at.ensures c.in-Ok.ensures.facts) place told)
 
 pub returns-in-Ok-note-clause-beyond : goal.returns-in-Ok-note-clause-beyond
-returns-in-Ok-note-clause-beyond g c clean d F held number =
+returns-in-Ok-note-clause-beyond g c clean d F held number place =
     let r : Request = request_in c.args.target c.args.row.now in
     let j = c.in-Ok.judged in
     let told : (judged (kept F) r).outcome ≡ outcome_of (suc (length (register F))) j = c.in-Ok.ensures.judged F r held (sym c.requires.filer) refl (sym c.bytes_at.ensures) in

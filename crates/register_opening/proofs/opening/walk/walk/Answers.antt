@@ -1,7 +1,9 @@
-use Rattle.std.proofs.Common.{◌+◌, ◌++◌, ◌∷◌, [], sym, subst, arith, Err, rules, ◌≡◌}
+use Rattle.std.proofs.Common.{◌+◌, ◌++◌, ◌∷◌, [], length, suc, sym, subst, arith, Err, rules, ◌≡◌}
 use Rattle.sqlite.specs.Held.{state}
 use Rattle.sqlite.specs.State.{HasCleanDisk, IsUnchanged}
 use Rattle.sqlite.specs.Effect.{Database}
+use Rattle.filing_model.specs.Register.{kept}
+use Rattle.register_rows.proofs.MoreRequests.{kept_length}
 use Rattle.register_rows.specs.Schema.{HasCommon}
 use Rattle.register_opening.specs.Walk.{Passes}
 use Rattle.register_opening.proofs.WalkLemmas.{walked_on, filed_on, none_filed}
@@ -22,7 +24,10 @@ loop-at-preserved g c =
           let tail = c.in-Some.tail in
           let had = was.walked early d alive start in
           let F = had.0 in
-          let passed = rw c.in-Some.is at c.in_ok-tail.ensures.passes clean there F had.2 had.1.number_is in
+          let long = kept_length F had.1.distinct in
+          let many = had.1.many in
+          let place : c.loop-at.at + 1 ≡ suc (length (kept F)) = omega (arith, long, many) in
+          let passed = rw c.in-Some.is at c.in_ok-tail.ensures.passes clean there F had.2 had.1.number_is place in
           let next = subst (λ (db : Database). Passes F (c.loop-at.at + 1) left tail db passed.0) unchanged.0.now_is passed.1 in
           let rows = c.args.start.amends.now in (
             F ++ passed.0 ∷ [],

@@ -4,7 +4,7 @@ use Rattle.sqlite.specs.State.{HasCleanDisk}
 use Rattle.table_rows.specs.Leaving.{Leaves}
 use Rattle.table_rows.specs.Leaving.Ending.{Passed}
 use Rattle.filing_model.specs.Request.{Request}
-use Rattle.filing_model.specs.Register.{register}
+use Rattle.filing_model.specs.Register.{kept}
 use Rattle.register_rows.specs.Filed.{AreFiled}
 use Rattle.register_rows.specs.Schema.{HasCommon}
 use Rattle.register_opening.specs.Walk.{Walked}
@@ -16,7 +16,7 @@ invariant-loop-at g l =
     let now = state g.S.Store l.conn in
     let rows = l.fn.start.amends.now in record {
       walked : HasCleanDisk now → HasCommon old.now.schema → IsTrue old.is_open → Walked rows l.total 0 l.fn.start old.now []
-          → (F : List Request) × Walked rows l.total l.at l.left old.now F × AreFiled (register F) l.filed;
+          → (F : List Request) × Walked rows l.total l.at l.left old.now F × AreFiled (kept F) l.filed;
       number : l.left.number ≤ l.at + 1;
       leaves : Leaves Passed old now;
     }
