@@ -223,7 +223,8 @@ fn check_filed<'a>(
     requires number { rest.number < 2 ^ 63 }
     requires filer { filer.now ≡ (request_in None row.now).filer }
     ensures { (F : List Request) → AreFiled (kept F) filed.old → rest.entry.number ≡ suc (length (register F))
-        → seq ≡ suc (length (kept F)) → IsCompleted (request_in target row.now) → has_key F (request_in target row.now) ≡ false
+        → seq ≡ suc (length (kept F)) → IsCompleted (request_in target row.now)
+        → has_key F (request_in target row.now) ≡ false
         → IfOk result (λ next.
         MatchOption next
         ((tail : OtherRows) → IsNext F seq row.now target (with_target seq target (view_rows_left rest.entry)) tail → ⊥)
