@@ -1,24 +1,16 @@
 -- What each INSERT of ours adds.
-use Rattle.std.proofs.Common.{◌≡◌, ℕ, ℤ, List, [], ◌∷◌, Option, Some, None, Result, Ok, Err, Bool, true, false, IsTrue, refl}
+use Rattle.std.proofs.Common.{◌≡◌, ℕ, ℤ, List, [], ◌∷◌, Option, Some, None, Result, Ok, Err, OnOk, refl}
 use Rattle.std.specs.Prelude.{option_map}
-use Rattle.std.specs.Borrow.{MutBor}
 use Rattle.sqlite.specs.declared.types.Value.{Value}
 use Rattle.sqlite.specs.declared.types.Value.TheVariants.{Int, Text, Blob}
 use Rattle.sqlite.specs.Values.{or_null}
-use Rattle.sqlite.specs.Order.{Row}
-use Rattle.sqlite.specs.Table.{Table}
-use Rattle.sqlite.specs.Store.{Ghosts}
-use Rattle.sqlite.specs.Held.{Held, state}
-use Rattle.sqlite.specs.State.{State, HasCleanDisk, ExecutesInside}
+use Rattle.sqlite.specs.State.{State, ExecutesInside}
 use Rattle.sqlite.specs.declared.error.Error.{Error}
 use Rattle.table_rows.specs.Tables.{schema_with}
-use Rattle.table_rows.specs.Standing.{CommitsNothing}
 use Rattle.table_rows.proofs.GainLemmas.{inside, gained, cast_int, cast_null, cast_maybe}
 use Rattle.table_rows.proofs.InsertLemmas.{inserts}
 use Rattle.register_rows.specs.Schema.{register_tables, kept_table, finding_table, filing_table, fact_table, amends_table}
 use Rattle.register_opening.specs.Gains.{GainsRows}
-use Rattle.register_opening.proofs.Calls.{statement_goes_on}
-use Rattle.register_store.specs.Changes.{InsertsRow}
 use Rattle.register_store.proofs.Texts.{insert_kept, insert_finding, insert_filing, insert_fact, insert_amends, inserts_amends, inserts_kept, inserts_finding, inserts_filing, inserts_fact, plain_inserts}
 
 module _ (old new : State) where
@@ -63,18 +55,7 @@ pub held_as : {A B : Type 0} (value : B → Value) (f : A → B) (o : Option A) 
 held_as value f None = refl
 held_as value f (Some x) = refl
 
--- a statement that is answered ran inside a transaction
-pub answered_inside : {Refused : Type 0} (count : ℕ) (error : Error) (inside : Bool) → (inside ≡ false → (Ok count ≡ Err error) × Refused) → IsTrue inside
-answered_inside count error true ended = refl
-answered_inside count error false ended = absurd (let refused = (ended refl).0 in cc)
-
--- a statement that is refused adds no row, and keeps what was committed
-pub refused_row : {S Refused : Type 0} (g : Ghosts S) (table : Table) (row : Row) (sql : List ℕ) (params : Row) (a b : MutBor (Held S)) (ran : Result ℕ Error) (result : Result (Unit {0}) Error) (error : Error)
-    → result ≡ Err error → b.ghost_name ≡ a.ghost_name → ((state g a.now).in_transaction ≡ false → Refused × (b.now ≡ a.now))
-    → (HasCleanDisk (state g b.now) → IsTrue (state g a.now).in_transaction → ExecutesInside 0 sql params (state g a.now) (state g b.now) ran)
-    → CommitsNothing (state g a.now) (state g b.now) → InsertsRow g table row a b result
-refused_row g table row sql params a b ran result error failed same ended runs survives = record {
-  on = statement_goes_on g a b sql params ran same ended runs survives;
-  was_inside = rw failed tt;
-  gains = λ clean. rw failed tt;
-}
+-- what an answer of a statement says, said in other words
+pub on_ran : {P Q : Type 0} (result : Result (Unit {0}) Error) → OnOk result P → (P → Q) → OnOk result Q
+on_ran (Ok done) told more = more told
+on_ran (Err error) told more = tt

@@ -12,12 +12,13 @@ use Rattle.sqlite.specs.State.{State, HasCleanDisk, Survives}
 use Rattle.key_string.specs.Key.{IsKey}
 use Rattle.filing_model.specs.Register.{Outcome, Kept}
 use Rattle.filing_model.specs.Views.{the_request}
+use Rattle.table_rows.specs.Leaving.{OnlyWrites}
 use Rattle.table_rows.specs.Standing.{IsLasting}
 use Rattle.register_store.specs.declared.outcome.NewRow.{NewRow}
 use Rattle.register_store.specs.Outcomes.{kept_new}
 use Rattle.register_rows.specs.Schema.{IsDeclared}
 use Rattle.register_rows.specs.Register.{HasRows, kept_row, finding_rows, filing_rows, fact_rows, amends_rows}
-use Rattle.register_opening.specs.Gains.{GainsRows, AddsNothing, GoesOn}
+use Rattle.register_opening.specs.Gains.{GainsRows, AddsNothing}
 
 -- the tables gain the rows of the kept request at this place, whatever their rows were
 pub record AddsRows (seq : ℕ) (k : Kept) (old new : Database) : Type 0 where
@@ -51,7 +52,7 @@ pub record AddsTo (seq : ℕ) (k : Kept) (old : Database) (trees : Trees) : Type
 
 -- What the writing of one row inside a transaction does.
 pub record InsertsRow {S : Type 0} (g : Ghosts S) (table : Table) (row : Row) (old new : MutBor (Held S)) (result : Result (Unit {0}) Error) : Type 0 where
-  pub on : GoesOn g old new
+  pub leaves : OnlyWrites g old new
   -- an answer says that a transaction was under way, and that the table has the row
   pub was_inside : OnOk result (IsTrue (state g old.now).in_transaction)
   pub gains : HasCleanDisk (state g new.now) → OnOk result (GainsRows table (row ∷ []) (state g old.now) (state g new.now))

@@ -6,20 +6,20 @@ ghost use Rattle.sqlite.specs.Values.{or_null};
 ghost use Rattle.sqlite.specs.Held.{state};
 ghost use Rattle.sqlite.specs.State.{HasCleanDisk};
 ghost use Rattle.sqlite.specs.Table.{Table};
-ghost use Rattle.table_rows.specs.Leaving.{OnlyQueries};
+ghost use Rattle.table_rows.specs.Leaving.{OnlyQueries, OnlyWrites};
 ghost use Rattle.table_rows.specs.Rows.{counted_from};
 ghost use Rattle.table_rows.specs.Reading.{ReadsRows};
 ghost use Rattle.register_opening.specs.Reads.{Knows, KnowsAll, by_second, has_texts};
 ghost use Rattle.register_store.specs.Found.{has_seq, unsorted, found_in, pair_in, target_alone};
 ghost use Rattle.register_rows.specs.Schema.{kept_table, finding_table, filing_table, fact_table, amends_table};
 ghost use Rattle.key_string.specs.Key.{IsKey};
-ghost use Rattle.register_opening.specs.Gains.{GainsRows, GoesOn};
+ghost use Rattle.register_opening.specs.Gains.{GainsRows};
 ghost use Rattle.register_store.specs.Changes.{InsertsRow};
 
 use crate::outcome::NewRow;
 use register_rows::RowItem;
 use sqlite::{Alter, Connection, Error, Row, Transaction, params};
-use table_rows::select;
+use table_rows::{run, select};
 use xbrl_report::{Fact, Finding};
 
 /// A number as a row holds it.
@@ -48,11 +48,11 @@ pub fn insert_kept<S: Alter>(
         ∷ or_null (λ n. Int (pos n)) number ∷ []) tx.old.conn tx.new.conn result }
 {
     let number = signed(number);
-    tx.execute(
+    run(
+        tx,
         "INSERT INTO kept VALUES (?1, ?2, ?3, ?4, ?5)",
         params![seq as i64, row.filer, row.key.as_str(), row.body, number],
-    )?;
-    Ok(())
+    )
 }
 
 /// Adds the row of a filing, with its number and the place of its request.
@@ -66,11 +66,11 @@ pub fn insert_filing<S: Alter>(
     ensures { InsertsRow S.Store filing_table (Int (pos number) ∷ Int (pos seq) ∷ []) tx.old.conn tx.new.conn
         result }
 {
-    tx.execute(
+    run(
+        tx,
         "INSERT INTO filing VALUES (?1, ?2)",
         params![number as i64, seq as i64],
-    )?;
-    Ok(())
+    )
 }
 
 /// Adds the row that says which filing the request at this place is to replace.
@@ -84,11 +84,11 @@ pub fn insert_amends<S: Alter>(
     ensures { InsertsRow S.Store amends_table (Int (pos seq) ∷ Int (pos target) ∷ []) tx.old.conn tx.new.conn
         result }
 {
-    tx.execute(
+    run(
+        tx,
         "INSERT INTO amends VALUES (?1, ?2)",
         params![seq as i64, target as i64],
-    )?;
-    Ok(())
+    )
 }
 
 /// What has a row of its own in a table.
@@ -119,11 +119,11 @@ impl InsertItem for Finding {
     ) -> Result<(), Error> {
         let code = u32::from(self.code.number());
         let place = self.place.as_bytes();
-        tx.execute(
+        run(
+            tx,
             "INSERT INTO finding VALUES (?1, ?2, ?3, ?4)",
             params![number as i64, at as i64, code, place],
-        )?;
-        Ok(())
+        )
     }
 }
 
@@ -140,7 +140,8 @@ impl InsertItem for Fact {
         let concept = self.concept.as_bytes();
         let dimensions = self.dimensions.as_bytes();
         let value = bytes_of(&self.value);
-        tx.execute(
+        run(
+            tx,
             "INSERT INTO fact VALUES (?1, ?2, ?3, ?4, ?5, ?6, ?7)",
             params![
                 number as i64,
@@ -151,8 +152,7 @@ impl InsertItem for Fact {
                 value,
                 self.decimals
             ],
-        )?;
-        Ok(())
+        )
     }
 }
 
@@ -174,7 +174,7 @@ pub fn insert_items<S: Alter, T: InsertItem>(
 ) -> Result<(), Error>
     requires number { number < 2 ^ 63 }
     requires few { length items.now < 2 ^ 63 }
-    ensures on { GoesOn S.Store tx.old.conn tx.new.conn }
+    ensures leaves { OnlyWrites S.Store tx.old.conn tx.new.conn }
     ensures gains { HasCleanDisk (state S.Store tx.new.conn.now) → IsTrue (state S.Store tx.old.conn.now).in_transaction
         → OnOk result
         (GainsRows T.table (counted_from (T.row_of number) 1 items.now) (state S.Store tx.old.conn.now)

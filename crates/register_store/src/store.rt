@@ -1,6 +1,6 @@
 //! The store of a register: its connection, and how much it holds.
 
-ghost use Rattle.std.specs.Prelude.{◌≡◌, ◌≤◌, ◌<◌, ◌^◌, true, false, length, None, Ok};
+ghost use Rattle.std.specs.Prelude.{◌≡◌, ◌≤◌, ◌<◌, ◌^◌, true, length, None, Ok};
 ghost use Rattle.key_string.specs.Filer.{is_filer};
 ghost use Rattle.http_messages.specs.Head.{max_body_len};
 ghost use Rattle.http_messages.specs.Posting.{IsTarget};
@@ -203,14 +203,10 @@ impl<S: Alter> Store<S> {
     {
         let number = self.filings + 1;
         let outcome = Outcome::of(self.alloc, row.judged, number)?;
-        match keep(&mut self.conn, self.kept + 1, number, row) {
-            Ok(()) => {
-                self.kept += 1;
-                self.filings += outcome.filings();
-                Ok(outcome)
-            }
-            Err(error) => Err(StoreFault::from(error)),
-        }
+        keep(&mut self.conn, self.kept + 1, number, row)?;
+        self.kept += 1;
+        self.filings += outcome.filings();
+        Ok(outcome)
     }
 
     /// How many requests are kept.

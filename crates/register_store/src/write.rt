@@ -8,7 +8,7 @@ ghost use Rattle.xbrl_report.specs.Judgement.{HasFacts};
 ghost use Rattle.xbrl_report.specs.ReportParts.{facts as facts_of};
 ghost use Rattle.filing_model.specs.Register.{Outcome};
 ghost use Rattle.register_rows.specs.Outcomes.{outcome_of};
-ghost use Rattle.register_opening.specs.Gains.{GoesOn};
+ghost use Rattle.table_rows.specs.Leaving.{OnlyWrites};
 ghost use Rattle.register_store.specs.Changes.{AddsAs, KeepsRequest};
 
 use crate::outcome::NewRow;
@@ -25,7 +25,7 @@ fn write_refused<S: Alter>(
 ) -> Result<(), Error>
     requires { seq < 2 ^ 63 }
     ensures key { IsKey row.now.key.now }
-    ensures on { GoesOn S.Store tx.old.conn tx.new.conn }
+    ensures leaves { OnlyWrites S.Store tx.old.conn tx.new.conn }
     ensures adds { AddsAs seq None row.now (Outcome.Refused findings.now)
         (state S.Store tx.old.conn.now) (state S.Store tx.new.conn.now) result }
 {
@@ -46,7 +46,7 @@ fn write_accepted<S: Alter>(
     requires number { number < 2 ^ 63 }
     requires facts { facts.now ≡ facts_of row.now.body.now }
     ensures key { IsKey row.now.key.now }
-    ensures on { GoesOn S.Store tx.old.conn tx.new.conn }
+    ensures leaves { OnlyWrites S.Store tx.old.conn tx.new.conn }
     ensures adds { AddsAs seq None row.now (Outcome.Registered number)
         (state S.Store tx.old.conn.now) (state S.Store tx.new.conn.now) result }
 {
@@ -66,7 +66,7 @@ fn write_judged<S: Alter>(
     requires number { number < 2 ^ 63 }
     requires facts { HasFacts row.now.body.now row.now.judged.now }
     ensures key { IsKey row.now.key.now }
-    ensures on { GoesOn S.Store tx.old.conn tx.new.conn }
+    ensures leaves { OnlyWrites S.Store tx.old.conn tx.new.conn }
     ensures adds { AddsAs seq None row.now (outcome_of number row.now.judged.now)
         (state S.Store tx.old.conn.now) (state S.Store tx.new.conn.now) result }
 {
@@ -89,7 +89,7 @@ fn write_amendment<S: Alter>(
     requires target { target < 2 ^ 63 }
     requires facts { HasFacts row.now.body.now row.now.judged.now }
     ensures key { IsKey row.now.key.now }
-    ensures on { GoesOn S.Store tx.old.conn tx.new.conn }
+    ensures leaves { OnlyWrites S.Store tx.old.conn tx.new.conn }
     ensures adds { AddsAs seq (Some target) row.now (outcome_of number row.now.judged.now)
         (state S.Store tx.old.conn.now) (state S.Store tx.new.conn.now) result }
 {
@@ -110,7 +110,7 @@ fn write<S: Alter>(
     requires target { IsTarget row.now.target }
     requires facts { HasFacts row.now.body.now row.now.judged.now }
     ensures key { IsKey row.now.key.now }
-    ensures on { GoesOn S.Store tx.old.conn tx.new.conn }
+    ensures leaves { OnlyWrites S.Store tx.old.conn tx.new.conn }
     ensures adds { AddsAs seq row.now.target row.now (outcome_of number row.now.judged.now)
         (state S.Store tx.old.conn.now) (state S.Store tx.new.conn.now) result }
 {

@@ -1,5 +1,5 @@
 //! What a store lists: the kept requests, the filings and their facts.
-ghost use Rattle.std.specs.Prelude.{◌≡◌, IsTrue, IfOk, OnOk, None, map, option_map};
+ghost use Rattle.std.specs.Prelude.{◌≡◌, IsTrue, IfOk, None, map, option_map};
 ghost use Rattle.filing_model.specs.Listing.{listings};
 ghost use Rattle.filing_model.specs.Views.{view_row};
 ghost use Rattle.filing_model.specs.Request.{firsts};
@@ -50,10 +50,8 @@ impl<S: Alter> Store<S> {
         ensures keeps { KeepsStore S.Store self.old self.new }
         ensures durable { AnswersDurably S.Store self.old self.new result }
     {
-        match read_both(&mut self.conn) {
-            Ok(both) => read_requests(self.alloc, &both.kept, &both.amends),
-            Err(fault) => Err(fault),
-        }
+        let both = read_both(&mut self.conn)?;
+        read_requests(self.alloc, &both.kept, &both.amends)
     }
 
     /// The registered requests under their numbers, ascending.
@@ -62,10 +60,8 @@ impl<S: Alter> Store<S> {
         ensures keeps { KeepsStore S.Store self.old self.new }
         ensures durable { AnswersDurably S.Store self.old self.new result }
     {
-        match read_both(&mut self.conn) {
-            Ok(both) => read_filings(self.alloc, &both.kept, &both.amends),
-            Err(fault) => Err(fault),
-        }
+        let both = read_both(&mut self.conn)?;
+        read_filings(self.alloc, &both.kept, &both.amends)
     }
 
     /// The filings of a filer, each with how many facts it has, which filing it replaces and which one replaces it, ascending by number.
@@ -91,12 +87,8 @@ impl<S: Alter> Store<S> {
         if number == 0 || self.filings < number {
             return Ok(None);
         }
-        match reads::facts_of_filing(&mut self.conn, number) {
-            Ok(rows) => match read_facts(self.alloc, &rows) {
-                Ok(facts) => Ok(Some(facts)),
-                Err(fault) => Err(fault),
-            },
-            Err(error) => Err(StoreFault::from(error)),
-        }
+        let rows = reads::facts_of_filing(&mut self.conn, number)?;
+        let facts = read_facts(self.alloc, &rows)?;
+        Ok(Some(facts))
     }
 }

@@ -1,5 +1,5 @@
 //! Whether a filer may replace a filing: it is the filer's, and no other filing replaces it.
-ghost use Rattle.std.specs.Prelude.{◌≡◌, ◌<◌, ◌^◌, ◌∷◌, [], ℕ, pos, false, List, Some, None, Option, map, filter, bytes_eq, IfOk, OnOk, is_some};
+ghost use Rattle.std.specs.Prelude.{◌≡◌, ◌<◌, ◌^◌, ◌∷◌, [], ℕ, pos, false, List, Some, None, Option, map, filter, bytes_eq, IfOk, is_some};
 ghost use Rattle.std.specs.List.{list_any};
 ghost use Rattle.filing_model.specs.Register.{Kept, is_amendment_of, is_filing_of, is_replaceable, kept, register};
 ghost use Rattle.table_rows.specs.Leaving.{MayRead, OnlyReads};

@@ -1,4 +1,4 @@
-use Rattle.std.proofs.Common.{◌≡◌, ◌++◌, ◌∷◌, [], ap, ◌∙◌, decimal, unwrap_or}
+use Rattle.std.proofs.Common.{◌++◌, ◌∷◌, [], ◌∙◌, decimal, unwrap_or}
 use Rattle.std.specs.Prelude.{codes}
 use Rattle.std.proofs.lemmas.Result.{on_ok_weaker}
 use Rattle.http_messages.specs.Reply.{phrase}

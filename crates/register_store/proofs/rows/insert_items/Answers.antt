@@ -6,7 +6,7 @@ use Rattle.table_rows.specs.Rows.{counted_from}
 use Rattle.table_rows.proofs.StepLemmas.{begins, goes_on, counted_more}
 use Rattle.register_rows.specs.Schema.{register_tables}
 use Rattle.register_opening.specs.Gains.{GainsRows}
-use Rattle.register_opening.proofs.Calls.{goes_on_then, goes_on_yet}
+use Rattle.table_rows.proofs.InsideLemmas.{writes_then, writes_nothing}
 use Rattle.register_store.proofs.rows.insert_items.Goals as goal
 
 pub items-preserved : goal.items-preserved
@@ -18,14 +18,14 @@ items-preserved g c =
     record {
       count = ap (λ n. n + 1) c.items.invariant.count;
       gains = λ clean inside.
-          let early : HasCleanDisk old = omega (arith, made.on.survives.clean) in
+          let early : HasCleanDisk old = omega (arith, made.leaves.survives.clean) in
           let i = c.items.item-index in
           let item = c.item-item.result in
           let both = goes_on register_tables g.T.InsertItem.table _ _ first old now (c.items.invariant.gains early inside) (made.gains clean) in
           let index : c.items.at + 1 ≡ 1 + i = omega (arith, c.items.invariant.count) in
           let rows = counted_more (g.T.RowItem.row_of c.args.number) c.args.items.now i item c.items-test.true in
           subst (λ rows. GainsRows g.T.InsertItem.table rows first now) (sym (rows ∙ ap (λ x. counted_from (g.T.RowItem.row_of c.args.number) 1 (take i c.args.items.now) ++ x ∷ []) (rw (← index, ← c.item-item.is) refl))) both;
-      on = goes_on_then c.items.invariant.on made.on;
+      leaves = writes_then c.items.invariant.leaves made.leaves;
     }
 
 pub returns-clause-gains : goal.returns-clause-gains
@@ -38,8 +38,8 @@ pub items-init : goal.items-init
 items-init g c = record {
   count = refl;
   gains = λ clean inside. begins register_tables g.T.InsertItem.table (state g.S.Store c.args.tx.now.conn.now) inside;
-  on = goes_on_yet g.S.Store c.args.tx.now.conn;
+  leaves = writes_nothing g.S.Store c.args.tx.now.conn;
 }
 
-pub returns-in_err-insert-clause-on : goal.returns-in_err-insert-clause-on
-returns-in_err-insert-clause-on g c = goes_on_then c.items.invariant.on c.in_err-insert.ensures.on
+pub returns-in_err-insert-clause-leaves : goal.returns-in_err-insert-clause-leaves
+returns-in_err-insert-clause-leaves g c = writes_then c.items.invariant.leaves c.in_err-insert.ensures.leaves

@@ -3,7 +3,7 @@ use Rattle.std.proofs.lemmas.Result.{IfOk-weaker}
 use Rattle.sqlite.specs.Held.{state}
 use Rattle.sqlite.specs.State.{HasCleanDisk}
 use Rattle.filing_model.specs.Views.{the_request}
-use Rattle.register_opening.proofs.Calls.{goes_on_then}
+use Rattle.table_rows.proofs.InsideLemmas.{writes_then}
 use Rattle.register_store.proofs.Adding.{adds_accepted}
 use Rattle.register_store.proofs.write.write_accepted.Goals as goal
 
@@ -14,15 +14,15 @@ returns-clause-adds g c clean =
     let next = state g.S.Store c.insert_filing.new.tx.conn.now in
     let last = state g.S.Store c.insert_items.new.tx.conn.now in
     let row = c.args.row.now in
-    let late : HasCleanDisk next = omega (arith, c.insert_items.ensures.on.survives.clean) in
-    let early : HasCleanDisk mid = omega (arith, c.insert_filing.ensures.on.survives.clean, late) in
+    let late : HasCleanDisk next = omega (arith, c.insert_items.ensures.leaves.survives.clean) in
+    let early : HasCleanDisk mid = omega (arith, c.insert_filing.ensures.leaves.survives.clean, late) in
     let one = c.in_ok-insert_kept.ensures.inserts.gains early in
     let two = c.in_ok-insert_filing.ensures.gains late in
     IfOk-weaker c.insert_items.result _ _ (λ _ three. adds_accepted c.args.seq (the_request row.filer.now row.key.now None row.body.now) refl c.args.number first mid next last one two (rw c.requires.facts at three))
     (c.insert_items.ensures.gains clean two.inside)
 
-pub returns-in_err-insert_filing-clause-on : goal.returns-in_err-insert_filing-clause-on
-returns-in_err-insert_filing-clause-on g c = goes_on_then c.insert_kept.ensures.inserts.on c.insert_filing.ensures.on
+pub returns-in_err-insert_filing-clause-leaves : goal.returns-in_err-insert_filing-clause-leaves
+returns-in_err-insert_filing-clause-leaves g c = writes_then c.insert_kept.ensures.inserts.leaves c.insert_filing.ensures.leaves
 
-pub returns-clause-on : goal.returns-clause-on
-returns-clause-on g c = goes_on_then (goes_on_then c.insert_kept.ensures.inserts.on c.insert_filing.ensures.on) c.insert_items.ensures.on
+pub returns-clause-leaves : goal.returns-clause-leaves
+returns-clause-leaves g c = writes_then (writes_then c.insert_kept.ensures.inserts.leaves c.insert_filing.ensures.leaves) c.insert_items.ensures.leaves

@@ -3,7 +3,7 @@ use Rattle.std.proofs.lemmas.Result.{IfOk-weaker}
 use Rattle.sqlite.specs.Held.{state}
 use Rattle.sqlite.specs.State.{HasCleanDisk}
 use Rattle.filing_model.specs.Views.{the_request}
-use Rattle.register_opening.proofs.Calls.{goes_on_then}
+use Rattle.table_rows.proofs.InsideLemmas.{writes_then}
 use Rattle.register_store.proofs.Adding.{adds_refused}
 use Rattle.register_store.proofs.write.write_refused.Goals as goal
 
@@ -13,10 +13,10 @@ returns-clause-adds g c clean =
     let mid = state g.S.Store c.insert_kept.new.tx.conn.now in
     let last = state g.S.Store c.insert_items.new.tx.conn.now in
     let row = c.args.row.now in
-    let early : HasCleanDisk mid = omega (arith, c.insert_items.ensures.on.survives.clean) in
+    let early : HasCleanDisk mid = omega (arith, c.insert_items.ensures.leaves.survives.clean) in
     let one = c.in_ok-insert_kept.ensures.inserts.gains early in
     IfOk-weaker c.insert_items.result _ _ (λ _ two. adds_refused c.args.seq (the_request row.filer.now row.key.now None row.body.now) refl c.args.findings.now first mid last one two)
     (c.insert_items.ensures.gains clean one.inside)
 
-pub returns-clause-on : goal.returns-clause-on
-returns-clause-on g c = goes_on_then c.insert_kept.ensures.inserts.on c.insert_items.ensures.on
+pub returns-clause-leaves : goal.returns-clause-leaves
+returns-clause-leaves g c = writes_then c.insert_kept.ensures.inserts.leaves c.insert_items.ensures.leaves

@@ -2,7 +2,7 @@ use Rattle.std.proofs.Common.{◌∙◌}
 use Rattle.sqlite.specs.Held.{state}
 use Rattle.sqlite.specs.State.{HasCleanDisk}
 use Rattle.table_rows.proofs.LeavingLemmas.{clean_before, stands}
-use Rattle.register_opening.proofs.Calls.{asked_first}
+use Rattle.table_rows.proofs.OutcomeLemmas.{asked_first}
 use Rattle.table_rows.specs.Leaving.Ending.{Ended}
 use Rattle.register_store.proofs.select.counts.filings_of.Goals as goal
 

@@ -8,7 +8,7 @@ use Rattle.register_store.specs.Reads.{has_place}
 use Rattle.register_rows.specs.Schema.{filing_table}
 use Rattle.register_store.proofs.ListLemmas.{knows}
 use Rattle.register_store.proofs.OwnRows.{number_shown}
-use Rattle.register_opening.proofs.Calls.{concluded}
+use Rattle.table_rows.proofs.OutcomeLemmas.{concluded}
 use Rattle.register_store.proofs.select.counts.number_at.Goals as goal
 
 pub returns-clause-found : goal.returns-clause-found

@@ -4,7 +4,7 @@ use Rattle.sqlite.specs.State.{HasCleanDisk}
 use Rattle.register_store.proofs.ListLemmas.{knows}
 use Rattle.register_store.proofs.OwnRows.{places_shown}
 use Rattle.table_rows.proofs.LeavingLemmas.{clean_before, stands}
-use Rattle.register_opening.proofs.Calls.{asked_first}
+use Rattle.table_rows.proofs.OutcomeLemmas.{asked_first}
 use Rattle.table_rows.specs.Leaving.Ending.{Ended}
 use Rattle.register_store.proofs.select.counts.read_own.Goals as goal
 

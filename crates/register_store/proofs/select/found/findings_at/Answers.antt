@@ -8,7 +8,7 @@ use Rattle.register_opening.specs.Reads.{by_second}
 use Rattle.register_store.specs.Found.{finding_in, has_seq, pair_in}
 use Rattle.register_store.proofs.ListLemmas.{knows}
 use Rattle.register_store.proofs.FindLemmas.{findings_read}
-use Rattle.register_opening.proofs.Calls.{concluded}
+use Rattle.table_rows.proofs.OutcomeLemmas.{concluded}
 use Rattle.register_store.proofs.select.found.findings_at.Goals as goal
 
 pub returns-clause-found : goal.returns-clause-found

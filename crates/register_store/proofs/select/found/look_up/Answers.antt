@@ -2,7 +2,7 @@ use Rattle.std.proofs.lemmas.Result.{IfOk-weaker}
 use Rattle.sqlite.specs.Held.{state}
 use Rattle.register_store.proofs.ListLemmas.{knows}
 use Rattle.register_store.proofs.FindLemmas.{key_found}
-use Rattle.register_opening.proofs.Calls.{concluded}
+use Rattle.table_rows.proofs.OutcomeLemmas.{concluded}
 use Rattle.register_store.proofs.select.found.look_up.Goals as goal
 
 pub returns-clause-found : goal.returns-clause-found

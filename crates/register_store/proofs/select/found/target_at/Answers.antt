@@ -7,7 +7,7 @@ use Rattle.register_rows.specs.Schema.{amends_table}
 use Rattle.register_store.specs.Found.{has_seq, unsorted, target_alone}
 use Rattle.register_store.proofs.ListLemmas.{knows_all}
 use Rattle.register_store.proofs.FindLemmas.{target_read}
-use Rattle.register_opening.proofs.Calls.{concluded}
+use Rattle.table_rows.proofs.OutcomeLemmas.{concluded}
 use Rattle.register_store.proofs.select.found.target_at.Goals as goal
 
 pub returns-clause-found : goal.returns-clause-found

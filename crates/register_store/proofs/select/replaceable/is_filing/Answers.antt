@@ -5,7 +5,7 @@ use Rattle.register_rows.specs.Register.{number_of}
 use Rattle.register_store.specs.Reads.{number_alone}
 use Rattle.register_store.proofs.ListLemmas.{knows}
 use Rattle.register_store.proofs.ReplaceLemmas.{kept_shown}
-use Rattle.register_opening.proofs.Calls.{concluded}
+use Rattle.table_rows.proofs.OutcomeLemmas.{concluded}
 use Rattle.register_store.proofs.select.replaceable.is_filing.Goals as goal
 
 pub returns-clause-found : goal.returns-clause-found

@@ -5,7 +5,7 @@ use Rattle.sqlite.specs.State.{HasCleanDisk}
 use Rattle.register_store.proofs.ListLemmas.{knows_all}
 use Rattle.register_store.proofs.ReplaceLemmas.{targets_shown}
 use Rattle.table_rows.proofs.LeavingLemmas.{clean_before, stands}
-use Rattle.register_opening.proofs.Calls.{asked_first}
+use Rattle.table_rows.proofs.OutcomeLemmas.{asked_first}
 use Rattle.table_rows.specs.Leaving.Ending.{Ended}
 use Rattle.register_store.proofs.select.replaceable.is_replaced.Goals as goal
 

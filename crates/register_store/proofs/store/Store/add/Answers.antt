@@ -6,10 +6,9 @@ use Rattle.register_rows.specs.Register.{IsCompleted}
 use Rattle.register_store.specs.Store.{StoreParts}
 use Rattle.register_store.proofs.StoreLemmas.{leaves, outcome_is, stands_more, kept_more, filings_more, within_more, crash_more}
 use Rattle.register_store.proofs.store.Store.add.Goals as goal
-use Rattle.register_store.proofs.store.Store.add.Goals.{in-Refused-1, in-Registered-1}
 
-pub returns-in-Ok : goal.returns-in-Ok
-returns-in-Ok g c = record {
+pub returns : goal.returns
+returns g c = record {
   added = λ clean F.
       rw (← c.self.view_is) (λ was new_key is.
       let row = c.args.row.now in
@@ -19,7 +18,7 @@ returns-in-Ok g c = record {
       let told = c.in_ok-outcome.ensures in (
         told ∙ outcome_is g.S.Store store r row.judged.now completed F was new_key is,
         record {
-          stands = stands_more g.S.Store store r row.judged.now completed F was new_key is (state g.S.Store c.keep.new.conn) c.keep.ensures.autocommit (c.in-Ok.ensures.adds clean);
+          stands = stands_more g.S.Store store r row.judged.now completed F was new_key is (state g.S.Store c.keep.new.conn) c.keep.ensures.autocommit (c.in_ok-keep.ensures.adds clean);
           kept_is = kept_more g.S.Store store r row.judged.now completed F was new_key is;
           filings_is = rw c.filings.ensures (filings_more g.S.Store store r row.judged.now completed F was new_key is _ told);
           within = within_more g.S.Store store r row.judged.now completed F was new_key is;
@@ -43,25 +42,23 @@ returns-in-Ok g c = record {
       let completed : IsCompleted r = record { filer = c.requires.filer; key = c.keep.ensures.key; target = c.requires.target; body = c.requires.body } in
       let store : StoreParts _ = record { conn = c.self.inside.conn; kept = c.self.inside.kept; filings = c.self.inside.filings; early = c.self.inside.early } in
       let new = state g.S.Store c.keep.new.conn in
-      let adds = c.in-Ok.ensures.adds clean in
+      let adds = c.in_ok-keep.ensures.adds clean in
       let stands = stands_more g.S.Store store r row.judged.now completed F was new_key is new c.keep.ensures.autocommit adds in
       (adds.is_open, λ trees left. leaves store.early (F ++ r ∷ []) new stands adds.is_open trees (g.met.S.Store.settled c.keep.new.conn.store trees adds.is_open left)));
 }
 
-pub returns-in-Err : goal.returns-in-Err
-returns-in-Err g c = record {
-  added = λ clean F has new_key is. tt;
+pub returns-in_err-keep : goal.returns-in_err-keep
+returns-in_err-keep g c = record {
+  added = λ clean F has new_key is. search rules;
   same = search rules;
-  count = tt;
+  count = search rules;
   counts = search rules;
   early = search rules;
-  -- the outcome is let go, whichever it is
   crash =
       let row = c.args.row.now in
       let r : Request = the_request row.filer.now row.key.now row.target row.body.now in
       let completed : IsCompleted r = record { filer = c.requires.filer; key = c.keep.ensures.key; target = c.requires.target; body = c.requires.body } in
       let store : StoreParts _ = record { conn = c.self.inside.conn; kept = c.self.inside.kept; filings = c.self.inside.filings; early = c.self.inside.early } in
-      let left = crash_more g.S.Store store r row.judged.now completed (state g.S.Store c.keep.new.conn) c.keep.ensures.crash in
-      elim c.match-outcome.branch [ in-Refused-1 w ↦ rw (w.self-is, ← c.self.view_is) left | in-Registered-1 w ↦ rw (w.self-is, ← c.self.view_is) left ];
-  durable = λ clean F has new_key is. tt;
+      rw (← c.self.view_is) (crash_more g.S.Store store r row.judged.now completed (state g.S.Store c.keep.new.conn) c.keep.ensures.crash);
+  durable = λ clean F has new_key is. search rules;
 }

@@ -1,26 +1,20 @@
 use Rattle.std.proofs.Common.{◌∙◌}
 use Rattle.std.proofs.lemmas.Result.{IfOk-weaker}
 use Rattle.register_store.proofs.StoreLemmas.{answers_last, keeps_store}
-use Rattle.register_opening.proofs.Calls.{concluded}
-use Rattle.register_store.proofs.store.Store.all_filings.Goals.{in-Ok, in-Err}
+use Rattle.table_rows.proofs.OutcomeLemmas.{concluded}
 use Rattle.register_store.proofs.store.Store.all_filings.Goals as goal
 
 pub returns-clause-rows : goal.returns-clause-rows
 returns-clause-rows g c clean F has =
-    let was = (rw (← c.self.view_is) at has).stands in
-    elim c.match-read_both.branch [
-      | in-Ok w ↦ (let told = w.in-Ok.ensures.read clean c.self.inside.early F was in
-          rw w.result-is (IfOk-weaker w.read_filings.result _ _ (λ list h. h) (w.read_filings.ensures _ (w.deref.ensures.value ∙ told.1) (w.deref-in-Ok.ensures.value ∙ told.2))))
-      | in-Err w ↦ rw w.result-is tt
-    ]
+    let told = c.in_ok-both.ensures.read clean c.self.inside.early F (rw (← c.self.view_is) at has).stands in
+    IfOk-weaker c.read_filings.result _ _ (λ list h. h) (c.read_filings.ensures _ (c.deref.ensures.value ∙ told.1) (c.deref-2.ensures.value ∙ told.2))
 
 pub returns-clause-keeps : goal.returns-clause-keeps
 returns-clause-keeps g c = rw (← c.self.view_is) (keeps_store g.S.Store _ c.read_both.new.conn c.read_both.ensures.leaves)
 
 pub returns-clause-durable : goal.returns-clause-durable
 returns-clause-durable g c clean F = rw (← c.self.view_is) (λ had.
-    let settled = g.met.S.Store.settled c.read_both.new.conn.store in
-    elim c.match-read_both.branch [
-      | in-Ok w ↦ rw w.result-is (answers_last g.S.Store _ c.read_both.new.conn F had clean w.read_filings.result (concluded w.read_filings.result w.in-Ok.ensures.leaves) settled)
-      | in-Err w ↦ rw w.result-is tt
-    ])
+    answers_last g.S.Store _ c.read_both.new.conn F had clean c.read_filings.result (concluded c.read_filings.result c.in_ok-both.ensures.leaves) (g.met.S.Store.settled c.read_both.new.conn.store))
+
+pub returns-in_err-both-clause-keeps : goal.returns-in_err-both-clause-keeps
+returns-in_err-both-clause-keeps g c = rw (← c.self.view_is) (keeps_store g.S.Store _ c.read_both.new.conn c.read_both.ensures.leaves)

@@ -23,13 +23,13 @@ returns-then-number-eq0-clause-facts g c clean F has =
     ] in
     sym (ap (option_map (λ (f : Filing). facts f.request.body)) (is_absent n 1 (register F) (register_numbered F) apart))
 
-pub returns-in-Ok-read_facts-clause-facts : goal.returns-in-Ok-read_facts-clause-facts
-returns-in-Ok-read_facts-clause-facts g c clean F has =
+pub returns-clause-facts : goal.returns-clause-facts
+returns-clause-facts g c clean F has =
     let had = rw (← c.self.view_is) at has in
     let n = c.args.number in
     let there = is_there n 1 (register F) (register_numbered F) (omega (arith, c.if-number-eq0.false)) (omega (arith, had.filings_is, c.if-self-number.false)) in
-    let read = facts_read F (state g.S.Store c.self.inside.conn) (state g.S.Store c.facts_of_filing.new.conn) c.in-Ok.rows.items had.stands n (c.in-Ok.ensures.read clean (knows F _ had.stands)) in
-    some_list (λ (f : Filing). facts f.request.body) (filing_numbered n (register F)) _ [] there (c.in-Ok-read_facts.ensures ∙ ap (map fact_in) c.deref.ensures.value ∙ read)
+    let read = facts_read F (state g.S.Store c.self.inside.conn) (state g.S.Store c.facts_of_filing.new.conn) c.in_ok-rows.rows.items had.stands n (c.in_ok-rows.ensures.read clean (knows F _ had.stands)) in
+    some_list (λ (f : Filing). facts f.request.body) (filing_numbered n (register F)) _ [] there (c.in_ok-facts.ensures ∙ ap (map fact_in) c.deref.ensures.value ∙ read)
 
 pub returns-then-number-eq0-clause-keeps : goal.returns-then-number-eq0-clause-keeps
 returns-then-number-eq0-clause-keeps g c = rw (← c.self.view_is) (keeps_store g.S.Store _ c.self.inside.conn (none_yet (state g.S.Store c.self.inside.conn)))
@@ -39,10 +39,26 @@ returns-then-number-eq0-clause-durable g c clean F = rw (← c.self.view_is) (λ
     let conn = c.self.inside.conn in
     leaves c.self.inside.early F (state g.S.Store conn) had.stands alive trees (g.met.S.Store.settled conn.store trees alive left))
 
-pub returns-in-Ok-read_facts-clause-keeps : goal.returns-in-Ok-read_facts-clause-keeps
-returns-in-Ok-read_facts-clause-keeps g c = rw (← c.self.view_is) (keeps_store g.S.Store _ c.facts_of_filing.new.conn c.facts_of_filing.ensures.leaves)
+pub returns-clause-keeps : goal.returns-clause-keeps
+returns-clause-keeps g c = rw (← c.self.view_is) (keeps_store g.S.Store _ c.facts_of_filing.new.conn c.facts_of_filing.ensures.leaves)
 
-pub returns-in-Ok-read_facts-clause-durable : goal.returns-in-Ok-read_facts-clause-durable
-returns-in-Ok-read_facts-clause-durable g c clean F = rw (← c.self.view_is) (λ had alive trees left.
+pub returns-clause-durable : goal.returns-clause-durable
+returns-clause-durable g c clean F = rw (← c.self.view_is) (λ had alive trees left.
+    let conn = c.facts_of_filing.new.conn in
+    leaves c.self.inside.early F (state g.S.Store conn) (stands c.facts_of_filing.ensures.leaves clean had.stands) alive trees (g.met.S.Store.settled conn.store trees alive left))
+
+pub returns-in_err-rows-clause-keeps : goal.returns-in_err-rows-clause-keeps
+returns-in_err-rows-clause-keeps g c = rw (← c.self.view_is) (keeps_store g.S.Store _ c.facts_of_filing.new.conn c.facts_of_filing.ensures.leaves)
+
+pub returns-in_err-rows-clause-durable : goal.returns-in_err-rows-clause-durable
+returns-in_err-rows-clause-durable g c clean F = rw (← c.self.view_is) (λ had alive trees left.
+    let conn = c.facts_of_filing.new.conn in
+    leaves c.self.inside.early F (state g.S.Store conn) (stands c.facts_of_filing.ensures.leaves clean had.stands) alive trees (g.met.S.Store.settled conn.store trees alive left))
+
+pub returns-in_err-facts-clause-keeps : goal.returns-in_err-facts-clause-keeps
+returns-in_err-facts-clause-keeps g c = rw (← c.self.view_is) (keeps_store g.S.Store _ c.facts_of_filing.new.conn c.facts_of_filing.ensures.leaves)
+
+pub returns-in_err-facts-clause-durable : goal.returns-in_err-facts-clause-durable
+returns-in_err-facts-clause-durable g c clean F = rw (← c.self.view_is) (λ had alive trees left.
     let conn = c.facts_of_filing.new.conn in
     leaves c.self.inside.early F (state g.S.Store conn) (stands c.facts_of_filing.ensures.leaves clean had.stands) alive trees (g.met.S.Store.settled conn.store trees alive left))
