@@ -13,7 +13,6 @@ use Rattle.xbrl_report.specs.FactRecord.{FactRecord}
 use Rattle.xbrl_report.specs.ReportParts.{facts}
 use Rattle.filing_model.specs.Request.{Request}
 use Rattle.filing_model.specs.Register.{Filing, kept, register}
-use Rattle.filing_model.proofs.Lists.{length-map}
 use Rattle.filing_model.proofs.Keeping.{register_numbered}
 use Rattle.table_rows.specs.Rows.{counted_from}
 use Rattle.table_rows.specs.Reading.{RisesBy, ReadsRows}
@@ -22,12 +21,11 @@ use Rattle.table_rows.proofs.OrderLemmas.{counted_rise, same_number, and_true}
 use Rattle.register_rows.specs.Columns.{maybe_bytes_in, integer_in, fact_in}
 use Rattle.register_store.specs.Numbered.{filing_numbered, facts_numbered}
 use Rattle.register_opening.specs.Reads.{by_second}
-use Rattle.register_store.specs.Reads.{place_alone, said}
+use Rattle.register_store.specs.Reads.{said}
 use Rattle.table_rows.specs.Picking.{has_number}
 use Rattle.register_rows.specs.Register.{fact_row, fact_rows, joined_from}
 use Rattle.register_rows.specs.Schema.{fact_table}
 use Rattle.register_opening.specs.Registers.{IsRegisterOf}
-use Rattle.register_rows.proofs.SegmentLemmas.{length_counted}
 use Rattle.register_rows.proofs.FactRows.{rows_of, table_is}
 
 module _ (n : ℕ) where
@@ -120,10 +118,6 @@ module _ {early : ℕ} (F : List Request) (old new : State) (rows : List Row) (w
   -- the rows of a filing say its facts
   pub facts_read : ReadsRows fact_table (has_number n) by_second said rows old new → map fact_in rows ≡ unwrap_or (facts_numbered n (register F)) []
   facts_read r = ap (map fact_in) (read_as said r) ∙ said_back n 1 (unwrap_or (facts_numbered n (register F)) [])
-
-  -- and are as many
-  pub places_read : ReadsRows fact_table (has_number n) by_second place_alone rows old new → length rows ≡ length (unwrap_or (facts_numbered n (register F)) [])
-  places_read r = ap length (read_as place_alone r) ∙ length-map place_alone _ ∙ length_counted (fact_row n) 1 (unwrap_or (facts_numbered n (register F)) [])
 
 -- a list that was read is that of the number, where there is one
 pub some_list : {X Y : Type 0} (f : X → Y) (o : Option X) (y : Y) (d : Y) → IsSome o → y ≡ unwrap_or (option_map f o) d → Some y ≡ option_map f o

@@ -1,4 +1,5 @@
 pub mod Adding
+pub mod CatalogueLemmas
 pub mod ContentTexts
 pub mod FactLemmas
 pub mod FiledRows

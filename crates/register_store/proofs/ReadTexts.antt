@@ -18,26 +18,11 @@ use Rattle.register_opening.proofs.ReadTexts.{columns, equals, on_ours}
 abbrev pub places_of : List ℕ
 places_of = codes "SELECT seq FROM kept WHERE filer = ?1 ORDER BY seq"
 
-abbrev pub filing_at : List ℕ
-filing_at = codes "SELECT number FROM filing WHERE seq = ?1 ORDER BY number"
-
-abbrev pub place_of_filing : List ℕ
-place_of_filing = codes "SELECT seq FROM filing WHERE number = ?1 ORDER BY number"
-
 abbrev pub filer_at : List ℕ
 filer_at = codes "SELECT filer FROM kept WHERE seq = ?1 ORDER BY seq"
 
-abbrev pub number_at : List ℕ
-number_at = codes "SELECT number FROM kept WHERE seq = ?1 ORDER BY seq"
-
-abbrev pub places_with_target : List ℕ
-places_with_target = codes "SELECT seq FROM amends WHERE target = ?1 ORDER BY seq"
-
 abbrev pub target_at : List ℕ
 target_at = codes "SELECT target FROM amends WHERE seq = ?1"
-
-abbrev pub fact_places : List ℕ
-fact_places = codes "SELECT pos FROM fact WHERE number = ?1 ORDER BY pos"
 
 abbrev pub facts_said : List ℕ
 facts_said = codes "SELECT id, concept, dimensions, value, decimals FROM fact WHERE number = ?1 ORDER BY pos"
@@ -46,33 +31,13 @@ pub query_places_of : IsQueryText places_of
 unfolding everything
 query_places_of = refl
 
-pub query_filing_at : IsQueryText filing_at
-unfolding everything
-query_filing_at = refl
-
-pub query_place : IsQueryText place_of_filing
-unfolding everything
-query_place = refl
-
 pub query_filer : IsQueryText filer_at
 unfolding everything
 query_filer = refl
 
-pub query_number : IsQueryText number_at
-unfolding everything
-query_number = refl
-
-pub query_with_target : IsQueryText places_with_target
-unfolding everything
-query_with_target = refl
-
 pub query_target : IsQueryText target_at
 unfolding everything
 query_target = refl
-
-pub query_places : IsQueryText fact_places
-unfolding everything
-query_places = refl
 
 pub query_said : IsQueryText facts_said
 unfolding everything
@@ -86,25 +51,9 @@ module _ (tables : List Table) (indexes : List Index) (views : List View) where
   unfolding understood everything
   places_of_text = record { names = codes "seq" ∷ []; is = refl; plain = (refl, refl); listing = refl }
 
-  filing_at_text : Asks schema filing_at (one_table 5 (equals 2) (columns (0 ∷ [])) (by_each (col 1 0 ∷ [])))
-  unfolding understood everything
-  filing_at_text = record { names = codes "number" ∷ []; is = refl; plain = (refl, refl); listing = refl }
-
-  place_text : Asks schema place_of_filing (one_table 5 (equals 0) (columns (2 ∷ [])) (by_each (col 1 0 ∷ [])))
-  unfolding understood everything
-  place_text = record { names = codes "seq" ∷ []; is = refl; plain = (refl, refl); listing = refl }
-
   filer_text : Asks schema filer_at (one_table 1 (equals 0) (columns (2 ∷ [])) (by_each (col 1 0 ∷ [])))
   unfolding understood everything
   filer_text = record { names = codes "filer" ∷ []; is = refl; plain = (refl, refl); listing = refl }
-
-  number_text : Asks schema number_at (one_table 1 (equals 0) (columns (5 ∷ [])) (by_each (col 1 0 ∷ [])))
-  unfolding understood everything
-  number_text = record { names = codes "number" ∷ []; is = refl; plain = (refl, refl); listing = refl }
-
-  places_text : Asks schema fact_places (one_table 7 (equals 1) (columns (2 ∷ [])) (by_each (col 1 2 ∷ [])))
-  unfolding understood everything
-  places_text = record { names = codes "pos" ∷ []; is = refl; plain = (refl, refl); listing = refl }
 
   said_text : Asks schema facts_said (one_table 7 (equals 1) (columns (3 ∷ 4 ∷ 5 ∷ 6 ∷ 7 ∷ [])) (by_each (col 1 2 ∷ [])))
   unfolding understood everything
@@ -114,16 +63,9 @@ module _ (tables : List Table) (indexes : List Index) (views : List View) where
   abbrev whole_schema : Schema
   whole_schema = schema_with register_tables tables indexes views
 
-  with_target_text : Asks whole_schema places_with_target (one_table 10 (equals 2) (columns (0 ∷ [])) (by_each (col 1 0 ∷ [])))
-  unfolding understood everything
-  with_target_text = record { names = codes "seq" ∷ []; is = refl; plain = (refl, refl); listing = refl }
-
   target_text : Asks whole_schema target_at (one_table 10 (equals 0) (columns (2 ∷ [])) (by_each []))
   unfolding understood everything
   target_text = record { names = codes "target" ∷ []; is = refl; plain = (refl, refl); listing = refl }
-
-pub asks_with_target : (s : Schema) → IsDeclared s → Asks s places_with_target (one_table 10 (equals 2) (columns (0 ∷ [])) (by_each (col 1 0 ∷ [])))
-asks_with_target s d = subst (λ t. Asks t places_with_target (one_table 10 (equals 2) (columns (0 ∷ [])) (by_each (col 1 0 ∷ [])))) (sym d.is) (with_target_text d.tables d.indexes d.views)
 
 pub asks_target : (s : Schema) → IsDeclared s → Asks s target_at (one_table 10 (equals 0) (columns (2 ∷ [])) (by_each []))
 asks_target s d = subst (λ t. Asks t target_at (one_table 10 (equals 0) (columns (2 ∷ [])) (by_each []))) (sym d.is) (target_text d.tables d.indexes d.views)
@@ -131,20 +73,8 @@ asks_target s d = subst (λ t. Asks t target_at (one_table 10 (equals 0) (column
 pub asks_places_of : (s : Schema) → HasCommon s → Asks s places_of (one_table 1 (equals 2) (columns (0 ∷ [])) (by_each (col 1 0 ∷ [])))
 asks_places_of = on_ours _ _ places_of_text
 
-pub asks_filing_at : (s : Schema) → HasCommon s → Asks s filing_at (one_table 5 (equals 2) (columns (0 ∷ [])) (by_each (col 1 0 ∷ [])))
-asks_filing_at = on_ours _ _ filing_at_text
-
-pub asks_place : (s : Schema) → HasCommon s → Asks s place_of_filing (one_table 5 (equals 0) (columns (2 ∷ [])) (by_each (col 1 0 ∷ [])))
-asks_place = on_ours _ _ place_text
-
 pub asks_filer : (s : Schema) → HasCommon s → Asks s filer_at (one_table 1 (equals 0) (columns (2 ∷ [])) (by_each (col 1 0 ∷ [])))
 asks_filer = on_ours _ _ filer_text
-
-pub asks_number : (s : Schema) → HasCommon s → Asks s number_at (one_table 1 (equals 0) (columns (5 ∷ [])) (by_each (col 1 0 ∷ [])))
-asks_number = on_ours _ _ number_text
-
-pub asks_places : (s : Schema) → HasCommon s → Asks s fact_places (one_table 7 (equals 1) (columns (2 ∷ [])) (by_each (col 1 2 ∷ [])))
-asks_places = on_ours _ _ places_text
 
 pub asks_said : (s : Schema) → HasCommon s → Asks s facts_said (one_table 7 (equals 1) (columns (3 ∷ 4 ∷ 5 ∷ 6 ∷ 7 ∷ [])) (by_each (col 1 2 ∷ [])))
 asks_said = on_ours _ _ said_text

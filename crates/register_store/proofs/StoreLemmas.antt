@@ -1,5 +1,5 @@
 -- What the calls of a store keep.
-use Rattle.std.proofs.Common.{◌≡◌, ◌≤◌, ℕ, ◌+◌, suc, false, List, [], ◌∷◌, ◌++◌, length, length-append, IsTrue, sym, ap, subst, ◌∙◌, arith, Result, Ok, Err, OnOk, refl}
+use Rattle.std.proofs.Common.{◌≡◌, ◌≤◌, ℕ, ◌+◌, suc, false, List, [], ◌∷◌, ◌++◌, length, length-append, IsTrue, sym, ap, subst, ◌∙◌, arith, Result, Ok, Err, IsErr, OnErr, OnOk, refl}
 use Rattle.sqlite.specs.Store.{Ghosts}
 use Rattle.sqlite.specs.Tree.{Trees}
 use Rattle.sqlite.specs.Effect.{Database}
@@ -8,18 +8,24 @@ use Rattle.sqlite.specs.State.{State, HasCleanDisk, Survives}
 use Rattle.sqlite.proofs.StateLemmas.{survives_weaker}
 use Rattle.xbrl_report.specs.Judgement.{IsAmendmentJudgement}
 use Rattle.xbrl_report.specs.declared.judging.Judged.{Judged}
-use Rattle.filing_model.specs.Request.{Request, has_key}
-use Rattle.filing_model.specs.Register.{Outcome, Kept, is_free, judged, kept, register}
+use Rattle.filing_model.specs.Request.{Request, firsts, has_key}
+use Rattle.filing_model.specs.Register.{Outcome, Kept, is_free, judged, kept, kept_after, register}
 use Rattle.table_rows.specs.Leaving.{Ending, Leaves, OnlyReads}
 use Rattle.table_rows.specs.Standing.{HasCommitted}
 use Rattle.table_rows.proofs.LeavingLemmas.{stands}
 use Rattle.register_rows.specs.Outcomes.{outcome_of, filings_by}
 use Rattle.register_rows.specs.Register.{IsCompleted}
 use Rattle.register_store.specs.Changes.{AddsRows, Adds, AddsTo}
-use Rattle.register_store.specs.Calls.{KeepsStore}
+use Rattle.register_store.specs.Calls.{AddsRequest, KeepsStore}
+use Rattle.register_store.specs.declared.outcome.NewRow.{NewRow}
+use Rattle.register_store.specs.declared.outcome.Outcome.{Outcome as Stored}
+use Rattle.table_rows.specs.declared.fault.StoreFault.{StoreFault}
+use Rattle.table_rows.proofs.StepLemmas.{nothing_yet}
+use Rattle.register_opening.specs.Gains.{AddsNothing}
+use Rattle.register_rows.specs.Catalogue.{Entry, catalogue_of}
 use Rattle.register_store.specs.Store.{StoreParts, shows, HasRequests, IsDurableAs}
 use Rattle.register_opening.specs.Registers.{IsRegisterOf, LeavesRegister}
-use Rattle.register_rows.proofs.MoreRequests.{judged_as, registered_more}
+use Rattle.register_rows.proofs.MoreRequests.{judged_as, kept_length, registered_more}
 use Rattle.register_store.proofs.MoreRequests.{register_of_more}
 
 -- while the store is open, a crash leaves the requests that stand
@@ -29,7 +35,7 @@ leaves early F s h alive trees last = record { db = s.now; is = last ∙ ap (λ 
 -- after a call that only reads the store has the requests that it had, and an answer says that they last
 module _ {S : Type 0} (g : Ghosts S) (store : StoreParts S) (conn : Held S) (F : List Request) (had : HasRequests g store F) (clean : HasCleanDisk (state g conn)) where
   pub has_still : {l : Ending} → Leaves l (shows g store) (state g conn) → HasRequests g (record store { conn = conn }) F
-  has_still p = record { stands = stands p clean had.stands; kept_is = had.kept_is; filings_is = had.filings_is; within = had.within }
+  has_still p = record { stands = stands p clean had.stands; kept_is = had.kept_is; filings_is = had.filings_is; within = had.within; catalogue_is = had.catalogue_is }
 
   pub answers_last : {X E : Type 0} (result : Result X E) → OnlyReads g store.conn conn result → ((trees : Trees) → IsTrue (state g conn).is_open → (state g conn).may_leave trees → trees ≡ (state g conn).committed.trees)
       → OnOk result (IsDurableAs g (record store { conn = conn }) store.early F)
@@ -38,7 +44,7 @@ module _ {S : Type 0} (g : Ghosts S) (store : StoreParts S) (conn : Held S) (F :
 
 -- a call that only reads changes nothing else of it
 pub keeps_store : {S : Type 0} (g : Ghosts S) (store : StoreParts S) (conn : Held S) {l : Ending} → Leaves l (shows g store) (state g conn) → KeepsStore g store (record store { conn = conn })
-keeps_store g store conn p = record { same = λ clean F had. has_still g store conn F had clean p; counts = (refl, refl); early = refl; crash = p.survives }
+keeps_store g store conn p = record { same = λ clean F had. has_still g store conn F had clean p; counts = (refl, refl, refl); early = refl; crash = p.survives }
 
 -- a request that is kept as it was judged, after those that the store has
 module _ {S : Type 0} (g : Ghosts S) (store : StoreParts S) (r : Request) (j : Judged) (completed : IsCompleted r) where
@@ -78,3 +84,45 @@ module _ {S : Type 0} (g : Ghosts S) (store : StoreParts S) (r : Request) (j : J
   pub crash_more : (new : State) → Survives (shows g store) new (AddsTo (store.kept + 1) it (shows g store).now)
       → Survives (shows g store) new (λ trees. (F : List Request) → HasRequests g store F → IsTrue (shows g store).is_open → has_key F r ≡ false → IsJudged F → LeavesRegister store.early (F ++ r ∷ []) trees)
   crash_more new = survives_weaker (shows g store) new _ _ (λ _ trees a F was alive new_key is. record { db = a.db; is = a.is; register = register_more F was new_key is a.db alive a.adds })
+
+  pub placed_more : (F : List Request) → HasRequests g store F → IsTrue (shows g store).is_open → store.kept + 1 ≡ suc (length (kept F))
+  placed_more F was alive = omega (arith, was.kept_is, kept_length F (was.stands.now alive).rows.distinct)
+
+-- a register without requests has no filing
+pub none_listed : catalogue_of [] ≡ []
+unfolding firsts kept_after
+none_listed = refl
+
+-- ---- a refusal
+
+pub refused_so : {X E P : Type 0} (result : Result X E) → P → OnErr result P
+refused_so (Ok x) p = tt
+refused_so (Err e) p = p
+
+module _ {S : Type 0} (g : Ghosts S) (store : StoreParts S) (room : List Entry) (same : room ≡ store.catalogue) where
+  -- after one that wrote nothing the store has the requests that it had
+  pub has_kept : (conn : Held S) (F : List Request) → HasRequests g store F → conn.in_transaction ≡ false → AddsNothing (shows g store) (state g conn) → HasRequests g (record store { conn = conn; catalogue = room }) F
+  has_kept conn F had idle none = record {
+    stands = record {
+      autocommit = idle;
+      now = λ alive. subst (IsRegisterOf store.early F) (sym (none.now alive ∙ had.stands.committed (none.was_open alive))) (had.stands.now (none.was_open alive));
+      committed = λ alive. none.committed alive ∙ sym (none.now alive);
+    };
+    kept_is = had.kept_is;
+    filings_is = had.filings_is;
+    within = had.within;
+    catalogue_is = same ∙ had.catalogue_is;
+  }
+
+  -- and so it has where no statement was run
+  pub adds_none : (row : NewRow) (result : Result Stored StoreFault) → IsErr result → AddsRequest g row store (record store { catalogue = room }) result
+  adds_none row (Ok outcome) refused = absurd cc
+  adds_none row (Err fault) refused = record {
+    added = λ clean F had new_key is. tt;
+    same = λ clean F had. record { stands = had.stands; kept_is = had.kept_is; filings_is = had.filings_is; within = had.within; catalogue_is = same ∙ had.catalogue_is };
+    count = tt;
+    counts = (refl, refl);
+    early = refl;
+    crash = survives_weaker (shows g store) (shows g store) _ _ (λ _ trees none. absurd none) (nothing_yet (shows g store));
+    durable = λ clean F had new_key is. tt;
+  }

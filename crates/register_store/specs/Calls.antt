@@ -94,7 +94,7 @@ pub record MigratesOrGivesBack {S : Type 0} (g : Ghosts S) (conn : Held S) (resu
 -- leave before.
 pub record KeepsStore {S : Type 0} (g : Ghosts S) (old new : StoreParts S) : Type 0 where
   pub same : ForRequests g old new (HasRequests g new)
-  pub counts : (new.kept ≡ old.kept) × (new.filings ≡ old.filings)
+  pub counts : (new.kept ≡ old.kept) × (new.filings ≡ old.filings) × (new.catalogue ≡ old.catalogue)
   pub early : new.early ≡ old.early
   pub crash : CommitsNothing (shows g old) (shows g new)
 

@@ -99,9 +99,9 @@ IsReading rows (Some found) = (rows ≢ []) × ((seq : ℕ) (k : Kept) → rows 
     → (found.seq ≡ pos seq) × (found.body ≡ k.request.body) × (found.number ≡ number_of k.outcome))
 
 -- the place of the filing of this number, or none where there is none
-abbrev pub IsPlaceOf : ℕ → List Request → Option ℤ → Type 0
+abbrev pub IsPlaceOf : ℕ → List Request → Option ℕ → Type 0
 IsPlaceOf number F None = (k : Kept) (seq : ℕ) → IsPlaced 1 seq (kept F) k → number_of k.outcome ≡ Some number → ⊥
-IsPlaceOf number F (Some place) = (k : Kept) × (seq : ℕ) × IsPlaced 1 seq (kept F) k × (number_of k.outcome ≡ Some number) × (place ≡ pos seq)
+IsPlaceOf number F (Some seq) = (k : Kept) × IsPlaced 1 seq (kept F) k × (number_of k.outcome ≡ Some number)
 
 -- What the looking up of a filer and key tells, where the first `early` requests are answered as before, and that it writes nothing.
 pub record FindsKept {S : Type 0} (g : Ghosts S) (early : ℕ) (filer key : List ℕ) (old new : Held S) (result : Result (Option KeptRow) StoreFault) : Type 0 where

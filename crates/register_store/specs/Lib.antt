@@ -4,7 +4,6 @@ pub mod Files
 pub mod Found
 pub mod Numbered
 pub mod Outcomes
-pub mod Own
 pub mod Reads
 pub mod Store
 pub mod Writing

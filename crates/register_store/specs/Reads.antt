@@ -1,39 +1,19 @@
 -- What the SELECTs of an open register read.
-use Rattle.std.specs.Prelude.{Bool, true, pos, ℕ, ℤ, ◌&&◌, List, [], ◌∷◌}
-use Rattle.sqlite.specs.declared.types.Value.TheVariants.{Int, Text}
+use Rattle.std.specs.Prelude.{Bool, true, ℕ, ◌&&◌, List, [], ◌∷◌}
+use Rattle.sqlite.specs.declared.types.Value.TheVariants.{Text}
 use Rattle.sqlite.specs.Collation.TheVariants.{Binary}
 use Rattle.sqlite.specs.Order.{Row, column}
 use Rattle.sqlite.specs.Ops.{binary, is_true}
 use Rattle.sqlite_sql.specs.declared.ops.BinaryOp.TheVariants.{Compare}
 use Rattle.sqlite_sql.specs.declared.ops.CompareOp.TheVariants.{Eq}
 
--- the second column equals this number, as SQL compares
-abbrev pub has_second : ℕ → Row → Bool
-has_second number row = is_true (binary (Compare Eq Binary) (column row 1) (Int (pos number))) && true
-
 -- the second column, `filer` of a kept row, equals this text, as SQL compares
 abbrev pub has_filer : List ℕ → Row → Bool
 has_filer filer row = is_true (binary (Compare Eq Binary) (column row 1) (Text filer)) && true
 
--- the second column, `seq` of a filing, equals this number, as SQL compares
-abbrev pub has_place : ℤ → Row → Bool
-has_place seq row = is_true (binary (Compare Eq Binary) (column row 1) (Int seq)) && true
-
 -- of a kept row its filer
 abbrev pub filer_alone : Row → Row
 filer_alone row = column row 1 ∷ []
-
--- of a kept row its number
-abbrev pub number_alone : Row → Row
-number_alone row = column row 4 ∷ []
-
--- of a row of `filing` or of `amends` its second column
-abbrev pub second_alone : Row → Row
-second_alone row = column row 1 ∷ []
-
--- of a fact row, its place
-abbrev pub place_alone : Row → Row
-place_alone row = column row 1 ∷ []
 
 -- of a fact row, what the fact says
 abbrev pub said : Row → Row

@@ -1,6 +1,6 @@
 -- What the store of a register holds and shows.
-use Rattle.std.specs.Prelude.{◌≡◌, ◌≤◌, ◌^◌, ℕ, false, List, length, None, Result, IsTrue, IfOk, refl}
-use Rattle.std.specs.Coded.{Coded, code_by, coded×, coded_ℕ}
+use Rattle.std.specs.Prelude.{◌≡◌, ◌≤◌, ◌^◌, ℕ, false, List, length, None, Option, Result, IsTrue, IfOk, refl}
+use Rattle.std.specs.Coded.{Coded, code_by, coded×, coded_list, coded_option, coded_ℕ}
 use Rattle.sqlite.specs.Store.{Ghosts}
 use Rattle.sqlite.specs.Held.{Held, held_code, state}
 use Rattle.sqlite.specs.State.{State, HasCleanDisk, Survives}
@@ -10,19 +10,28 @@ use Rattle.xbrl_report.specs.Judgement.{IsAmendmentJudgement}
 use Rattle.filing_model.specs.Request.{Request, has_key}
 use Rattle.filing_model.specs.Register.{is_free, register}
 use Rattle.table_rows.specs.Standing.{HasCommitted}
+use Rattle.register_rows.specs.Catalogue.{Entry, catalogue_of}
 use Rattle.register_opening.specs.Registers.{IsRegisterOf, LeavesOnly}
 
--- a connection, how many requests are kept, how many of them are filings, and how many were kept before there were problem details
+-- a connection, how many requests are kept, how many of them are filings, how many were kept before there were problem details, and
+-- what is said of each filing
 pub record StoreParts (S : Type 0) : Type 0 where
   pub conn : Held S
   pub kept : ℕ
   pub filings : ℕ
   pub early : ℕ
+  pub catalogue : List Entry
+
+abbrev pub entry_code : Coded Entry
+entry_code =
+    code_by (ℕ × (ℕ × (Option ℕ × Option ℕ))) (coded× coded_ℕ (coded× coded_ℕ (coded× (coded_option coded_ℕ) (coded_option coded_ℕ)))) (λ e. (e.seq, (e.facts, (e.replaces, e.replaced_by))))
+    (λ p. record { seq = p.0; facts = p.1.0; replaces = p.1.1.0; replaced_by = p.1.1.1 }) (λ _. refl)
 
 abbrev pub parts_code : {S : Type 0} → Coded S → Coded (StoreParts S)
 parts_code {S} store =
-    code_by (Held S × (ℕ × (ℕ × ℕ))) (coded× (held_code store) (coded× coded_ℕ (coded× coded_ℕ coded_ℕ))) (λ s. (s.conn, (s.kept, (s.filings, s.early))))
-    (λ p. record { conn = p.0; kept = p.1.0; filings = p.1.1.0; early = p.1.1.1 }) (λ _. refl)
+    code_by (Held S × (ℕ × (ℕ × (ℕ × List Entry)))) (coded× (held_code store) (coded× coded_ℕ (coded× coded_ℕ (coded× coded_ℕ (coded_list entry_code)))))
+    (λ s. (s.conn, (s.kept, (s.filings, (s.early, s.catalogue)))))
+    (λ p. record { conn = p.0; kept = p.1.0; filings = p.1.1.0; early = p.1.1.1.0; catalogue = p.1.1.1.1 }) (λ _. refl)
 
 -- between calls no transaction is under way, no statement is cut short, and the next number is within what a row holds
 pub record IsIdle {S : Type 0} (conn : Held S) (kept filings early : ℕ) : Type 0 where
@@ -43,6 +52,7 @@ pub record HasRequests {S : Type 0} (g : Ghosts S) (store : StoreParts S) (F : L
   pub kept_is : store.kept ≡ length F
   pub filings_is : store.filings ≡ length (register F)
   pub within : store.early ≤ length F
+  pub catalogue_is : store.catalogue ≡ catalogue_of F
 
 -- Whatever requests the rows stood for before, and were committed: where the disk is clean at the end, this holds of them.
 abbrev pub ForRegister : {S : Type 0} → Ghosts S → Held S → Held S → (ℕ → List Request → Type 0) → Type 0

@@ -3,6 +3,7 @@
 //! are those of `filing_model`; who is answered what is not known here.
 #![tactic(auto)]
 
+mod catalogue;
 mod content;
 mod decode;
 mod kept_body;

@@ -1,6 +1,6 @@
 //! What is read of a register that is open: requests, filings, and whether a filing may be replaced.
 
-pub(crate) mod counts;
+pub(crate) mod catalogued;
 pub(crate) mod found;
 pub(crate) mod lists;
 pub(crate) mod reads;

@@ -11,6 +11,7 @@ ghost use Rattle.table_rows.specs.Standing.{IsAtRest};
 
 pub(crate) mod files;
 
+use crate::catalogue::note;
 use crate::outcome::{KeptRow, NewRow, Outcome};
 use crate::select::found::find_kept;
 use crate::write::keep;
@@ -18,12 +19,14 @@ use key_string::KeyText;
 use register_opening::{
     Counts, CreateFault, OpenFault, Unwatched, make_register, migrate_register, read_register,
 };
+use register_rows::Catalogue;
 use sqlite::{Alter, Connection};
 use std::alloc::Global;
 use std::marker::Model;
 use table_rows::StoreFault;
 
-/// The register of a connection: the first request of each filer and key with its outcome, for good.
+/// The register of a connection: the first request of each filer and key with its outcome, for good. Where each filing is
+/// kept and what a list shows of it is held in memory, in 32 bytes for each.
 ///
 /// What a clause says of rows holds where the disk is clean as the call ends: where it gave back what was written.
 ///
@@ -35,16 +38,18 @@ pub struct Store<S: Alter> {
     pub(crate) kept: u64,
     pub(crate) filings: u64,
     pub(crate) early: u64,
+    pub(crate) catalogue: Catalogue,
 }
 
 impl<S: Alter> Model for Store<S> {
+    ghost use Rattle.register_rows.specs.Catalogue.{view_lines};
     ghost use Rattle.register_store.specs.Store.{StoreParts, IsIdle, parts_code};
 
     ghost Value = { StoreParts S };
 
     ghost coded = { parts_code S.code };
 
-    ghost view = { λ s. record { conn = s.conn; kept = s.kept; filings = s.filings; early = s.early } };
+    ghost view = { λ s. record { conn = s.conn; kept = s.kept; filings = s.filings; early = s.early; catalogue = view_lines s.catalogue } };
 
     ghost invariant = { λ s. IsIdle s.conn s.kept s.filings s.early };
 }
@@ -57,6 +62,7 @@ impl<S: Alter + Drop> Drop for Store<S> {
             kept: _,
             filings: _,
             early: _,
+            catalogue: _,
         } = self;
     }
 }
@@ -80,6 +86,7 @@ impl<S: Alter> Store<S> {
                 kept: 0,
                 filings: 0,
                 early: 0,
+                catalogue: Catalogue::new(alloc),
             }),
             Err(fault) => Err((fault, conn)),
         }
@@ -101,6 +108,7 @@ impl<S: Alter> Store<S> {
                     kept,
                     filings,
                     early,
+                    catalogue,
                 },
             ) => Ok(Store {
                 alloc,
@@ -108,6 +116,7 @@ impl<S: Alter> Store<S> {
                 kept,
                 filings,
                 early,
+                catalogue,
             }),
             Err(fault) => {
                 prove!(conn.is_autocommit());
@@ -133,6 +142,7 @@ impl<S: Alter> Store<S> {
                     kept,
                     filings,
                     early,
+                    catalogue,
                 },
             ) => Ok(Store {
                 alloc,
@@ -140,6 +150,7 @@ impl<S: Alter> Store<S> {
                 kept,
                 filings,
                 early,
+                catalogue,
             }),
             Err(refusal) => Err((refusal, conn)),
         }
@@ -201,11 +212,13 @@ impl<S: Alter> Store<S> {
         requires few { self.old.kept < 2 ^ 62 }
         ensures { AddsRequest S.Store row.now self.old self.new result }
     {
+        self.catalogue.reserve()?;
         let number = self.filings + 1;
         let outcome = Outcome::of(self.alloc, row.judged, number)?;
         keep(&mut self.conn, self.kept + 1, number, row)?;
         self.kept += 1;
         self.filings += outcome.filings();
+        note(&mut self.catalogue, self.kept, row);
         Ok(outcome)
     }
 
@@ -240,6 +253,7 @@ impl<S: Alter> Store<S> {
             kept: _,
             filings: _,
             early: _,
+            catalogue: _,
         } = self;
         conn
     }

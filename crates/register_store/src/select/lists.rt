@@ -1,5 +1,6 @@
 //! What a store lists: the kept requests, the filings and their facts.
-ghost use Rattle.std.specs.Prelude.{◌≡◌, IsTrue, IfOk, None, map, option_map};
+ghost use Rattle.std.specs.Prelude.{◌≡◌, IsTrue, IfOk, None, Some, map, option_map};
+ghost use Rattle.std.specs.Option.{option_to_list};
 ghost use Rattle.filing_model.specs.Listing.{listings};
 ghost use Rattle.filing_model.specs.Views.{view_row};
 ghost use Rattle.filing_model.specs.Request.{firsts};
@@ -14,8 +15,9 @@ ghost use Rattle.register_opening.specs.Registers.{LeavesOnly};
 
 use crate::decode::completed::{Completed, Registered, read_filings, read_requests};
 use crate::decode::facts::read_facts;
-use crate::select::counts::filings_of;
+use crate::select::catalogued::{row_of, rows_at};
 use crate::select::reads;
+use crate::select::replaceable::has_filing;
 use crate::store::Store;
 use filing_model::FilingRow;
 use register_opening::{amends_rows, kept_rows};
@@ -72,7 +74,22 @@ impl<S: Alter> Store<S> {
         ensures keeps { KeepsStore S.Store self.old self.new }
         ensures durable { AnswersDurably S.Store self.old self.new result }
     {
-        filings_of(&mut self.conn, self.alloc, filer)
+        let places = reads::places_of(&mut self.conn, filer)?;
+        rows_at(self.alloc, &self.catalogue, &places)
+    }
+
+    /// The filer's filing of this number as `filings` lists it, or `None` if the filer has no such filing.
+    pub fn filing(&mut self, filer: &str, number: u64) -> Result<Option<FilingRow>, StoreFault>
+        ensures row { ForRequests S.Store self.old self.new (λ F.
+            IfOk result (λ row. map view_row (option_to_list row) ≡ listings filer.now (Some number) (register F))) }
+        ensures keeps { KeepsStore S.Store self.old self.new }
+        ensures durable { AnswersDurably S.Store self.old self.new result }
+    {
+        if has_filing(&mut self.conn, &self.catalogue, filer, number)? {
+            Ok(row_of(&self.catalogue, number))
+        } else {
+            Ok(None)
+        }
     }
 
     /// The facts of the filing of this number, in the byte order of their identifiers, or `None` where there is no such

@@ -1,8 +1,9 @@
-use Rattle.std.proofs.Common.{refl, ◌∙◌, rules, arith}
+use Rattle.std.proofs.Common.{refl, sym, ◌∙◌, rules, arith}
 use Rattle.sqlite.specs.Held.{state}
 use Rattle.sqlite.proofs.StateLemmas.{survives_weaker}
 use Rattle.register_opening.specs.Refusals.{GivesBackMaking}
 use Rattle.register_opening.proofs.Making.{none_registered, leaves_empty}
+use Rattle.register_store.proofs.StoreLemmas.{none_listed}
 use Rattle.register_store.proofs.store.Store.create_or_back.Goals as goal
 
 pub returns-in-Ok : goal.returns-in-Ok
@@ -15,6 +16,7 @@ returns-in-Ok g c = record {
           kept_is = refl;
           filings_is = rw none_registered refl;
           within = omega arith;
+          catalogue_is = c.new.ensures ∙ sym none_listed;
         };
     counts = search rules;
     taken = search rules;

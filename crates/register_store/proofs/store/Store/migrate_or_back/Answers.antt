@@ -12,7 +12,7 @@ returns-in-Ok g c = record {
   outcome = record {
     migrated = λ clean form alone.
         let m = c.in-Ok.ensures.migrated clean form alone in
-        (m.requests, m.were, record { stands = m.are; kept_is = m.kept_is; filings_is = m.filings_is; within = early_within form _ _ _ m.were.rows.early_is });
+        (m.requests, m.were, record { stands = m.are; kept_is = m.kept_is; filings_is = m.filings_is; within = early_within form _ _ _ m.were.rows.early_is; catalogue_is = m.catalogue_is });
     only = λ clean form early F alone is.
         let found = c.in-Ok.ensures.only clean form early F alone is in
         let same = sym found.0 in (
@@ -22,6 +22,7 @@ returns-in-Ok g c = record {
             kept_is = found.2;
             filings_is = found.3;
             within = rw found.0 (early_within form _ early _ is.rows.early_is);
+            catalogue_is = found.4;
           },
         );
     refused = search rules;

@@ -11,11 +11,11 @@ returns-in-Ok g c = record {
   outcome = record {
     opened = λ clean d.
         let found = c.in-Ok.ensures.found clean d in
-        (found.0, found.1, record { stands = found.2; kept_is = found.3; filings_is = found.4; within = found.1.rows.within });
+        (found.0, found.1, record { stands = found.2; kept_is = found.3; filings_is = found.4; within = found.1.rows.within; catalogue_is = found.5 });
     only = λ clean early F is.
         let found = c.in-Ok.ensures.only clean early F is in
         let same = found.0 in
-        (same, record { stands = subst (λ n. HasCommitted (IsRegisterOf n F) (state g.S.Store c.read_register.new.conn)) (sym same) found.1; kept_is = found.2; filings_is = found.3; within = subst (λ n. n ≤ length F) (sym same) is.rows.within });
+        (same, record { stands = subst (λ n. HasCommitted (IsRegisterOf n F) (state g.S.Store c.read_register.new.conn)) (sym same) found.1; kept_is = found.2; filings_is = found.3; within = subst (λ n. n ≤ length F) (sym same) is.rows.within; catalogue_is = found.4 });
     same = search rules;
     refused = search rules;
     crash = search rules;
