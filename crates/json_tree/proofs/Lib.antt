@@ -1,0 +1,4 @@
+pub mod Views
+pub mod Turns
+pub mod Growing
+pub mod Putting
