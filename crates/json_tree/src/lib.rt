@@ -12,4 +12,4 @@ mod tree;
 mod writing;
 
 pub use reading::{Unread, read_tree};
-pub use tree::Tree;
+pub use tree::{Member, Tree};

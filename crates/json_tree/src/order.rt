@@ -4,15 +4,12 @@ ghost use Rattle.serde_json.specs.Data.{no_members};
 ghost use Rattle.json_tree.specs.View.{members_view};
 ghost use Rattle.json_tree.specs.Putting.{put_all, IsAscending};
 
-use crate::tree::Tree;
+use crate::tree::Member;
 use std::alloc::{AllocError, Global};
 use std::collections::BTreeMap;
 
 /// The members in order, each name once, with the last of its values.
-pub fn in_order<'a>(
-    alloc: Global,
-    members: Vec<(&'a str, Tree<'a>)>,
-) -> Result<Vec<(&'a str, Tree<'a>)>, AllocError>
+pub fn in_order<'a>(alloc: Global, members: Vec<Member<'a>>) -> Result<Vec<Member<'a>>, AllocError>
     ensures { IfOk result (λ list. members_view list.items ≡ put_all no_members members.entry.items) }
 {
     if is_ascending(&members) {
@@ -22,16 +19,13 @@ pub fn in_order<'a>(
     }
 }
 
-fn is_ascending(members: &[(&str, Tree<'_>)]) -> bool
+fn is_ascending(members: &[Member<'_>]) -> bool
     ensures { IsTrue result → IsAscending members.now }
 {
     members.is_sorted_by(|left, right| left.0.cmp(right.0).is_lt())
 }
 
-fn put_in_order<'a>(
-    alloc: Global,
-    members: Vec<(&'a str, Tree<'a>)>,
-) -> Result<Vec<(&'a str, Tree<'a>)>, AllocError>
+fn put_in_order<'a>(alloc: Global, members: Vec<Member<'a>>) -> Result<Vec<Member<'a>>, AllocError>
     ensures { IfOk result (λ list. members_view list.items ≡ put_all no_members members.entry.items) }
 {
     let mut ordered = BTreeMap::new(alloc);

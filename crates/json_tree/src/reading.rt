@@ -7,7 +7,7 @@ ghost use Rattle.json_tree.specs.View.{view, items_view, members_view};
 
 use crate::number::read_number;
 use crate::order::in_order;
-use crate::tree::Tree;
+use crate::tree::{Member, Tree};
 use json::{Reader, Scratch, Token};
 use std::alloc::{AllocError, AllocFailed, Global};
 
@@ -139,7 +139,7 @@ fn read_members<'a>(
     alloc: Global,
     reader: &mut Reader<'a>,
     depth: usize,
-) -> Result<Vec<(&'a str, Tree<'a>)>, Unread>
+) -> Result<Vec<Member<'a>>, Unread>
     ensures ok { IfOk result
         (λ list. converted (λ ms. of_members ms no_members)
         (members (value depth) (length reader.old) reader.old)

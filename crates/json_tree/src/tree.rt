@@ -16,6 +16,9 @@ pub enum Tree<'a> {
     Object(Vec<(&'a str, Tree<'a>)>),
 }
 
+/// A member of an object: its name and its value.
+pub type Member<'a> = (&'a str, Tree<'a>);
+
 impl<'a> Tree<'a> {
     /// The member of that name, if this is an object with one.
     pub fn get(&self, name: &str) -> Option<&Tree<'a>>
@@ -34,7 +37,7 @@ impl<'a> Tree<'a> {
     }
 
     /// The names and values of an object.
-    pub fn as_object(&self) -> Option<&[(&'a str, Tree<'a>)]>
+    pub fn as_object(&self) -> Option<&[Member<'a>]>
         ensures { option_map (λ members. members_view members.now) result ≡ as_object (view self.now) }
     {
         match self {
@@ -90,7 +93,7 @@ impl<'a> Tree<'a> {
     }
 }
 
-fn find<'t, 'a>(members: &'t [(&'a str, Tree<'a>)], name: &str) -> Option<&'t Tree<'a>>
+fn find<'t, 'a>(members: &'t [Member<'a>], name: &str) -> Option<&'t Tree<'a>>
     ensures { option_map (λ tree. view tree.now) result ≡ get_member name.now (members_view members.now) }
 {
     for member in members {

@@ -7,7 +7,7 @@ ghost use Rattle.serde_json.specs.View.{number_view};
 ghost use Rattle.serde_json.specs.Written.{has_float, items_have_float, members_have_float, compact_text, number_text, outline, items_outline, members_outline};
 ghost use Rattle.json_tree.specs.View.{view, items_view, members_view};
 
-use crate::tree::Tree;
+use crate::tree::{Member, Tree};
 use json::{Token, Writer};
 use serde_json::Number;
 use std::alloc::{AllocError, Global};
@@ -76,7 +76,7 @@ fn write_items(items: &[Tree<'_>], out: &mut Writer) -> Result<(), AllocError>
 }
 
 #[cycle(write)]
-fn write_members(members: &[(&str, Tree<'_>)], out: &mut Writer) -> Result<(), AllocError>
+fn write_members(members: &[Member<'_>], out: &mut Writer) -> Result<(), AllocError>
     requires { members_have_float (members_view members.now) ≡ false }
     ensures ok { OnOk result
         (out.new.tokens ≡ out.old.tokens ++ members_tokens (members_outline (members_view members.now))) }

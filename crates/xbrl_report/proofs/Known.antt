@@ -1,10 +1,11 @@
 -- Why a dimension that is known to be right need not be judged again.
-use Rattle.std.proofs.Common.{◌≡◌, ℕ, List, [], ◌∷◌, ◌++◌, codes, Bool, true, false, Option, Some, None, refl, sym, ap, true≢false, string_bytes, MatchOption, IfSome}
+use Rattle.std.proofs.Common.{◌≡◌, ℕ, zero, suc, List, [], ◌∷◌, ◌++◌, codes, Bool, true, false, Option, Some, None, refl, sym, ap, true≢false, IfSome, Bor, subst, ◌<◌, length, get_or, arith}
 use Rattle.std.specs.List.{flat_map}
+use Rattle.std.specs.Slice.{IsItemAt}
 use Rattle.std.specs.Cmp.Lexicographic.{same_text}
 use Rattle.serde_json.specs.Data.{Data, Members, null, boolean, number, string, array, object}
-use Rattle.serde_json.specs.View.{view, members_view}
-use Rattle.serde_json.proofs.Views.{Entry}
+use Rattle.json_tree.specs.View.{view, members_view}
+use Rattle.json_tree.proofs.Views.{Member}
 use Rattle.xbrl_report.specs.declared.code.Code.{Code}
 use Rattle.xbrl_report.specs.Known.{AreRight, is_same_text, known_after, entries_else}
 use Rattle.xbrl_report.specs.Pair.{Pair}
@@ -79,10 +80,15 @@ module _ (filer : List ℕ) (namespaces : Option Data) where
       → dimension_pairs filer namespaces id (name, d) ≡ []
   nothing_found id name known_name d known right named same = rw (← named, ← same_data known d same) (in_any_fact [] id (known_name, known) right)
 
-  -- ---- the next of the entries that are known
+  -- ---- one of the members that are known
 
-  pub next_right : {A : Type 0} (shows : A → Entry) (r : Option A) (old new : List Entry) → MatchOption r ((old ≡ []) × (new ≡ [])) (λ x. old ≡ shows x ∷ new)
-      → AreRight filer namespaces (entries (members_view old))
-      → IfSome r (λ x. dimension_pairs filer namespaces [] (string_bytes (shows x).0, view (shows x).1) ≡ []) × AreRight filer namespaces (entries (members_view new))
-  next_right shows None old new h k = (tt, rw h.1 refl)
-  next_right shows (Some x) old new h k = let e = rw h at k in (none_left _ _ e, none_right _ _ e)
+  known_at : (known : List Member) (i : ℕ) (m : Member) → i < length known → m ≡ get_or known i m → AreRight filer namespaces (entries (members_view known))
+      → dimension_pairs filer namespaces [] (m.0.now, view m.1) ≡ []
+  known_at [] i m within is h = absurd (omega arith)
+  known_at (x ∷ known) zero m within is h = subst (λ y. dimension_pairs filer namespaces [] (y.0.now, view y.1) ≡ []) (sym is) (none_left _ _ h)
+  known_at (x ∷ known) (suc i) m within is h = known_at known i m (omega arith) is (none_right _ _ h)
+
+  pub right_if_known : (known : List Member) (i : ℕ) (r : Option (Bor Member)) → IsItemAt known i r → AreRight filer namespaces (entries (members_view known))
+      → IfSome r (λ m. dimension_pairs filer namespaces [] (m.now.0.now, view m.now.1) ≡ [])
+  right_if_known known i None found h = tt
+  right_if_known known i (Some m) found h = known_at known i m.now found.3.0 found.1 h

@@ -20,7 +20,6 @@ mod judging;
 mod kind;
 pub mod laws;
 mod report;
-mod taken;
 mod walk;
 
 pub use code::Code;
