@@ -7,7 +7,7 @@ use Rattle.std.specs.List.{AllByRecursion, IsAllAdjacentAnswer}
 use Rattle.std.specs.List.Sorted.{IsStrictlySortedBy}
 use Rattle.std.specs.Ordering.{match_ordering, ordering_reverse}
 use Rattle.std.specs.BTreeMap.{insert_entry}
-use Rattle.serde_json.specs.Data.{Data, Members, no_members, member, put}
+use Rattle.serde_json.specs.Data.{Members, no_members, member, put}
 use Rattle.json_tree.specs.View.{view, members_view}
 use Rattle.json_tree.specs.Putting.{put_all, IsAscending}
 use Rattle.json_tree.specs.declared.tree.Tree.{Tree}

@@ -1,5 +1,5 @@
 -- A tree, level by level, and what is found in it.
-use Rattle.std.proofs.Common.{◌≡◌, ℕ, ◌+◌, ◌<◌, List, [], ◌∷◌, length, drop, get_or, Option, Some, None, Vec, Global, Ordering, Less, Equal, Greater, nat_cmp, is_eq, cond, bytes_eq, Bor, refl, sym, ap, ◌∙◌, rules}
+use Rattle.std.proofs.Common.{◌≡◌, ℕ, ◌+◌, ◌<◌, List, ◌∷◌, length, drop, get_or, Option, Some, Vec, Global, Ordering, Less, Equal, Greater, nat_cmp, is_eq, cond, bytes_eq, Bor, refl, sym, ap, ◌∙◌, rules}
 use Rattle.std.proofs.lemmas.List.{drop_more}
 use Rattle.std.proofs.lemmas.Map.Text.{is_eq-slice_cmp}
 use Rattle.std.specs.Cmp.Lexicographic.{slice_cmp}

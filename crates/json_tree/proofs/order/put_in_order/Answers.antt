@@ -1,4 +1,4 @@
-use Rattle.std.proofs.Common.{◌≡◌, ap, sym, ◌∙◌}
+use Rattle.std.proofs.Common.{ap, sym, ◌∙◌}
 use Rattle.json_tree.specs.Putting.{put_all}
 use Rattle.json_tree.specs.View.{members_view}
 use Rattle.json_tree.proofs.Putting.{members_view-insert_entry}
