@@ -1,5 +1,5 @@
 //! The members of an object in the byte order of their names.
-ghost use Rattle.std.specs.Prelude.{◌≡◌, map, IfOk, IsTrue};
+ghost use Rattle.std.specs.Prelude.{◌≡◌, IfOk, IsTrue};
 ghost use Rattle.serde_json.specs.Data.{no_members};
 ghost use Rattle.json_tree.specs.View.{members_view};
 ghost use Rattle.json_tree.specs.Putting.{put_all, IsAscending};
