@@ -27,7 +27,7 @@ use filing_model::State;
 use http_messages::Reply;
 use outbox_opening::MAX_ENTRIES;
 use outbox_opening::columns::entry;
-use sqlite::{Alter, Connection, Error, Row};
+use sqlite::{Alter, Connection, Row};
 use std::alloc::Global;
 use table_rows::StoreFault;
 

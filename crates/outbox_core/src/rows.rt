@@ -5,8 +5,8 @@ ghost use Rattle.sqlite.specs.Values.{or_null};
 ghost use Rattle.sqlite.specs.declared.types.Value.TheVariants.{Null, Int, Text, Blob};
 ghost use Rattle.sqlite.specs.State.{HasCleanDisk, Survives};
 ghost use Rattle.sqlite.specs.Held as held;
-ghost use Rattle.table_rows.specs.Leaving.{OnlyQueries, OnlyReads};
-ghost use Rattle.table_rows.specs.Standing.{HasCommitted, Commits, CommitsNothing, StaysCommitted};
+ghost use Rattle.table_rows.specs.Leaving.{OnlyQueries, OnlyReads, OnlyWrites};
+ghost use Rattle.table_rows.specs.Standing.{HasCommitted, Commits};
 ghost use Rattle.outbox_opening.specs.Schema.{entry_table, target_table};
 ghost use Rattle.outbox_opening.specs.Entries.{numbered, entry_at, target_at, FitsNumber};
 ghost use Rattle.outbox_core.specs.Entries.{has_id, has_text, first_open, with_state};
@@ -18,7 +18,7 @@ ghost use Rattle.outbox_core.specs.Promises.{ForContents, KeepsOutboxOnRefusal};
 
 use filing_model::State;
 use sqlite::{Alter, Connection, Error, Row, Transaction, params};
-use table_rows::{first_row, select};
+use table_rows::{first_row, run, select};
 
 /// The row of the id of the entry that has the key.
 fn id_row_of_key<S: Alter>(conn: &mut Connection<S>, key: &str) -> Result<Option<Row>, Error>
@@ -138,20 +138,17 @@ pub(crate) fn insert_entry<S: Alter>(
     body: &[u8],
 ) -> Result<(), Error>
     requires { id < 2 ^ 63 }
-    ensures same_reference { tx.new.conn.ghost_name ≡ tx.old.conn.ghost_name }
-    ensures was_inside { OnOk result (IsTrue (held.state S.Store tx.old.conn.now).in_transaction) }
     ensures gains { HasCleanDisk (held.state S.Store tx.new.conn.now)
         → OnOk result
         (GainsRows entry_table ((Int (pos id) ∷ Text key.now ∷ Blob body.now ∷ Int (pos 0) ∷ Null ∷ []) ∷ [])
         (held.state S.Store tx.old.conn.now) (held.state S.Store tx.new.conn.now)) }
-    ensures keeps { StaysCommitted S.Store tx.old.conn.now tx.new.conn.now }
-    ensures survives { CommitsNothing (held.state S.Store tx.old.conn.now) (held.state S.Store tx.new.conn.now) }
+    ensures leaves { OnlyWrites S.Store tx.old.conn tx.new.conn }
 {
-    tx.execute(
+    run(
+        tx,
         "INSERT INTO entry (id, idem, body, state) VALUES (?1, ?2, ?3, 0)",
         params![id as i64, key, body],
-    )?;
-    Ok(())
+    )
 }
 
 /// Adds the row of the target of the entry of this id.
@@ -162,20 +159,17 @@ pub(crate) fn insert_target<S: Alter>(
 ) -> Result<(), Error>
     requires id { id < 2 ^ 63 }
     requires number { number < 2 ^ 63 }
-    ensures same_reference { tx.new.conn.ghost_name ≡ tx.old.conn.ghost_name }
-    ensures was_inside { OnOk result (IsTrue (held.state S.Store tx.old.conn.now).in_transaction) }
     ensures gains { HasCleanDisk (held.state S.Store tx.new.conn.now)
         → OnOk result
         (GainsRows target_table ((Int (pos id) ∷ Int (pos number) ∷ []) ∷ []) (held.state S.Store tx.old.conn.now)
         (held.state S.Store tx.new.conn.now)) }
-    ensures keeps { StaysCommitted S.Store tx.old.conn.now tx.new.conn.now }
-    ensures survives { CommitsNothing (held.state S.Store tx.old.conn.now) (held.state S.Store tx.new.conn.now) }
+    ensures leaves { OnlyWrites S.Store tx.old.conn tx.new.conn }
 {
-    tx.execute(
+    run(
+        tx,
         "INSERT INTO target VALUES (?1, ?2)",
         params![id as i64, number as i64],
-    )?;
-    Ok(())
+    )
 }
 
 fn code_of(state: State) -> u32

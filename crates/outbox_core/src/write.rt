@@ -6,7 +6,7 @@ ghost use Rattle.sqlite.specs.State.{HasCleanDisk, Survives};
 ghost use Rattle.http_messages.specs.Posting.{IsTarget};
 ghost use Rattle.outbox_core.specs.Entries.{opened};
 ghost use Rattle.outbox_core.specs.Changes.{Adds, AddsInside, AddsTo, AddsNothing};
-ghost use Rattle.table_rows.specs.Standing.{CommitsNothing, StaysCommitted};
+ghost use Rattle.table_rows.specs.Leaving.{OnlyWrites};
 
 use crate::rows::{insert_entry, insert_target};
 use sqlite::{Alter, Connection, Error, Transaction};
@@ -21,13 +21,11 @@ fn write_entry<S: Alter>(
 ) -> Result<(), Error>
     requires id { id < 2 ^ 63 }
     requires target { IsTarget target }
-    ensures same_reference { tx.new.conn.ghost_name ≡ tx.old.conn.ghost_name }
     ensures adds { HasCleanDisk (state S.Store tx.new.conn.now)
         → OnOk result
         (AddsInside id (opened key.now target body.now) (state S.Store tx.old.conn.now)
         (state S.Store tx.new.conn.now)) }
-    ensures keeps { StaysCommitted S.Store tx.old.conn.now tx.new.conn.now }
-    ensures survives { CommitsNothing (state S.Store tx.old.conn.now) (state S.Store tx.new.conn.now) }
+    ensures leaves { OnlyWrites S.Store tx.old.conn tx.new.conn }
 {
     insert_entry(tx, id, key, body)?;
     match target {

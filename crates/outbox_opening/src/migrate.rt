@@ -6,8 +6,8 @@ ghost use Rattle.filing_model.specs.Outbox.{Entry as Item};
 ghost use Rattle.sqlite.specs.Effect.{IsDatabase};
 ghost use Rattle.sqlite.specs.Held.{state};
 ghost use Rattle.sqlite.specs.State.{HasCleanDisk, Survives};
-ghost use Rattle.table_rows.specs.Leaving.{OnlyReads};
-ghost use Rattle.table_rows.specs.Standing.{CommitsNothing, StaysCommitted, IsCommitted, IsLasting, KeepsOnErr, IsAtRest};
+ghost use Rattle.table_rows.specs.Leaving.{OnlyReads, OnlyWrites};
+ghost use Rattle.table_rows.specs.Standing.{IsCommitted, IsLasting, KeepsOnErr, IsAtRest};
 ghost use Rattle.outbox_opening.specs.Schema.{HasCommon};
 ghost use Rattle.outbox_opening.specs.Entries.{Contents, contents_of};
 ghost use Rattle.outbox_opening.specs.Rows.{IsOutboxOf};
@@ -17,11 +17,10 @@ ghost use Rattle.outbox_opening.specs.Migrating.{MigratesOutbox};
 
 use crate::fault::OutboxFault;
 use crate::opening::{FoundOutbox, count_whole, filer_of};
-use crate::schema::create::run;
 use sqlite::{Alter, Connection, Error, Transaction};
 use sqlite_catalog::layout::is_used;
 use std::alloc::Global;
-use table_rows::is_settled;
+use table_rows::{is_settled, run};
 
 /// Reads the outbox of a database in the form before this one. Nothing is written.
 fn read_earlier<S: Alter>(
@@ -51,11 +50,9 @@ fn read_earlier<S: Alter>(
 
 /// Makes the table of the targets, and raises the form.
 fn raise<S: Alter>(tx: &mut Transaction<'_, S>) -> Result<(), Error>
-    ensures same_reference { tx.new.conn.ghost_name ≡ tx.old.conn.ghost_name }
     ensures ran { HasCleanDisk (state S.Store tx.new.conn.now)
         → OnOk result (Raises S.Store tx.old.conn.now tx.new.conn.now) }
-    ensures keeps { StaysCommitted S.Store tx.old.conn.now tx.new.conn.now }
-    ensures survives { CommitsNothing (state S.Store tx.old.conn.now) (state S.Store tx.new.conn.now) }
+    ensures leaves { OnlyWrites S.Store tx.old.conn tx.new.conn }
 {
     run(
         tx,

@@ -1,24 +1,24 @@
 //! Making the tables of an outbox.
 
-ghost use Rattle.std.specs.Prelude.{◌≡◌, ◌||◌, ℕ, true, false, [], Ok, OnOk};
+ghost use Rattle.std.specs.Prelude.{◌≡◌, ◌||◌, true, false, OnOk};
 ghost use Rattle.key_string.specs.Filer.{is_filer};
 ghost use Rattle.sqlite.specs.Held.{state};
-ghost use Rattle.sqlite.specs.Values.{bound};
-ghost use Rattle.sqlite.specs.State.{HasCleanDisk, Survives, ExecutesInside};
+ghost use Rattle.sqlite.specs.State.{HasCleanDisk, Survives};
+ghost use Rattle.table_rows.specs.Leaving.{OnlyWrites};
+ghost use Rattle.table_rows.specs.Standing.{IsCommitted, IsLasting, KeepsOnErr};
 ghost use Rattle.table_rows.specs.Tables.{no_schema};
 ghost use Rattle.outbox_opening.specs.Schema.{is_taken};
 ghost use Rattle.outbox_opening.specs.Entries.{empty};
 ghost use Rattle.outbox_opening.specs.Rows.{IsOutboxOf};
 ghost use Rattle.outbox_opening.specs.Making.{RunsAll, AreMade, MakesOutbox};
-ghost use Rattle.table_rows.specs.Standing.{CommitsNothing, StaysCommitted, IsCommitted, IsLasting, KeepsOnErr};
 
 use crate::fault::OutboxFault;
 use key_string::is_filer;
-use sqlite::types::ValueRef;
 use sqlite::{Alter, Connection, Error, Transaction, params};
 use sqlite_catalog::layout::is_used;
 use sqlite_schema::schema::Schema;
 use std::alloc::Global;
+use table_rows::run;
 
 /// Whether a table, an index or a view has the name of one of our tables. Names are compared as SQLite does, without case.
 fn is_taken(schema: &Schema) -> bool
@@ -27,30 +27,10 @@ fn is_taken(schema: &Schema) -> bool
     is_used(schema, b"outbox_meta") || is_used(schema, b"entry") || is_used(schema, b"target")
 }
 
-/// Runs a statement.
-pub(crate) fn run<S: Alter>(
-    tx: &mut Transaction<'_, S>,
-    sql: &str,
-    params: &[ValueRef<'_>],
-) -> Result<(), Error>
-    ensures same_reference { tx.new.conn.ghost_name ≡ tx.old.conn.ghost_name }
-    ensures ran { HasCleanDisk (state S.Store tx.new.conn.now)
-        → OnOk result ((count : ℕ)
-        × ExecutesInside 0 sql.now (bound params.now) (state S.Store tx.old.conn.now)
-        (state S.Store tx.new.conn.now) (Ok count)) }
-    ensures keeps { StaysCommitted S.Store tx.old.conn.now tx.new.conn.now }
-    ensures survives { CommitsNothing (state S.Store tx.old.conn.now) (state S.Store tx.new.conn.now) }
-{
-    tx.execute(sql, params)?;
-    Ok(())
-}
-
 fn make_tables<S: Alter>(tx: &mut Transaction<'_, S>, filer: &str) -> Result<(), Error>
-    ensures same_reference { tx.new.conn.ghost_name ≡ tx.old.conn.ghost_name }
     ensures ran { HasCleanDisk (state S.Store tx.new.conn.now)
         → OnOk result (RunsAll S.Store filer.now tx.old.conn.now tx.new.conn.now) }
-    ensures keeps { StaysCommitted S.Store tx.old.conn.now tx.new.conn.now }
-    ensures survives { CommitsNothing (state S.Store tx.old.conn.now) (state S.Store tx.new.conn.now) }
+    ensures leaves { OnlyWrites S.Store tx.old.conn tx.new.conn }
 {
     run(
         tx,

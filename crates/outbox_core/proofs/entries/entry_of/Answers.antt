@@ -1,6 +1,7 @@
 use Rattle.std.proofs.Common.{rules}
 use Rattle.table_rows.proofs.LeavingLemmas.{clean_before, ended, stands}
-use Rattle.table_rows.proofs.OutcomeLemmas.{answered_then}
+use Rattle.table_rows.specs.Leaving.Ending.{Ended}
+use Rattle.table_rows.proofs.OutcomeLemmas.{asked_first}
 use Rattle.outbox_core.proofs.EntryLemmas.{find_id, found_at}
 use Rattle.outbox_core.specs.Entries.{has_id}
 use Rattle.outbox_core.proofs.entries.entry_of.Goals as goal
@@ -11,7 +12,7 @@ returns-clause-found g c clean it was =
     rw (← find_id c.args.id it.entries) (c.read_found.ensures.read clean it (stands c.entry_with_id.ensures.leaves early was) _ (c.in_ok-row.ensures.found early it was) (found_at (has_id c.args.id) it.entries))
 
 pub returns-clause-leaves : goal.returns-clause-leaves
-returns-clause-leaves g c = answered_then c.read_found.result c.in_ok-row.ensures.leaves c.read_found.ensures.leaves
+returns-clause-leaves g c = asked_first (λ _. Ended) c.read_found.result c.in_ok-row.ensures.leaves c.read_found.ensures.leaves
 
 pub returns-in_err-row-clause-leaves : goal.returns-in_err-row-clause-leaves
 returns-in_err-row-clause-leaves g c = let left = ended c.in_err-row.ensures.leaves in search rules

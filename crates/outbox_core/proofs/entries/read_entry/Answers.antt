@@ -1,7 +1,7 @@
 use Rattle.std.proofs.Common.{◌≡◌, ap, ◌∙◌, rules}
 use Rattle.sqlite.specs.Held.{state}
 use Rattle.table_rows.proofs.LeavingLemmas.{ended, none_yet}
-use Rattle.table_rows.proofs.OutcomeLemmas.{answered}
+use Rattle.table_rows.proofs.OutcomeLemmas.{concluded}
 use Rattle.outbox_opening.specs.Entries.{entry_at, target_at}
 use Rattle.outbox_core.proofs.ReadLemmas.{read_as, id_in, target_there}
 use Rattle.outbox_core.proofs.entries.read_entry.Goals as goal
@@ -13,7 +13,7 @@ returns-clause-read g c clean it was x is there =
     read_as c.from_row.result x c.args.row.now c.in_ok-target.target is target c.from_row.ensures.shown c.from_row.ensures.target
 
 pub returns-clause-leaves : goal.returns-clause-leaves
-returns-clause-leaves g c = answered c.from_row.result c.in_ok-target.ensures.leaves
+returns-clause-leaves g c = concluded c.from_row.result c.in_ok-target.ensures.leaves
 
 pub returns-in_err-id-clause-leaves : goal.returns-in_err-id-clause-leaves
 returns-in_err-id-clause-leaves g c = let left = ended (none_yet (state g.S.Store c.args.conn.now)) in search rules

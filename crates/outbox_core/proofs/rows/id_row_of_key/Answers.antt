@@ -8,12 +8,12 @@ use Rattle.outbox_opening.proofs.SelectLemmas.{id_column, matches}
 use Rattle.outbox_core.proofs.SelectLemmas.{key_matches, row_selected}
 use Rattle.outbox_core.proofs.rows.id_row_of_key.Goals as goal
 
+pub first_row-requires : goal.first_row-requires
+first_row-requires g c = by_key_reads
+
 pub returns-clause-found : goal.returns-clause-found
 returns-clause-found g c clean it was =
     let old = state g.S.Store c.args.conn.now in
     let new = state g.S.Store c.first_row.new.conn in
     let ran = rw c.params-to_sql.ensures at (c.first_row.ensures.row clean) in
     row_selected by_key_text (equals 2) id_terms by_key_asks _ old new it was id_column (λ r. refl) (matches 1 (Text c.args.key.now)) (has_text c.args.key.now) (key_matches c.args.key.now) (λ r. refl) c.first_row.result ran
-
-pub returns-clause-leaves : goal.returns-clause-leaves
-returns-clause-leaves g c = c.first_row.ensures.leaves by_key_reads

@@ -1,4 +1,4 @@
-use Rattle.std.proofs.Common.{◌≡◌, true, sym, ap, subst, ◌∙◌, IsTrue, rules, arith}
+use Rattle.std.proofs.Common.{◌≡◌, true, sym, ap, subst, ◌∙◌, IsTrue, arith}
 use Rattle.std.proofs.lemmas.Result.{IfOk-weaker, IfErr-weaker}
 use Rattle.sqlite.specs.Held.{state}
 use Rattle.sqlite.specs.Effect.{Database}
@@ -16,7 +16,7 @@ use Rattle.outbox_opening.proofs.migrate.write.Goals as goal
 
 -- the connection that comes back is that of the commit
 ended : (g : given.Over) (c : goal.After-conn-2-1 g) → c.commit.new.self.0 ≡ c.conn-2-1.given.0
-ended g c = search rules
+ended g c = sym (c.conn-2-1.given.1 (sym (c.raise.ensures.leaves.same_reference ∙ c.transaction-tx.ensures.same_reference)))
 
 still_clean : (g : given.Over) (c : goal.After-conn-2-1 g) → HasCleanDisk (state g.S.Store c.conn-2-1.given.0) → HasCleanDisk (state g.S.Store c.commit.new.self.0)
 still_clean g c clean = subst (λ h. HasCleanDisk (state g.S.Store h)) (sym (ended g c)) clean
@@ -62,7 +62,7 @@ returns-clause-crash g c =
     let whole = survives_then (state g.S.Store old) (state g.S.Store last) (state g.S.Store end) _ _ (LeavesAll (state g.S.Store old)) (λ _ db none. absurd none)
     (λ late db is it alone was.
     let outbox = makes_current g.S.Store (record old { in_transaction = true }) last it (ran (omega (arith, c.commit.ensures.survives.clean))) alone was in
-    record { db = (state g.S.Store last).now; is = is; outbox = outbox }) (survives_begin g.S.Store old (state g.S.Store last) _ (rw begun at c.in_ok-raise.ensures.survives)) c.commit.ensures.survives in
+    record { db = (state g.S.Store last).now; is = is; outbox = outbox }) (survives_begin g.S.Store old (state g.S.Store last) _ (rw begun at c.raise.ensures.leaves.survives)) c.commit.ensures.survives in
     subst (λ h. Survives (state g.S.Store old) (state g.S.Store h) (LeavesAll (state g.S.Store old))) same whole
 
 -- once they are made, a crash leaves them
@@ -84,5 +84,5 @@ returns-clause-undone g c clean =
     let same = ended g c in
     let late = still_clean g c clean in
     let mid : HasCleanDisk (state g.S.Store last) = omega (arith, c.commit.ensures.survives.clean) in
-    let kept = begun_keeps g.S.Store old (state g.S.Store last) (rw begun at (c.in_ok-raise.ensures.keeps mid)) in
+    let kept = begun_keeps g.S.Store old (state g.S.Store last) (rw begun at (c.raise.ensures.leaves.keeps mid)) in
     IfErr-weaker c.commit.result _ _ (λ e failed. subst (λ h. KeepsCommit (state g.S.Store old) (state g.S.Store h)) same (commit_keeps (state g.S.Store old) (state g.S.Store last) (state g.S.Store end) kept e failed)) (c.commit.ensures.err late)
