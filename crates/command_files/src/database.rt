@@ -4,7 +4,8 @@
 //! That call is generic over the store, and `on_database` is the one function that names a store in files where it
 //! calls such code, since each such call costs much to prove.
 
-ghost use Rattle.std.specs.Prelude.{◌≡◌, ◌≢◌, None, false, Err, IfOk, IfErr, IsTrue};
+ghost use Rattle.std.specs.Prelude.{◌≡◌, ◌≢◌, Err, IfOk, IfErr, IsTrue};
+ghost use Rattle.table_rows.specs.Standing.{IsAtRest};
 ghost use Rattle.command_files.specs.Faults.{database_fault};
 
 use crate::head::{no_database, wrong_pages};
@@ -74,8 +75,7 @@ pub trait Work: Drop {
 
     /// Does it, and says what is left of the database.
     fn on<S: Alter + Drop>(self, rt: &HostRuntime, conn: Connection<S>) -> (Left<S>, Self::Answer)
-        requires autocommit { conn.in_transaction ≡ false }
-        requires unlimited { conn.step_limit ≡ None };
+        requires { IsAtRest conn };
 }
 
 /// How a visit to a database went.
@@ -235,8 +235,7 @@ fn done_on<S: Alter + Drop, W: Work>(
     mut conn: Connection<S>,
     work: W,
 ) -> (Left<S>, W::Answer)
-    requires autocommit { conn.in_transaction ≡ false }
-    requires unlimited { conn.step_limit ≡ None }
+    requires { IsAtRest conn }
 {
     conn.set_clock(rt);
     work.on(rt, conn)
@@ -267,8 +266,7 @@ fn open<D: Disk + Drop, F: FileSystem<D>>(
     name: &str,
     opening: Opening,
 ) -> Result<Connection<FileStore<D>>, DatabaseFault>
-    ensures autocommit { IfOk result (λ conn. conn.in_transaction ≡ false) }
-    ensures unlimited { IfOk result (λ conn. conn.step_limit ≡ None) }
+    ensures { IfOk result IsAtRest }
 {
     match opening {
         Opening::Found(cache) => find_database(rt, system, name, cache),
@@ -283,8 +281,7 @@ fn find_database<D: Disk + Drop, F: FileSystem<D>>(
     name: &str,
     cache: Cache,
 ) -> Result<Connection<FileStore<D>>, DatabaseFault>
-    ensures autocommit { IfOk result (λ conn. conn.in_transaction ≡ false) }
-    ensures unlimited { IfOk result (λ conn. conn.step_limit ≡ None) }
+    ensures { IfOk result IsAtRest }
 {
     if system.is_missing(rt, name) {
         return Err(DatabaseFault::Missing);
@@ -302,8 +299,7 @@ fn make_database<D: Disk + Drop, F: FileSystem<D>>(
     name: &str,
     cache: Cache,
 ) -> Result<Connection<FileStore<D>>, DatabaseFault>
-    ensures autocommit { IfOk result (λ conn. conn.in_transaction ≡ false) }
-    ensures unlimited { IfOk result (λ conn. conn.step_limit ≡ None) }
+    ensures rest { IfOk result IsAtRest }
     ensures any_name { result ≢ Err DatabaseFault.Missing }
 {
     if name.is_empty() {
@@ -374,8 +370,7 @@ fn connect<D: Disk + Drop>(
 ) -> Result<Connection<FileStore<D>>, DatabaseFault>
     requires log { IsTrue (D.Disk.is_usable files.log) }
     requires database { IsTrue (D.Disk.is_usable files.db) }
-    ensures autocommit { IfOk result (λ conn. conn.in_transaction ≡ false) }
-    ensures unlimited { IfOk result (λ conn. conn.step_limit ≡ None) }
+    ensures rest { IfOk result IsAtRest }
     ensures any_name { result ≢ Err DatabaseFault.Missing }
 {
     match Connection::open_files_with(rt.alloc(), files, options, true) {

@@ -1,7 +1,6 @@
 //! The calls of an outbox that the tasks make, each in a function that promises nothing: what the
 //! tasks do is not stated, and so no task carries the clauses of what it calls.
 
-ghost use Rattle.std.specs.Prelude.{◌≡◌, None, false};
 ghost use Rattle.table_rows.specs.Standing.{IsAtRest};
 
 use crate::options::Target;
@@ -36,8 +35,7 @@ pub fn open<S: Alter + Drop>(
 /// Reads the outbox of a database, which is one of this version unless this fails.
 pub fn read<S: Alter + Drop>(alloc: Global, conn: &mut Connection<S>) -> Result<(), OutboxFault>
     requires { IsAtRest conn.old }
-    ensures autocommit { conn.new.in_transaction ≡ false }
-    ensures unlimited { conn.new.step_limit ≡ None }
+    ensures { IsAtRest conn.new }
 {
     let read = read_outbox(alloc, conn);
     conn.set_step_limit(None);
