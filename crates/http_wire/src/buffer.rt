@@ -7,7 +7,8 @@ use crate::device::Source;
 use http_messages::ConnFault;
 use std::alloc::{AllocError, Global};
 
-/// The most bytes that are asked for at a time, and those that there is memory for at first.
+/// The fewest bytes that there is room for at a read, within the most that are held, and those that there is memory for at
+/// first.
 const CHUNK: usize = 16_384;
 
 /// The most bytes that are held, and that there is memory for: the length of the longest request, a
@@ -69,7 +70,7 @@ impl Buffer {
         self.start += count;
     }
 
-    /// Makes one read, and appends what it gave, up to the most bytes in all. The answer is the count
+    /// Makes one read into all the room that there is, and appends what it gave. The answer is the count
     /// of these bytes, which is 0 only at the end of the input. An `Err` leaves the bytes as they
     /// were.
     pub(crate) fn fill<R: Source>(&mut self, reader: &mut R) -> Result<usize, ConnFault>
@@ -86,8 +87,9 @@ impl Buffer {
         ensures fault { IfErr result (IsFillFault (R.read_failures reader.old) (R.read_failures reader.new)) }
     {
         self.move_to_front();
-        let room_end = self.end + CHUNK.min(MAX_HELD - self.end);
-        self.make_room(room_end).map_err(|_| ConnFault::Memory)?;
+        let least = self.end + CHUNK.min(MAX_HELD - self.end);
+        self.make_room(least).map_err(|_| ConnFault::Memory)?;
+        let room_end = self.room.len();
         let count = read_into(reader, &mut self.room, self.end, room_end)?;
         self.end += count;
         Ok(count)
