@@ -21,7 +21,7 @@ use Rattle.filing_model.specs.Request.{Request}
 use Rattle.filing_model.specs.Serving.{Keeping, keeping, AreMarked, BeginsArrivals, Serves, kept_by}
 use Rattle.filing_model.specs.Text.{completed, interim_of, reply_text_with, text_with}
 use Rattle.intake_core.specs.declared.intake.Intake.{Intake}
-use Rattle.intake_core.specs.Held.{limit_of, IsClean, IsTransition}
+use Rattle.intake_core.specs.Held.{limit_of, KeepsSetting, IsTransition}
 use Rattle.gateway_server.specs.declared.serving.Served.{Served}
 use Rattle.gateway_server.specs.Answered.{IsReplyFault}
 use Rattle.gateway_server.specs.Written.{WritesTexts}
@@ -95,10 +95,8 @@ IsLimited old new ended = ended ≡ Fault fault.ReadLimit → (bytes : List ℕ)
 pub record ServesToEnd {S : Type 0} (g : Ghosts S) (from to : Wire) (old new : Intake S) (result : Served) : Type 0 where
   -- where the disk is clean at the end, all that was read and written, marked and kept is what serving these bytes does
   pub serves : IsTransition g old new (λ early before after. ServesConnection (keeping (limit_of old) early before after) from to result.marks.items result.ended)
-  -- a disk that is clean at the end was clean before
-  pub clean : IsClean g new → IsClean g old
-  -- as many keys may be kept as before
-  pub limit : limit_of new ≡ limit_of old
+  -- as many keys may be kept as before, and a disk that is clean at the end was clean before
+  pub setting : KeepsSetting g old new
   -- why it ended, whatever the disk did
   pub fault : IsEndedBy from to result.ended
   pub limited : IsLimited from to result.ended

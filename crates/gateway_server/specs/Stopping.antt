@@ -12,7 +12,7 @@ use Rattle.filing_model.specs.declared.served.Mark.{Mark}
 use Rattle.filing_model.specs.Serving.{Keeping, keeping}
 use Rattle.filing_model.specs.Stopping.{Crash, No, Before, After, ComeBefore, IsStopped, StopsOrServes}
 use Rattle.intake_core.specs.declared.intake.Intake.{Intake}
-use Rattle.intake_core.specs.Held.{limit_of, IsClean, IsTransition}
+use Rattle.intake_core.specs.Held.{limit_of, KeepsSetting, IsTransition}
 use Rattle.gateway_server.specs.declared.serving.Partly.{Partly}
 use Rattle.gateway_server.specs.declared.serving.Turn.{Turn}
 use Rattle.gateway_server.specs.declared.serving.Turn.TheVariants.{On, Stopped, Ended as Ends}
@@ -59,10 +59,8 @@ IsEndedOrStoppedBy old new (Some ended) = IsEndedBy old new ended
 pub record ServesUpTo {S : Type 0} (g : Ghosts S) (from to : Wire) (old new : Intake S) (at : Stop) (result : Partly) : Type 0 where
   -- where the disk is clean at the end, all that was read and written, marked and kept is what serving these bytes up to the stop does
   pub serves : IsTransition g old new (λ early before after. ServesConnectionUntil (keeping (limit_of old) early before after) from to (view_stop at) result.marks.items result.ended)
-  -- a disk that is clean at the end was clean before
-  pub clean : IsClean g new → IsClean g old
-  -- as many keys may be kept as before
-  pub limit : limit_of new ≡ limit_of old
+  -- as many keys may be kept as before, and a disk that is clean at the end was clean before
+  pub setting : KeepsSetting g old new
   -- why it ended, whatever the disk did
   pub fault : IsEndedOrStoppedBy from to result.ended
   pub limited : IfSome result.ended (IsLimited from to)

@@ -34,8 +34,7 @@ pub(crate) fn mark<S: Alter>(
     ensures phrase { IfOk result IsPhrased }
     ensures counted { MatchResult result (λ _. vec_len marks.new ≡ vec_len marks.old + 1) (λ _.
         vec_len marks.new ≡ vec_len marks.old) }
-    ensures clean { IsClean S.Store intake.new → IsClean S.Store intake.old }
-    ensures limit { limit_of intake.new ≡ limit_of intake.old }
+    ensures setting { KeepsSetting S.Store intake.old intake.new }
 {
     marks.reserve(1)?;
     let asked = route_of(alloc, message)?;
@@ -60,8 +59,7 @@ fn mark_route<S: Alter>(
         marks.new.items result) }
     ensures phrase { IsPhrased result }
     ensures counted { vec_len marks.new ≡ vec_len marks.old + 1 }
-    ensures clean { IsClean S.Store intake.new → IsClean S.Store intake.old }
-    ensures limit { limit_of intake.new ≡ limit_of intake.old }
+    ensures setting { KeepsSetting S.Store intake.old intake.new }
 {
     let decided = decide(alloc, intake, asked, message.body, is_head(message));
     marks.push_reserved(decided.mark);

@@ -41,8 +41,7 @@ pub(crate) fn decide<S: Alter>(
     ensures decided { IsTransition S.Store intake.old intake.new (λ early before after.
         Decides (limit_of intake.old) early before after (bare is_bare (view_route route.entry body.now)) result) }
     ensures phrase { IsPhrased result }
-    ensures clean { IsClean S.Store intake.new → IsClean S.Store intake.old }
-    ensures limit { limit_of intake.new ≡ limit_of intake.old }
+    ensures setting { KeepsSetting S.Store intake.old intake.new }
 {
     match route {
         Route::Reject(why) => Decided {
@@ -90,8 +89,7 @@ fn list<S: Alter>(
     ensures decided { IsTransition S.Store intake.old intake.new (λ early before after.
         Decides (limit_of intake.old) early before after (AsksList filer.now number) result) }
     ensures phrase { IsPhrased result }
-    ensures clean { IsClean S.Store intake.new → IsClean S.Store intake.old }
-    ensures limit { limit_of intake.new ≡ limit_of intake.old }
+    ensures setting { KeepsSetting S.Store intake.old intake.new }
 {
     match intake.list(filer) {
         Ok(rows) => {
@@ -120,8 +118,7 @@ fn file<S: Alter>(
         Decides (limit_of intake.old) early before after
         (AsksFiling (the_request filer.now key.now target body.now)) result) }
     ensures phrase { IsPhrased result }
-    ensures clean { IsClean S.Store intake.new → IsClean S.Store intake.old }
-    ensures limit { limit_of intake.new ≡ limit_of intake.old }
+    ensures setting { KeepsSetting S.Store intake.old intake.new }
 {
     match intake.submit(filer, target, key, body) {
         Ok(answer) => Decided {

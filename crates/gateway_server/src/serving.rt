@@ -116,8 +116,7 @@ fn serve_arrivals<R: Source, W: Sink, S: Alter>(
         → StopsOrEnds (keeping (limit_of intake.old) early before after) first
         (wire R.Source W.Sink reader.new writer.new) (view_stop stop) marks.new.items result) }
     ensures counted { IsCountUntil (view_stop stop) (vec_len marks.new) result }
-    ensures clean { IsClean S.Store intake.new → IsClean S.Store intake.old }
-    ensures limit { limit_of intake.new ≡ limit_of intake.old }
+    ensures setting { KeepsSetting S.Store intake.old intake.new }
     ensures fault { IsEndedOrStoppedBy (wire R.Source W.Sink reader.old writer.old)
         (wire R.Source W.Sink reader.new writer.new) result }
     ensures texts { WritesTexts (W.written writer.old) (W.written writer.new) result }
@@ -154,8 +153,7 @@ fn serve_arrival<R: Source, W: Sink, S: Alter>(
     ensures more { result ≡ Turn.On → is_over inbox.new ≡ false }
     ensures one { result ≡ Turn.On → vec_len marks.new ≡ vec_len marks.old + 1 }
     ensures counted { IsCountAt (view_stop stop) (vec_len marks.new) result }
-    ensures clean { IsClean S.Store intake.new → IsClean S.Store intake.old }
-    ensures limit { limit_of intake.new ≡ limit_of intake.old }
+    ensures setting { KeepsSetting S.Store intake.old intake.new }
     ensures fault { IsTurnBy (wire R.Source W.Sink reader.old writer.old)
         (wire R.Source W.Sink reader.new writer.new) result }
     ensures texts { WritesTexts (W.written writer.old) (W.written writer.new) (end_of result) }
@@ -190,8 +188,7 @@ fn serve_message<W: Sink, S: Alter>(
     ensures more { result ≡ Turn.On → is_over inbox.now ≡ false }
     ensures one { result ≡ Turn.On → vec_len marks.new ≡ vec_len marks.old + 1 }
     ensures counted { IsCountAt (view_stop stop) (vec_len marks.new) result }
-    ensures clean { IsClean S.Store intake.new → IsClean S.Store intake.old }
-    ensures limit { limit_of intake.new ≡ limit_of intake.old }
+    ensures setting { KeepsSetting S.Store intake.old intake.new }
     ensures fault { IsTurnByReply (W.write_failures writer.old) (W.write_failures writer.new) result }
     ensures texts { WritesTexts (W.written writer.old) (W.written writer.new) (end_of result) }
 {

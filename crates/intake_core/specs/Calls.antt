@@ -9,16 +9,14 @@ use Rattle.intake_core.specs.declared.intake.Intake.{Intake}
 use Rattle.intake_core.specs.declared.intake.Unavailable.{Unavailable}
 use Rattle.intake_core.specs.declared.intake.Unavailable.TheVariants.{Down, Full, Store}
 use Rattle.intake_answers.specs.Answered.{IsAnswerTo}
-use Rattle.intake_core.specs.Held.{shows, limit_of, early_of, early_in, has_stopped, HoldsRequests, IsClean, ForRequests, IsDurableAs, SurvivesAs, with_request}
+use Rattle.intake_core.specs.Held.{shows, limit_of, early_of, early_in, has_stopped, HoldsRequests, KeepsSetting, ForRequests, IsDurableAs, SurvivesAs, with_request}
 
 -- What `submit` does with a request, by the requests that the intake held before.
 pub record DecidesRequest {S : Type 0} (g : Ghosts S) (r : Request) (old new : Intake S) (result : Result Answer Unavailable) : Type 0 where
   pub answer : ForRequests g old new (λ requests. IfOk result (λ a. IsAnswerTo (early_in old requests) requests r a × HoldsRequests g new (with_request requests r)))
   -- Nothing changes where there is no answer, and the limit and the early requests never do.
   pub err : ForRequests g old new (λ requests. OnErr result (HoldsRequests g new requests))
-  pub clean : IsClean g new → IsClean g old
-  pub limit : limit_of new ≡ limit_of old
-  pub early : early_of new ≡ early_of old
+  pub setting : KeepsSetting g old new
   -- Full comes for a new key alone, and always where the limit is reached.
   pub full : ForRequests g old new (λ requests. (k : ℕ) → result ≡ Err (Full k) → (has_key requests r ≡ false) × (limit_of old ≤ k) × (k ≡ length requests))
   pub room : ForRequests g old new (λ requests. OnOk result (has_key requests r ≡ false → length requests < limit_of old))
@@ -35,9 +33,7 @@ pub record TellsOfRequests {S X : Type 0} (g : Ghosts S) (old new : Intake S) (r
   pub rows : ForRequests g old new (λ requests. IfOk result (Tells requests))
   -- What is held stays, whatever the answer is.
   pub kept : ForRequests g old new (HoldsRequests g new)
-  pub clean : IsClean g new → IsClean g old
-  pub limit : limit_of new ≡ limit_of old
-  pub early : early_of new ≡ early_of old
+  pub setting : KeepsSetting g old new
   -- A crash leaves what it could leave before.
   pub crash : CommitsNothing (shows g old) (shows g new)
   pub durable : ForRequests g old new (λ requests. OnOk result (IsDurableAs g new (early_of old) requests))

@@ -43,6 +43,13 @@ pub record HoldsRequests {S : Type 0} (g : Ghosts S) (intake : Intake S) (reques
 abbrev pub IsClean : {S : Type 0} → Ghosts S → Intake S → Type 0
 IsClean g intake = HasCleanDisk (shows g intake)
 
+-- What no call changes of an intake: how many keys it may keep, and how many of its requests are early. A disk that is clean after the
+-- call was clean before it.
+pub record KeepsSetting {S : Type 0} (g : Ghosts S) (old new : Intake S) : Type 0 where
+  pub clean : IsClean g new → IsClean g old
+  pub limit : limit_of new ≡ limit_of old
+  pub early : early_of new ≡ early_of old
+
 -- Whatever requests it held before: where the disk is clean at the end, this holds of them.
 abbrev pub ForRequests : {S : Type 0} → Ghosts S → Intake S → Intake S → (List Request → Type 0) → Type 0
 ForRequests g old new Holds = IsClean g new → (requests : List Request) → HoldsRequests g old requests → Holds requests

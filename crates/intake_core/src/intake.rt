@@ -211,7 +211,7 @@ impl<S: Alter> Intake<S> {
 impl<S: Alter> Intake<S> {
     ghost use Rattle.intake_answers.specs.Answered.{IsAnswerTo};
     ghost use Rattle.intake_answers.specs.Cache.{IsKeptIn, IsNameIfAny};
-    ghost use Rattle.intake_core.specs.Held.{store_of, shows, limit_of, early_of, early_in, has_stopped, HoldsRequests, IsClean, ForRequests, SurvivesAs, with_request};
+    ghost use Rattle.intake_core.specs.Held.{store_of, shows, limit_of, early_of, early_in, has_stopped, HoldsRequests, KeepsSetting, ForRequests, SurvivesAs, with_request};
 
     /// The answer to a request whose filer's key has this name, where the cache remembers it. The cache is made here,
     /// where there is memory for it.
@@ -281,9 +281,8 @@ impl<S: Alter> Intake<S> {
             (with_request requests (the_request filer.now key.now target body.now)))) }
         ensures err { ForRequests S.Store self.old self.new (λ requests.
             OnErr result (HoldsRequests S.Store self.new requests)) }
-        ensures clean { IsClean S.Store self.new → IsClean S.Store self.old }
-        ensures limit { (limit_of self.new ≡ limit_of self.old) × (has_stopped self.new ≡ has_stopped self.old) }
-        ensures early { early_of self.new ≡ early_of self.old }
+        ensures setting { KeepsSetting S.Store self.old self.new }
+        ensures stopped { has_stopped self.new ≡ has_stopped self.old }
         ensures full { ForRequests S.Store self.old self.new (λ requests.
             (k : ℕ) → result ≡ Err (Full k)
             → (has_key requests (the_request filer.now key.now target body.now) ≡ false) × (limit_of self.old ≤ k)
@@ -343,9 +342,8 @@ impl<S: Alter> Intake<S> {
         ensures answer { ForRequests S.Store self.old self.new (λ requests.
             IfOk result (λ free. free ≡ is_free (register requests) filer.now target)) }
         ensures same { ForRequests S.Store self.old self.new (HoldsRequests S.Store self.new) }
-        ensures clean { IsClean S.Store self.new → IsClean S.Store self.old }
-        ensures limit { (limit_of self.new ≡ limit_of self.old) × (has_stopped self.new ≡ has_stopped self.old) }
-        ensures early { early_of self.new ≡ early_of self.old }
+        ensures setting { KeepsSetting S.Store self.old self.new }
+        ensures stopped { has_stopped self.new ≡ has_stopped self.old }
         ensures count { (store_of self.new).kept ≡ (store_of self.old).kept }
         ensures running { (result ≢ Err Down) × ((k : ℕ) → result ≢ Err (Full k)) }
         ensures crash { CommitsNothing (shows S.Store self.old) (shows S.Store self.new) }
@@ -396,9 +394,8 @@ impl<S: Alter> Intake<S> {
             (requests ++ the_request filer.now key.now target body.now ∷ []))) }
         ensures err { ForRequests S.Store self.old self.new (λ requests.
             OnErr result (HoldsRequests S.Store self.new requests)) }
-        ensures clean { IsClean S.Store self.new → IsClean S.Store self.old }
-        ensures limit { (limit_of self.new ≡ limit_of self.old) × (has_stopped self.new ≡ has_stopped self.old) }
-        ensures early { early_of self.new ≡ early_of self.old }
+        ensures setting { KeepsSetting S.Store self.old self.new }
+        ensures stopped { has_stopped self.new ≡ has_stopped self.old }
         ensures running { (result ≢ Err Down) × ((k : ℕ) → result ≢ Err (Full k)) }
         ensures crash { SurvivesAs S.Store self.old self.new (λ requests trees.
             has_key requests (the_request filer.now key.now target body.now) ≡ false
@@ -443,9 +440,8 @@ impl<S: Alter> Intake<S> {
             (requests ++ the_request filer.now key.now target body.now ∷ []))) }
         ensures err { ForRequests S.Store self.old self.new (λ requests.
             OnErr result (HoldsRequests S.Store self.new requests)) }
-        ensures clean { IsClean S.Store self.new → IsClean S.Store self.old }
-        ensures limit { (limit_of self.new ≡ limit_of self.old) × (has_stopped self.new ≡ has_stopped self.old) }
-        ensures early { early_of self.new ≡ early_of self.old }
+        ensures setting { KeepsSetting S.Store self.old self.new }
+        ensures stopped { has_stopped self.new ≡ has_stopped self.old }
         ensures full { (requests : List Request) → HoldsRequests S.Store self.old requests → (k : ℕ)
             → result ≡ Err (Full k) → (limit_of self.old ≤ k) × (k ≡ length requests) }
         ensures room { (requests : List Request) → HoldsRequests S.Store self.old requests

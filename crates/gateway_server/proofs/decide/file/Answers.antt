@@ -22,7 +22,7 @@ returns-in-Ok-clause-decided g c = λ clean before h.
     let told = c.in-Ok.ensures.answer clean before h in (
       firsts (before ++ r ∷ []),
       told.1,
-      early_in-after before r c.args.intake.now c.submit.new.self c.in-Ok.ensures.early h,
+      early_in-after before r c.args.intake.now c.submit.new.self c.in-Ok.ensures.setting.early h,
       record {
         fit = ⊎_elim
             (λ (known : has_key before r ≡ true). inl known)
@@ -42,7 +42,7 @@ returns-in-Ok-clause-phrase g c =
 pub returns-in-Err-clause-decided : goal.returns-in-Err-clause-decided
 returns-in-Err-clause-decided g c = λ clean before h.
     let r : Request = the_request c.args.filer.now c.args.key.now c.args.target c.args.body.now in
-    (before, c.in-Err.ensures.err clean before h, ap (λ n. take n before) c.in-Err.ensures.early, Decides-filed_unavailable (limit_of c.args.intake.now) (early_in c.args.intake.now before) before r c.unavailable.result c.unavailable.ensures)
+    (before, c.in-Err.ensures.err clean before h, ap (λ n. take n before) c.in-Err.ensures.setting.early, Decides-filed_unavailable (limit_of c.args.intake.now) (early_in c.args.intake.now before) before r c.unavailable.result c.unavailable.ensures)
 
 pub returns-in-Err-clause-phrase : goal.returns-in-Err-clause-phrase
 returns-in-Err-clause-phrase g c = phrase-parts AllocError c.unavailable.result.reply unavailable phrase-unavailable c.unavailable.ensures.reply

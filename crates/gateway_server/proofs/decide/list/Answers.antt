@@ -17,7 +17,7 @@ returns-in-Ok-clause-decided g c = λ clean before h.
     let same : map view_row c.deref.result.now ≡ rows = ap (map view_row) c.deref.ensures.value ∙ c.listed-rows.ensures c.args.filer.now (register before) (c.in-Ok.ensures.rows clean before h) in (
       before,
       c.in-Ok.ensures.kept clean before h,
-      ap (λ n. take n before) c.in-Ok.ensures.early,
+      ap (λ n. take n before) c.in-Ok.ensures.setting.early,
       record {
         fit = tt;
         kept = refl;
@@ -30,7 +30,7 @@ returns-in-Ok-clause-phrase g c = phrase-parts AllocError c.list_reply.result (l
 
 pub returns-in-Err-clause-decided : goal.returns-in-Err-clause-decided
 returns-in-Err-clause-decided g c = λ clean before h.
-    (before, c.in-Err.ensures.kept clean before h, ap (λ n. take n before) c.in-Err.ensures.early, Decides-listed_unavailable (limit_of c.args.intake.now) (early_in c.args.intake.now before) before c.args.filer.now c.args.number c.unavailable.result c.unavailable.ensures)
+    (before, c.in-Err.ensures.kept clean before h, ap (λ n. take n before) c.in-Err.ensures.setting.early, Decides-listed_unavailable (limit_of c.args.intake.now) (early_in c.args.intake.now before) before c.args.filer.now c.args.number c.unavailable.result c.unavailable.ensures)
 
 pub returns-in-Err-clause-phrase : goal.returns-in-Err-clause-phrase
 returns-in-Err-clause-phrase g c = phrase-parts AllocError c.unavailable.result.reply unavailable phrase-unavailable c.unavailable.ensures.reply

@@ -19,8 +19,7 @@ returns g c = record {
       let requests = keeping (limit_of c.args.intake.now) (early_in c.args.intake.now before) before served.0 in
       let ended = subst (λ (how : Option Ended). ServesConnectionUntil requests old new No marks how) c.unwrap.ensures served.3 in
       (served.0, served.1, served.2, ServesConnection-ended requests old new No marks c.unwrap.result ended);
-  clean = search rules;
-  limit = search rules;
+  setting = search rules;
   fault = search rules;
   limited = search rules;
   texts = subst (λ (how : Option Ended). WritesTexts (g.W.Sink.written c.args.writer.now) (g.W.Sink.written c.serve_until-partly.new.writer) how) c.unwrap.ensures c.serve_until-partly.ensures.texts;

@@ -4,7 +4,7 @@ use Rattle.http_wire.specs.Wire.{Wire, wire}
 use Rattle.filing_model.specs.Request.{Request}
 use Rattle.filing_model.specs.Serving.{keeping}
 use Rattle.filing_model.specs.Stopping.{ComeBefore}
-use Rattle.intake_core.specs.Held.{limit_of, IsClean, IsTransition}
+use Rattle.intake_core.specs.Held.{limit_of, KeepsSetting, IsTransition}
 use Rattle.gateway_server.specs.Progress.{GoesOn, ReadsSome}
 use Rattle.gateway_server.specs.Stopping.{view_stop}
 use Rattle.gateway_server.specs.Written.{WritesTexts}
@@ -18,8 +18,7 @@ invariant-arrivals g l = record {
   writes : g.W.Sink.write_failures l.writer ≡ g.W.Sink.write_failures l.fn.writer;
   read : ReadsSome (g.R.Source.left l.fn.reader) (g.R.Source.left l.reader) l.fn.inbox l.inbox;
   texts : WritesTexts (g.W.Sink.written l.fn.writer) (g.W.Sink.written l.writer) None;
-  limit : limit_of l.intake ≡ limit_of l.fn.intake;
-  clean : IsClean g.S.Store l.intake → IsClean g.S.Store l.fn.intake;
+  setting : KeepsSetting g.S.Store l.fn.intake l.intake;
   goes : IsTransition g.S.Store l.fn.intake l.intake (λ early now after. (before : List Request) (first : Wire) → GoesOn (keeping (limit_of l.fn.intake) early before now) first (wire g.R.Source g.W.Sink l.fn.reader l.fn.writer) l.fn.inbox l.fn.marks.items → GoesOn (keeping (limit_of l.fn.intake) early before after) first (wire g.R.Source g.W.Sink l.reader l.writer) l.inbox l.marks.items);
 }
 

@@ -25,8 +25,7 @@ returns-in-Ok g c = record {
         ServesConnectionUntil-either requests old new (view_stop c.args.stop) c.serve_arrivals-ended.new.marks.items c.serve_arrivals-ended.result
             (subst (λ n. IsCountUntil (view_stop c.args.stop) n c.serve_arrivals-ended.result) c.serve_arrivals-ended.new.marks.ok.0 c.serve_arrivals-ended.ensures.counted) came,
       );
-  clean = search rules;
-  limit = search rules;
+  setting = search rules;
   fault = search rules;
   limited = search rules;
   texts = c.serve_arrivals-ended.ensures.texts;
@@ -45,8 +44,7 @@ returns-in-Err g c = record {
         ServesConnectionUntil-either requests old old (view_stop c.args.stop) c.new-marks.result.items (Some (Fault Memory))
             (subst (λ ms. ComeBefore (view_stop c.args.stop) (length ms)) (sym c.new-marks.ensures.items) (ComeBefore-none (view_stop c.args.stop))) (Serves-none (limit_of c.args.intake.now) (early_in c.args.intake.now before) before old c.new-marks.result.items c.new-marks.ensures.items),
       );
-  clean = search rules;
-  limit = search rules;
+  setting = search rules;
   fault = search rules;
   limited = search rules;
   texts = WritesTexts-same (g.W.Sink.written c.args.writer.now) (Some (Fault Memory)) refl;

@@ -48,16 +48,17 @@ returns-in-Some-clause-room g c = λ clean requests h new.
 pub returns-in-Some-clause-err : goal.returns-in-Some-clause-err
 returns-in-Some-clause-err g c = λ clean requests h. tt
 
-pub returns-in-Some-clause-clean : goal.returns-in-Some-clause-clean
-returns-in-Some-clause-clean g c = λ clean.
-    let cleaned : HasCleanDisk (shows g.S.Store c.find.new.self) = subst (λ s. HasCleanDisk (shows g.S.Store s)) (told g (goal.at.returns-in-Some-clause-clean g c).After-repeat).0 clean in
-    omega (arith, c.find.ensures.keeps.crash.clean)
+pub returns-in-Some-clause-setting : goal.returns-in-Some-clause-setting
+returns-in-Some-clause-setting g c =
+    let rest = told g (goal.at.returns-in-Some-clause-setting g c).After-repeat in
+    record {
+      clean = λ clean. let cleaned : HasCleanDisk (shows g.S.Store c.find.new.self) = subst (λ s. HasCleanDisk (shows g.S.Store s)) rest.0 clean in omega (arith, c.find.ensures.keeps.crash.clean);
+      limit = rest.1;
+      early = ap (λ s. s.early) rest.0 ∙ c.in_ok-row.ensures.keeps.early;
+    }
 
-pub returns-in-Some-clause-limit : goal.returns-in-Some-clause-limit
-returns-in-Some-clause-limit g c = let rest = told g (goal.at.returns-in-Some-clause-limit g c).After-repeat in (rest.1, rest.2)
-
-pub returns-in-Some-clause-early : goal.returns-in-Some-clause-early
-returns-in-Some-clause-early g c = ap (λ s. s.early) (told g (goal.at.returns-in-Some-clause-early g c).After-repeat).0 ∙ c.in_ok-row.ensures.keeps.early
+pub returns-in-Some-clause-stopped : goal.returns-in-Some-clause-stopped
+returns-in-Some-clause-stopped g c = (told g (goal.at.returns-in-Some-clause-stopped g c).After-repeat).2
 
 pub returns-in-Some-clause-full : goal.returns-in-Some-clause-full
 returns-in-Some-clause-full g c = λ clean requests h k e. cc
@@ -73,29 +74,27 @@ returns-in-Some-clause-open g c = λ clean requests h.
 pub returns-in-None-clause-answer : goal.returns-in-None-clause-answer
 returns-in-None-clause-answer g c = λ clean requests h.
     let r : Request = the_request c.args.filer.now c.args.key.now c.args.target c.args.body.now in
-    let cleaned = c.keep.ensures.clean clean in
+    let cleaned = c.keep.ensures.setting.clean clean in
     let fresh = has_key-none requests r (sym (rw c.in-None.is at (c.in_ok-row.ensures.found cleaned requests h.rows c.args.target c.args.body.now))) in
     let asked = HoldsRequests-asked requests c.args.self.now _ h refl c.in_ok-row.ensures.keeps.early (c.in_ok-row.ensures.keeps.same cleaned requests h.rows) in
     IfOk-weaker c.keep.result _ _ (λ a told. (subst (λ n. IsAnswerTo (take n requests) requests r a) c.in_ok-row.ensures.keeps.early told.0, HoldsRequests-new requests r c.keep.new.self h.firsts' fresh told.1)) (c.keep.ensures.answer clean requests asked fresh)
 
 pub returns-in-None-clause-err : goal.returns-in-None-clause-err
 returns-in-None-clause-err g c = λ clean requests h.
-    let cleaned = c.keep.ensures.clean clean in
+    let cleaned = c.keep.ensures.setting.clean clean in
     let asked = HoldsRequests-asked requests c.args.self.now _ h refl c.in_ok-row.ensures.keeps.early (c.in_ok-row.ensures.keeps.same cleaned requests h.rows) in
     c.keep.ensures.err clean requests asked
 
-pub returns-in-None-clause-clean : goal.returns-in-None-clause-clean
-returns-in-None-clause-clean g c = λ clean. let cleaned = c.keep.ensures.clean clean in omega (arith, c.find.ensures.keeps.crash.clean)
-
-pub returns-in-None-clause-limit : goal.returns-in-None-clause-limit
-returns-in-None-clause-limit g c = c.keep.ensures.limit
-
-pub returns-in-None-clause-early : goal.returns-in-None-clause-early
-returns-in-None-clause-early g c = c.keep.ensures.early ∙ c.in_ok-row.ensures.keeps.early
+pub returns-in-None-clause-setting : goal.returns-in-None-clause-setting
+returns-in-None-clause-setting g c = record {
+  clean = λ clean. let cleaned = c.keep.ensures.setting.clean clean in omega (arith, c.find.ensures.keeps.crash.clean);
+  limit = c.keep.ensures.setting.limit;
+  early = c.keep.ensures.setting.early ∙ c.in_ok-row.ensures.keeps.early;
+}
 
 pub returns-in-None-clause-room : goal.returns-in-None-clause-room
 returns-in-None-clause-room g c = λ clean requests h.
-    let cleaned = c.keep.ensures.clean clean in
+    let cleaned = c.keep.ensures.setting.clean clean in
     let asked = HoldsRequests-asked requests c.args.self.now _ h refl c.in_ok-row.ensures.keeps.early (c.in_ok-row.ensures.keeps.same cleaned requests h.rows) in
     on_ok_weaker c.keep.result (λ less new. less) (c.keep.ensures.room requests asked)
 
@@ -105,7 +104,7 @@ returns-in-None-clause-running g c = c.keep.ensures.running
 pub returns-in-None-clause-full : goal.returns-in-None-clause-full
 returns-in-None-clause-full g c = λ clean requests h k e.
     let r : Request = the_request c.args.filer.now c.args.key.now c.args.target c.args.body.now in
-    let cleaned = c.keep.ensures.clean clean in
+    let cleaned = c.keep.ensures.setting.clean clean in
     let fresh = has_key-none requests r (sym (rw c.in-None.is at (c.in_ok-row.ensures.found cleaned requests h.rows c.args.target c.args.body.now))) in
     let asked = HoldsRequests-asked requests c.args.self.now _ h refl c.in_ok-row.ensures.keeps.early (c.in_ok-row.ensures.keeps.same cleaned requests h.rows) in
     let full = c.keep.ensures.full requests asked k e in
@@ -117,7 +116,7 @@ returns-in-None-clause-crash g c =
     survives_then (shows g.S.Store c.args.self.now.store) (shows g.S.Store c.find.new.self) (shows g.S.Store c.keep.new.self.store) _ _ _
     (λ clean trees none. absurd none)
     (λ clean trees left requests h alive.
-    let cleaned = c.keep.ensures.clean clean in
+    let cleaned = c.keep.ensures.setting.clean clean in
     let fresh = has_key-none requests r (sym (rw c.in-None.is at (c.in_ok-row.ensures.found cleaned requests h.rows c.args.target c.args.body.now))) in
     let asked = HoldsRequests-asked requests c.args.self.now _ h refl c.in_ok-row.ensures.keeps.early (c.in_ok-row.ensures.keeps.same cleaned requests h.rows) in
     let still = (c.in_ok-row.ensures.durable cleaned requests h.rows).0 in
@@ -127,7 +126,7 @@ returns-in-None-clause-crash g c =
 pub returns-in-None-clause-open : goal.returns-in-None-clause-open
 returns-in-None-clause-open g c = λ clean requests h.
     let r : Request = the_request c.args.filer.now c.args.key.now c.args.target c.args.body.now in
-    let cleaned = c.keep.ensures.clean clean in
+    let cleaned = c.keep.ensures.setting.clean clean in
     let fresh = has_key-none requests r (sym (rw c.in-None.is at (c.in_ok-row.ensures.found cleaned requests h.rows c.args.target c.args.body.now))) in
     let asked = HoldsRequests-asked requests c.args.self.now _ h refl c.in_ok-row.ensures.keeps.early (c.in_ok-row.ensures.keeps.same cleaned requests h.rows) in
     c.keep.ensures.open clean requests asked fresh

@@ -12,8 +12,8 @@ returns-clause-crash g c =
     survives_then (shows g.S.Store c.args.self.now) (shows g.S.Store c.is_free.new.self) (shows g.S.Store c.keep_judged.new.self) _ _ _
     (λ clean trees none. absurd none)
     (λ clean trees left requests h alive fresh.
-    let cleaned = c.keep_judged.ensures.clean clean in
+    let cleaned = c.keep_judged.ensures.setting.clean clean in
     let free = c.in_ok-free.ensures.answer cleaned requests h in
     let still = c.in_ok-free.ensures.open cleaned requests h alive in
-    subst (λ n. LeavesRegister n (requests ++ r ∷ []) trees) c.in_ok-free.ensures.early (left requests (c.in_ok-free.ensures.same cleaned requests h) still fresh free))
+    subst (λ n. LeavesRegister n (requests ++ r ∷ []) trees) c.in_ok-free.ensures.setting.early (left requests (c.in_ok-free.ensures.same cleaned requests h) still fresh free))
     c.is_free.ensures.crash c.keep_judged.ensures.crash

@@ -24,9 +24,7 @@ returns-in-Some g c = record {
       let known = c.in-Some.ensures.answer requests h c.args.filer.now c.args.key.now named in
       (known.0, HoldsRequests-repeat requests r c.recall.new.self known.1 (c.recall.ensures.same requests h));
   err = search rules;
-  clean = search rules;
-  limit = search rules;
-  early = search rules;
+  setting = search rules;
   full = search rules;
   room = search rules;
   crash = search rules;
@@ -54,9 +52,7 @@ pub returns : goal.returns
 returns g c = record {
   answer = search rules;
   err = search rules;
-  clean = search rules;
-  limit = search rules;
-  early = search rules;
+  setting = search rules;
   full = λ clean requests h k e.
       let full = c.decide-result.ensures.full clean requests (c.recall.ensures.same requests h) k e in
       (full.0, subst (λ (limit : ℕ). limit ≤ k) c.recall.ensures.rest.1 full.1, full.2);
@@ -74,7 +70,7 @@ returns g c = record {
       let r : Request = the_request c.args.filer.now c.args.key.now c.args.target c.args.body.now in
       let held = c.recall.ensures.same requests h in
       let new = c.decide-result.new.self in
-      let same : early_of new ≡ early_of c.args.self.now = c.decide-result.ensures.early ∙ ap (λ s. s.early) c.recall.ensures.rest.0 in
+      let same : early_of new ≡ early_of c.args.self.now = c.decide-result.ensures.setting.early ∙ ap (λ s. s.early) c.recall.ensures.rest.0 in
       on_both c.decide-result.result _ _ _ (λ still _ told. (
         still,
         λ trees left. subst (λ n. LeavesRegister n (firsts (requests ++ r ∷ [])) trees) same
