@@ -1,13 +1,13 @@
--- What no refusal of a store is told as.
+-- What no store that is not closed is told as.
 use Rattle.std.proofs.Common.{◌≢◌, Result, Ok, Err, IfErr}
 use Rattle.table_rows.specs.declared.fault.StoreFault.{StoreFault}
 use Rattle.table_rows.specs.declared.fault.StoreFault.TheVariants as store
 use Rattle.filing_ends.specs.Causes.{closing_cause}
 use Rattle.filing_ends.specs.declared.cause.Cause.TheVariants as cause
 
-pub of_closing : (fault : StoreFault) → (closing_cause fault ≢ cause.NoSuch) × (closing_cause fault ≢ cause.Store)
-of_closing store.Memory = (λ e. cc, λ e. cc)
-of_closing store.Store = (λ e. cc, λ e. cc)
+pub of_closing : (fault : StoreFault) → closing_cause fault ≢ cause.Store
+of_closing store.Memory e = cc
+of_closing store.Store e = cc
 
 -- what a refusal carries on to
 pub then_err : {A E : Type 0} {P Q : E → Type 0} (answer : Result A E) → ((why : E) → P why → Q why) → IfErr answer P → IfErr answer Q

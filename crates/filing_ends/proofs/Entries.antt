@@ -59,18 +59,6 @@ short_enough false size most able short = ⊎_elim
     (λ (is : nat_le size most ≡ false). let long : most < size = grind (arith, nat_tests, is) in absurd (short (refl, long)))
     (cases_Bool (nat_le size most))
 
--- ---- the request of an entry
-
-request_found : (filer : List ℕ) (found : Option Entry) (text : List ℕ) → Some text ≡ option_map (λ e. bytes_of (request_of filer e)) found
-    → (entry : Entry) × (found ≡ Some entry) × (text ≡ bytes_of (request_of filer entry))
-request_found filer None text is = absurd (cc)
-request_found filer (Some e) text is = let bytes : text ≡ bytes_of (request_of filer e) = cc in (e, refl, bytes)
-
-pub is_request : (filer : List ℕ) (entries : List Entry) (number : ℕ) (text : List ℕ) → Some text ≡ request_at filer entries number → IsRequest filer entries number text
-is_request filer entries number text is =
-    let found = request_found filer (numbered entries number) text is in
-    record { entry = found.0; there = found.1; bytes = found.2 }
-
 -- ---- the states of all entries
 
 -- what an outbox tells of its entries is what the world tells of them

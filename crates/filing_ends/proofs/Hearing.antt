@@ -20,9 +20,7 @@ use Rattle.outbox_core.specs.declared.fault.TakeFault.TheVariants as take
 use Rattle.filer_client.specs.declared.fault.ExchangeFault.{ExchangeFault}
 use Rattle.filer_client.specs.declared.fault.ExchangeFault.TheVariants.{Write, Reply, Take}
 use Rattle.filer_client.specs.Exchange.{Hears as HearsReply, moved_at, IsFault}
-use Rattle.filing_ends.specs.declared.cause.Cause.{Cause}
-use Rattle.filing_ends.specs.declared.cause.Cause.TheVariants as cause
-use Rattle.filing_ends.specs.Outboxes.{cause_of_unheard}
+use Rattle.filing_ends.specs.Outboxes.{why_unheard}
 
 -- bytes that begin with a reply give it
 gives : (bytes : List ℕ) (reply : ReplyParts) (n : ℕ) → n ≤ length bytes → BeginsReply bytes reply n → GivesReply bytes reply
@@ -55,7 +53,7 @@ never_failed : HasFailed 0 0 → ⊥
 never_failed failed = ⊎_elim (λ less. omega (arith, less)) (λ top. omega (arith, top)) failed
 
 -- where none was read, and memory did not run out, none is heard
-none_read : (bytes left : List ℕ) (fault : ReplyFault) → IsReplyFailure (Some bytes) (Some left) 0 0 fault → cause_of_unheard (Reply fault) ≡ None → Hears bytes No None
+none_read : (bytes left : List ℕ) (fault : ReplyFault) → IsReplyFailure (Some bytes) (Some left) 0 0 fault → why_unheard (Reply fault) ≡ None → Hears bytes No None
 none_read bytes left Cut (fine, end, (given, all, cut)) none =
     let same : bytes ≡ given = all ∙ ap (λ rest. given ++ rest) end ∙ append-nil given in
     inl (λ reply g. cut.none reply (subst (λ bs. GivesReply bs reply) same g))
@@ -66,7 +64,7 @@ none_read bytes left Read failed none = absurd (never_failed failed)
 none_read bytes left ReadLimit (fine, (given, all, (many, cut))) none = let size = ap length all ∙ length-append given left in inr (omega (arith, size, many))
 none_read bytes left Memory why none = absurd (cc)
 
-unheard : (bytes left : List ℕ) (fault : ExchangeFault) → IsFault (Some bytes) (Some left) 0 0 0 0 fault → cause_of_unheard fault ≡ None → Hears bytes No None
+unheard : (bytes left : List ℕ) (fault : ExchangeFault) → IsFault (Some bytes) (Some left) 0 0 0 0 fault → why_unheard fault ≡ None → Hears bytes No None
 unheard bytes left (Reply fault) why none = none_read bytes left fault why.0 none
 unheard bytes left (Take take.NoEntry) why none = absurd (cc)
 unheard bytes left (Take take.Memory) why none = absurd (cc)
@@ -83,19 +81,5 @@ moves_as_heard bytes old left entries number to same (reply, given, is) what her
     let state : to ≡ moved what.state reply = cc in
     (Some reply, heard_reply bytes left reply (subst (λ bs. HasGiven (Some bs) (Some left) (λ front. GivesReply front reply)) same given), state)
 
-pub hears_none : (bytes old left : List ℕ) (fault : ExchangeFault) → old ≡ bytes → IsFault (Some old) (Some left) 0 0 0 0 fault → None ≡ cause_of_unheard fault → Hears bytes No None
+pub hears_none : (bytes old left : List ℕ) (fault : ExchangeFault) → old ≡ bytes → IsFault (Some old) (Some left) 0 0 0 0 fault → None ≡ why_unheard fault → Hears bytes No None
 hears_none bytes old left fault same why none = unheard bytes left fault (subst (λ bs. IsFault (Some bs) (Some left) 0 0 0 0 fault) same why) (sym none)
-
--- What was not taken is told as want of memory or as a refusal.
-pub unheard_as : (fault : ExchangeFault) (why : Cause) → Some why ≡ cause_of_unheard fault → (why ≡ cause.Memory) ⊎ (why ≡ cause.Store)
-unheard_as (Reply Cut) why is = absurd (cc)
-unheard_as (Reply Malformed) why is = absurd (cc)
-unheard_as (Reply NoLength) why is = absurd (cc)
-unheard_as (Reply TooLarge) why is = absurd (cc)
-unheard_as (Reply Read) why is = absurd (cc)
-unheard_as (Reply ReadLimit) why is = absurd (cc)
-unheard_as (Reply Memory) why is = inl (cc)
-unheard_as (Take take.NoEntry) why is = inr (cc)
-unheard_as (Take take.Memory) why is = inl (cc)
-unheard_as (Take take.Store) why is = inr (cc)
-unheard_as (Write sent) why is = inr (cc)

@@ -18,6 +18,11 @@ reopen_cause_by refusal.Memory = cause.Memory
 reopen_cause_by refusal.Disk = cause.Reopen
 reopen_cause_by refusal.Other = cause.Reopen
 
+-- of a call on a store
+abbrev pub store_cause : StoreFault → Cause
+store_cause store.Memory = cause.Memory
+store_cause store.Store = cause.Store
+
 -- of a database that was not opened
 abbrev pub reopen_cause : Error → Cause
 reopen_cause error = reopen_cause_by (cause_of error)

@@ -11,8 +11,8 @@ use Rattle.outbox_core.specs.Entries.{set_state}
 use Rattle.filing_model.specs.Views.{view_state}
 use Rattle.filer_client.specs.declared.fault.ExchangeFault.{ExchangeFault}
 use Rattle.filer_client.specs.declared.fault.ExchangeFault.TheVariants.{Write, Reply, Take}
-use Rattle.filing_ends.specs.declared.cause.Cause.{Cause}
-use Rattle.filing_ends.specs.declared.cause.Cause.TheVariants as cause
+use Rattle.table_rows.specs.declared.fault.StoreFault.{StoreFault}
+use Rattle.table_rows.specs.declared.fault.StoreFault.TheVariants as store
 use Rattle.filing_ends.specs.declared.outboxes.Opening.{Opening}
 use Rattle.filing_ends.specs.declared.outboxes.Opening.TheVariants.{Made, Found}
 
@@ -37,29 +37,21 @@ abbrev pub after_answer : {A E X : Type 0} → Result A E → X → (A → X) �
 after_answer (Ok answer) old left = left answer
 after_answer (Err fault) old left = old
 
--- ---- what is sent
-
--- the bytes of the request of the entry of this number, of a filer with these entries
-pub record IsRequest (filer : List ℕ) (entries : List Entry) (number : ℕ) (text : List ℕ) : Type 0 where
-  pub entry : Entry
-  pub there : numbered entries number ≡ Some entry
-  pub bytes : text ≡ bytes_of (request_of filer entry)
-
 -- ---- what is heard
 
--- A reply that cannot be read is none, and moves nothing. Want of memory is told, and so is an outbox that does not take a reply.
-abbrev pub cause_of_unheard : ExchangeFault → Option Cause
-cause_of_unheard (Reply Cut) = None
-cause_of_unheard (Reply Malformed) = None
-cause_of_unheard (Reply NoLength) = None
-cause_of_unheard (Reply TooLarge) = None
-cause_of_unheard (Reply ReadLimit) = None
-cause_of_unheard (Reply Read) = None
-cause_of_unheard (Reply Memory) = Some cause.Memory
-cause_of_unheard (Take take.Memory) = Some cause.Memory
-cause_of_unheard (Take take.NoEntry) = Some cause.Store
-cause_of_unheard (Take take.Store) = Some cause.Store
-cause_of_unheard (Write sent) = Some cause.Store
+-- A reply that cannot be read is none, and moves nothing. Else memory ran out, or the outbox did not take the reply.
+abbrev pub why_unheard : ExchangeFault → Option StoreFault
+why_unheard (Reply Cut) = None
+why_unheard (Reply Malformed) = None
+why_unheard (Reply NoLength) = None
+why_unheard (Reply TooLarge) = None
+why_unheard (Reply ReadLimit) = None
+why_unheard (Reply Read) = None
+why_unheard (Reply Memory) = Some store.Memory
+why_unheard (Take take.Memory) = Some store.Memory
+why_unheard (Take take.NoEntry) = Some store.Store
+why_unheard (Take take.Store) = Some store.Store
+why_unheard (Write sent) = Some store.Store
 
 -- the state that an entry came to, or its own
 abbrev pub state_or : State → Option Stored → State

@@ -6,11 +6,9 @@ use sqlite::Error as DatabaseError;
 use std::alloc::AllocError;
 use table_rows::{Cause as Refusal, StoreFault};
 
-/// Why an end, or what plays events on the ends, did not do what it was asked.
+/// Why an end was not made, opened, asked or closed.
 #[derive(Clone, Copy, Debug, PartialEq, Eq)]
 pub enum Cause {
-    /// What was named is not there.
-    NoSuch,
     /// No memory was left.
     Memory,
     /// A database refused for another cause, or its end is down.
@@ -30,14 +28,27 @@ impl From<AllocError> for Cause {
     }
 }
 
+impl From<StoreFault> for Cause {
+    ghost use Rattle.std.specs.Prelude.{◌≡◌};
+    ghost use Rattle.filing_ends.specs.Causes.{store_cause};
+
+    ghost from_gives = { λ fault cause. cause ≡ store_cause fault };
+
+    fn from(fault: StoreFault) -> Cause {
+        match fault {
+            StoreFault::Memory => Cause::Memory,
+            StoreFault::Store => Cause::Store,
+        }
+    }
+}
+
 impl Cause {
-    ghost use Rattle.std.specs.Prelude.{◌≡◌, ◌≢◌};
+    ghost use Rattle.std.specs.Prelude.{◌≡◌};
     ghost use Rattle.filing_ends.specs.Causes.{reopen_cause, register_cause, outbox_cause, closing_cause};
 
     /// The cause where a database was not opened.
     pub(crate) fn of_opening(error: DatabaseError) -> Cause
-        ensures cause { result ≡ reopen_cause error }
-        ensures other { result ≢ Cause.NoSuch }
+        ensures { result ≡ reopen_cause error }
     {
         match Refusal::from(error) {
             Refusal::Memory => Cause::Memory,

@@ -15,7 +15,7 @@ use crate::opening::new_files;
 use crate::registers::{Answered, ListRegister, Opening, Serve, ask, files_of_intake, intake_in};
 use gateway_server::Stop;
 use intake_core::{Intake, Unavailable};
-use register_store::Registered;
+use register_store::{Registered, StoreFault};
 use sqlite::{FileStore, Files};
 use std::alloc::Global;
 
@@ -47,27 +47,24 @@ impl<D: Honest> IntakeProcess<D> {
         requires { limit ≤ 2 ^ 62 }
         ensures kept { IfOk result (λ process. Keeps process limit (firsts [])) }
         ensures up { IfOk result (λ process. is_up process ≡ true) }
-        ensures other { result ≢ Err Cause.NoSuch }
     {
         let files = new_files(alloc);
         Ok(IntakeProcess::Up(intake_in(alloc, files, Opening::Made, limit)?))
     }
 
     /// What serving these bytes came to, up to a stop. `Store` comes where it is down.
-    pub fn serve(&mut self, alloc: Global, bytes: &[u8], stop: Stop) -> Result<Answered, Cause>
+    pub fn serve(&mut self, alloc: Global, bytes: &[u8], stop: Stop) -> Result<Answered, StoreFault>
         ensures serves { (limit : ℕ) (done : List Request) → Keeps self.old limit (firsts done) → is_up self.old ≡ true
             → IfOk result (λ a. (arrivals : List Arrival)
             × ServesUntil limit done bytes.now (view_stop stop) arrivals a.marks.items a.ended a.text.items
             × Keeps self.new limit (firsts (done ++ completed arrivals a.marks.items))) }
         ensures up { is_up self.new ≡ is_up self.old }
-        ensures other { result ≢ Err Cause.NoSuch }
-        ensures reopen { result ≢ Err Cause.Reopen }
-        ensures store { is_up self.old ≡ true → result ≢ Err Cause.Store }
+        ensures store { is_up self.old ≡ true → result ≢ Err StoreFault.Store }
     {
         match self {
             IntakeProcess::Up(intake) => Ok(ask(alloc, intake, Serve { bytes, stop })?),
-            IntakeProcess::Down(_files) => Err(Cause::Store),
-            IntakeProcess::Gone => Err(Cause::Store),
+            IntakeProcess::Down(_files) => Err(StoreFault::Store),
+            IntakeProcess::Gone => Err(StoreFault::Store),
         }
     }
 
@@ -79,7 +76,6 @@ impl<D: Honest> IntakeProcess<D> {
         ensures down { IfOk result (λ process. is_up process ≡ false) }
         ensures files { IfOk result (λ process. is_down process ≡ true) }
         ensures refused { IfErr result (IsNotStopped self) }
-        ensures other { result ≢ Err Cause.NoSuch }
         ensures store { result ≢ Err Cause.Store }
     {
         match self {
@@ -97,7 +93,6 @@ impl<D: Honest> IntakeProcess<D> {
             → IfOk result (λ process. Keeps process limit F) }
         ensures up { IfOk result (λ process. is_up process ≡ true) }
         ensures refused { IfErr result (IsNotStarted self) }
-        ensures other { result ≢ Err Cause.NoSuch }
         ensures store { result ≢ Err Cause.Store }
     {
         match self {

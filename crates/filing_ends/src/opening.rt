@@ -1,10 +1,11 @@
 //! A database is made in files, and opened again.
 
-ghost use Rattle.std.specs.Prelude.{◌≡◌, ◌≢◌, ◌↔◌, false, None, IsTrue, IfOk, IfErr, Err};
+ghost use Rattle.std.specs.Prelude.{◌≡◌, ◌≢◌, ◌↔◌, IsTrue, IfOk, IfErr, Err};
 ghost use Rattle.sqlite.specs.Effect.{Database};
 ghost use Rattle.sqlite.specs.Files.{file_state, Finds};
 ghost use Rattle.sqlite.specs.Held.{state};
 ghost use Rattle.table_rows.specs.Files.{HoldsDatabase};
+ghost use Rattle.table_rows.specs.Standing.{IsAtRest};
 ghost use Rattle.table_rows.specs.Tables.{no_schema};
 ghost use Rattle.filing_ends.specs.Refusals.{FailToOpen};
 
@@ -26,7 +27,6 @@ fn is_empty(schema: &Schema) -> bool
 pub(crate) fn without_tables<S: Faithful>(conn: Connection<S>) -> Result<Connection<S>, Cause>
     ensures same { IfOk result (λ it. it ≡ conn) }
     ensures empty { IfOk result (λ it. (state S.Store it).now.schema ≡ no_schema) }
-    ensures other { result ≢ Err Cause.NoSuch }
 {
     if is_empty(conn.schema()) {
         Ok(conn)
@@ -54,11 +54,10 @@ pub(crate) fn open<D: Honest>(
 ) -> Result<Connection<FileStore<D>>, Cause>
     requires log { IsTrue (D.Disk.is_usable files.log) }
     requires db { IsTrue (D.Disk.is_usable files.db) }
-    ensures idle { IfOk result (λ conn. (conn.in_transaction ≡ false) × (conn.step_limit ≡ None)) }
+    ensures rest { IfOk result IsAtRest }
     ensures found { IfOk result (λ conn. (db : Database) → HoldsDatabase D.Disk files db → (file_state conn).now ≡ db) }
     ensures lies { IfOk result (Finds files) }
     ensures refused { IfErr result (FailToOpen D.Disk files) }
-    ensures other { result ≢ Err Cause.NoSuch }
     ensures store { result ≢ Err Cause.Store }
 {
     match Connection::open_files(alloc, files, Options::new(1)) {

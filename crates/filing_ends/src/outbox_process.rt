@@ -1,18 +1,19 @@
 //! The process that an outbox in files runs in.
 
-ghost use Rattle.std.specs.Prelude.{◌≡◌, ◌≢◌, ◌++◌, ◌∷◌, [], ℕ, List, map, true, false, Option, Some, None, IsTrue, IfOk, IfErr, Err, if◌then◌else◌};
+ghost use Rattle.std.specs.Prelude.{◌≡◌, ◌≢◌, ◌++◌, ◌∷◌, [], ℕ, List, map, true, false, Option, Some, option_map, IsTrue, IfOk, IfErr, Err, if◌then◌else◌};
 ghost use Rattle.key_string.specs.Filer.{is_filer};
 ghost use Rattle.http_messages.specs.Posting.{IsTarget};
 ghost use Rattle.http_messages.specs.Reply.{ReplyParts};
 ghost use Rattle.filing_model.specs.Outbox.{Entry as Item};
 ghost use Rattle.filing_model.specs.Stopping.{No};
 ghost use Rattle.filing_world.specs.World.{numbered};
+ghost use Rattle.filer_client.specs.Exchange.{request_at};
 ghost use Rattle.filing_world.specs.Step.{takes, Hears, heard_by};
 ghost use Rattle.filing_world.specs.Headline.{states_of};
 ghost use Rattle.outbox_core.specs.Entries.{opened};
 ghost use Rattle.filing_ends.specs.Listed.{listed};
 ghost use Rattle.filing_ends.specs.OutboxProcess.{Keeps, is_up, is_down, is_asleep, IsNotStopped, IsNotStarted};
-ghost use Rattle.filing_ends.specs.Outboxes.{up_with, after_answer, IsRequest, state_or, entries_after};
+ghost use Rattle.filing_ends.specs.Outboxes.{up_with, after_answer, state_or, entries_after};
 
 use crate::cause::Cause;
 use crate::honest::Honest;
@@ -54,7 +55,6 @@ impl<D: Honest> OutboxProcess<D> {
         requires { is_filer filer.now ≡ true }
         ensures kept { IfOk result (λ process. Keeps process filer.now []) }
         ensures up { IfOk result (λ process. is_up process ≡ true) }
-        ensures other { result ≢ Err Cause.NoSuch }
     {
         let files = new_files(alloc);
         Ok(OutboxProcess::Up(outbox_in(alloc, files, Opening::Made { filer })?))
@@ -68,7 +68,6 @@ impl<D: Honest> OutboxProcess<D> {
         ensures down { IfOk result (λ process. is_up process ≡ false) }
         ensures files { IfOk result (λ process. is_down process ≡ true) }
         ensures refused { IfErr result (IsNotStopped self) }
-        ensures other { result ≢ Err Cause.NoSuch }
         ensures store { result ≢ Err Cause.Store }
     {
         match self {
@@ -85,7 +84,6 @@ impl<D: Honest> OutboxProcess<D> {
             → IfOk result (λ process. Keeps process filer entries) }
         ensures up { IfOk result (λ process. is_up process ≡ true) }
         ensures refused { IfErr result (IsNotStarted self) }
-        ensures other { result ≢ Err Cause.NoSuch }
         ensures store { result ≢ Err Cause.Store }
     {
         match self {
@@ -106,64 +104,52 @@ impl<D: Honest> OutboxProcess<D> {
         key: &KeyText,
         target: Option<u64>,
         body: &[u8],
-    ) -> Result<bool, Cause>
+    ) -> Result<bool, StoreFault>
         requires { IsTarget target }
         ensures taken { (filer : List ℕ) (entries : List Item) → Keeps self.old filer entries
             → IfOk result (λ is_taken. is_taken ≡ takes (up_with filer entries) (opened key.now target body.now)) }
         ensures kept { (filer : List ℕ) (entries : List Item) → Keeps self.old filer entries → Keeps self.new filer
             (after_answer result entries (λ t. if t then entries ++ opened key.now target body.now ∷ [] else entries)) }
         ensures up { is_up self.new ≡ is_up self.old }
-        ensures other { (filer : List ℕ) (entries : List Item) → Keeps self.old filer entries
-            → result ≢ Err Cause.NoSuch }
-        ensures reopen { (filer : List ℕ) (entries : List Item) → Keeps self.old filer entries
-            → result ≢ Err Cause.Reopen }
     {
         match self {
             OutboxProcess::Up(outbox) => ask(alloc, outbox, Put { key, target, body }),
-            OutboxProcess::Down(_files) => Err(Cause::Store),
-            OutboxProcess::Gone => Err(Cause::Store),
+            OutboxProcess::Down(_files) => Err(StoreFault::Store),
+            OutboxProcess::Gone => Err(StoreFault::Store),
         }
     }
 
-    /// The bytes of the request of the entry of this number, whatever its state. `NoSuch` comes where there is none,
-    /// and `Store` where the outbox is down, or refused for another cause than memory.
-    pub fn request(&mut self, alloc: Global, number: u64) -> Result<Vec<u8>, Cause>
+    /// The bytes of the request of the entry of this number, whatever its state, or `None` if there is no such entry.
+    /// `Store` comes if the outbox is down, or refused for another cause than memory.
+    pub fn request(&mut self, alloc: Global, number: u64) -> Result<Option<Vec<u8>>, StoreFault>
         ensures bytes { (filer : List ℕ) (entries : List Item) → Keeps self.old filer entries
-            → IfOk result (λ text. IsRequest filer entries number text.items) }
+            → IfOk result (λ text. option_map (λ t. t.items) text ≡ request_at filer entries number) }
         ensures kept { (filer : List ℕ) (entries : List Item) → Keeps self.old filer entries
             → Keeps self.new filer entries }
         ensures up { is_up self.new ≡ is_up self.old }
-        ensures no_such { (filer : List ℕ) (entries : List Item) → Keeps self.old filer entries
-            → result ≡ Err Cause.NoSuch → numbered entries number ≡ None }
-        ensures reopen { (filer : List ℕ) (entries : List Item) → Keeps self.old filer entries
-            → result ≢ Err Cause.Reopen }
     {
         match self {
             OutboxProcess::Up(outbox) => ask(alloc, outbox, WriteRequest { number }),
-            OutboxProcess::Down(_files) => Err(Cause::Store),
-            OutboxProcess::Gone => Err(Cause::Store),
+            OutboxProcess::Down(_files) => Err(StoreFault::Store),
+            OutboxProcess::Gone => Err(StoreFault::Store),
         }
     }
 
     /// It hears these bytes as the reply to the entry of this number, and answers the state that the entry came to,
     /// or `None` where the bytes give no reply. `Store` comes where it is down, or did not take the reply for another
     /// cause than memory.
-    pub fn hear(&mut self, alloc: Global, number: u64, bytes: &[u8]) -> Result<Option<State>, Cause>
+    pub fn hear(&mut self, alloc: Global, number: u64, bytes: &[u8]) -> Result<Option<State>, StoreFault>
         ensures heard { (filer : List ℕ) (entries : List Item) → Keeps self.old filer entries → IfOk result (λ to.
             (what : Item) → numbered entries number ≡ Some what → (heard : Option ReplyParts) × Hears bytes.now No heard
             × (state_or what.state to ≡ heard_by what.state heard)) }
         ensures kept { (filer : List ℕ) (entries : List Item) → Keeps self.old filer entries
             → Keeps self.new filer (after_answer result entries (entries_after entries number)) }
         ensures up { is_up self.new ≡ is_up self.old }
-        ensures other { (filer : List ℕ) (entries : List Item) → Keeps self.old filer entries
-            → result ≢ Err Cause.NoSuch }
-        ensures reopen { (filer : List ℕ) (entries : List Item) → Keeps self.old filer entries
-            → result ≢ Err Cause.Reopen }
     {
         match self {
             OutboxProcess::Up(outbox) => ask(alloc, outbox, HearReply { number, bytes }),
-            OutboxProcess::Down(_files) => Err(Cause::Store),
-            OutboxProcess::Gone => Err(Cause::Store),
+            OutboxProcess::Down(_files) => Err(StoreFault::Store),
+            OutboxProcess::Gone => Err(StoreFault::Store),
         }
     }
 

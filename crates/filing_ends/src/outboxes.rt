@@ -1,12 +1,13 @@
 //! An outbox is made, opened, called and closed. A call is a value, a `Call`: what it does is written over any store,
 //! and `ask` is the one function that makes it on a store in files, since each such function costs much to prove.
 
-ghost use Rattle.std.specs.Prelude.{◌≡◌, ◌≢◌, ◌++◌, ◌∷◌, [], ℕ, List, Bool, map, true, false, Option, Some, None, IsTrue, IfOk, IfErr, Err, if◌then◌else◌};
+ghost use Rattle.std.specs.Prelude.{◌≡◌, ◌≢◌, ◌++◌, ◌∷◌, [], ℕ, List, Bool, map, true, Option, Some, option_map, IsTrue, IfOk, IfErr, Err, if◌then◌else◌};
 ghost use Rattle.key_string.specs.Filer.{is_filer};
 ghost use Rattle.http_messages.specs.Reply.{ReplyParts};
 ghost use Rattle.filing_model.specs.Outbox.{Entry as Item};
 ghost use Rattle.filing_model.specs.Stopping.{No};
 ghost use Rattle.filing_world.specs.World.{Outbox as Ours, numbered};
+ghost use Rattle.filer_client.specs.Exchange.{request_at};
 ghost use Rattle.filing_world.specs.Step.{takes, Hears, heard_by};
 ghost use Rattle.filing_world.specs.Headline.{states_of};
 ghost use Rattle.sqlite.specs.Files.{over_files};
@@ -18,10 +19,10 @@ ghost use Rattle.outbox_core.specs.Entries.{opened};
 ghost use Rattle.outbox_core.specs.Files.{HoldOutbox};
 ghost use Rattle.outbox_opening.specs.Rows.{IsOutboxOf};
 ghost use Rattle.table_rows.specs.declared.fault.StoreFault.TheVariants.{Store as Refused};
+ghost use Rattle.table_rows.specs.Standing.{IsAtRest};
 ghost use Rattle.filing_ends.specs.Listed.{listed};
 ghost use Rattle.filing_ends.specs.Refusals.{AreRefused, RefusesFiler, IsNotClosed};
-ghost use Rattle.filing_ends.specs.declared.cause.Cause.TheVariants.{NoSuch, Reopen};
-ghost use Rattle.filing_ends.specs.Outboxes.{up_with, after_answer, ComesWith, IsForFiler, IsRequest, cause_of_unheard, state_or, entries_after};
+ghost use Rattle.filing_ends.specs.Outboxes.{up_with, after_answer, ComesWith, IsForFiler, why_unheard, state_or, entries_after};
 
 use crate::bytes::Given;
 use crate::cause::Cause;
@@ -43,9 +44,8 @@ fn make_outbox<S: Faithful>(
     filer: &str,
 ) -> Result<Outbox<S>, Cause>
     requires filer { is_filer filer.now ≡ true }
-    requires idle { (conn.in_transaction ≡ false) × (conn.step_limit ≡ None) }
+    requires rest { IsAtRest conn }
     ensures made { IfOk result (λ outbox. HasEntries S.Store outbox [] × (outbox.filer ≡ filer.now)) }
-    ensures other { result ≢ Err Cause.NoSuch }
 {
     match Outbox::create_or_back(alloc, without_tables(conn)?, filer) {
         Ok(outbox) => Ok(outbox),
@@ -56,11 +56,10 @@ fn make_outbox<S: Faithful>(
 
 /// The outbox that lies in this database.
 fn open_outbox<S: Faithful>(alloc: Global, conn: Connection<S>) -> Result<Outbox<S>, Cause>
-    requires { (conn.in_transaction ≡ false) × (conn.step_limit ≡ None) }
+    requires { IsAtRest conn }
     ensures opened { (it : Contents) → IsOutboxOf it (state S.Store conn).now
         → IfOk result (λ outbox. HasEntries S.Store outbox it.entries × (outbox.filer ≡ it.filer)) }
     ensures refused { IfErr result (RefusesFiler S.Store conn) }
-    ensures other { result ≢ Err Cause.NoSuch }
     ensures store { result ≢ Err Cause.Store }
 {
     match Outbox::open_or_back(alloc, conn) {
@@ -85,11 +84,10 @@ fn outbox_over<S: Faithful>(
     opening: Opening<'_>,
 ) -> Result<Outbox<S>, Cause>
     requires filer { IsForFiler opening }
-    requires idle { (conn.in_transaction ≡ false) × (conn.step_limit ≡ None) }
+    requires rest { IsAtRest conn }
     ensures opened { (it : Contents) → ComesWith opening.entry (IsOutboxOf it (state S.Store conn).now) it
         → IfOk result (λ outbox. HasEntries S.Store outbox it.entries × (outbox.filer ≡ it.filer)) }
     ensures refused { opening.entry ≡ Opening.Found → IfErr result (RefusesFiler S.Store conn) }
-    ensures other { result ≢ Err Cause.NoSuch }
     ensures store { opening.entry ≡ Opening.Found → result ≢ Err Cause.Store }
 {
     match opening {
@@ -108,7 +106,6 @@ pub(crate) fn outbox_in<D: Honest>(
     ensures opened { (it : Contents) → ComesWith opening.entry (HoldOutbox D.Disk files it) it
         → IfOk result (λ outbox. HasEntries over_files outbox it.entries × (outbox.filer ≡ it.filer)) }
     ensures refused { opening.entry ≡ Opening.Found → IfErr result (AreRefused D.Disk files (RefusesFiler over_files)) }
-    ensures other { result ≢ Err Cause.NoSuch }
     ensures store { opening.entry ≡ Opening.Found → result ≢ Err Cause.Store }
 {
     if !files.may_be_used() {
@@ -122,7 +119,6 @@ pub(crate) fn files_of_outbox<D: Honest>(outbox: Outbox<FileStore<D>>) -> Result
     ensures held { (entries : List Item) → HasEntries over_files outbox entries
         → IfOk result (λ files. HoldOutbox D.Disk files (contents outbox entries)) }
     ensures refused { IfErr result (IsNotClosed outbox.conn) }
-    ensures other { result ≢ Err Cause.NoSuch }
     ensures store { result ≢ Err Cause.Store }
 {
     match outbox.into_files() {
@@ -186,65 +182,67 @@ pub(crate) struct Put<'a> {
 }
 
 impl Call for Put<'_> {
-    type Answer = Result<bool, Cause>;
+    type Answer = Result<bool, StoreFault>;
 
     ghost may_be_made = { λ put. IsTarget put.target };
 
     ghost answers = { λ put box answer.
-        IfOk answer (λ is_taken. is_taken ≡ takes box (opened put.key.now put.target put.body.now))
-        × (answer ≢ Err NoSuch) × (answer ≢ Err Reopen) };
+        IfOk answer (λ is_taken. is_taken ≡ takes box (opened put.key.now put.target put.body.now)) };
 
     ghost leaves = { λ put entries answer.
         after_answer answer entries (λ is_taken.
         if is_taken then entries ++ opened put.key.now put.target put.body.now ∷ [] else entries) };
 
-    fn on<S: Faithful>(self, alloc: Global, outbox: &mut Outbox<S>) -> Result<bool, Cause> {
+    fn on<S: Faithful>(self, alloc: Global, outbox: &mut Outbox<S>) -> Result<bool, StoreFault> {
         let key = copy_key(alloc, self.key)?;
         let body = Vec::from_slice(alloc, self.body)?;
         match outbox.put(key, self.target, body) {
             Ok(_id) => Ok(true),
             Err(PutFault::TooLarge) => Ok(false),
             Err(PutFault::KeyUsed { .. }) => Ok(false),
-            Err(PutFault::Memory) => Err(Cause::Memory),
-            Err(PutFault::Store) => Err(Cause::Store),
+            Err(PutFault::Memory) => Err(StoreFault::Memory),
+            Err(PutFault::Store) => Err(StoreFault::Store),
         }
     }
 }
 
-/// The bytes of the request of the entry of this number are made, whatever its state.
+/// The bytes of the request of the entry of this number are made, whatever its state, if there is such an entry.
 #[derive(Drop)]
 pub(crate) struct WriteRequest {
     pub(crate) number: u64,
 }
 
 impl Call for WriteRequest {
-    type Answer = Result<Vec<u8>, Cause>;
+    type Answer = Result<Option<Vec<u8>>, StoreFault>;
 
     ghost answers = { λ call box answer.
-        IfOk answer (λ text. IsRequest box.filer box.entries call.number text.items)
-        × (answer ≡ Err NoSuch → numbered box.entries call.number ≡ None) × (answer ≢ Err Reopen) };
+        IfOk answer (λ text. option_map (λ t. t.items) text ≡ request_at box.filer box.entries call.number) };
 
     ghost leaves = { λ _ entries _. entries };
 
-    fn on<S: Faithful>(self, alloc: Global, outbox: &mut Outbox<S>) -> Result<Vec<u8>, Cause> {
+    fn on<S: Faithful>(
+        self,
+        alloc: Global,
+        outbox: &mut Outbox<S>,
+    ) -> Result<Option<Vec<u8>>, StoreFault> {
         match request_bytes(alloc, outbox, self.number) {
-            Ok(text) => Ok(text),
-            Err(TakeFault::NoEntry) => Err(Cause::NoSuch),
-            Err(TakeFault::Memory) => Err(Cause::Memory),
-            Err(TakeFault::Store) => Err(Cause::Store),
+            Ok(text) => Ok(Some(text)),
+            Err(TakeFault::NoEntry) => Ok(None),
+            Err(TakeFault::Memory) => Err(StoreFault::Memory),
+            Err(TakeFault::Store) => Err(StoreFault::Store),
         }
     }
 }
 
-/// What a reply that was not taken means: a cause, or nothing where the bytes give no reply.
-fn cause_of_unheard(fault: ExchangeFault) -> Option<Cause>
-    ensures { result ≡ cause_of_unheard fault }
+/// Why a reply was not taken, or nothing if the bytes give no reply.
+fn why_unheard(fault: ExchangeFault) -> Option<StoreFault>
+    ensures { result ≡ why_unheard fault }
 {
     match fault {
-        ExchangeFault::Reply(ReplyFault::Memory) => Some(Cause::Memory),
+        ExchangeFault::Reply(ReplyFault::Memory) => Some(StoreFault::Memory),
         ExchangeFault::Reply(_) => None,
-        ExchangeFault::Take(TakeFault::Memory) => Some(Cause::Memory),
-        ExchangeFault::Take(_) | ExchangeFault::Write { .. } => Some(Cause::Store),
+        ExchangeFault::Take(TakeFault::Memory) => Some(StoreFault::Memory),
+        ExchangeFault::Take(_) | ExchangeFault::Write { .. } => Some(StoreFault::Store),
     }
 }
 
@@ -257,14 +255,13 @@ pub(crate) struct HearReply<'a> {
 }
 
 impl Call for HearReply<'_> {
-    type Answer = Result<Option<State>, Cause>;
+    type Answer = Result<Option<State>, StoreFault>;
 
     ghost answers = { λ call box answer.
         IfOk answer (λ to.
         (what : Item) → numbered box.entries call.number ≡ Some what
         → (heard : Option ReplyParts) × Hears call.bytes.now No heard
-        × (state_or what.state to ≡ heard_by what.state heard))
-        × (answer ≢ Err NoSuch) × (answer ≢ Err Reopen) };
+        × (state_or what.state to ≡ heard_by what.state heard)) };
 
     ghost leaves = { λ call entries answer.
         after_answer answer entries (λ to. entries_after entries call.number to) };
@@ -273,12 +270,12 @@ impl Call for HearReply<'_> {
         self,
         alloc: Global,
         outbox: &mut Outbox<S>,
-    ) -> Result<Option<State>, Cause> {
+    ) -> Result<Option<State>, StoreFault> {
         let mut reader = Given::new(self.bytes);
         match hand_over(alloc, &mut reader, outbox, self.number) {
             Ok(state) => Ok(Some(state)),
-            Err(fault) => match cause_of_unheard(fault) {
-                Some(cause) => Err(cause),
+            Err(fault) => match why_unheard(fault) {
+                Some(why) => Err(why),
                 None => Ok(None),
             },
         }

@@ -2,7 +2,7 @@
 //! written over any store, and `ask` is the one function that makes it on a store in files, since each such function
 //! costs much to prove.
 
-ghost use Rattle.std.specs.Prelude.{◌≡◌, ◌≢◌, ◌≤◌, ◌^◌, ◌++◌, ◌↔◌, [], ℕ, Bool, List, Some, None, IfOk, IfErr, Err, true, false};
+ghost use Rattle.std.specs.Prelude.{◌≡◌, ◌≢◌, ◌≤◌, ◌^◌, ◌++◌, ◌↔◌, [], ℕ, Bool, List, Some, IfOk, IfErr, Err, true};
 ghost use Rattle.http_messages.specs.Message.{Arrival};
 ghost use Rattle.http_messages.specs.declared.refusal.ConnFault.TheVariants.{Write};
 ghost use Rattle.filing_model.specs.declared.served.Ended.TheVariants.{Fault};
@@ -13,11 +13,12 @@ ghost use Rattle.filing_model.specs.Text.{completed};
 ghost use Rattle.sqlite.specs.Files.{over_files};
 ghost use Rattle.sqlite.specs.Held.{state};
 ghost use Rattle.register_opening.specs.Registers.{IsRegisterOf};
+ghost use Rattle.table_rows.specs.Standing.{IsAtRest};
 ghost use Rattle.register_store.specs.Files.{HoldRegister};
-ghost use Rattle.intake_core.specs.Held.{limit_of, early_of, has_stopped};
+ghost use Rattle.intake_core.specs.Held.{limit_of, has_stopped};
 ghost use Rattle.intake_core.specs.declared.intake.Unavailable.TheVariants.{Down, Full};
 ghost use Rattle.gateway_server.specs.Stopping.{view_stop};
-ghost use Rattle.filing_ends.specs.Registers.{HoldsNew, ComesWith, conn_of};
+ghost use Rattle.filing_ends.specs.Registers.{HoldsNew, IsNewWith, ComesWith, conn_of};
 ghost use Rattle.filing_ends.specs.Refusals.{AreRefused, RefusesIntake, IsNotClosed};
 
 use crate::bytes::{Given, Kept};
@@ -41,11 +42,9 @@ fn make_intake<S: Faithful>(
     limit: u64,
 ) -> Result<Intake<S>, Cause>
     requires limit { limit ≤ 2 ^ 62 }
-    requires idle { (conn.in_transaction ≡ false) × (conn.step_limit ≡ None) }
+    requires rest { IsAtRest conn }
     ensures made { IfOk result (λ intake. HoldsNew S.Store intake []) }
-    ensures limit { IfOk result (λ intake. limit_of intake ≡ limit) }
-    ensures problem { IfOk result (λ intake. early_of intake ≡ 0) }
-    ensures other { result ≢ Err Cause.NoSuch }
+    ensures new { IfOk result (IsNewWith limit) }
 {
     match Store::create_or_back(alloc, without_tables(conn)?) {
         Ok(store) => Ok(Intake::new(alloc, store, limit)),
@@ -69,13 +68,11 @@ fn open_intake<S: Faithful>(
     limit: u64,
 ) -> Result<Intake<S>, Cause>
     requires limit { limit ≤ 2 ^ 62 }
-    requires idle { (conn.in_transaction ≡ false) × (conn.step_limit ≡ None) }
+    requires rest { IsAtRest conn }
     ensures opened { (F : List Request) → firsts F ≡ F → IsRegisterOf 0 F (state S.Store conn).now
         → IfOk result (λ intake. HoldsNew S.Store intake F) }
-    ensures limit { IfOk result (λ intake. limit_of intake ≡ limit) }
-    ensures problem { IfOk result (λ intake. early_of intake ≡ 0) }
+    ensures new { IfOk result (IsNewWith limit) }
     ensures refused { IfErr result (RefusesIntake S.Store conn) }
-    ensures other { result ≢ Err Cause.NoSuch }
     ensures store { result ≢ Err Cause.Store }
 {
     match Store::open_or_back(alloc, conn) {
@@ -107,14 +104,12 @@ fn intake_over<S: Faithful>(
     limit: u64,
 ) -> Result<Intake<S>, Cause>
     requires limit { limit ≤ 2 ^ 62 }
-    requires idle { (conn.in_transaction ≡ false) × (conn.step_limit ≡ None) }
+    requires rest { IsAtRest conn }
     ensures opened { (F : List Request) → firsts F ≡ F
         → ComesWith opening (IsRegisterOf 0 F (state S.Store conn).now) F
         → IfOk result (λ intake. HoldsNew S.Store intake F) }
-    ensures limit { IfOk result (λ intake. limit_of intake ≡ limit) }
-    ensures problem { IfOk result (λ intake. early_of intake ≡ 0) }
+    ensures new { IfOk result (IsNewWith limit) }
     ensures refused { opening ≡ Opening.Found → IfErr result (RefusesIntake S.Store conn) }
-    ensures other { result ≢ Err Cause.NoSuch }
     ensures store { opening ≡ Opening.Found → result ≢ Err Cause.Store }
 {
     match opening {
@@ -133,10 +128,8 @@ pub(crate) fn intake_in<D: Honest>(
     requires { limit ≤ 2 ^ 62 }
     ensures opened { (F : List Request) → firsts F ≡ F → ComesWith opening (HoldRegister D.Disk files 0 F) F
         → IfOk result (λ intake. HoldsNew over_files intake F) }
-    ensures limit { IfOk result (λ intake. limit_of intake ≡ limit) }
-    ensures problem { IfOk result (λ intake. early_of intake ≡ 0) }
+    ensures new { IfOk result (IsNewWith limit) }
     ensures refused { opening ≡ Opening.Found → IfErr result (AreRefused D.Disk files (RefusesIntake over_files)) }
-    ensures other { result ≢ Err Cause.NoSuch }
     ensures store { opening ≡ Opening.Found → result ≢ Err Cause.Store }
 {
     if !files.may_be_used() {
@@ -150,7 +143,6 @@ pub(crate) fn files_of_intake<D: Honest>(intake: Intake<FileStore<D>>) -> Result
     ensures held { (F : List Request) → HoldsNew over_files intake F
         → IfOk result (λ files. HoldRegister D.Disk files 0 F) }
     ensures refused { IfErr result (IsNotClosed (conn_of intake)) }
-    ensures other { result ≢ Err Cause.NoSuch }
     ensures store { result ≢ Err Cause.Store }
 {
     match intake.into_store().into_files() {

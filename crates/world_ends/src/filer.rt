@@ -1,6 +1,6 @@
 //! The filer's end: the process that its outbox runs in, with a copy of its entries.
 
-ghost use Rattle.std.specs.Prelude.{◌≡◌, ◌≢◌, ◌↔◌, ℕ, map, true, false, Option, Some, None, IsSome, IfOk, IfSome, OnOk, Err};
+ghost use Rattle.std.specs.Prelude.{◌≡◌, ◌≢◌, ◌↔◌, ℕ, map, true, false, Option, Some, option_map, IsSome, IfOk, IfSome, OnOk, Err};
 ghost use Rattle.key_string.specs.Key.{IsKey};
 ghost use Rattle.key_string.specs.Filer.{is_filer};
 ghost use Rattle.http_messages.specs.Reply.{ReplyParts};
@@ -14,8 +14,8 @@ ghost use Rattle.http_messages.specs.Posting.{IsTarget};
 ghost use Rattle.outbox_core.specs.OutboxParts.{HasEntries};
 ghost use Rattle.outbox_core.specs.Entries.{opened};
 ghost use Rattle.event_script.specs.Events.{view_crash};
+ghost use Rattle.filer_client.specs.Exchange.{request_at};
 ghost use Rattle.filing_ends.specs.Listed.{listed};
-ghost use Rattle.filing_ends.specs.Outboxes.{IsRequest};
 
 use crate::report::{Report, set_state};
 use event_script::Crash;
@@ -67,7 +67,6 @@ impl<D: Honest> Filer<D> {
     pub fn new(alloc: Global, code: &str) -> Result<Filer<D>, Cause>
         requires { is_filer code.now ≡ true }
         ensures made { IfOk result (λ f. f.box ≡ new_outbox code.now) }
-        ensures other { result ≢ Err Cause.NoSuch }
     {
         Ok(Filer {
             alloc,
@@ -86,13 +85,11 @@ impl<D: Honest> Filer<D> {
 
     /// Puts a report into the outbox. One whose body is too long, or whose key is used, is not taken, and
     /// that is no error. `Store` comes where the outbox refused for another cause than memory.
-    pub fn put(&mut self, key: &KeyText, target: Option<u64>, body: &[u8]) -> Result<(), Cause>
+    pub fn put(&mut self, key: &KeyText, target: Option<u64>, body: &[u8]) -> Result<(), StoreFault>
         requires up { self.old.box.up ≡ true }
         requires target { IsTarget target }
         ensures put { OnOk result (self.new.box ≡ with_entry self.old.box (opened key.now target body.now)) }
         ensures key { OnOk result (IsKey key.now) }
-        ensures other { result ≢ Err Cause.NoSuch }
-        ensures reopen { result ≢ Err Cause.Reopen }
     {
         let report = Report::open(self.alloc, key, target, body)?;
         self.entries.reserve(1)?;
@@ -103,14 +100,13 @@ impl<D: Honest> Filer<D> {
         Ok(())
     }
 
-    /// The bytes of the request of the entry of this number, whatever its state. `NoSuch` comes where
-    /// there is none, and `Store` where the outbox refused for another cause than memory.
-    pub fn request(&mut self, entry: u64) -> Result<Vec<u8>, Cause>
+    /// The bytes of the request of the entry of this number, whatever its state, or `None` if there is no such entry.
+    /// `Store` comes if the outbox refused for another cause than memory.
+    pub fn request(&mut self, entry: u64) -> Result<Option<Vec<u8>>, StoreFault>
         requires { self.old.box.up ≡ true }
-        ensures bytes { IfOk result (λ text. IsRequest self.old.box.filer self.old.box.entries entry text.items) }
+        ensures bytes { IfOk result (λ text.
+            option_map (λ t. t.items) text ≡ request_at self.old.box.filer self.old.box.entries entry) }
         ensures same { OnOk result (self.new.box ≡ self.old.box) }
-        ensures no_such { result ≡ Err Cause.NoSuch → numbered self.old.box.entries entry ≡ None }
-        ensures reopen { result ≢ Err Cause.Reopen }
     {
         self.process.request(self.alloc, entry)
     }
@@ -123,12 +119,11 @@ impl<D: Honest> Filer<D> {
         ensures heard { OnOk result ((what : Item) → numbered self.old.box.entries entry ≡ Some what
             → (heard : Option ReplyParts) × Hears bytes.now (view_crash crash) heard
             × (self.new.box ≡ box_after self.old.box entry what heard (view_crash crash))) }
-        ensures other { result ≢ Err Cause.NoSuch }
         ensures store { result ≡ Err Cause.Store → (j : ℕ) → view_crash crash ≢ Before j }
         ensures reopen { result ≡ Err Cause.Reopen → is_no (view_crash crash) ≡ false }
     {
         match crash {
-            Crash::No => self.hear(entry, bytes),
+            Crash::No => Ok(self.hear(entry, bytes)?),
             Crash::Before(_) => self.stop(),
             Crash::After(_) => {
                 self.hear(entry, bytes)?;
@@ -138,13 +133,11 @@ impl<D: Honest> Filer<D> {
     }
 
     /// The same without a stop.
-    fn hear(&mut self, entry: u64, bytes: &[u8]) -> Result<(), Cause>
+    fn hear(&mut self, entry: u64, bytes: &[u8]) -> Result<(), StoreFault>
         requires { self.old.box.up ≡ true }
         ensures heard { OnOk result ((what : Item) → numbered self.old.box.entries entry ≡ Some what
             → (heard : Option ReplyParts) × Hears bytes.now No heard
             × (self.new.box ≡ box_after self.old.box entry what heard No)) }
-        ensures other { result ≢ Err Cause.NoSuch }
-        ensures reopen { result ≢ Err Cause.Reopen }
     {
         if let Some(state) = self.process.hear(self.alloc, entry, bytes)? {
             set_state(&mut self.entries, entry, state);
@@ -156,7 +149,6 @@ impl<D: Honest> Filer<D> {
     /// memory.
     fn stop(&mut self) -> Result<(), Cause>
         ensures down { OnOk result (self.new.box ≡ record self.old.box { up = false }) }
-        ensures other { result ≢ Err Cause.NoSuch }
         ensures store { result ≢ Err Cause.Store }
     {
         let process = mem::replace(&mut self.process, OutboxProcess::Gone);
@@ -168,7 +160,6 @@ impl<D: Honest> Filer<D> {
     /// `Reopen` comes where it was not closed or opened for another cause than memory.
     pub fn restart(&mut self) -> Result<(), Cause>
         ensures restarted { OnOk result (self.new.box ≡ record self.old.box { up = true }) }
-        ensures other { result ≢ Err Cause.NoSuch }
         ensures store { result ≢ Err Cause.Store }
     {
         let process = mem::replace(&mut self.process, OutboxProcess::Gone);

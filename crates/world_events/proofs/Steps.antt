@@ -11,8 +11,7 @@ use Rattle.filing_world.specs.World.{World, Outbox, Sent, Output, Hand, numbered
 use Rattle.filing_world.specs.Step.{Puts, Sends, Hands, Restarts, Hears, with_entry, box_after, IsAway, CannotPlay}
 use Rattle.filing_world.specs.Invariant.{AllOwn}
 use Rattle.filing_world.proofs.Lists.{renewed_same, same_element, written}
-use Rattle.filing_ends.specs.declared.cause.Cause.{Cause}
-use Rattle.filing_ends.specs.Outboxes.{IsRequest}
+use Rattle.filer_client.specs.Exchange.{request_at}
 use Rattle.world_ends.specs.Filers.{FilerParts, boxes, sleepers}
 use Rattle.world_ends.specs.Served.{Served}
 use Rattle.world_events.specs.Played.{world_of, HasSleeper}
@@ -74,6 +73,20 @@ can_hand sent outputs filers output given outbox entry crash from item here item
     some-none : {X : Type 0} (x : X) → Some x ≡ None → ⊥
     some-none x e = cc
 
+-- what is sent for an entry is its request
+request_found : (filer : List ℕ) (found : Option Entry) (text : List ℕ) → Some text ≡ option_map (λ e. bytes_of (request_of filer e)) found
+    → (entry : Entry) × (found ≡ Some entry) × (text ≡ bytes_of (request_of filer entry))
+request_found filer None text is = absurd (cc)
+request_found filer (Some e) text is = let bytes : text ≡ bytes_of (request_of filer e) = cc in (e, refl, bytes)
+
+-- no entry has a number for which there is no request
+pub no_request : (filer : List ℕ) (entries : List Entry) (number : ℕ) → None ≡ request_at filer entries number → numbered entries number ≡ None
+no_request filer entries number is = none_mapped (numbered entries number) is
+  where
+    none_mapped : (found : Option Entry) → None ≡ option_map (λ e. bytes_of (request_of filer e)) found → found ≡ None
+    none_mapped None is = refl
+    none_mapped (Some e) is = absurd (cc)
+
 -- a world with other outboxes
 abbrev pub world_with : Served → List Sent → List Output → List Outbox → World
 world_with server sent outputs outboxes = record { limit = server.limit; done = server.done; sent = sent; outputs = outputs; outboxes = outboxes; up = server.up }
@@ -104,7 +117,7 @@ module _ (filers : List FilerParts) (at number : ℕ) (is : number ≡ suc at) (
   set : (new : FilerParts) → boxes (slice_set filers at new) ≡ renewed (boxes filers) number new.box
   set new = map-slice_set (λ f. f.box) filers at new ∙ written (boxes filers) at new.box ∙ ap (λ n. renewed (boxes filers) n new.box) (sym is)
 
-  pub put_step : box.up ≡ true → (entry : Entry) (new : FilerParts) (result : Result (Unit {0}) Cause) → OnOk result (new.box ≡ with_entry box entry) → OnOk result (IsKey entry.key) → IsTarget entry.target
+  pub put_step : {E : Type 0} → box.up ≡ true → (entry : Entry) (new : FilerParts) (result : Result (Unit {0}) E) → OnOk result (new.box ≡ with_entry box entry) → OnOk result (IsKey entry.key) → IsTarget entry.target
       → OnOk result ((server : Served) (sent : List Sent) (outputs : List Output) → Puts (world_of server sent outputs filers) number entry (world_of server sent outputs (slice_set filers at new)))
   put_step up entry new (Ok u) becomes key target = λ server sent outputs. record {
     is_key = key;
@@ -116,19 +129,22 @@ module _ (filers : List FilerParts) (at number : ℕ) (is : number ≡ suc at) (
   }
   put_step up entry new (Err e) becomes key target = tt
 
-  pub send_step : box.up ≡ true → (entry : ℕ) (text : List ℕ) (sent more : List Sent) (new : FilerParts) → IsRequest box.filer box.entries entry text → new.box ≡ box → more ≡ sent ++ record { from = Some (number, entry); bytes = text } ∷ []
+  pub send_step : box.up ≡ true → (entry : ℕ) (text : List ℕ) (sent more : List Sent) (new : FilerParts) → Some text ≡ request_at box.filer box.entries entry → new.box ≡ box → more ≡ sent ++ record { from = Some (number, entry); bytes = text } ∷ []
       → (server : Served) (outputs : List Output) → Sends (world_of server sent outputs filers) number entry (world_of server more outputs (slice_set filers at new))
   send_step up entry text sent more new request same pushed server outputs = record {
     box = box;
     here = there;
     up = up;
-    what = request.entry;
-    there = request.there;
+    what = found.0;
+    there = found.1;
     becomes =
-        let lists : more ≡ sent ++ record { from = Some (number, entry); bytes = bytes_of (request_of box.filer request.entry) } ∷ [] = pushed ∙ ap (λ bs. sent ++ record { from = Some (number, entry); bytes = bs } ∷ []) request.bytes in
+        let lists : more ≡ sent ++ record { from = Some (number, entry); bytes = bytes_of (request_of box.filer found.0) } ∷ [] = pushed ∙ ap (λ bs. sent ++ record { from = Some (number, entry); bytes = bs } ∷ []) found.2 in
         let kept : boxes (slice_set filers at new) ≡ boxes filers = set new ∙ ap (renewed (boxes filers) number) same ∙ renewed_same (boxes filers) number box there in
         λ i. world_with server (lists i) outputs (kept i);
   }
+    where
+      found : (e : Entry) × (numbered box.entries entry ≡ Some e) × (text ≡ bytes_of (request_of box.filer e))
+      found = request_found box.filer (numbered box.entries entry) text request
 
   -- no entry of the outbox has the number
   pub no_entry : (entry : ℕ) → numbered box.entries entry ≡ None → (other : Outbox) → numbered (boxes filers) number ≡ Some other → numbered other.entries entry ≡ None
@@ -136,8 +152,8 @@ module _ (filers : List FilerParts) (at number : ℕ) (is : number ≡ suc at) (
       let same : box ≡ other = let first = there in cc in
       subst (λ (b : Outbox). numbered b.entries entry ≡ None) same none
 
-  pub hand_step : box.up ≡ true → (sent : List Sent) (outputs : List Output) (output given entry : ℕ) (crash : Crash) (from : Output) (item : Sent) → numbered outputs output ≡ Some from → numbered sent from.item ≡ Some item → item.from ≡ Some (number, entry)
-      → (new : FilerParts) (result : Result (Unit {0}) Cause)
+  pub hand_step : {E : Type 0} → box.up ≡ true → (sent : List Sent) (outputs : List Output) (output given entry : ℕ) (crash : Crash) (from : Output) (item : Sent) → numbered outputs output ≡ Some from → numbered sent from.item ≡ Some item → item.from ≡ Some (number, entry)
+      → (new : FilerParts) (result : Result (Unit {0}) E)
       → OnOk result ((what : Entry) → numbered box.entries entry ≡ Some what → (heard : Option ReplyParts) × Hears (take given from.bytes) crash heard × (new.box ≡ box_after box entry what heard crash))
       → OnOk result ((server : Served) → AllOwn (boxes filers) sent → Hands (world_of server sent outputs filers) output given crash (world_of server sent outputs (slice_set filers at new)))
   hand_step up sent outputs output given entry crash from item out_here item_here sender new (Err e) moves = tt
@@ -168,7 +184,7 @@ module _ (filers : List FilerParts) (at number : ℕ) (is : number ≡ suc at) (
           let same : its.box ≡ box = let first = there in let second = its.here in cc in
           (its.entry, subst (λ (b : Outbox). numbered b.entries entry ≡ Some its.entry) same its.there)
 
-  pub restart_step : (new : FilerParts) (result : Result (Unit {0}) Cause) → OnOk result (new.box ≡ record box { up = true })
+  pub restart_step : {E : Type 0} (new : FilerParts) (result : Result (Unit {0}) E) → OnOk result (new.box ≡ record box { up = true })
       → OnOk result ((server : Served) (sent : List Sent) (outputs : List Output) → Restarts (world_of server sent outputs filers) number (world_of server sent outputs (slice_set filers at new)))
   restart_step new (Err e) becomes = tt
   restart_step new (Ok u) becomes = λ server sent outputs. record {

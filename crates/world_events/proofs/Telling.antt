@@ -1,35 +1,46 @@
--- As what fault a cause is told.
-use Rattle.std.proofs.Common.{◌≡◌, ℕ, refl}
+-- As what fault it is reported that an event was not played.
+use Rattle.std.proofs.Common.{◌≡◌, ◌≢◌, ℕ, refl}
 use Rattle.filing_ends.specs.declared.cause.Cause.{Cause}
 use Rattle.filing_ends.specs.declared.cause.Cause.TheVariants as cause
 use Rattle.world_events.specs.declared.fault.Fault.TheVariants.{NoSuch, Store, Reopen}
-use Rattle.world_events.specs.Faults.{fault_at}
+use Rattle.world_events.specs.declared.fault.Unplayed.{Unplayed}
+use Rattle.world_events.specs.declared.fault.Unplayed.TheVariants as why
+use Rattle.world_events.specs.Faults.{fault_at, refused_at}
 use Rattle.world_events.specs.Played.{Tells}
 
--- what is told as NoSuch was it
-pub no_such_cause : (event n : ℕ) (why : Cause) → fault_at event why ≡ NoSuch n → why ≡ cause.NoSuch
-no_such_cause event n cause.NoSuch is = refl
-no_such_cause event n cause.Memory is = absurd (cc)
-no_such_cause event n cause.Store is = absurd (cc)
-no_such_cause event n cause.Reopen is = absurd (cc)
+-- what is reported as NoSuch was it
+pub no_such_why : (event n : ℕ) (w : Unplayed) → fault_at event w ≡ NoSuch n → w ≡ why.NoSuch
+no_such_why event n why.NoSuch is = refl
+no_such_why event n (why.Refused cause.Memory) is = absurd (cc)
+no_such_why event n (why.Refused cause.Store) is = absurd (cc)
+no_such_why event n (why.Refused cause.Reopen) is = absurd (cc)
 
--- what is told as Store was it
-pub store_cause : (event n : ℕ) (why : Cause) → fault_at event why ≡ Store n → why ≡ cause.Store
-store_cause event n cause.NoSuch is = absurd (cc)
-store_cause event n cause.Memory is = absurd (cc)
-store_cause event n cause.Store is = refl
-store_cause event n cause.Reopen is = absurd (cc)
+-- what is reported as Store was it
+pub store_why : (event n : ℕ) (w : Unplayed) → fault_at event w ≡ Store n → w ≡ why.Refused cause.Store
+store_why event n why.NoSuch is = absurd (cc)
+store_why event n (why.Refused cause.Memory) is = absurd (cc)
+store_why event n (why.Refused cause.Store) is = refl
+store_why event n (why.Refused cause.Reopen) is = absurd (cc)
 
--- what is told as Reopen was it
-pub reopen_cause : (event n : ℕ) (why : Cause) → fault_at event why ≡ Reopen n → why ≡ cause.Reopen
-reopen_cause event n cause.NoSuch is = absurd (cc)
-reopen_cause event n cause.Memory is = absurd (cc)
-reopen_cause event n cause.Store is = absurd (cc)
-reopen_cause event n cause.Reopen is = refl
+-- what is reported as Reopen was it
+pub reopen_why : (event n : ℕ) (w : Unplayed) → fault_at event w ≡ Reopen n → w ≡ why.Refused cause.Reopen
+reopen_why event n why.NoSuch is = absurd (cc)
+reopen_why event n (why.Refused cause.Memory) is = absurd (cc)
+reopen_why event n (why.Refused cause.Store) is = absurd (cc)
+reopen_why event n (why.Refused cause.Reopen) is = refl
 
--- the fault that a cause is at an event tells that event
-pub tells_own : (event : ℕ) (why : Cause) → Tells event (fault_at event why)
-tells_own event cause.NoSuch = refl
-tells_own event cause.Memory = tt
-tells_own event cause.Store = refl
-tells_own event cause.Reopen = refl
+-- no refusal of an end is reported as NoSuch
+pub refused_there : (event n : ℕ) (c : Cause) → refused_at event c ≢ NoSuch n
+refused_there event n cause.Memory is = cc
+refused_there event n cause.Store is = cc
+refused_there event n cause.Reopen is = cc
+
+-- the fault at an event tells that event
+pub refused_tells_own : (event : ℕ) (c : Cause) → Tells event (refused_at event c)
+refused_tells_own event cause.Memory = tt
+refused_tells_own event cause.Store = refl
+refused_tells_own event cause.Reopen = refl
+
+pub tells_own : (event : ℕ) (w : Unplayed) → Tells event (fault_at event w)
+tells_own event why.NoSuch = refl
+tells_own event (why.Refused cause) = refused_tells_own event cause

@@ -4,10 +4,16 @@ use Rattle.filing_ends.specs.declared.cause.Cause.{Cause}
 use Rattle.filing_ends.specs.declared.cause.Cause.TheVariants as cause
 use Rattle.world_events.specs.declared.fault.Fault.{Fault}
 use Rattle.world_events.specs.declared.fault.Fault.TheVariants as fault
+use Rattle.world_events.specs.declared.fault.Unplayed.{Unplayed}
+use Rattle.world_events.specs.declared.fault.Unplayed.TheVariants.{NoSuch, Refused}
 
--- a cause, of the event of this number
-abbrev pub fault_at : ℕ → Cause → Fault
-fault_at event cause.NoSuch = fault.NoSuch event
-fault_at event cause.Memory = fault.Memory
-fault_at event cause.Store = fault.Store event
-fault_at event cause.Reopen = fault.Reopen event
+-- an end refused at the event of this number
+abbrev pub refused_at : ℕ → Cause → Fault
+refused_at event cause.Memory = fault.Memory
+refused_at event cause.Store = fault.Store event
+refused_at event cause.Reopen = fault.Reopen event
+
+-- the event of this number was not played
+abbrev pub fault_at : ℕ → Unplayed → Fault
+fault_at event NoSuch = fault.NoSuch event
+fault_at event (Refused cause) = refused_at event cause

@@ -8,6 +8,7 @@ ghost use Rattle.world_ends.specs.Filers.{FilerParts};
 ghost use Rattle.world_events.specs.Played.{world_of};
 
 use crate::element::{first, index_of};
+use crate::fault::Unplayed;
 use crate::lists::{Output, Sent};
 use event_script::Crash;
 use filing_ends::{Cause, Honest};
@@ -20,22 +21,22 @@ pub(crate) fn deliver<D: Honest>(
     item: u64,
     bytes: usize,
     crash: Crash,
-) -> Result<(), Cause>
+) -> Result<(), Unplayed>
     ensures step { OnOk result ((filers : List FilerParts)
         → Delivers (world_of server.old sent.now outputs.old.items filers) item bytes (view_crash crash)
         (world_of server.new sent.now outputs.new.items filers)) }
-    ensures no_such { result ≡ Err Cause.NoSuch → (filers : List FilerParts)
+    ensures no_such { result ≡ Err Unplayed.NoSuch → (filers : List FilerParts)
         → CannotPlay (world_of server.old sent.now outputs.old.items filers) (Deliver item bytes (view_crash crash)) }
-    ensures store { result ≢ Err Cause.Store }
-    ensures reopen { result ≡ Err Cause.Reopen → (is_no (view_crash crash) ≡ false) × ((filers : List FilerParts)
+    ensures store { result ≢ Err (Unplayed.Refused Cause.Store) }
+    ensures reopen { result ≡ Err (Unplayed.Refused Cause.Reopen) → (is_no (view_crash crash) ≡ false) × ((filers : List FilerParts)
         → ¬ CannotPlay (world_of server.old sent.now outputs.old.items filers)
         (Deliver item bytes (view_crash crash))) }
 {
     if !server.is_up() {
-        return Err(Cause::NoSuch);
+        return Err(Unplayed::NoSuch);
     }
     let Some(at) = index_of(item, sent.len()) else {
-        return Err(Cause::NoSuch);
+        return Err(Unplayed::NoSuch);
     };
     outputs.reserve(1)?;
     let from = &sent[at];

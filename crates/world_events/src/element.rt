@@ -6,6 +6,7 @@ ghost use Rattle.filing_world.specs.Step.{IsAway};
 ghost use Rattle.world_ends.specs.Filers.{FilerParts, boxes};
 ghost use Rattle.world_events.specs.Played.{IsLent};
 
+use crate::fault::Unplayed;
 use crate::lists::Sent;
 use filing_ends::{Cause, Honest};
 use outbox_core::Outbox;
@@ -49,19 +50,19 @@ pub(crate) fn outbox_at<D: Honest>(
 
 /// The numbers of the outbox and the entry that this item was sent for. `NoSuch` comes if a stranger sent it, and `Store`
 /// if there is no such item.
-pub(crate) fn sender_of(sent: &[Sent], item: u64) -> Result<(u64, u64), Cause>
+pub(crate) fn sender_of(sent: &[Sent], item: u64) -> Result<(u64, u64), Unplayed>
     ensures some { IfOk result (λ from. (it : Item) × (numbered sent.now item ≡ Some it) × (it.from ≡ Some from)) }
-    ensures stranger { result ≡ Err Cause.NoSuch → (it : Item) × (numbered sent.now item ≡ Some it) × (it.from ≡ None) }
-    ensures gone { result ≡ Err Cause.Store → numbered sent.now item ≡ None }
-    ensures reopen { result ≢ Err Cause.Reopen }
+    ensures stranger { result ≡ Err Unplayed.NoSuch → (it : Item) × (numbered sent.now item ≡ Some it) × (it.from ≡ None) }
+    ensures gone { result ≡ Err (Unplayed.Refused Cause.Store) → numbered sent.now item ≡ None }
+    ensures reopen { result ≢ Err (Unplayed.Refused Cause.Reopen) }
 {
     let Some(at) = index_of(item, sent.len()) else {
-        return Err(Cause::Store);
+        return Err(Unplayed::Refused(Cause::Store));
     };
     let from = &sent[at];
     match from.from {
         Some(sender) => Ok(sender),
-        None => Err(Cause::NoSuch),
+        None => Err(Unplayed::NoSuch),
     }
 }
 

@@ -11,6 +11,7 @@ ghost use Rattle.world_events.specs.Played.{world_of};
 ghost use Rattle.world_events.specs.Playing.{AsksOutbox};
 
 use crate::element::{first, index_of, sender_of, up_at};
+use crate::fault::Unplayed;
 use crate::lists::{Output, Sent};
 use event_script::Crash;
 use filing_ends::{Cause, Honest};
@@ -24,26 +25,26 @@ pub(crate) fn hand<D: Honest>(
     output: u64,
     bytes: usize,
     crash: Crash,
-) -> Result<(), Cause>
+) -> Result<(), Unplayed>
     ensures step { OnOk result ((server : Served) → AllOwn (boxes filers.old.items) sent.now
         → Hands (world_of server sent.now outputs.now filers.old.items) output bytes (view_crash crash)
         (world_of server sent.now outputs.now filers.new.items)) }
-    ensures no_such { result ≡ Err Cause.NoSuch → (server : Served)
+    ensures no_such { result ≡ Err Unplayed.NoSuch → (server : Served)
         → CannotPlay (world_of server sent.now outputs.now filers.old.items) (Hand output bytes (view_crash crash)) }
-    ensures store { result ≡ Err Cause.Store → (server : Served)
+    ensures store { result ≡ Err (Unplayed.Refused Cause.Store) → (server : Served)
         → Keeps (world_of server sent.now outputs.now filers.old.items)
         → AsksOutbox (world_of server sent.now outputs.now filers.old.items) (Hand output bytes (view_crash crash)) }
-    ensures reopen { result ≡ Err Cause.Reopen → (is_no (view_crash crash) ≡ false) × ((server : Served)
+    ensures reopen { result ≡ Err (Unplayed.Refused Cause.Reopen) → (is_no (view_crash crash) ≡ false) × ((server : Served)
         → ¬ CannotPlay (world_of server sent.now outputs.now filers.old.items)
         (Hand output bytes (view_crash crash))) }
 {
     let Some(at) = index_of(output, outputs.len()) else {
-        return Err(Cause::NoSuch);
+        return Err(Unplayed::NoSuch);
     };
     let from = &outputs[at];
     let (outbox, entry) = sender_of(sent, from.item)?;
     let Some(index) = up_at(filers.as_slice(), outbox) else {
-        return Err(Cause::NoSuch);
+        return Err(Unplayed::NoSuch);
     };
-    filers[index].hand(entry, first(from.bytes.as_slice(), bytes), crash)
+    Ok(filers[index].hand(entry, first(from.bytes.as_slice(), bytes), crash)?)
 }

@@ -11,6 +11,7 @@ ghost use Rattle.world_events.specs.Played.{world_of};
 ghost use Rattle.world_events.specs.Playing.{IsUp};
 
 use crate::element::up_at;
+use crate::fault::Unplayed;
 use filing_ends::{Cause, Honest};
 use key_string::KeyText;
 use world_ends::Filer;
@@ -21,18 +22,18 @@ pub(crate) fn put<D: Honest>(
     key: &KeyText,
     target: Option<u64>,
     body: &[u8],
-) -> Result<(), Cause>
+) -> Result<(), Unplayed>
     requires { IsTarget target }
     ensures step { OnOk result ((server : Served) (sent : List Item) (outputs : List Left)
         → Puts (world_of server sent outputs filers.old.items) outbox (opened key.now target body.now)
         (world_of server sent outputs filers.new.items)) }
-    ensures no_such { result ≡ Err Cause.NoSuch → (server : Served) (sent : List Item) (outputs : List Left)
+    ensures no_such { result ≡ Err Unplayed.NoSuch → (server : Served) (sent : List Item) (outputs : List Left)
         → CannotPlay (world_of server sent outputs filers.old.items) (Put outbox key.now target body.now) }
-    ensures store { result ≡ Err Cause.Store → IsUp (boxes filers.old.items) outbox }
-    ensures reopen { result ≢ Err Cause.Reopen }
+    ensures store { result ≡ Err (Unplayed.Refused Cause.Store) → IsUp (boxes filers.old.items) outbox }
+    ensures reopen { result ≢ Err (Unplayed.Refused Cause.Reopen) }
 {
     let Some(at) = up_at(filers.as_slice(), outbox) else {
-        return Err(Cause::NoSuch);
+        return Err(Unplayed::NoSuch);
     };
-    filers[at].put(key, target, body)
+    Ok(filers[at].put(key, target, body)?)
 }

@@ -7,24 +7,25 @@ ghost use Rattle.world_ends.specs.Served.{Served};
 ghost use Rattle.world_events.specs.Played.{world_of};
 
 use crate::element::index_of;
+use crate::fault::Unplayed;
 use filing_ends::{Cause, Honest};
 use world_ends::Filer;
 
 pub(crate) fn restart_outbox<D: Honest>(
     filers: &mut Vec<Filer<D>>,
     outbox: u64,
-) -> Result<(), Cause>
+) -> Result<(), Unplayed>
     ensures step { OnOk result ((server : Served) (sent : List Item) (outputs : List Left)
         → Restarts (world_of server sent outputs filers.old.items) outbox
         (world_of server sent outputs filers.new.items)) }
-    ensures no_such { result ≡ Err Cause.NoSuch → (server : Served) (sent : List Item) (outputs : List Left)
+    ensures no_such { result ≡ Err Unplayed.NoSuch → (server : Served) (sent : List Item) (outputs : List Left)
         → CannotPlay (world_of server sent outputs filers.old.items) (RestartOutbox outbox) }
-    ensures store { result ≢ Err Cause.Store }
-    ensures reopen { result ≡ Err Cause.Reopen → (server : Served) (sent : List Item) (outputs : List Left)
+    ensures store { result ≢ Err (Unplayed.Refused Cause.Store) }
+    ensures reopen { result ≡ Err (Unplayed.Refused Cause.Reopen) → (server : Served) (sent : List Item) (outputs : List Left)
         → ¬ CannotPlay (world_of server sent outputs filers.old.items) (RestartOutbox outbox) }
 {
     let Some(at) = index_of(outbox, filers.len()) else {
-        return Err(Cause::NoSuch);
+        return Err(Unplayed::NoSuch);
     };
-    filers[at].restart()
+    Ok(filers[at].restart()?)
 }

@@ -9,6 +9,7 @@ ghost use Rattle.world_events.specs.Played.{world_of};
 ghost use Rattle.world_events.specs.Playing.{IsUp};
 
 use crate::element::up_at;
+use crate::fault::Unplayed;
 use crate::lists::Sent;
 use filing_ends::{Cause, Honest};
 use std::alloc::{AllocError, Global};
@@ -19,20 +20,22 @@ pub(crate) fn send<D: Honest>(
     sent: &mut Vec<Sent>,
     outbox: u64,
     entry: u64,
-) -> Result<(), Cause>
+) -> Result<(), Unplayed>
     ensures step { OnOk result ((server : Served) (outputs : List Left)
         → Sends (world_of server sent.old.items outputs filers.old.items) outbox entry
         (world_of server sent.new.items outputs filers.new.items)) }
-    ensures no_such { result ≡ Err Cause.NoSuch → (server : Served) (outputs : List Left)
+    ensures no_such { result ≡ Err Unplayed.NoSuch → (server : Served) (outputs : List Left)
         → CannotPlay (world_of server sent.old.items outputs filers.old.items) (Send outbox entry) }
-    ensures store { result ≡ Err Cause.Store → IsUp (boxes filers.old.items) outbox }
-    ensures reopen { result ≢ Err Cause.Reopen }
+    ensures store { result ≡ Err (Unplayed.Refused Cause.Store) → IsUp (boxes filers.old.items) outbox }
+    ensures reopen { result ≢ Err (Unplayed.Refused Cause.Reopen) }
 {
     let Some(at) = up_at(filers.as_slice(), outbox) else {
-        return Err(Cause::NoSuch);
+        return Err(Unplayed::NoSuch);
     };
     sent.reserve(1)?;
-    let bytes = filers[at].request(entry)?;
+    let Some(bytes) = filers[at].request(entry)? else {
+        return Err(Unplayed::NoSuch);
+    };
     sent.push_reserved(Sent {
         from: Some((outbox, entry)),
         bytes,

@@ -18,7 +18,7 @@ ghost use Rattle.world_events.specs.Listed.{view_listed, are_up};
 
 use crate::deliver::deliver;
 use crate::element::outbox_at;
-use crate::fault::Fault;
+use crate::fault::{Fault, Unplayed};
 use crate::hand::hand;
 use crate::listing::{all_states, confirmed_of};
 use crate::lists::{Output, Sent};
@@ -87,17 +87,17 @@ fn play_on<D: Honest>(
     sent: &mut Vec<Sent>,
     outputs: &mut Vec<Output>,
     event: &Event,
-) -> Result<(), Cause>
+) -> Result<(), Unplayed>
     requires { HasTarget (view_event event.now) }
     ensures step { OnOk result (AllOwn (boxes filers.old.items) sent.old.items
         → Step (world_of server.old sent.old.items outputs.old.items filers.old.items) (view_event event.now)
         (world_of server.new sent.new.items outputs.new.items filers.new.items)) }
-    ensures no_such { result ≡ Err Cause.NoSuch
+    ensures no_such { result ≡ Err Unplayed.NoSuch
         → CannotPlay (world_of server.old sent.old.items outputs.old.items filers.old.items) (view_event event.now) }
-    ensures store { result ≡ Err Cause.Store
+    ensures store { result ≡ Err (Unplayed.Refused Cause.Store)
         → Keeps (world_of server.old sent.old.items outputs.old.items filers.old.items)
         → AsksOutbox (world_of server.old sent.old.items outputs.old.items filers.old.items) (view_event event.now) }
-    ensures reopen { result ≡ Err Cause.Reopen → Closes (view_event event.now)
+    ensures reopen { result ≡ Err (Unplayed.Refused Cause.Reopen) → Closes (view_event event.now)
         × (¬ CannotPlay (world_of server.old sent.old.items outputs.old.items filers.old.items) (view_event event.now)) }
 {
     match event {
@@ -124,7 +124,7 @@ fn play_on<D: Honest>(
             *bytes,
             *crash,
         ),
-        Event::RestartServer => server.restart(),
+        Event::RestartServer => Ok(server.restart()?),
         Event::RestartOutbox { outbox } => restart_outbox(filers, *outbox),
     }
 }
@@ -137,7 +137,6 @@ fn append_outbox<D: Honest>(
 ) -> Result<(), Cause>
     requires { is_filer code.now ≡ true }
     ensures new { OnOk result (boxes list.new.items ≡ boxes list.old.items ++ new_outbox code.now ∷ []) }
-    ensures other { result ≢ Err Cause.NoSuch }
 {
     list.reserve(1)?;
     list.push_reserved(Filer::new(alloc, code)?);
@@ -148,7 +147,6 @@ fn append_outbox<D: Honest>(
 fn outboxes<D: Honest>(alloc: Global, filers: &[&str]) -> Result<Vec<Filer<D>>, Cause>
     requires { AreFilers (map (λ f. f.now) filers.now) }
     ensures new { IfOk result (λ list. boxes list.items ≡ map new_outbox (map (λ f. f.now) filers.now)) }
-    ensures other { result ≢ Err Cause.NoSuch }
 {
     let mut list = Vec::new(alloc);
     for code in filers {
@@ -163,7 +161,6 @@ fn start<D: Honest>(alloc: Global, filers: &[&str], limit: u64) -> Result<World<
     requires limit { limit ≤ 2 ^ 62 }
     ensures start { IfOk result (λ w. w.world ≡ start (map (λ f. f.now) filers.now) limit) }
     ensures fresh { IfOk result (λ w. (w.events ≡ 0) × (w.fault ≡ None)) }
-    ensures other { result ≢ Err Cause.NoSuch }
 {
     let server = Server::new(alloc, limit)?;
     let filers = outboxes(alloc, filers)?;
@@ -193,7 +190,7 @@ impl<D: Honest> World<D> {
     {
         match start(alloc, filers, limit) {
             Ok(world) => Ok(world),
-            Err(cause) => Err(Fault::of(cause, 0)),
+            Err(cause) => Err(Fault::of_refusal(cause, 0)),
         }
     }
 
@@ -217,8 +214,8 @@ impl<D: Honest> World<D> {
         );
         match played {
             Ok(()) => Ok(()),
-            Err(cause) => {
-                let fault = Fault::of(cause, number);
+            Err(why) => {
+                let fault = Fault::of(why, number);
                 self.fault = Some(fault);
                 Err(fault)
             }

@@ -11,4 +11,4 @@ pub returns-in-Ok-clause-lies : goal.returns-in-Ok-clause-lies
 returns-in-Ok-clause-lies g c = c.in-Ok.ensures.found (always_clean g.met.D.Honest.honest c.in-Ok.conn)
 
 pub returns-in-Err-clause-refused : goal.returns-in-Err-clause-refused
-returns-in-Err-clause-refused g c = record { error = c.in-Err.error; left = c.in-Err._left; failed = c.in-Err.ensures.cause; told = c.of_opening.ensures.cause }
+returns-in-Err-clause-refused g c = record { error = c.in-Err.error; left = c.in-Err._left; failed = c.in-Err.ensures.cause; told = c.of_opening.ensures }

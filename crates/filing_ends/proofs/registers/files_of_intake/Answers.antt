@@ -25,8 +25,5 @@ returns-in-Err-clause-refused g c =
     subst (λ store. IsNotClosed store.conn c.of_closing.result) c.into_store.ensures
     (record { last = why.0; closed = why.1.closed; error = why.1.error; failed = why.1.failed; told = c.of_closing.ensures ∙ ap closing_cause why.1.named })
 
-pub returns-in-Err-clause-other : goal.returns-in-Err-clause-other
-returns-in-Err-clause-other g c = λ e. (of_closing c.in-Err.fault).0 (sym c.of_closing.ensures ∙ (cc e))
-
 pub returns-in-Err-clause-store : goal.returns-in-Err-clause-store
-returns-in-Err-clause-store g c = λ e. (of_closing c.in-Err.fault).1 (sym c.of_closing.ensures ∙ (cc e))
+returns-in-Err-clause-store g c = λ e. of_closing c.in-Err.fault (sym c.of_closing.ensures ∙ (cc e))

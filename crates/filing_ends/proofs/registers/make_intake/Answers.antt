@@ -12,5 +12,5 @@ returns-in-Ok-clause-made g c =
     none_of zero = refl
     none_of (suc n) = refl
 
-pub returns-in-Ok-clause-problem : goal.returns-in-Ok-clause-problem
-returns-in-Ok-clause-problem g c = ap (λ s. s.early) c.new.ensures.store ∙ c.in-Ok.ensures.outcome.counts.2
+pub returns-in-Ok-clause-new : goal.returns-in-Ok-clause-new
+returns-in-Ok-clause-new g c = record { limit = c.new.ensures.limit; problem = ap (λ s. s.early) c.new.ensures.store ∙ c.in-Ok.ensures.outcome.counts.2 }

@@ -29,8 +29,8 @@ pub returns-in_default-clause-no_such : goal.returns-in_default-clause-no_such
 returns-in_default-clause-no_such g c = λ e server outputs.
     inl (subst (λ fs. IsAway (boxes fs) c.args.outbox) c.as_slice.ensures.value (c.in_default.ensures.none refl))
 
-pub returns-in_err-bytes-clause-no_such : goal.returns-in_err-bytes-clause-no_such
-returns-in_err-bytes-clause-no_such g c = λ e server outputs.
+pub returns-in_default-request-clause-no_such : goal.returns-in_default-request-clause-no_such
+returns-in_default-request-clause-no_such g c = λ e server outputs.
     let filers = c.args.filers.now.items in
     let up = c.in-Some.ensures.some in
     let there : slice_get filers c.in-Some.at ≡ Some up.1 = subst (λ bs. slice_get bs c.in-Some.at ≡ Some up.1) c.as_slice.ensures.value up.2 in

@@ -4,19 +4,9 @@ use Rattle.filing_ends.proofs.outbox_process.OutboxProcess.put.Goals as goal
 pub returns-in-Up-clause-taken : goal.returns-in-Up-clause-taken
 returns-in-Up-clause-taken g c = λ filer entries keeps.
     let up = rw c.in-Up.is at keeps in
-    (c.ask.ensures.answer entries up.0).0
+    c.ask.ensures.answer entries up.0
 
 pub returns-in-Up-clause-kept : goal.returns-in-Up-clause-kept
 returns-in-Up-clause-kept g c = λ filer entries keeps.
     let up = rw c.in-Up.is at keeps in
     (c.ask.ensures.rows entries up.0, c.ask.ensures.filer ∙ up.1)
-
-pub returns-in-Up-clause-other : goal.returns-in-Up-clause-other
-returns-in-Up-clause-other g c = λ filer entries keeps.
-    let up = rw c.in-Up.is at keeps in
-    (c.ask.ensures.answer entries up.0).1
-
-pub returns-in-Up-clause-reopen : goal.returns-in-Up-clause-reopen
-returns-in-Up-clause-reopen g c = λ filer entries keeps.
-    let up = rw c.in-Up.is at keeps in
-    (c.ask.ensures.answer entries up.0).2

@@ -1,18 +1,13 @@
-use Rattle.std.proofs.Common.{◌≡◌, None, refl, ⊎_elim}
+use Rattle.std.proofs.Common.{None, refl}
 use Rattle.filing_model.specs.Views.{view_state}
-use Rattle.filing_ends.specs.declared.cause.Cause.TheVariants.{Memory, Store}
 use Rattle.filing_ends.specs.Bytes.{bytes_left}
-use Rattle.filing_ends.proofs.Hearing.{moves_as_heard, hears_none, unheard_as}
+use Rattle.filing_ends.proofs.Hearing.{moves_as_heard, hears_none}
 use Rattle.filing_ends.proofs.outboxes.HearReplyCall.on.Goals as goal
 
 pub returns-in-Ok-clause-answer : goal.returns-in-Ok-clause-answer
-returns-in-Ok-clause-answer g c = λ entries has. (
-  λ what here.
-      let moved = c.in-Ok.ensures.moved (g.met.S.Faithful.faithful c.hand_over.new.outbox.conn) entries has in
-      moves_as_heard c.args.self.bytes.now (bytes_left c.new-reader.result) (bytes_left c.hand_over.new.reader) entries c.args.self.number (view_state c.in-Ok.state) c.new-reader.ensures moved.0 what here,
-  λ e. cc e,
-  λ e. cc e,
-)
+returns-in-Ok-clause-answer g c = λ entries has what here.
+    let moved = c.in-Ok.ensures.moved (g.met.S.Faithful.faithful c.hand_over.new.outbox.conn) entries has in
+    moves_as_heard c.args.self.bytes.now (bytes_left c.new-reader.result) (bytes_left c.hand_over.new.reader) entries c.args.self.number (view_state c.in-Ok.state) c.new-reader.ensures moved.0 what here
 
 pub returns-in-Ok-clause-rows : goal.returns-in-Ok-clause-rows
 returns-in-Ok-clause-rows g c = λ entries has.
@@ -22,23 +17,11 @@ pub returns-in-Some-clause-rows : goal.returns-in-Some-clause-rows
 returns-in-Some-clause-rows g c = λ entries has.
     c.in-Err.ensures.kept (g.met.S.Faithful.faithful c.hand_over.new.outbox.conn) entries has
 
-pub returns-in-Some-clause-answer : goal.returns-in-Some-clause-answer
-returns-in-Some-clause-answer g c = λ entries has.
-    let told = unheard_as c.in-Err.fault c.in-Some.cause c.in-Some.ensures in (
-      tt,
-      λ is. ⊎_elim (λ (memory : c.in-Some.cause ≡ Memory). cc) (λ (store : c.in-Some.cause ≡ Store). cc) told,
-      λ is. ⊎_elim (λ (memory : c.in-Some.cause ≡ Memory). cc) (λ (store : c.in-Some.cause ≡ Store). cc) told,
-    )
-
 pub returns-in-None-clause-answer : goal.returns-in-None-clause-answer
-returns-in-None-clause-answer g c = λ entries has. (
-  λ what here. (
-    None,
-    hears_none c.args.self.bytes.now (bytes_left c.new-reader.result) (bytes_left c.hand_over.new.reader) c.in-Err.fault c.new-reader.ensures c.in-Err.ensures.fault c.in-None.ensures,
-    refl,
-  ),
-  λ e. cc e,
-  λ e. cc e,
+returns-in-None-clause-answer g c = λ entries has what here. (
+  None,
+  hears_none c.args.self.bytes.now (bytes_left c.new-reader.result) (bytes_left c.hand_over.new.reader) c.in-Err.fault c.new-reader.ensures c.in-Err.ensures.fault c.in-None.ensures,
+  refl,
 )
 
 pub returns-in-None-clause-rows : goal.returns-in-None-clause-rows

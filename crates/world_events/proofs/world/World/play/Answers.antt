@@ -3,7 +3,7 @@ use Rattle.event_script.specs.Events.{view_event}
 use Rattle.filing_world.proofs.Keeping.{keeps_step, holds}
 use Rattle.world_events.specs.declared.fault.Fault.TheVariants.{NoSuch, Store, Reopen}
 use Rattle.world_events.specs.Played.{Played, next_number, Tells, world_of}
-use Rattle.world_events.proofs.Telling.{no_such_cause, store_cause, reopen_cause, tells_own}
+use Rattle.world_events.proofs.Telling.{no_such_why, store_why, reopen_why, tells_own}
 use Rattle.world_events.proofs.world.World.play.Goals as goal
 
 pub invariant_of-self : goal.invariant_of-self
@@ -45,18 +45,18 @@ returns-in-Err g c =
       holds = tt;
       no_such = λ n e first.
           let told : c.of-fault.result ≡ NoSuch n = cc e in
-          let is = no_such_cause c.saturating_add-number.result n c.in-Err.cause (sym c.of-fault.ensures ∙ told) in
+          let is = no_such_why c.saturating_add-number.result n c.in-Err.why (sym c.of-fault.ensures ∙ told) in
           rw (sym c.self.view_is) (c.in-Err.ensures.no_such (ap Err is));
       store = λ n e first.
           let told : c.of-fault.result ≡ Store n = cc e in
-          let is = store_cause c.saturating_add-number.result n c.in-Err.cause (sym c.of-fault.ensures ∙ told) in
+          let is = store_why c.saturating_add-number.result n c.in-Err.why (sym c.of-fault.ensures ∙ told) in
           rw (sym c.self.view_is) (c.in-Err.ensures.store (ap Err is) (c.self.invariant none));
       reopen = λ n e first.
           let told : c.of-fault.result ≡ Reopen n = cc e in
-          let is = reopen_cause c.saturating_add-number.result n c.in-Err.cause (sym c.of-fault.ensures ∙ told) in
+          let is = reopen_why c.saturating_add-number.result n c.in-Err.why (sym c.of-fault.ensures ∙ told) in
           rw (sym c.self.view_is) (c.in-Err.ensures.reopen (ap Err is));
       counts = λ first. c.saturating_add-number.ensures ∙ ap (λ (w : Played). next_number w.events) c.self.view_is;
-      numbered = λ first. subst (Tells c.saturating_add-number.result) (sym c.of-fault.ensures) (tells_own c.saturating_add-number.result c.in-Err.cause);
+      numbered = λ first. subst (Tells c.saturating_add-number.result) (sym c.of-fault.ensures) (tells_own c.saturating_add-number.result c.in-Err.why);
       ended = λ fault e. absurd (let no : None ≡ Some fault = sym none ∙ fault_is ∙ e in cc);
       stops = refl;
       goes_on = tt;
