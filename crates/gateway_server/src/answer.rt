@@ -7,7 +7,7 @@ ghost use Rattle.http_messages.specs.Replies.{reply_parts};
 ghost use Rattle.http_messages.specs.Reply.{render};
 ghost use Rattle.filing_model.specs.Request.{Request};
 ghost use Rattle.filing_model.specs.Text.{route, bare, is_head, refusal_reply, fault_reply};
-ghost use Rattle.intake_core.specs.Held.{limit_of, IsClean, IsTransition};
+ghost use Rattle.intake_core.specs.Held.{limit_of, KeepsSetting, IsTransition};
 ghost use Rattle.gateway_server.specs.Decided.{IsPhrased};
 ghost use Rattle.gateway_server.specs.Answered.{IsDecided, Marks, WritesText, IsReplyFault};
 ghost use Rattle.gateway_requests.specs.Route.{view_message, view_route, HasFiler};

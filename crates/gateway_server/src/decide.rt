@@ -10,7 +10,7 @@ ghost use Rattle.filing_model.specs.Listing.{listings};
 ghost use Rattle.filing_model.specs.Register.{Filing};
 ghost use Rattle.filing_model.specs.Views.{the_request, view_row};
 ghost use Rattle.gateway_requests.specs.Route.{view_route, HasFiler};
-ghost use Rattle.intake_core.specs.Held.{limit_of, IsClean, IsTransition};
+ghost use Rattle.intake_core.specs.Held.{limit_of, KeepsSetting, IsTransition};
 ghost use Rattle.gateway_server.specs.Decided.{rejection_reply, Decides, IsUnavailable, IsPhrased};
 
 use filing_model::{FilingRow, Mark};

@@ -9,7 +9,7 @@ ghost use Rattle.http_wire.specs.declared.inbox.Inbox.{Inbox};
 ghost use Rattle.filing_model.specs.Request.{Request};
 ghost use Rattle.filing_model.specs.Serving.{Keeping, keeping};
 ghost use Rattle.filing_model.specs.Stopping.{ComeBefore};
-ghost use Rattle.intake_core.specs.Held.{limit_of, IsClean, IsTransition};
+ghost use Rattle.intake_core.specs.Held.{limit_of, KeepsSetting, IsTransition};
 ghost use Rattle.gateway_server.specs.Decided.{IsPhrased};
 ghost use Rattle.gateway_server.specs.Progress.{with_written, GoesOn, HasMessage, HasRefusal, ReadsSome, TellsLimit, ServesToEnd};
 ghost use Rattle.gateway_server.specs.Stopping.{view_stop, ServesUpTo, IsCountUntil, IsEndedOrStoppedBy, Continues, StopsOrEnds, IsCountAt, IsTurnBy, IsTurnByReply, TellsTurn, Replies, IsStoppedAfter, end_of};
