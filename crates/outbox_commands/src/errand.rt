@@ -1,6 +1,5 @@
 //! What is done with the outbox of a file.
 
-ghost use Rattle.std.specs.Prelude.{None};
 ghost use Rattle.table_rows.specs.Standing.{IsAtRest};
 
 use crate::calls;

@@ -1,6 +1,6 @@
 //! The outbox of a filer.
 
-ghost use Rattle.std.specs.Prelude.{◌≡◌, ◌^◌, ◌≤◌, ◌↔◌, map, false, None, IsTrue, IfOk, true, Err, string_bytes};
+ghost use Rattle.std.specs.Prelude.{◌≡◌, ◌^◌, ◌≤◌, ◌↔◌, map, IsTrue, IfOk, true, Err, string_bytes};
 ghost use Rattle.key_string.specs.Filer.{is_filer};
 ghost use Rattle.http_messages.specs.Posting.{IsTarget};
 ghost use Rattle.http_messages.specs.Replies.{reply_parts};

@@ -1,6 +1,6 @@
 //! How a reply moves the state of an entry.
 
-ghost use Rattle.std.specs.Prelude.{◌≡◌, ◌≢◌, ◌<◌, Option, Some, IfOk};
+ghost use Rattle.std.specs.Prelude.{◌≡◌, ◌≢◌, IfOk};
 ghost use Rattle.serde_json.specs.View.{view};
 ghost use Rattle.xbrl_report.specs.Findings.{tree};
 ghost use Rattle.http_messages.specs.Replies.{reply_parts};

@@ -1,6 +1,6 @@
 //! An outbox in the form before this one is brought into this one.
 
-ghost use Rattle.std.specs.Prelude.{◌≡◌, ◌≤◌, ◌^◌, List, [], length, true, false, None, Ok, IsTrue, IfOk, IfErr, OnOk, string_bytes};
+ghost use Rattle.std.specs.Prelude.{◌≡◌, ◌≤◌, ◌^◌, List, length, true, false, None, IsTrue, IfOk, IfErr, OnOk, string_bytes};
 ghost use Rattle.key_string.specs.Filer.{is_filer};
 ghost use Rattle.filing_model.specs.Outbox.{Entry as Item};
 ghost use Rattle.sqlite.specs.Effect.{IsDatabase};

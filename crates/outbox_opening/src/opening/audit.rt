@@ -1,6 +1,6 @@
 //! Whether the rows of a database are those of an outbox.
 
-ghost use Rattle.std.specs.Prelude.{◌≡◌, ◌<◌, ◌+◌, ◌^◌, ℕ, List, suc, get_or, length, true, option_map, IfOk};
+ghost use Rattle.std.specs.Prelude.{◌≡◌, ◌<◌, ◌^◌, ℕ, List, suc, get_or, length, option_map, IfOk};
 ghost use Rattle.sqlite.specs.Order.{column, Row as Stored};
 ghost use Rattle.sqlite_value.specs.Value.{owned};
 ghost use Rattle.outbox_opening.specs.Audit.{is_int, is_absent, is_key_text, is_body, is_number, is_state, is_outbox, filer_text, filer_in, is_entry, is_sound, with_id, first_damaged, damaged_row};

@@ -1,6 +1,6 @@
 //! Whether the rows of `entry` are those of entries, found with one of them in memory at a time.
 
-ghost use Rattle.std.specs.Prelude.{◌≡◌, ◌<◌, ◌≤◌, ◌^◌, ℕ, suc, false, true, List, [], ◌∷◌, length, get_or, IsTrue, IfOk, IfSome};
+ghost use Rattle.std.specs.Prelude.{◌≡◌, ◌<◌, ◌≤◌, ◌^◌, ℕ, suc, true, List, [], ◌∷◌, length, get_or, IsTrue, IfOk, IfSome};
 ghost use Rattle.sqlite.specs.Held.{state};
 ghost use Rattle.sqlite.specs.Order.{Row as Stored};
 ghost use Rattle.sqlite.specs.State.{HasCleanDisk};

@@ -1,6 +1,6 @@
 //! Making the tables of an outbox.
 
-ghost use Rattle.std.specs.Prelude.{◌≡◌, ◌||◌, true, false, OnOk};
+ghost use Rattle.std.specs.Prelude.{◌≡◌, true, false, OnOk};
 ghost use Rattle.key_string.specs.Filer.{is_filer};
 ghost use Rattle.sqlite.specs.Held.{state};
 ghost use Rattle.sqlite.specs.State.{HasCleanDisk, Survives};
