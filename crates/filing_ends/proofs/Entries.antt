@@ -16,7 +16,7 @@ use Rattle.outbox_core.specs.Entries.{has_text, opened}
 use Rattle.outbox_core.specs.Reading.{view_pair, id_and_state}
 use Rattle.filer_client.specs.Exchange.{request_at}
 use Rattle.filing_ends.specs.Listed.{listed}
-use Rattle.filing_ends.specs.Outboxes.{up_with, IsRequest}
+use Rattle.filing_ends.specs.Outboxes.{up_with}
 
 -- ---- whether an entry is taken
 

@@ -18,8 +18,8 @@ abbrev pub conn_of : {S : Type 0} → Intake S → Held S
 conn_of intake = (store_of intake).conn
 
 -- It keeps at most so many keys, and no request was kept before there were problem details.
-pub record IsNewWith {S : Type 0} (limit : ℕ) (intake : Intake S) : Type 0 where
-  pub limit : limit_of intake ≡ limit
+pub record IsNewWith {S : Type 0} (most : ℕ) (intake : Intake S) : Type 0 where
+  pub limit : limit_of intake ≡ most
   pub problem : early_of intake ≡ 0
 
 -- It holds these requests, and none of them was kept before there were problem details.

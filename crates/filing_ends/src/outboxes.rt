@@ -45,7 +45,7 @@ fn make_outbox<S: Faithful>(
 ) -> Result<Outbox<S>, Cause>
     requires filer { is_filer filer.now ≡ true }
     requires rest { IsAtRest conn }
-    ensures made { IfOk result (λ outbox. HasEntries S.Store outbox [] × (outbox.filer ≡ filer.now)) }
+    ensures { IfOk result (λ outbox. HasEntries S.Store outbox [] × (outbox.filer ≡ filer.now)) }
 {
     match Outbox::create_or_back(alloc, without_tables(conn)?, filer) {
         Ok(outbox) => Ok(outbox),

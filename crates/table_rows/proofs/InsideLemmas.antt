@@ -1,5 +1,5 @@
 -- What statements leave inside a transaction, one after another.
-use Rattle.std.proofs.Common.{◌≡◌, inl, inr, ℕ, List, Result, Err, IsTrue, false, refl, sym, ◌∙◌, subst, arith}
+use Rattle.std.proofs.Common.{◌≡◌, inl, inr, ℕ, List, Result, IsTrue, false, refl, sym, ◌∙◌, subst, arith}
 use Rattle.std.proofs.lemmas.Bool.{cases_Bool}
 use Rattle.std.specs.Borrow.{MutBor}
 use Rattle.sqlite.specs.Order.{Row}

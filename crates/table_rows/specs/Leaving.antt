@@ -1,9 +1,10 @@
 -- What a call leaves of its connection, if it only reads, or if it writes inside a transaction.
-use Rattle.std.specs.Prelude.{◌≡◌, ◌⊎◌, false, Result, Ok, Err, IsTrue}
+use Rattle.std.specs.Prelude.{◌≡◌, ◌⊎◌, ℕ, false, List, Result, Ok, Err, IsTrue, IfErr, OnOk}
 use Rattle.std.specs.Borrow.{MutBor}
 use Rattle.sqlite.specs.Store.{Ghosts}
 use Rattle.sqlite.specs.Held.{Held, state}
-use Rattle.sqlite.specs.State.{State, HasCleanDisk, IsUnchanged, IsRolledBack, KeepsCounts}
+use Rattle.sqlite.specs.Order.{Row}
+use Rattle.sqlite.specs.State.{State, HasCleanDisk, IsUnchanged, IsRolledBack, KeepsCounts, ExecutesInside}
 use Rattle.sqlite.specs.declared.error.Error.{Error}
 use Rattle.table_rows.specs.Picking.{IsStopped}
 use Rattle.table_rows.specs.Standing.{CommitsNothing, StaysCommitted}
@@ -62,3 +63,10 @@ pub record OnlyWrites {S : Type 0} (g : Ghosts S) (old new : MutBor (Held S)) : 
   pub same_reference : new.ghost_name ≡ old.ghost_name
   pub keeps : StaysCommitted g old.now new.now
   pub survives : CommitsNothing (state g old.now) (state g new.now)
+
+-- What a statement inside a transaction does. It is refused if none is under way.
+pub record RunsInside {S : Type 0} (g : Ghosts S) (sql : List ℕ) (params : Row) (old new : MutBor (Held S)) (result : Result (Unit {0}) Error) : Type 0 where
+  pub inside : OnOk result (IsTrue (state g old.now).in_transaction)
+  pub ran : HasCleanDisk (state g new.now) → OnOk result ((count : ℕ) × ExecutesInside 0 sql params (state g old.now) (state g new.now) (Ok count))
+  pub failed : HasCleanDisk (state g new.now) → IsTrue (state g old.now).in_transaction → IfErr result (λ error. ExecutesInside 0 sql params (state g old.now) (state g new.now) (Err error))
+  pub leaves : OnlyWrites g old new

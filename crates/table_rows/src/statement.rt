@@ -1,10 +1,7 @@
 //! A statement inside a transaction.
 
-ghost use Rattle.std.specs.Prelude.{ℕ, Ok, Err, IsTrue, IfErr, OnOk};
-ghost use Rattle.sqlite.specs.Held.{state};
-ghost use Rattle.sqlite.specs.State.{HasCleanDisk, ExecutesInside};
 ghost use Rattle.sqlite.specs.Values.{bound};
-ghost use Rattle.table_rows.specs.Leaving.{OnlyWrites};
+ghost use Rattle.table_rows.specs.Leaving.{RunsInside};
 
 use sqlite::types::ValueRef;
 use sqlite::{Alter, Error, Transaction};
@@ -15,17 +12,7 @@ pub fn run<S: Alter>(
     sql: &str,
     params: &[ValueRef<'_>],
 ) -> Result<(), Error>
-    ensures inside { OnOk result (IsTrue (state S.Store tx.old.conn.now).in_transaction) }
-    ensures ran { HasCleanDisk (state S.Store tx.new.conn.now)
-        → OnOk result ((count : ℕ)
-        × ExecutesInside 0 sql.now (bound params.now) (state S.Store tx.old.conn.now) (state S.Store tx.new.conn.now)
-        (Ok count)) }
-    ensures failed { HasCleanDisk (state S.Store tx.new.conn.now)
-        → IsTrue (state S.Store tx.old.conn.now).in_transaction
-        → IfErr result (λ error.
-        ExecutesInside 0 sql.now (bound params.now) (state S.Store tx.old.conn.now) (state S.Store tx.new.conn.now)
-        (Err error)) }
-    ensures leaves { OnlyWrites S.Store tx.old.conn tx.new.conn }
+    ensures { RunsInside S.Store sql.now (bound params.now) tx.old.conn tx.new.conn result }
 {
     tx.execute(sql, params)?;
     Ok(())
