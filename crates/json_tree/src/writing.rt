@@ -13,7 +13,7 @@ use serde_json::Number;
 use std::alloc::{AllocError, Global};
 
 impl Tree<'_> {
-    /// The tree as JSON without white space. What is said of a number with a fraction is nothing, so there is to be none.
+    /// The tree as JSON without white space, if no number in it has a fraction, whose text JSON leaves open.
     pub fn to_string(&self, alloc: Global) -> Result<String, AllocError>
         requires { has_float (view self.now) ≡ false }
         ensures { IfOk result (λ text. string_bytes text ≡ compact_text (view self.now)) }
