@@ -1,7 +1,6 @@
 pub mod Progress
 pub mod Statuses
 pub mod Decisions
-pub mod Listed
 pub mod Arrivals
 pub mod Answering
 pub mod Continuing

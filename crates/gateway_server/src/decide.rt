@@ -1,13 +1,13 @@
 //! What a message gets: its mark, and its reply.
 
-ghost use Rattle.std.specs.Prelude.{◌≡◌, ◌≤◌, ℕ, List, length, map, true, None, IfOk};
+ghost use Rattle.std.specs.Prelude.{◌≡◌, ◌≤◌, length, map, true, None, Some, IfOk};
+ghost use Rattle.std.specs.Option.{option_to_list};
 ghost use Rattle.key_string.specs.Filer.{is_filer};
 ghost use Rattle.http_messages.specs.Head.{max_body_len};
 ghost use Rattle.http_messages.specs.Posting.{IsTarget};
 ghost use Rattle.http_messages.specs.Replies.{reply_parts};
 ghost use Rattle.filing_model.specs.Text.{ListFilings as AsksList, FileReport as AsksFiling, bare};
-ghost use Rattle.filing_model.specs.Listing.{listings};
-ghost use Rattle.filing_model.specs.Register.{Filing};
+ghost use Rattle.filing_model.specs.Reply.{list_reply as listed_reply};
 ghost use Rattle.filing_model.specs.Views.{the_request, view_row};
 ghost use Rattle.gateway_requests.specs.Route.{view_route, HasFiler};
 ghost use Rattle.intake_core.specs.Held.{limit_of, KeepsSetting, IsTransition};
@@ -48,7 +48,8 @@ pub(crate) fn decide<S: Alter>(
             mark: Mark::NotFiled,
             reply: rejection_reply(alloc, why, is_bare),
         },
-        Route::ListFilings(filer, number) => list(alloc, intake, filer, number),
+        Route::ListFilings(filer, None) => list(alloc, intake, filer),
+        Route::ListFilings(filer, Some(number)) => show(alloc, intake, filer, number),
         Route::FileReport(filer, target, key) => file(alloc, intake, filer, target, &key, body),
     }
 }
@@ -67,38 +68,44 @@ fn rejection_reply(alloc: Global, why: Rejection, is_bare: bool) -> Result<Reply
     }
 }
 
-/// Of a filer's list the filing of this number alone, if one is named.
-fn listed(rows: Vec<FilingRow>, number: Option<u64>) -> Vec<FilingRow>
-    ensures { (filer : List ℕ) (filings : List Filing) → map view_row rows.items ≡ listings filer None filings
-        → map view_row result.items ≡ listings filer number filings }
-{
-    let Some(number) = number else {
-        return rows;
-    };
-    let mut rows = rows;
-    rows.retain(|row| row.number == number);
-    rows
-}
-
-fn list<S: Alter>(
-    alloc: Global,
-    intake: &mut Intake<S>,
-    filer: &str,
-    number: Option<u64>,
-) -> Decided
+/// The reply with a filer's list.
+fn list<S: Alter>(alloc: Global, intake: &mut Intake<S>, filer: &str) -> Decided
     ensures decided { IsTransition S.Store intake.old intake.new (λ early before after.
-        Decides (limit_of intake.old) early before after (AsksList filer.now number) result) }
+        Decides (limit_of intake.old) early before after (AsksList filer.now None) result) }
     ensures phrase { IsPhrased result }
     ensures setting { KeepsSetting S.Store intake.old intake.new }
 {
     match intake.list(filer) {
-        Ok(rows) => {
-            let rows = listed(rows, number);
-            Decided {
-                mark: Mark::NotFiled,
-                reply: list_reply(alloc, &rows),
-            }
-        }
+        Ok(rows) => Decided {
+            mark: Mark::NotFiled,
+            reply: list_reply(alloc, &rows),
+        },
+        Err(_) => unavailable(alloc),
+    }
+}
+
+/// The list that has this filing alone, or none.
+fn row_reply(alloc: Global, row: Option<FilingRow>) -> Result<Reply, AllocError>
+    ensures { IfOk result (λ r. reply_parts r ≡ listed_reply (map view_row (option_to_list row))) }
+{
+    match row {
+        Some(row) => list_reply(alloc, &[row]),
+        None => list_reply(alloc, &[]),
+    }
+}
+
+/// The reply with the filer's filing of this number.
+fn show<S: Alter>(alloc: Global, intake: &mut Intake<S>, filer: &str, number: u64) -> Decided
+    ensures decided { IsTransition S.Store intake.old intake.new (λ early before after.
+        Decides (limit_of intake.old) early before after (AsksList filer.now (Some number)) result) }
+    ensures phrase { IsPhrased result }
+    ensures setting { KeepsSetting S.Store intake.old intake.new }
+{
+    match intake.filing(filer, number) {
+        Ok(row) => Decided {
+            mark: Mark::NotFiled,
+            reply: row_reply(alloc, row),
+        },
         Err(_) => unavailable(alloc),
     }
 }

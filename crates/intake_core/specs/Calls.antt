@@ -28,7 +28,7 @@ pub record DecidesRequest {S : Type 0} (g : Ghosts S) (r : Request) (old new : I
   pub stops : (has_stopped new ≡ true) ↔ ((has_stopped old ≡ true) ⊎ (result ≡ Err Store))
   pub up : result ≡ Err Down → has_stopped old ≡ true
 
--- What `list` and `register` tell of the requests that the intake holds, and that they write nothing. Full never comes here.
+-- What `list`, `filing` and `register` tell of the requests that the intake holds, and that they write nothing. Full never comes here.
 pub record TellsOfRequests {S X : Type 0} (g : Ghosts S) (old new : Intake S) (result : Result X Unavailable) (Tells : List Request → X → Type 0) : Type 0 where
   pub rows : ForRequests g old new (λ requests. IfOk result (Tells requests))
   -- What is held stays, whatever the answer is.

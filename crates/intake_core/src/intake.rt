@@ -1,6 +1,7 @@
 //! The intake: its register, and the answer to the next request.
 
 ghost use Rattle.std.specs.Prelude.{◌≡◌, ◌↔◌, ◌<◌, ◌≤◌, ◌^◌, ◌+◌, ◌++◌, ◌∷◌, ◌⊎◌, [], ℕ, List, length, map, true, false, Err, None, Some, IsTrue, IfOk, IfSome, OnOk, OnErr, ◌≢◌};
+ghost use Rattle.std.specs.Option.{option_to_list};
 ghost use Rattle.key_string.specs.Filer.{is_filer};
 ghost use Rattle.http_messages.specs.Head.{max_body_len};
 ghost use Rattle.http_messages.specs.Posting.{IsTarget};
@@ -190,6 +191,20 @@ impl<S: Alter> Intake<S> {
             return Err(Unavailable::Down);
         }
         let result = self.store.filings(filer);
+        self.is_down = matches!(result, Err(StoreFault::Store));
+        Ok(result?)
+    }
+
+    /// The filer's filing of this number as `list` has it, or `None` if the filer has no such filing. Full never comes
+    /// here.
+    pub fn filing(&mut self, filer: &str, number: u64) -> Result<Option<FilingRow>, Unavailable>
+        ensures { TellsOfRequests S.Store self.old self.new result (λ requests row.
+            map view_row (option_to_list row) ≡ listings filer.now (Some number) (register requests)) }
+    {
+        if self.is_down {
+            return Err(Unavailable::Down);
+        }
+        let result = self.store.filing(filer, number);
         self.is_down = matches!(result, Err(StoreFault::Store));
         Ok(result?)
     }

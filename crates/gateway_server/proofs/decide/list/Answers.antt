@@ -1,4 +1,4 @@
-use Rattle.std.proofs.Common.{◌≡◌, List, take, refl, ap, ◌∙◌, subst, IfOk}
+use Rattle.std.proofs.Common.{◌≡◌, List, None, take, refl, ap, ◌∙◌, subst, IfOk}
 use Rattle.std.specs.Prelude.{map}
 use Rattle.std.specs.declared.alloc.AllocError.{AllocError}
 use Rattle.http_messages.specs.Replies.{reply_parts}
@@ -13,8 +13,8 @@ use Rattle.gateway_server.proofs.decide.list.Goals as goal
 
 pub returns-in-Ok-clause-decided : goal.returns-in-Ok-clause-decided
 returns-in-Ok-clause-decided g c = λ clean before h.
-    let rows : List Listing = listings c.args.filer.now c.args.number (register before) in
-    let same : map view_row c.deref.result.now ≡ rows = ap (map view_row) c.deref.ensures.value ∙ c.listed-rows.ensures c.args.filer.now (register before) (c.in-Ok.ensures.rows clean before h) in (
+    let rows : List Listing = listings c.args.filer.now None (register before) in
+    let same : map view_row c.deref.result.now ≡ rows = ap (map view_row) c.deref.ensures.value ∙ c.in-Ok.ensures.rows clean before h in (
       before,
       c.in-Ok.ensures.kept clean before h,
       ap (λ n. take n before) c.in-Ok.ensures.setting.early,
@@ -30,7 +30,7 @@ returns-in-Ok-clause-phrase g c = phrase-parts AllocError c.list_reply.result (l
 
 pub returns-in-Err-clause-decided : goal.returns-in-Err-clause-decided
 returns-in-Err-clause-decided g c = λ clean before h.
-    (before, c.in-Err.ensures.kept clean before h, ap (λ n. take n before) c.in-Err.ensures.setting.early, Decides-listed_unavailable (limit_of c.args.intake.now) (early_in c.args.intake.now before) before c.args.filer.now c.args.number c.unavailable.result c.unavailable.ensures)
+    (before, c.in-Err.ensures.kept clean before h, ap (λ n. take n before) c.in-Err.ensures.setting.early, Decides-listed_unavailable (limit_of c.args.intake.now) (early_in c.args.intake.now before) before c.args.filer.now None c.unavailable.result c.unavailable.ensures)
 
 pub returns-in-Err-clause-phrase : goal.returns-in-Err-clause-phrase
 returns-in-Err-clause-phrase g c = phrase-parts AllocError c.unavailable.result.reply unavailable phrase-unavailable c.unavailable.ensures.reply
