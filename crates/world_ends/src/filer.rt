@@ -135,7 +135,7 @@ impl<D: Honest> Filer<D> {
     /// The same without a stop.
     fn hear(&mut self, entry: u64, bytes: &[u8]) -> Result<(), StoreFault>
         requires { self.old.box.up ≡ true }
-        ensures heard { OnOk result ((what : Item) → numbered self.old.box.entries entry ≡ Some what
+        ensures { OnOk result ((what : Item) → numbered self.old.box.entries entry ≡ Some what
             → (heard : Option ReplyParts) × Hears bytes.now No heard
             × (self.new.box ≡ box_after self.old.box entry what heard No)) }
     {

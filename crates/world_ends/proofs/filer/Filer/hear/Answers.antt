@@ -6,8 +6,8 @@ use Rattle.world_ends.specs.Filers.{FilerParts}
 use Rattle.world_ends.proofs.Entries.{box_heard}
 use Rattle.world_ends.proofs.filer.Filer.hear.Goals as goal
 
-pub returns-in-Some-clause-heard : goal.returns-in-Some-clause-heard
-returns-in-Some-clause-heard g c =
+pub returns-in-Some : goal.returns-in-Some
+returns-in-Some g c =
     let inside = c.self.inside in
     let box : Outbox = record { filer = string_bytes inside.code; entries = inside.entries.items; up = is_up inside.process } in
     let still = c.hear.ensures.up ∙ ap (λ (f : FilerParts). f.box.up) c.self.view_is ∙ c.requires in
@@ -16,8 +16,8 @@ returns-in-Some-clause-heard g c =
     let heard = c.in_ok-state.ensures.heard (string_bytes inside.code) inside.entries.items c.self.invariant what here in
     (heard.0, heard.1, box_heard box c.args.entry what (Some c.in-Some.state) c.set_state.new.reports.items (is_up c.hear.new.self) heard.0 here (rw c.in-Some.is at heard.2) c.set_state.ensures still))
 
-pub returns-in_default-clause-heard : goal.returns-in_default-clause-heard
-returns-in_default-clause-heard g c =
+pub returns-in_default : goal.returns-in_default
+returns-in_default g c =
     let inside = c.self.inside in
     let box : Outbox = record { filer = string_bytes inside.code; entries = inside.entries.items; up = is_up inside.process } in
     let still = c.hear.ensures.up ∙ ap (λ (f : FilerParts). f.box.up) c.self.view_is ∙ c.requires in
