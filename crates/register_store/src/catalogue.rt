@@ -17,7 +17,8 @@ pub(crate) fn note(catalogue: &mut Catalogue, seq: u64, row: &NewRow<'_>)
     requires room { HasRoom catalogue.old }
     requires facts { HasFacts row.now.body.now row.now.judged.now }
     ensures { (F : List Request) → view_lines catalogue.old ≡ catalogue_of F → seq ≡ suc (length (kept F))
-        → ForNew F (the_request row.now.filer.now row.now.key.now row.now.target row.now.body.now) row.now.judged.now (λ r.
+        → ForNew F (the_request row.now.filer.now row.now.key.now row.now.target row.now.body.now)
+        row.now.judged.now (λ r.
         view_lines catalogue.new ≡ catalogue_of (F ++ r ∷ [])) }
 {
     match row.judged {

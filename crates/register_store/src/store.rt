@@ -25,8 +25,8 @@ use std::alloc::Global;
 use std::marker::Model;
 use table_rows::StoreFault;
 
-/// The register of a connection: the first request of each filer and key with its outcome, for good. Where each filing is
-/// kept and what a list shows of it is held in memory, in 32 bytes for each.
+/// The register of a connection: the first request of each filer and key with its outcome, for good. Where each filing
+/// is kept and what a list shows of it is held in memory, in 32 bytes for each.
 ///
 /// What a clause says of rows holds where the disk is clean as the call ends: where it gave back what was written.
 ///
