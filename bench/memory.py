@@ -13,19 +13,13 @@ import os
 import sqlite3
 import subprocess
 import sys
-import tempfile
 
-from programs import Server, amendments, built, connect, example, pipelined
-from run import exchange, report
+from programs import Server, amendments, built, connect, example, exchange, folder, pipelined
+from reports import report
 
 MEGABYTE = 1_000_000
 LARGE = report(1_048_576)
 LIST = b"GET /filings/%s HTTP/1.1\r\nHost: localhost\r\n\r\n"
-
-
-def folder():
-    """A folder in memory, where there is one."""
-    return tempfile.TemporaryDirectory(dir="/dev/shm" if os.path.isdir("/dev/shm") else None)
 
 
 def most_of(words):
@@ -49,19 +43,15 @@ class Peak:
     """What a running server holds at most while something is done, beyond what it held before."""
 
     def __init__(self, server):
-        self.folder = f"/proc/{server.process.pid}"
-
-    def _read(self, name):
-        with open(f"{self.folder}/status", encoding="ascii") as it:
-            return next(int(line.split()[1]) * 1024 for line in it if line.startswith(name))
+        self.server = server
 
     def of(self, call, *given):
         """The memory that the call takes, in bytes."""
-        with open(f"{self.folder}/clear_refs", "w", encoding="ascii") as it:
+        with open(f"/proc/{self.server.process.pid}/clear_refs", "w", encoding="ascii") as it:
             it.write("5")
-        before = self._read("VmRSS:")
+        before = self.server.memory("VmRSS:")
         call(*given)
-        return self._read("VmHWM:") - before
+        return self.server.memory("VmHWM:") - before
 
 
 def bound_of(database, rows):

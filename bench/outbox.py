@@ -10,8 +10,8 @@ times the entries may take twelve times the time, and no more.
 import os
 import sys
 
-from memory import folder, make_outbox
-from programs import Server, built, example, run
+from memory import make_outbox
+from programs import Server, built, example, folder, run
 
 RUNS = 3
 FEW, MANY = 1_000, 10_000

@@ -1,5 +1,6 @@
-"""What the measurements share: the built programs, the requests that they are given, and the processor time that they take."""
+"""What the measurements share: the built programs, the requests that they are given, and the processor time or the instructions that they take."""
 
+import contextlib
 import os
 import re
 import resource
@@ -8,10 +9,14 @@ import socket
 import subprocess
 import sys
 import tempfile
+import threading
 import time
 
 TOP = os.path.dirname(os.path.dirname(os.path.abspath(__file__)))
 BODY_BYTES = 393
+CALLGRIND = ["valgrind", "--tool=callgrind", "--callgrind-out-file=/dev/null"]
+# Callgrind counts each byte that `rep movsb` copies, by which glibc makes large copies on some processors and not on others.
+NO_REP = {**os.environ, "GLIBC_TUNABLES": "glibc.cpu.hwcaps=-ERMS"}
 
 
 def built(name):
@@ -72,17 +77,22 @@ def counts_instructions():
     return shutil.which("valgrind") is not None
 
 
+def collected(errors):
+    """The instructions that callgrind tells at its end, or none if it did not come to that."""
+    count = re.search(rb"Collected : (\d+)", errors)
+    return int(count[1]) if count else None
+
+
 def instructions(words, given, status=0):
     """What a program printed, and how many instructions it took in user mode, by callgrind. It has to end with the status."""
     with tempfile.TemporaryFile() as it:
         it.write(given)
         it.seek(0)
-        valgrind = ["valgrind", "--tool=callgrind", "--callgrind-out-file=/dev/null"]
-        ended = subprocess.run(valgrind + words, stdin=it, capture_output=True, check=False)
-    count = re.search(rb"Collected : (\d+)", ended.stderr)
-    if ended.returncode != status or not count:
-        sys.exit(f"{' '.join(valgrind + words)}: status {ended.returncode}, {ended.stderr.decode(errors='replace')}")
-    return ended.stdout, int(count[1])
+        ended = subprocess.run(CALLGRIND + words, stdin=it, env=NO_REP, capture_output=True, check=False)
+    count = collected(ended.stderr)
+    if ended.returncode != status or count is None:
+        sys.exit(f"{' '.join(CALLGRIND + words)}: status {ended.returncode}, {ended.stderr.decode(errors='replace')}")
+    return ended.stdout, count
 
 
 def connect(port):
@@ -106,6 +116,18 @@ def read_reply(peer, held):
     return int(head.split(b" ")[1]), rest[length:]
 
 
+def exchange(peer, given, count, expected=201):
+    """Sends requests, and reads the reply to each, which has to be a filing, or to have another status."""
+    sender = threading.Thread(target=peer.sendall, args=(given,))
+    sender.start()
+    held = b""
+    for _ in range(count):
+        status, held = read_reply(peer, held)
+        if status != expected:
+            sys.exit(f"status {status}")
+    sender.join()
+
+
 def free_port():
     """A port of 127.0.0.1 that nobody listens on."""
     with socket.socket() as it:
@@ -113,21 +135,34 @@ def free_port():
         return it.getsockname()[1]
 
 
-class Server:
-    """An intake that serves a new register in a folder, for so many connections and one that is spent on waiting for it."""
+def folder():
+    """A folder in memory, where there is one, so that no disk is waited for."""
+    return tempfile.TemporaryDirectory(dir="/dev/shm" if os.path.isdir("/dev/shm") else None)
 
-    def __init__(self, folder, connections):
+
+class Server:
+    """An intake that serves the register in a folder, a new one if there is none, for so many connections and one that is spent on waiting
+    for it."""
+
+    # The server is asked every 50 ms whether it listens. It opens its register first.
+    WAITS = 1_200
+
+    def __init__(self, place, connections, under=(), env=None):
+        self.cost = None
         self.port = free_port()
-        self.database = os.path.join(folder, "register.db")
+        self.database = os.path.join(place, "register.db")
+        new = [] if os.path.exists(self.database) else ["--new"]
+        self.errors = tempfile.TemporaryFile()
         self.process = subprocess.Popen(
-            [built("intake"), "serve", "--db", self.database, "--port", str(self.port)]
-            + ["--connections", str(connections + 1), "--new"],
-            stderr=subprocess.DEVNULL,
+            [*under, built("intake"), "serve", "--db", self.database, "--port", str(self.port)]
+            + ["--connections", str(connections + 1), *new],
+            stderr=self.errors,
+            env=env,
         )
         self._wait()
 
     def _wait(self):
-        for _ in range(200):
+        for _ in range(self.WAITS):
             try:
                 connect(self.port).close()
                 return
@@ -142,8 +177,43 @@ class Server:
         with open(f"/proc/{self.process.pid}/schedstat", encoding="ascii") as it:
             return int(it.read().split()[0]) / 1e9
 
+    @contextlib.contextmanager
+    def counting(self):
+        """Has in `cost` what the server took while it was in the block."""
+        before = self.processor_time()
+        yield
+        self.cost = self.processor_time() - before
+
+    def memory(self, name):
+        """The memory of the server that the system tells under a name, in bytes."""
+        with open(f"/proc/{self.process.pid}/status", encoding="ascii") as it:
+            return next(int(line.split()[1]) * 1024 for line in it if line.startswith(name))
+
     def __enter__(self):
         return self
 
     def __exit__(self, *_):
         self.process.wait(timeout=60)
+        self.errors.close()
+
+
+class CountedServer(Server):
+    """The same, with a `cost` in instructions, which is known once the server has ended."""
+
+    def __init__(self, place, connections):
+        super().__init__(place, connections, [*CALLGRIND, "--instr-atstart=no"], NO_REP)
+
+    @contextlib.contextmanager
+    def counting(self):
+        self._count("on")
+        yield
+        self._count("off")
+
+    def _count(self, state):
+        subprocess.run(["callgrind_control", f"--instr={state}", str(self.process.pid)], check=True, capture_output=True)
+
+    def __exit__(self, *_):
+        self.process.wait(timeout=600)
+        self.errors.seek(0)
+        self.cost = collected(self.errors.read())
+        self.errors.close()

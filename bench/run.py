@@ -1,11 +1,14 @@
 #!/usr/bin/env python3
-"""Measures the program `intake`, and holds the growth of what it costs to bounds: status 1 if a bound is passed. Build it first:
+"""Measures the program `intake`, and holds what it costs and how that grows to bounds: status 1 if a bound is passed. Build it first:
 (cd crates/intake && rt run -- --version).
 
-The growth of a judgement and of requests on a register in memory is that of their instructions, if valgrind is installed: these come out the same
-at each run, also where a small report fits a cache of the processor and a large one does not. Otherwise, and for a register in a file, it is that of
-their time. Times are processor time, of the program and of the system for it, less that of a run on nothing, which is the start of the program.
-Each figure is the best of three runs. A register in a file lies in /dev/shm where there is one, so that no disk is waited for.
+A request, a list and an opening cost instructions in user mode, by callgrind, if valgrind is installed: these come out the same at each run but for a
+few in a thousand, whatever else runs. So does the growth of a judgement and of requests on a register in memory, also where a small report fits a
+cache of the processor and a large one does not. Without valgrind a cost is told in time and held to no bound, and growth is that of time, as it
+is of a register in a file.
+
+Times are processor time, of the program and of the system for it, less that of a run on nothing, which is the start of the program. Each figure is
+the best of three runs. A register in a file lies in /dev/shm where there is one, so that no disk is waited for.
 """
 
 import os
@@ -15,45 +18,70 @@ import sys
 import tempfile
 import threading
 
-from programs import Server, amendments, built, connect, counts_instructions, example, instructions, pipelined, read_reply, request, run, time_of_children
+import columns
+from programs import (
+    Server,
+    amendments,
+    built,
+    connect,
+    counts_instructions,
+    example,
+    exchange,
+    folder,
+    instructions,
+    pipelined,
+    request,
+    run,
+    time_of_children,
+)
+from reports import FACT, SMALLEST, WRONG, facts, report, wide
+
+# What each request may cost, in instructions: a tenth or so more than it does.
+COSTS = {
+    "393 bytes, new, in memory": 149_000,
+    "393 bytes, repeated, in memory": 7_100,
+    "100 kB, new, in memory": 33_700_000,
+    "100 kB, repeated, in memory": 108_000,
+    "150 findings, new, in memory": 8_000_000,
+    "150 findings, repeated, in memory": 215_000,
+    "1,000 findings, new, in memory": 53_400_000,
+    "1,000 findings, repeated, in memory": 5_100_000,
+    "393 bytes, new, on file": 375_000,
+    "393 bytes, repeated and not remembered, on file": 35_200,
+    "100 kB, repeated, on file": 164_000,
+    "list of 10 filings": 362_000,
+    "list of 1,000 filings": 39_800_000,
+    "one filing of 1,000": 39_400_000,
+    "one filing of 10,000": 415_000_000,
+    "amendment after no other": 572_000,
+    "amendment after 1,000 others": 1_920_000,
+    "amendment after 10,000 others": 15_400_000,
+    "opening, each small report": 200_000,
+}
+
+# The memory of a server that waits for its first request, in kB.
+IDLE = 42_000
+
+# How many times as much the larger of two may cost.
+GROWTHS = {
+    "10 times the facts, to judge a report": 12,
+    "10 times the wrong facts, to judge a report": 12,
+    "10 times the new keys (100 to 1,000)": 11,
+    "10 times the repeats of one key (100 to 1,000)": 11,
+    "in a file, 100 times the requests, to add one": 2,
+    "in a file, 100 times the requests, to find one": 2,
+    "10 times the requests (10,000 to 100,000), to open": 15,
+    "of 1,000 filings, to replace one instead of adding one": 2,
+    "of 10,000 filings, to replace one instead of adding one": 2,
+    "of 100,000 filings, to replace one instead of adding one": 2,
+    "10 times the filings, to list them": 12,
+}
 
 RUNS = 3
 BODY_BYTES = 1_048_576
 ADDED = 1_000
 REPLACED = 100
 LISTS = 10
-
-SMALLEST = b'{"documentInfo":{"documentType":"https://xbrl.org/2021/xbrl-json","taxonomy":["t"]}}'
-
-INFO = (
-    b'{"documentInfo":{"documentType":"https://xbrl.org/2021/xbrl-json","namespaces":'
-    b'{"eg":"http://example.com/eg","iso4217":"http://www.xbrl.org/2003/iso4217",'
-    b'"lei":"http://standards.iso.org/iso/17442"},"taxonomy":["http://example.com/eg.xsd"]},"facts":{'
-)
-
-FACT = (
-    b'"f%06d":{"value":"100","decimals":0,"dimensions":{"concept":"eg:Assets","entity":"lei:ACME",'
-    b'"period":"2024-12-31T00:00:00","unit":"iso4217:EUR"}}'
-)
-
-# A fact without a value, which is one finding.
-WRONG = FACT.replace(b'"value":"100",', b"")
-
-
-def facts(form, count):
-    """A report with so many facts of the form."""
-    return INFO + b",".join(form % (number + 1) for number in range(count)) + b"}}"
-
-
-def report(most):
-    """A valid report of at most so many bytes, with as many facts as fit."""
-    return facts(FACT, (most - len(INFO) - 2) // (len(FACT % 1) + 1))
-
-
-def wide():
-    """A report with one fact, whose identifier is long and whose dimensions are many and wrong."""
-    dimensions = b",".join(b'"%05d":1' % number for number in range(50_000))
-    return INFO + b'"%s":{"value":"1","dimensions":{%s}}}}' % (b"a" * 500_000, dimensions)
 
 
 def serve(given, replies):
@@ -134,11 +162,28 @@ def seconds_in_pieces(given, most):
     return min(times)
 
 
-def growth(what, smaller, larger, most, unit="time"):
+def within(what, figure, most, digits=0):
+    """Whether the figure is within its bound. Both are told."""
+    held = figure <= most
+    print(f"{what}: {figure:,.{digits}f}, {'at most' if held else 'WHICH PASSES'} {most:,}", flush=True)
+    return held
+
+
+def growth(what, smaller, larger, unit="time"):
     """Whether the larger run costs at most so many times what the smaller does."""
-    times = larger / smaller
-    print(f"{what}: {times:.1f} times the {unit}, at most {most}")
-    return times <= most
+    return within(f"{what}, times the {unit}", larger / smaller, GROWTHS[what], 1)
+
+
+def costs():
+    """Whether each request costs what it may, and a server that waits has no more memory than it may."""
+    held = []
+    for part in (columns.reports(), columns.filings()):
+        for what, cost in part:
+            if counts_instructions():
+                held.append(within(f"{what}, instructions", cost, COSTS[what]))
+            else:
+                print(f"{what}: {cost * 1e6:.0f} us", flush=True)
+    return [*held, within("a server that waits for its first request, kB", columns.idle() / 1_000, IDLE)]
 
 
 def unit():
@@ -158,7 +203,7 @@ def bodies():
         print(f"a report of {len(body)} bytes: {rates}")
     for what, form, status in (("facts", FACT, 0), ("wrong facts", WRONG, 1)):
         fewer, more = (cost_to_judge(facts(form, count), status) for count in (700, 7_000))
-        held.append(growth(f"10 times the {what}, to judge a report", fewer, more, 12, unit()))
+        held.append(growth(f"10 times the {what}, to judge a report", fewer, more, unit()))
     print(f"one fact with 50,000 wrong dimensions: {seconds_to_judge(wide(), 1):.3f} s to judge")
     return held
 
@@ -172,30 +217,17 @@ def requests():
         for count, time in zip((100, 1_000, 10_000), times):
             print(f"{count} {what}: {time:.3f} s, {count / time:.0f} requests/s")
         fewer, more = (cost_to_serve(pipelined(numbers(count), small), count) for count in (100, 1_000))
-        held.append(growth(f"10 times the {what} (100 to 1,000)", fewer, more, 11, unit()))
+        held.append(growth(f"10 times the {what} (100 to 1,000)", fewer, more, unit()))
         print(f"10 times as many again: {times[2] / times[1]:.1f} times the time")
     return held
-
-
-def exchange(peer, given, count, expected=201):
-    """Sends requests, and reads the reply to each, which has to be a filing, or to have another status."""
-    sender = threading.Thread(target=peer.sendall, args=(given,))
-    sender.start()
-    held = b""
-    for _ in range(count):
-        status, held = read_reply(peer, held)
-        if status != expected:
-            sys.exit(f"status {status}")
-    sender.join()
 
 
 def in_a_file(count):
     """The processor time of one more filing, of one repeat, of one that replaces a filing, and of an opening, where a file keeps so
     many requests, in seconds."""
     small = example()
-    within = "/dev/shm" if os.path.isdir("/dev/shm") else None
-    with tempfile.TemporaryDirectory(dir=within) as folder:
-        with Server(folder, 1) as server:
+    with folder() as place:
+        with Server(place, 1) as server:
             peer = connect(server.port)
             exchange(peer, pipelined(range(count), small), count)
             # The repeats are all over the register, and so of keys that are not remembered where it is large. So are the filings
@@ -225,19 +257,18 @@ def registers():
         it = times[count]
         of_one = ", ".join(f"{it[what] * 1e6:.0f} us to {what} one" for what in ("add", "find", "replace"))
         print(f"{count} kept requests in a file: {of_one}, {it['open']:.3f} s to open")
-    held = [growth(f"in a file, 100 times the requests, to {what} one", times[1_000][what], times[100_000][what], 2) for what in ("add", "find")]
-    held.append(growth("10 times the requests (10,000 to 100,000), to open", times[10_000]["open"], times[100_000]["open"], 15))
+    held = [growth(f"in a file, 100 times the requests, to {what} one", times[1_000][what], times[100_000][what]) for what in ("add", "find")]
+    held.append(growth("10 times the requests (10,000 to 100,000), to open", times[10_000]["open"], times[100_000]["open"]))
     for count, it in times.items():
-        held.append(growth(f"of {count} filings, to replace one instead of adding one", it["add"], it["replace"], 2))
+        held.append(growth(f"of {count:,} filings, to replace one instead of adding one", it["add"], it["replace"]))
     return held
 
 
 def listing(count):
     """The processor time of a list, in seconds, of a filer with so many filings in a file, half of which are replaced."""
     small = example()
-    within = "/dev/shm" if os.path.isdir("/dev/shm") else None
-    with tempfile.TemporaryDirectory(dir=within) as folder:
-        with Server(folder, 1) as server:
+    with folder() as place:
+        with Server(place, 1) as server:
             peer = connect(server.port)
             exchange(peer, pipelined(range(count // 2), small) + amendments(range(1, count // 2 + 1), small), count)
             before = server.processor_time()
@@ -251,11 +282,11 @@ def lists():
     """Whether the list of a filer grows as it may with its filings."""
     fewer, more = (min(listing(count) for _ in range(RUNS)) for count in (1_000, 10_000))
     print(f"the list of 1,000 and of 10,000 filings, half of them replaced: {fewer * 1e3:.1f} and {more * 1e3:.1f} ms")
-    return [growth("10 times the filings, to list them", fewer, more, 12)]
+    return [growth("10 times the filings, to list them", fewer, more)]
 
 
 def main():
-    if not all(bodies() + requests() + registers() + lists()):
+    if not all(costs() + bodies() + requests() + registers() + lists()):
         sys.exit("a bound is passed")
 
 
