@@ -1,0 +1,22 @@
+-- What contracts see of connections in memory.
+use Rattle.std.specs.Prelude.{ℕ, List, Some, map}
+use Rattle.gateway_ports.specs.declared.memory.Finished.{Finished}
+use Rattle.gateway_ports.specs.declared.memory.Kept.{Kept}
+use Rattle.gateway_ports.specs.declared.memory.Queue.{Queue}
+use Rattle.gateway_ports.specs.Ports.{Output, Traffic}
+
+-- what was written
+abbrev pub bytes_kept : Kept → List ℕ
+bytes_kept kept = kept.text.items
+
+-- how often memory was refused
+abbrev pub refusals : Kept → ℕ
+refusals kept = kept.refused
+
+-- what a connection came to
+abbrev pub output_of : Finished → Output
+output_of finished = record { marks = finished.marks.items; ended = finished.ended; bytes = finished.text.items }
+
+-- all that is to come, and what all that is over came to
+abbrev pub traffic_of : Queue → Traffic
+traffic_of queue = record { coming = Some (map (λ bytes. bytes.items) queue.coming.now); over = Some (map output_of queue.over.items) }

@@ -1,0 +1,45 @@
+-- What comes on a port and what its connections come to, as far as that is known; own rules.
+use Rattle.std.specs.Prelude.{◌≡◌, ℕ, List, [], ◌∷◌, ◌++◌, Option, Some, None, Result, Ok, Err}
+use Rattle.http_wire.specs.Wire.{Wire}
+use Rattle.filing_model.specs.declared.served.Mark.{Mark}
+use Rattle.filing_model.specs.declared.served.Ended.{Ended}
+use Rattle.gateway_server.specs.declared.serving.Served.{Served}
+
+-- what a connection that is over came to: what was marked, how it ended, and what was written
+pub record Output : Type 0 where
+  pub marks : List Mark
+  pub ended : Ended
+  pub bytes : List ℕ
+
+-- What contracts see of a port, where it is known: the bytes of each connection that comes from here on, and what each came to that is over.
+pub record Traffic : Type 0 where
+  pub coming : Option (List (List ℕ))
+  pub over : Option (List Output)
+
+-- the first of the known connections is taken, and has these bytes
+abbrev pub Takes : Option (List (List ℕ)) → Option (List (List ℕ)) → Option (List ℕ) → Type 0
+Takes None after bytes = Unit {0}
+Takes (Some []) after bytes = ⊥
+Takes (Some (first ∷ more)) after bytes = (after ≡ Some more) × (bytes ≡ Some first)
+
+-- nothing is written yet, where it will be known what the connections come to
+abbrev pub IsUnwritten : Option (List Output) → Option (List ℕ) → Type 0
+IsUnwritten None written = Unit {0}
+IsUnwritten (Some outputs) written = written ≡ Some []
+
+-- A connection came, of which nothing is read or written; or one that its peer gave up before, which none of the known ones is; or none, and
+-- all is as it was. First comes what contracts see of the halves of a connection.
+abbrev pub Comes : {R W E : Type 0} → (R → W → Wire) → Traffic → Traffic → Result (Option (R × W)) E → Type 0
+Comes shows old new (Ok (Some (reader, writer))) = (new.over ≡ old.over) × Takes old.coming new.coming (shows reader writer).left × IsUnwritten old.over (shows reader writer).written
+Comes shows old new (Ok None) = (new ≡ old) × (old.coming ≡ None)
+Comes shows old new (Err error) = new ≡ old
+
+-- the known outputs, and behind them these
+abbrev pub Grows : Option (List Output) → Option (List Output) → List Output → Type 0
+Grows None after outputs = Unit {0}
+Grows (Some outputs) after more = after ≡ Some (outputs ++ more)
+
+-- the known outputs, and behind them that of a connection which was served so, and on which this was written
+abbrev pub Adds : Option (List Output) → Option (List Output) → Served → Option (List ℕ) → Type 0
+Adds old new served None = Unit {0}
+Adds old new served (Some written) = Grows old new (record { marks = served.marks.items; ended = served.ended; bytes = written } ∷ [])

@@ -1,0 +1,110 @@
+//! A port in memory, whose connections are given.
+
+ghost use Rattle.std.specs.Prelude.{◌≡◌, [], Some, map};
+ghost use Rattle.gateway_ports.specs.Memory.{bytes_kept, refusals, output_of, traffic_of};
+
+use crate::port::Port;
+use gateway_server::{Ended, Mark, Served};
+use http_wire::{Device, DeviceFailed, Sink};
+use std::alloc::{AllocError, Global};
+use std::io;
+
+/// What was written so far. A write fails where memory runs out.
+#[derive(Drop)]
+pub struct Kept {
+    text: Vec<u8>,
+    refused: u64,
+}
+
+impl Sink for Kept {
+    ghost written = { λ kept. Some (bytes_kept kept) };
+
+    ghost write_failures = { refusals };
+
+    fn write(&mut self, text: &[u8]) -> Result<usize, DeviceFailed> {
+        match self.text.extend_from_slice(text) {
+            Ok(()) => Ok(text.len()),
+            Err(_) => {
+                self.refused = self.refused.saturating_add(1);
+                Err(DeviceFailed)
+            }
+        }
+    }
+}
+
+/// What a connection came to that is over.
+#[derive(Drop)]
+pub struct Finished {
+    pub marks: Vec<Mark>,
+    pub ended: Ended,
+    pub text: Vec<u8>,
+}
+
+/// A port on which each of these texts comes as a connection.
+#[derive(Drop)]
+pub struct Queue<'a> {
+    alloc: Global,
+    coming: &'a [Vec<u8>],
+    over: Vec<Finished>,
+}
+
+impl<'a> Queue<'a> {
+    /// The port on which these come.
+    pub fn new(alloc: Global, coming: &'a [Vec<u8>]) -> Queue<'a>
+        ensures { traffic_of result ≡ record
+            { coming = Some (map (λ bytes. bytes.items) coming.now); over = Some [] } }
+    {
+        Queue {
+            alloc,
+            coming,
+            over: Vec::new(alloc),
+        }
+    }
+
+    /// What the connections came to that are over, in the order in which they came.
+    pub fn finished(&self) -> &[Finished]
+        ensures { (traffic_of self.now).over ≡ Some (map output_of result.now) }
+    {
+        self.over.as_slice()
+    }
+}
+
+impl<'a> Port for Queue<'a> {
+    type Reader = Device<&'a [u8]>;
+
+    type Writer = Kept;
+
+    ghost traffic = { traffic_of };
+
+    fn listen(&mut self) -> io::Result<()> {
+        Ok(())
+    }
+
+    fn accept(&mut self) -> io::Result<Option<(Device<&'a [u8]>, Kept)>> {
+        match self.coming.split_first() {
+            Some((first, more)) => {
+                self.coming = more;
+                let writer = Kept {
+                    text: Vec::new(self.alloc),
+                    refused: 0,
+                };
+                Ok(Some((Device::new(first.as_slice()), writer)))
+            }
+            None => Err(io::ErrorKind::UnexpectedEof.into()),
+        }
+    }
+
+    fn end(
+        &mut self,
+        _reader: Device<&'a [u8]>,
+        writer: Kept,
+        served: Served,
+    ) -> Result<(), AllocError> {
+        self.over.push(Finished {
+            marks: served.marks,
+            ended: served.ended,
+            text: writer.text,
+        })?;
+        Ok(())
+    }
+}

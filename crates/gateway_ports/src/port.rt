@@ -1,0 +1,41 @@
+//! A port, as a list of connections.
+
+ghost use Rattle.std.specs.Prelude.{◌≡◌, OnOk};
+ghost use Rattle.http_wire.specs.Wire.{wire};
+ghost use Rattle.gateway_ports.specs.Ports.{Traffic, Comes, Adds};
+
+use gateway_server::Served;
+use http_wire::{Sink, Source};
+use std::alloc::AllocError;
+use std::io;
+
+/// A port on which connections come, one after another.
+pub trait Port {
+    /// What reads the bytes that come on a connection.
+    type Reader: Source + Drop;
+
+    /// What writes on it.
+    type Writer: Sink + Drop;
+
+    // What comes from here on, and what the connections came to that are over, where these are known.
+    ghost traffic: { Self → Traffic };
+
+    /// Begins to listen. No connection comes on a port that isn't listened on.
+    fn listen(&mut self) -> io::Result<()>
+        ensures { traffic self.new ≡ traffic self.old };
+
+    /// Waits for the next connection. None is one that its peer gave up before.
+    fn accept(&mut self) -> io::Result<Option<(Self::Reader, Self::Writer)>>
+        ensures { Comes (wire Self.Reader.Source Self.Writer.Sink) (traffic self.old) (traffic self.new) result };
+
+    /// Takes a connection back that is over, and what it came to.
+    fn end(
+        &mut self,
+        reader: Self::Reader,
+        writer: Self::Writer,
+        served: Served,
+    ) -> Result<(), AllocError>
+        ensures coming { (traffic self.new).coming ≡ (traffic self.old).coming }
+        ensures over { OnOk result (Adds (traffic self.old).over (traffic self.new).over served
+            (Self.Writer.written writer)) };
+}
