@@ -1,0 +1,83 @@
+-- Connections that were served, as events of the world; own rules.
+use Rattle.std.specs.Prelude.{◌≡◌, ℕ, List, [], ◌∷◌, ◌++◌, take, map, Option, Some}
+use Rattle.http_messages.specs.declared.refusal.ConnFault.TheVariants.{Memory}
+use Rattle.filing_model.specs.declared.served.Ended.{Ended}
+use Rattle.filing_model.specs.declared.served.Ended.TheVariants.{Closed, InputEnded, Fault}
+use Rattle.filing_model.specs.Request.{Request, firsts}
+use Rattle.filing_model.specs.Stopping.{No}
+use Rattle.filing_model.specs.Serving.{keeping}
+use Rattle.filing_world.specs.World.{Sent, Output, World, Event, Deliver, numbered}
+use Rattle.filing_world.specs.Step.{Run}
+use Rattle.sqlite.specs.Store.{Ghosts}
+use Rattle.intake_core.specs.declared.intake.Intake.{Intake}
+use Rattle.intake_core.specs.Held.{early_of, limit_of, HoldsRequests}
+use Rattle.gateway_ports.specs.Ports.{Traffic}
+use Rattle.gateway_ports.specs.InTurn.{Connection, AreServed}
+
+-- what came on a connection: so many of the first bytes of the item that was sent under this number
+pub record Delivery : Type 0 where
+  pub item : ℕ
+  pub given : ℕ
+
+-- what was read of a connection are these bytes
+pub record IsOf (sent : List Sent) (connection : Connection) (delivery : Delivery) : Type 0 where
+  pub from : Sent
+  pub here : numbered sent delivery.item ≡ Some from
+  pub read : connection.read ≡ take delivery.given from.bytes
+
+-- the same of each connection and its delivery
+abbrev pub AreOf : List Sent → List Connection → List Delivery → Type 0
+AreOf sent [] [] = Unit {0}
+AreOf sent [] (delivery ∷ deliveries) = ⊥
+AreOf sent (connection ∷ connections) [] = ⊥
+AreOf sent (connection ∷ connections) (delivery ∷ deliveries) = IsOf sent connection delivery × AreOf sent connections deliveries
+
+-- each of them is delivered to its end
+abbrev pub events_of : List Delivery → List Event
+events_of deliveries = map (λ delivery. Deliver delivery.item delivery.given No) deliveries
+
+-- A connection that a fault ended is told in the world as one for which memory ran out: what was marked and written is a first part in either.
+abbrev pub end_in_world : Ended → Ended
+end_in_world Closed = Closed
+end_in_world InputEnded = InputEnded
+end_in_world (Fault fault) = Fault Memory
+
+-- what a connection came to, as an output of the world
+pub record IsOutputOf (connection : Connection) (delivery : Delivery) (output : Output) : Type 0 where
+  pub item : output.item ≡ delivery.item
+  pub marks : output.marks ≡ connection.output.marks
+  pub ended : output.ended ≡ Some (end_in_world connection.output.ended)
+  pub bytes : output.bytes ≡ connection.output.bytes
+
+-- the same of each connection and its delivery
+abbrev pub AreOutputsOf : List Connection → List Delivery → List Output → Type 0
+AreOutputsOf [] [] [] = Unit {0}
+AreOutputsOf (connection ∷ connections) (delivery ∷ deliveries) (output ∷ outputs) = IsOutputOf connection delivery output × AreOutputsOf connections deliveries outputs
+AreOutputsOf _ _ _ = ⊥
+
+-- The world went on by the deliveries of these connections, and these requests are kept now.
+pub record GoesOnTo (old : World) (connections : List Connection) (deliveries : List Delivery) (after : List Request) (new : World) : Type 0 where
+  pub run : Run old (events_of deliveries) new
+  -- they are the first ones of all that were completed
+  pub kept : after ≡ firsts new.done
+  -- what each connection came to is an output
+  pub more : List Output
+  pub outputs : new.outputs ≡ old.outputs ++ more
+  pub are : AreOutputsOf connections deliveries more
+  -- nothing else changed
+  pub others : new ≡ record old { done = new.done; outputs = new.outputs }
+
+-- An intake stands for a world: it holds the first ones of the requests that the world has completed, told as problem details, and as many keys
+-- may be kept.
+pub record StandsFor {S : Type 0} (g : Ghosts S) (intake : Intake S) (world : World) : Type 0 where
+  pub holds : HoldsRequests g intake (firsts world.done)
+  pub early : early_of intake ≡ 0
+  pub limit : limit_of intake ≡ world.limit
+
+-- Connections of a port were served after what a world has completed. Whatever items were read on them, the world goes on by their deliveries
+-- to one that the intake stands for.
+pub record IsServedIn {S : Type 0} (g : Ghosts S) (world : World) (port port' : Traffic) (intake : Intake S) (taken : Option ℕ) : Type 0 where
+  pub connections : List Connection
+  pub after : List Request
+  pub served : AreServed (keeping world.limit [] (firsts world.done) after) port port' connections taken
+  pub goes_on : (deliveries : List Delivery) → AreOf world.sent connections deliveries → (new : World) × GoesOnTo world connections deliveries after new × StandsFor g intake new
