@@ -117,9 +117,9 @@ module _ (filers : List FilerParts) (at number : ℕ) (is : number ≡ suc at) (
   set : (new : FilerParts) → boxes (slice_set filers at new) ≡ renewed (boxes filers) number new.box
   set new = map-slice_set (λ f. f.box) filers at new ∙ written (boxes filers) at new.box ∙ ap (λ n. renewed (boxes filers) n new.box) (sym is)
 
-  pub put_step : {E : Type 0} → box.up ≡ true → (entry : Entry) (new : FilerParts) (result : Result (Unit {0}) E) → OnOk result (new.box ≡ with_entry box entry) → OnOk result (IsKey entry.key) → IsTarget entry.target
-      → OnOk result ((server : Served) (sent : List Sent) (outputs : List Output) → Puts (world_of server sent outputs filers) number entry (world_of server sent outputs (slice_set filers at new)))
-  put_step up entry new (Ok u) becomes key target = λ server sent outputs. record {
+  pub put_step : box.up ≡ true → (entry : Entry) (new : FilerParts) → new.box ≡ with_entry box entry → IsKey entry.key → IsTarget entry.target → (server : Served) (sent : List Sent) (outputs : List Output)
+      → Puts (world_of server sent outputs filers) number entry (world_of server sent outputs (slice_set filers at new))
+  put_step up entry new becomes key target server sent outputs = record {
     is_key = key;
     is_target = target;
     box = box;
@@ -127,7 +127,6 @@ module _ (filers : List FilerParts) (at number : ℕ) (is : number ≡ suc at) (
     up = up;
     becomes = ap (world_with server sent outputs) (set new ∙ ap (renewed (boxes filers) number) becomes);
   }
-  put_step up entry new (Err e) becomes key target = tt
 
   pub send_step : box.up ≡ true → (entry : ℕ) (text : List ℕ) (sent more : List Sent) (new : FilerParts) → Some text ≡ request_at box.filer box.entries entry → new.box ≡ box → more ≡ sent ++ record { from = Some (number, entry); bytes = text } ∷ []
       → (server : Served) (outputs : List Output) → Sends (world_of server sent outputs filers) number entry (world_of server more outputs (slice_set filers at new))
@@ -152,12 +151,10 @@ module _ (filers : List FilerParts) (at number : ℕ) (is : number ≡ suc at) (
       let same : box ≡ other = let first = there in cc in
       subst (λ (b : Outbox). numbered b.entries entry ≡ None) same none
 
-  pub hand_step : {E : Type 0} → box.up ≡ true → (sent : List Sent) (outputs : List Output) (output given entry : ℕ) (crash : Crash) (from : Output) (item : Sent) → numbered outputs output ≡ Some from → numbered sent from.item ≡ Some item → item.from ≡ Some (number, entry)
-      → (new : FilerParts) (result : Result (Unit {0}) E)
-      → OnOk result ((what : Entry) → numbered box.entries entry ≡ Some what → (heard : Option ReplyParts) × Hears (take given from.bytes) crash heard × (new.box ≡ box_after box entry what heard crash))
-      → OnOk result ((server : Served) → AllOwn (boxes filers) sent → Hands (world_of server sent outputs filers) output given crash (world_of server sent outputs (slice_set filers at new)))
-  hand_step up sent outputs output given entry crash from item out_here item_here sender new (Err e) moves = tt
-  hand_step up sent outputs output given entry crash from item out_here item_here sender new (Ok u) moves = λ server own.
+  pub hand_step : box.up ≡ true → (sent : List Sent) (outputs : List Output) (output given entry : ℕ) (crash : Crash) (from : Output) (item : Sent) → numbered outputs output ≡ Some from → numbered sent from.item ≡ Some item → item.from ≡ Some (number, entry)
+      → (new : FilerParts) → ((what : Entry) → numbered box.entries entry ≡ Some what → (heard : Option ReplyParts) × Hears (take given from.bytes) crash heard × (new.box ≡ box_after box entry what heard crash))
+      → (server : Served) → AllOwn (boxes filers) sent → Hands (world_of server sent outputs filers) output given crash (world_of server sent outputs (slice_set filers at new))
+  hand_step up sent outputs output given entry crash from item out_here item_here sender new moves server own =
       let its = own_entry sent from.item item item_here sender own in
       let step = moves its.0 its.1 in record {
         from = from;
@@ -184,10 +181,9 @@ module _ (filers : List FilerParts) (at number : ℕ) (is : number ≡ suc at) (
           let same : its.box ≡ box = let first = there in let second = its.here in cc in
           (its.entry, subst (λ (b : Outbox). numbered b.entries entry ≡ Some its.entry) same its.there)
 
-  pub restart_step : {E : Type 0} (new : FilerParts) (result : Result (Unit {0}) E) → OnOk result (new.box ≡ record box { up = true })
-      → OnOk result ((server : Served) (sent : List Sent) (outputs : List Output) → Restarts (world_of server sent outputs filers) number (world_of server sent outputs (slice_set filers at new)))
-  restart_step new (Err e) becomes = tt
-  restart_step new (Ok u) becomes = λ server sent outputs. record {
+  pub restart_step : (new : FilerParts) → new.box ≡ record box { up = true } → (server : Served) (sent : List Sent) (outputs : List Output)
+      → Restarts (world_of server sent outputs filers) number (world_of server sent outputs (slice_set filers at new))
+  restart_step new becomes server sent outputs = record {
     box = box;
     here = there;
     becomes = ap (world_with server sent outputs) (set new ∙ ap (renewed (boxes filers) number) becomes);

@@ -1,5 +1,8 @@
 -- As what fault it is reported that an event was not played.
 use Rattle.std.proofs.Common.{◌≡◌, ◌≢◌, ℕ, refl}
+use Rattle.table_rows.specs.declared.fault.StoreFault.{StoreFault}
+use Rattle.table_rows.specs.declared.fault.StoreFault.TheVariants as store
+use Rattle.filing_ends.specs.Causes.{store_cause}
 use Rattle.filing_ends.specs.declared.cause.Cause.{Cause}
 use Rattle.filing_ends.specs.declared.cause.Cause.TheVariants as cause
 use Rattle.world_events.specs.declared.fault.Fault.TheVariants.{NoSuch, Store, Reopen}
@@ -28,6 +31,11 @@ reopen_why event n why.NoSuch is = absurd (cc)
 reopen_why event n (why.Refused cause.Memory) is = absurd (cc)
 reopen_why event n (why.Refused cause.Store) is = absurd (cc)
 reopen_why event n (why.Refused cause.Reopen) is = refl
+
+-- no refused call on a store is one of an end that was not opened
+pub not_reopened : (fault : StoreFault) → store_cause fault ≢ cause.Reopen
+not_reopened store.Memory is = cc
+not_reopened store.Store is = cc
 
 -- no refusal of an end is reported as NoSuch
 pub refused_there : (event n : ℕ) (c : Cause) → refused_at event c ≢ NoSuch n

@@ -136,7 +136,7 @@ fn append_outbox<D: Honest>(
     code: &str,
 ) -> Result<(), Cause>
     requires { is_filer code.now ≡ true }
-    ensures new { OnOk result (boxes list.new.items ≡ boxes list.old.items ++ new_outbox code.now ∷ []) }
+    ensures { OnOk result (boxes list.new.items ≡ boxes list.old.items ++ new_outbox code.now ∷ []) }
 {
     list.reserve(1)?;
     list.push_reserved(Filer::new(alloc, code)?);
@@ -146,7 +146,7 @@ fn append_outbox<D: Honest>(
 /// An empty outbox for each of these filer codes, in order.
 fn outboxes<D: Honest>(alloc: Global, filers: &[&str]) -> Result<Vec<Filer<D>>, Cause>
     requires { AreFilers (map (λ f. f.now) filers.now) }
-    ensures new { IfOk result (λ list. boxes list.items ≡ map new_outbox (map (λ f. f.now) filers.now)) }
+    ensures { IfOk result (λ list. boxes list.items ≡ map new_outbox (map (λ f. f.now) filers.now)) }
 {
     let mut list = Vec::new(alloc);
     for code in filers {

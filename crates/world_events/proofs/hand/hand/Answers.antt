@@ -24,7 +24,7 @@ returns-clause-step g c =
     let item_is : c.from.inside.item ≡ from.item = ap (λ (o : Output). o.item) c.from.view_is in
     let item_here = subst (λ n. numbered c.args.sent.now n ≡ Some sender.0) item_is sender.1 in
     hand_step filers c.in-Some-up_at.index c.in_ok-outbox.outbox up.0 filer (rw same there) (rw same up.3) c.args.sent.now c.args.outputs.now c.args.output c.args.bytes c.in_ok-outbox.entry (view_crash c.args.crash) from sender.0 here item_here sender.2
-    c.hand.new.self c.hand.result (rw given at c.hand.ensures.heard)
+    c.hand.new.self (rw given at c.in_ok-hand.ensures.heard)
 
 pub index_mut-requires : goal.index_mut-requires
 index_mut-requires g c = subst (λ n. c.in-Some-up_at.index < n) c.as_slice.ensures.len c.in-Some-up_at.ensures.some.4
@@ -46,8 +46,8 @@ returns-in_default-up_at-clause-no_such g c = λ e server.
     let item_here = subst (λ n. numbered c.args.sent.now n ≡ Some sender.0) item_is sender.1 in
     inr (from, sender.0, here, item_here, inr (c.in_ok-outbox.outbox, c.in_ok-outbox.entry, sender.2, subst (λ fs. IsAway (boxes fs) c.in_ok-outbox.outbox) c.as_slice.ensures.value (c.in_default-up_at.ensures.none refl)))
 
-pub returns-clause-reopen : goal.returns-clause-reopen
-returns-clause-reopen g c = λ e.
+pub returns-in_err-hand-clause-reopen : goal.returns-in_err-hand-clause-reopen
+returns-in_err-hand-clause-reopen g c = λ e.
     let filers = c.args.filers.now.items in
     let from = c.index-outputs-at.result in
     let sender = c.in_ok-outbox.ensures.some in
@@ -56,10 +56,10 @@ returns-clause-reopen g c = λ e.
     let here = named c.args.outputs.now c.args.output c.in-Some.at from c.in-Some.ensures.some.0 (element_at c.args.outputs.now c.in-Some.at from c.in-Some.ensures.some.1 c.index-outputs-at.is) in
     let item_is : c.from.inside.item ≡ from.item = ap (λ (o : Output). o.item) c.from.view_is in
     let item_here = subst (λ n. numbered c.args.sent.now n ≡ Some sender.0) item_is sender.1 in
-    (c.hand.ensures.reopen e, can_hand c.args.sent.now c.args.outputs.now filers c.args.output c.args.bytes c.in_ok-outbox.outbox c.in_ok-outbox.entry (view_crash c.args.crash) from sender.0 here item_here sender.2 (up_there filers c.in_ok-outbox.outbox c.in-Some-up_at.index up.1 up.0 there up.3))
+    (c.in_err-hand.ensures.reopen (search rules), can_hand c.args.sent.now c.args.outputs.now filers c.args.output c.args.bytes c.in_ok-outbox.outbox c.in_ok-outbox.entry (view_crash c.args.crash) from sender.0 here item_here sender.2 (up_there filers c.in_ok-outbox.outbox c.in-Some-up_at.index up.1 up.0 there up.3))
 
-pub returns-clause-store : goal.returns-clause-store
-returns-clause-store g c = λ e server keeps.
+pub returns-in_err-hand-clause-store : goal.returns-in_err-hand-clause-store
+returns-in_err-hand-clause-store g c = λ e server keeps.
     let filers = c.args.filers.now.items in
     let from = c.index-outputs-at.result in
     let sender = c.in_ok-outbox.ensures.some in
@@ -68,7 +68,7 @@ returns-clause-store g c = λ e server keeps.
     let here = named c.args.outputs.now c.args.output c.in-Some.at from c.in-Some.ensures.some.0 (element_at c.args.outputs.now c.in-Some.at from c.in-Some.ensures.some.1 c.index-outputs-at.is) in
     let item_is : c.from.inside.item ≡ from.item = ap (λ (o : Output). o.item) c.from.view_is in
     let item_here = subst (λ n. numbered c.args.sent.now n ≡ Some sender.0) item_is sender.1 in
-    (c.hand.ensures.store e, (c.in_ok-outbox.outbox, (from, sender.0, c.in_ok-outbox.entry, here, item_here, sender.2), up_there filers c.in_ok-outbox.outbox c.in-Some-up_at.index up.1 up.0 there up.3))
+    (c.in_err-hand.ensures.store (search rules), (c.in_ok-outbox.outbox, (from, sender.0, c.in_ok-outbox.entry, here, item_here, sender.2), up_there filers c.in_ok-outbox.outbox c.in-Some-up_at.index up.1 up.0 there up.3))
 
 pub returns-in_err-outbox-clause-store : goal.returns-in_err-outbox-clause-store
 returns-in_err-outbox-clause-store g c = λ e server keeps.

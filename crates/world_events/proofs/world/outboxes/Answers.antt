@@ -16,7 +16,7 @@ pub loop-code-preserved : goal.loop-code-preserved
 loop-code-preserved g c =
     let next : c.loop-code.code-index + 1 ≡ suc c.loop-code.code-index = omega arith in
     subst (λ n. boxes c.append_outbox.new.list.items ≡ map new_outbox (map (λ f. f.now) (take n c.args.filers.now))) (sym next)
-    (outboxes_next (λ f. f.now) c.args.filers.now c.loop-code.code-index _ (boxes c.loop-code.list.items) (boxes c.append_outbox.new.list.items) _ c.loop-code-test.true c.loop-code.invariant refl c.in_ok-append_outbox.ensures.new)
+    (outboxes_next (λ f. f.now) c.args.filers.now c.loop-code.code-index _ (boxes c.loop-code.list.items) (boxes c.append_outbox.new.list.items) _ c.loop-code-test.true c.loop-code.invariant refl c.in_ok-append_outbox.ensures)
 
-pub returns-clause-new : goal.returns-clause-new
-returns-clause-new g c = c.loop-code.invariant ∙ ap (λ l. map new_outbox (map (λ f. f.now) l)) (take_all c.loop-code.code-index c.args.filers.now c.loop-code-test.false)
+pub returns : goal.returns
+returns g c = c.loop-code.invariant ∙ ap (λ l. map new_outbox (map (λ f. f.now) l)) (take_all c.loop-code.code-index c.args.filers.now c.loop-code-test.false)

@@ -51,9 +51,6 @@ returns-in-Hand-clause-step g c =
     subst (λ outputs. Hands (old c.args.sent.now.items outputs) given.output given.bytes (view_crash given.crash) (new c.args.sent.now.items outputs)) c.as_slice-in-Hand-2.ensures.value first)
     c.hand.ensures.step)
 
-pub returns-in-RestartServer-clause-step : goal.returns-in-RestartServer-clause-step
-returns-in-RestartServer-clause-step g c =
-    rw c.in-RestartServer.is (then_ok c.restart.result (λ restarted own. ap (λ server. world_of server c.args.sent.now.items c.args.outputs.now.items c.args.filers.now.items) restarted) c.restart.ensures.restarted)
 
 pub returns-in-RestartOutbox-clause-step : goal.returns-in-RestartOutbox-clause-step
 returns-in-RestartOutbox-clause-step g c =
@@ -81,8 +78,6 @@ returns-in-Hand-clause-no_such g c = λ e.
 pub returns-in-RestartOutbox-clause-no_such : goal.returns-in-RestartOutbox-clause-no_such
 returns-in-RestartOutbox-clause-no_such g c = λ e. rw c.in-RestartOutbox.is (c.restart_outbox.ensures.no_such e c.args.server.now c.args.sent.now.items c.args.outputs.now.items)
 
-pub returns-in-RestartServer-clause-no_such : goal.returns-in-RestartServer-clause-no_such
-returns-in-RestartServer-clause-no_such g c = λ e. absurd (c.restart.ensures.other e)
 
 pub returns-in-Put-clause-store : goal.returns-in-Put-clause-store
 returns-in-Put-clause-store g c = λ e keeps. rw c.in-Put.is (c.put.ensures.store e)
@@ -103,8 +98,6 @@ returns-in-Hand-clause-store g c = λ e keeps.
     let whole : Keeps (world_of server c.as_slice-in-Hand.result.now c.as_slice-in-Hand-2.result.now boxes) = subst (λ w. Keeps w) (λ i. world_of server (sym sent_is i) (sym answered i) boxes) keeps in
     rw c.in-Hand.is (subst (λ w. AsksOutbox w event) (λ i. world_of server (sent_is i) (answered i) boxes) (c.hand.ensures.store e server whole))
 
-pub returns-in-RestartServer-clause-store : goal.returns-in-RestartServer-clause-store
-returns-in-RestartServer-clause-store g c = λ e keeps. absurd (c.restart.ensures.store e)
 
 pub returns-in-RestartOutbox-clause-store : goal.returns-in-RestartOutbox-clause-store
 returns-in-RestartOutbox-clause-store g c = λ e keeps. absurd (c.restart_outbox.ensures.store e)
@@ -132,8 +125,6 @@ returns-in-Hand-clause-reopen g c = λ e.
     let sent_is = c.as_slice-in-Hand.ensures.value in
     rw c.in-Hand.is (closes.0, subst (λ w. ¬ (CannotPlay w event)) (λ i. world_of server (sent_is i) (answered i) boxes) (closes.1 server))
 
-pub returns-in-RestartServer-clause-reopen : goal.returns-in-RestartServer-clause-reopen
-returns-in-RestartServer-clause-reopen g c = λ e. rw c.in-RestartServer.is (tt, λ cannot. cannot)
 
 pub returns-in-RestartOutbox-clause-reopen : goal.returns-in-RestartOutbox-clause-reopen
 returns-in-RestartOutbox-clause-reopen g c = λ e. rw c.in-RestartOutbox.is (tt, c.restart_outbox.ensures.reopen e c.args.server.now c.args.sent.now.items c.args.outputs.now.items)
