@@ -138,7 +138,12 @@ impl<D: Honest> OutboxProcess<D> {
     /// It hears these bytes as the reply to the entry of this number, and answers the state that the entry came to,
     /// or `None` where the bytes give no reply. `Store` comes where it is down, or did not take the reply for another
     /// cause than memory.
-    pub fn hear(&mut self, alloc: Global, number: u64, bytes: &[u8]) -> Result<Option<State>, StoreFault>
+    pub fn hear(
+        &mut self,
+        alloc: Global,
+        number: u64,
+        bytes: &[u8],
+    ) -> Result<Option<State>, StoreFault>
         ensures heard { (filer : List ℕ) (entries : List Item) → Keeps self.old filer entries → IfOk result (λ to.
             (what : Item) → numbered entries number ≡ Some what → (heard : Option ReplyParts) × Hears bytes.now No heard
             × (state_or what.state to ≡ heard_by what.state heard)) }

@@ -122,7 +122,7 @@ impl<D: Honest> Server<D> {
     pub fn new(alloc: Global, limit: u64) -> Result<Server<D>, Cause>
         requires { limit ≤ 2 ^ 62 }
         ensures made { IfOk result (λ s. s ≡ record { limit = limit; done = []; up = true }) }
-        {
+    {
         Ok(Server {
             alloc,
             limit,
@@ -169,7 +169,7 @@ impl<D: Honest> Server<D> {
               done = self.old.done ++ completed arrivals d.marks.items;
               up = is_no (view_crash crash);
             })) }
-            ensures store { result ≢ Err Cause.Store }
+        ensures store { result ≢ Err Cause.Store }
         ensures reopen { result ≡ Err Cause.Reopen → is_no (view_crash crash) ≡ false }
     {
         let before = self.done.len();
@@ -190,7 +190,7 @@ impl<D: Honest> Server<D> {
     /// Gives the files back, where it is up, and opens them.
     pub fn restart(&mut self) -> Result<(), Cause>
         ensures restarted { OnOk result (self.new ≡ record self.old { up = true }) }
-            ensures store { result ≢ Err Cause.Store }
+        ensures store { result ≢ Err Cause.Store }
     {
         let process = mem::replace(&mut self.process, IntakeProcess::Gone);
         let files = process.stopped()?;

@@ -51,7 +51,6 @@ returns-in-Hand-clause-step g c =
     subst (λ outputs. Hands (old c.args.sent.now.items outputs) given.output given.bytes (view_crash given.crash) (new c.args.sent.now.items outputs)) c.as_slice-in-Hand-2.ensures.value first)
     c.hand.ensures.step)
 
-
 pub returns-in-RestartOutbox-clause-step : goal.returns-in-RestartOutbox-clause-step
 returns-in-RestartOutbox-clause-step g c =
     rw c.in-RestartOutbox.is (then_ok c.restart_outbox.result (λ restarts own. restarts c.args.server.now c.args.sent.now.items c.args.outputs.now.items) c.restart_outbox.ensures.step)
@@ -78,7 +77,6 @@ returns-in-Hand-clause-no_such g c = λ e.
 pub returns-in-RestartOutbox-clause-no_such : goal.returns-in-RestartOutbox-clause-no_such
 returns-in-RestartOutbox-clause-no_such g c = λ e. rw c.in-RestartOutbox.is (c.restart_outbox.ensures.no_such e c.args.server.now c.args.sent.now.items c.args.outputs.now.items)
 
-
 pub returns-in-Put-clause-store : goal.returns-in-Put-clause-store
 returns-in-Put-clause-store g c = λ e keeps. rw c.in-Put.is (c.put.ensures.store e)
 
@@ -97,7 +95,6 @@ returns-in-Hand-clause-store g c = λ e keeps.
     let sent_is = c.as_slice-in-Hand.ensures.value in
     let whole : Keeps (world_of server c.as_slice-in-Hand.result.now c.as_slice-in-Hand-2.result.now boxes) = subst (λ w. Keeps w) (λ i. world_of server (sym sent_is i) (sym answered i) boxes) keeps in
     rw c.in-Hand.is (subst (λ w. AsksOutbox w event) (λ i. world_of server (sent_is i) (answered i) boxes) (c.hand.ensures.store e server whole))
-
 
 pub returns-in-RestartOutbox-clause-store : goal.returns-in-RestartOutbox-clause-store
 returns-in-RestartOutbox-clause-store g c = λ e keeps. absurd (c.restart_outbox.ensures.store e)
@@ -124,7 +121,6 @@ returns-in-Hand-clause-reopen g c = λ e.
     let answered = c.as_slice-in-Hand-2.ensures.value in
     let sent_is = c.as_slice-in-Hand.ensures.value in
     rw c.in-Hand.is (closes.0, subst (λ w. ¬ (CannotPlay w event)) (λ i. world_of server (sent_is i) (answered i) boxes) (closes.1 server))
-
 
 pub returns-in-RestartOutbox-clause-reopen : goal.returns-in-RestartOutbox-clause-reopen
 returns-in-RestartOutbox-clause-reopen g c = λ e. rw c.in-RestartOutbox.is (tt, c.restart_outbox.ensures.reopen e c.args.server.now c.args.sent.now.items c.args.outputs.now.items)
