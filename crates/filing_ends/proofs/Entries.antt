@@ -5,8 +5,7 @@ use Rattle.std.specs.Prelude.{nat_le}
 use Rattle.std.proofs.lemmas.Bool.{cases_Bool}
 use Rattle.std.proofs.lemmas.Bool.Decides.{nat_tests}
 use Rattle.http_messages.specs.Head.{max_body_len}
-use Rattle.filing_model.specs.Outbox.{Entry, State, request_of, bytes_of}
-use Rattle.filing_world.specs.World.{numbered}
+use Rattle.filing_model.specs.Outbox.{Entry, State}
 use Rattle.filing_world.specs.Step.{takes}
 use Rattle.filing_world.specs.Headline.{states_of}
 use Rattle.table_rows.specs.declared.fault.StoreFault.{StoreFault}
@@ -14,7 +13,6 @@ use Rattle.filing_model.specs.declared.state.State.{State as Stored}
 use Rattle.outbox_opening.specs.Entries.{numbered_from, numbered as with_ids}
 use Rattle.outbox_core.specs.Entries.{has_text, opened}
 use Rattle.outbox_core.specs.Reading.{view_pair, id_and_state}
-use Rattle.filer_client.specs.Exchange.{request_at}
 use Rattle.filing_ends.specs.Listed.{listed}
 use Rattle.filing_ends.specs.Outboxes.{up_with}
 

@@ -1,5 +1,4 @@
 -- The causes by which an end tells the refusals below it. Want of memory is told as that alone.
-use Rattle.std.specs.Prelude.{ℕ}
 use Rattle.sqlite.specs.declared.error.Error.{Error}
 use Rattle.table_rows.specs.declared.cause.Cause.{Cause as Refusal}
 use Rattle.table_rows.specs.declared.cause.Cause.TheVariants as refusal

@@ -2,8 +2,8 @@
 use Rattle.std.specs.Prelude.{◌≡◌, ℕ, true, List, Option, Some, None, Result, Ok, Err}
 use Rattle.key_string.specs.Filer.{is_filer}
 use Rattle.http_messages.specs.declared.refusal.ReplyFault.TheVariants.{Cut, Malformed, NoLength, TooLarge, Read, ReadLimit, Memory}
-use Rattle.filing_model.specs.Outbox.{Entry, State, request_of, bytes_of}
-use Rattle.filing_world.specs.World.{Outbox, numbered}
+use Rattle.filing_model.specs.Outbox.{Entry, State}
+use Rattle.filing_world.specs.World.{Outbox}
 use Rattle.outbox_core.specs.declared.fault.TakeFault.TheVariants as take
 use Rattle.filing_model.specs.declared.state.State.{State as Stored}
 use Rattle.outbox_opening.specs.Entries.{Contents, empty}

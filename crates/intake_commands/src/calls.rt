@@ -1,7 +1,7 @@
 //! The calls of a register and of an intake that the tasks make, each in a function that promises
 //! nothing: what the tasks do is not stated, and so no task carries the clauses of what it calls.
 
-ghost use Rattle.std.specs.Prelude.{◌≡◌, ◌≤◌, ◌^◌, None, false};
+ghost use Rattle.std.specs.Prelude.{◌≤◌, ◌^◌, None, false};
 ghost use Rattle.table_rows.specs.Standing.{IsAtRest};
 
 use gateway_server::{Ended, Mark, Served, completed as completed_of, serve as serve_connection};

@@ -1,6 +1,6 @@
 //! What is done with the register of a file, apart from serving it.
 
-ghost use Rattle.std.specs.Prelude.{◌≡◌, None, false};
+ghost use Rattle.std.specs.Prelude.{None};
 ghost use Rattle.table_rows.specs.Standing.{IsAtRest};
 
 use crate::calls;

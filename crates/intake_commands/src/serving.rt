@@ -1,6 +1,6 @@
 //! Serves the connections of a port on the register of a file, one after the other.
 
-ghost use Rattle.std.specs.Prelude.{◌≡◌, None, false};
+ghost use Rattle.std.specs.Prelude.{None, false};
 ghost use Rattle.table_rows.specs.Standing.{IsAtRest};
 
 use crate::calls;

@@ -1,10 +1,8 @@
 use Rattle.std.proofs.Common.{◌≡◌, subst, sym, ap, ◌∙◌}
-use Rattle.sqlite.specs.Files.{over_files, IsClosed, FailsToClose}
-use Rattle.sqlite_store.specs.FileStore.{view}
-use Rattle.sqlite_trees.specs.View.{IsClean}
+use Rattle.sqlite.specs.Files.{over_files}
 use Rattle.table_rows.proofs.CleanLemmas.{are_clean}
 use Rattle.register_store.specs.Files.{HoldRegister}
-use Rattle.register_store.specs.Store.{StoreParts, HasRequests}
+use Rattle.register_store.specs.Store.{HasRequests}
 use Rattle.intake_core.specs.Held.{early_of}
 use Rattle.filing_ends.specs.Causes.{closing_cause}
 use Rattle.filing_ends.specs.Refusals.{IsNotClosed}

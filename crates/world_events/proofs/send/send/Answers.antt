@@ -1,4 +1,4 @@
-use Rattle.std.proofs.Common.{rules, ◌≡◌, subst, Some, slice_get, ◌<◌, refl, inl, inr}
+use Rattle.std.proofs.Common.{◌≡◌, subst, Some, slice_get, ◌<◌, refl, inl, inr}
 use Rattle.filing_world.specs.Step.{IsAway}
 use Rattle.world_ends.specs.Filers.{boxes}
 use Rattle.world_events.proofs.Steps.{up_there, element_is, send_step, no_entry, no_request}

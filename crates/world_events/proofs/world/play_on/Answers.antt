@@ -1,4 +1,4 @@
-use Rattle.std.proofs.Common.{List, subst, sym, ap}
+use Rattle.std.proofs.Common.{List, subst, sym}
 use Rattle.event_script.specs.Events.{view_crash}
 use Rattle.filing_world.specs.World.{Sent, Output, Deliver, Hand}
 use Rattle.filing_world.specs.Step.{CannotPlay, Puts, Delivers, Hands}
