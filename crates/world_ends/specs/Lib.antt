@@ -1,2 +1,3 @@
 pub mod Filers
 pub mod Served
+pub mod Delivery

@@ -6,7 +6,6 @@ ghost use Rattle.event_script.specs.Events.{view_crash};
 ghost use Rattle.filing_model.specs.Request.{Request, firsts};
 ghost use Rattle.filing_model.specs.Register.{register};
 ghost use Rattle.filing_model.specs.Serving.{BeginsArrivals};
-ghost use Rattle.filing_model.specs.Stopping.{ServesUntil};
 ghost use Rattle.filing_model.specs.Text.{completed};
 ghost use Rattle.filing_world.specs.Step.{is_no};
 ghost use Rattle.sqlite.specs.Files.{over_files};
@@ -118,6 +117,8 @@ fn append_completed(
 }
 
 impl<D: Honest> Server<D> {
+    ghost use Rattle.world_ends.specs.Delivery.{IsDelivered};
+
     /// An intake that is up, over an empty register, which keeps at most `limit` keys.
     pub fn new(alloc: Global, limit: u64) -> Result<Server<D>, Cause>
         requires { limit ≤ 2 ^ 62 }
@@ -160,15 +161,7 @@ impl<D: Honest> Server<D> {
     /// Serves the bytes of a delivery, and stops where the crash says.
     pub fn deliver(&mut self, bytes: &[u8], crash: Crash) -> Result<Delivered, Cause>
         requires { self.old.up ≡ true }
-        ensures before { IfOk result (λ d. d.before ≡ length self.old.done) }
-        ensures serves { IfOk result (λ d.
-            (arrivals : List Arrival)
-            × ServesUntil self.old.limit self.old.done bytes.now (view_crash crash) arrivals d.marks.items d.ended
-            d.text.items
-            × (self.new ≡ record self.old {
-              done = self.old.done ++ completed arrivals d.marks.items;
-              up = is_no (view_crash crash);
-            })) }
+        ensures delivered { IfOk result (IsDelivered self.old self.new bytes.now (view_crash crash)) }
         ensures store { result ≢ Err Cause.Store }
         ensures reopen { result ≡ Err Cause.Reopen → is_no (view_crash crash) ≡ false }
     {

@@ -15,7 +15,7 @@ returns-clause-step g c = λ outboxes.
     let from = c.index-sent-at.result in
     let at = c.in-Some.ensures.some in
     let parts = c.in_ok-before.field-0 in
-    let served = c.in_ok-before.ensures.serves in
+    let served = c.in_ok-before.ensures.delivered in
     let up : server.up ≡ true = sym c.is_up.ensures ∙ c.if-not-is_up.false in
     let took = c.as_slice.ensures.value ∙ ap (λ (s : Sent). s.bytes) c.from.view_is in
     let given : c.first-given.result.now ≡ take c.args.bytes from.bytes = c.first-given.ensures ∙ ap (take c.args.bytes) took in
@@ -23,17 +23,17 @@ returns-clause-step g c = λ outboxes.
     record { item = c.args.item; given = given; before = before; marks = parts.marks.items; ended = parts.ended; bytes = parts.text.items } in
     let pushed : c.push_reserved.new.self.items ≡ old ++ output (length c.first-given.result.now) parts.before ∷ [] =
     rw c.reserve.ensures.items at c.push_reserved.ensures.items in
-    let came = c.in_ok-before.ensures.before in
+    let came = served.before in
     record {
       up = up;
       from = from;
       here = named sent c.args.item c.in-Some.at from at.0 (element_at sent c.in-Some.at from at.1 c.index-sent-at.is);
-      arrivals = served.0;
+      arrivals = served.arrivals;
       marks = parts.marks.items;
       ended = parts.ended;
       out = parts.text.items;
-      serves = subst (λ bytes. ServesUntil server.limit server.done bytes (view_crash c.args.crash) served.0 parts.marks.items parts.ended parts.text.items) given served.1;
+      serves = subst (λ bytes. ServesUntil server.limit server.done bytes (view_crash c.args.crash) served.arrivals parts.marks.items parts.ended parts.text.items) given served.serves;
       becomes =
           let more = pushed ∙ λ i. old ++ output (length (given i)) (came i) ∷ [] in
-          λ i. world_of (served.2 i) sent (more i) outboxes;
+          λ i. world_of (served.becomes i) sent (more i) outboxes;
     }

@@ -36,11 +36,12 @@ delivered g c =
 pub invariant_of-self-2 : goal.invariant_of-self-2
 invariant_of-self-2 g c = (c.self.invariant.0, (delivered g (goal.at.invariant_of-self-2 g c).In_ok-after).3)
 
-pub returns-clause-serves : goal.returns-clause-serves
-returns-clause-serves g c =
+pub returns-clause-delivered : goal.returns-clause-delivered
+returns-clause-delivered g c =
     let limit = c.self.inside.limit in
     let done = c.self.inside.done.items in
     let answered = c.in_ok-answered.answered in
-    let came = delivered g (goal.at.returns-clause-serves g c).In_ok-after in
+    let came = delivered g (goal.at.returns-clause-delivered g c).In_ok-after in
     let stopped = subst (λ k. ServesUntil limit done c.args.bytes.now k came.0 answered.marks.items answered.ended answered.text.items) c.stop_of.ensures came.1 in
-    rw (sym c.self.view_is) (came.0, stopped, λ i. record { limit = limit; done = came.2 i; up = came.4 i })
+    let before : c.len-before.result ≡ length done = c.len-before.ensures ∙ c.self.inside.done.ok.0 in
+    rw (sym c.self.view_is) (record { before = before; arrivals = came.0; serves = stopped; becomes = λ i. record { limit = limit; done = came.2 i; up = came.4 i } })
