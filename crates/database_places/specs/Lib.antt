@@ -1,0 +1,4 @@
+pub mod Closing
+pub mod Faults
+pub mod Opening
+pub mod Places

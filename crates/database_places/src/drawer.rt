@@ -1,0 +1,89 @@
+//! A place in memory.
+
+ghost use Rattle.std.specs.Prelude.{◌≡◌, [], Some, IsTrue};
+ghost use Rattle.database_places.specs.Places.{Leaves};
+
+use crate::place::Place;
+use command_line::DatabaseFault;
+use sqlite::Files;
+use sqlite_disk::{Disk, Memory};
+use std::alloc::Global;
+
+/// A disk on which a file can be made.
+pub trait Blank: Disk + Drop {
+    /// A file of no bytes.
+    fn empty(alloc: Global) -> Self
+        ensures usable { IsTrue (Self.Disk.is_usable result) }
+        ensures bytes { Self.Disk.seen result ≡ [] };
+}
+
+impl Blank for Memory {
+    fn empty(alloc: Global) -> Memory {
+        Memory::new(alloc)
+    }
+}
+
+/// The files of a database, if there are some.
+#[derive(Drop)]
+pub struct Drawer<D: Blank> {
+    alloc: Global,
+    files: Option<Files<D>>,
+}
+
+impl<D: Blank> Drawer<D> {
+    /// A place in which nothing lies.
+    pub fn new(alloc: Global) -> Drawer<D> {
+        Drawer { alloc, files: None }
+    }
+}
+
+impl<D: Blank> Place<D> for Drawer<D> {
+    ghost lying = { λ drawer. Some drawer.files };
+
+    fn is_missing(&self, _rt: &HostRuntime) -> bool {
+        self.files.is_none()
+    }
+
+    // An opening finds out whether files have a database.
+    fn is_empty(&self, _rt: &HostRuntime) -> bool {
+        false
+    }
+
+    fn first_page(&self, rt: &HostRuntime) -> Vec<u8> {
+        Vec::new(rt.alloc())
+    }
+
+    fn len(&self, _rt: &HostRuntime) -> u64 {
+        0
+    }
+
+    // Both files lie there or none, and an empty log harms nobody.
+    fn has_log(&self, _rt: &HostRuntime) -> bool {
+        true
+    }
+
+    fn remove_empty_log(&self, _rt: &HostRuntime) {}
+
+    fn take(&mut self, _rt: &HostRuntime) -> Result<Files<D>, DatabaseFault> {
+        match self.files.take() {
+            Some(files) => {
+                if files.may_be_used() {
+                    Ok(files)
+                } else {
+                    self.files = Some(files);
+                    Err(DatabaseFault::Disk)
+                }
+            }
+            None => Ok(Files {
+                log: D::empty(self.alloc),
+                db: D::empty(self.alloc),
+            }),
+        }
+    }
+
+    fn leave(&mut self, files: Files<D>)
+        ensures { Leaves (Some self.old.files) (Some self.new.files) files }
+    {
+        self.files = Some(files);
+    }
+}

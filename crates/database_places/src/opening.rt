@@ -1,0 +1,141 @@
+//! The database that lies in a place is opened.
+
+ghost use Rattle.std.specs.Prelude.{◌≡◌, true, false, IfOk, IfErr};
+ghost use Rattle.table_rows.specs.Standing.{IsAtRest};
+ghost use Rattle.database_places.specs.Opening.{OpensPlace, is_found};
+ghost use Rattle.database_places.specs.Places.{KeepsLying};
+
+use crate::fault::fault_of;
+use crate::place::Place;
+use command_line::DatabaseFault;
+use sqlite::{Connection, FileStore, Options};
+use sqlite_disk::Disk;
+use std::hash::{BuildHasher, RandomState};
+
+/// How many pages of a file are kept in memory at most once they were read, while it is served: 32 MiB. A register of
+/// 100,000 small reports takes 4,400 pages.
+const MOST_PAGES: u64 = 8_192;
+
+/// The same for a command that ends at once: 8 MiB. It goes through the tables in the order of their keys, and so needs
+/// most pages once.
+const MOST_PAGES_ONCE: u64 = 2_048;
+
+/// Pages that are kept beside those that a file has: a report of 1 MiB takes 256 of them, and its facts as many.
+const SPARE_PAGES: u64 = 1_024;
+
+/// The bytes of a page of a new file.
+pub(crate) const PAGE_LEN: usize = 4_096;
+
+/// How many pages of a file are kept in memory. Their room is taken at once, so that a command on a small file ends
+/// sooner with few.
+#[derive(Clone, Copy)]
+pub enum Cache {
+    /// As many as the file has and some more, up to a few: for a command that ends at once.
+    OfTheFile,
+    /// The most: for a file that grows while it is served.
+    Largest,
+}
+
+/// How the database of a place comes to be open.
+#[derive(Clone, Copy)]
+pub enum Opening {
+    /// It is there.
+    Found(Cache),
+    /// It is there, or is made if the file is missing or empty.
+    Made(Cache),
+}
+
+/// Opens the database that lies in a place. A file that is not there, or is empty, gets a database without tables if one
+/// is to be made; else it is not made, or stays empty. A refusal leaves the files in the place, and beside a file that is
+/// no database no log that was not there. Its fault does not go by the bytes of the file.
+pub fn open<D: Disk + Drop, P: Place<D>>(
+    rt: &HostRuntime,
+    place: &mut P,
+    opening: Opening,
+) -> Result<Connection<FileStore<D>>, DatabaseFault>
+    ensures rest { IfOk result IsAtRest }
+    ensures opens { OpensPlace D.Disk (is_found opening) (P.lying place.old) (P.lying place.new) result }
+{
+    match opening {
+        Opening::Found(cache) => find(rt, place, cache),
+        Opening::Made(cache) => make(rt, place, cache),
+    }
+}
+
+/// Opens the database of a file that is there and has bytes.
+fn find<D: Disk + Drop, P: Place<D>>(
+    rt: &HostRuntime,
+    place: &mut P,
+    cache: Cache,
+) -> Result<Connection<FileStore<D>>, DatabaseFault>
+    ensures rest { IfOk result IsAtRest }
+    ensures opens { OpensPlace D.Disk true (P.lying place.old) (P.lying place.new) result }
+{
+    if place.is_missing(rt) {
+        return Err(DatabaseFault::Missing);
+    }
+    if place.is_empty(rt) {
+        return Err(DatabaseFault::Empty);
+    }
+    make(rt, place, cache)
+}
+
+/// Opens the database of a file, which is made if it is not there.
+fn make<D: Disk + Drop, P: Place<D>>(
+    rt: &HostRuntime,
+    place: &mut P,
+    cache: Cache,
+) -> Result<Connection<FileStore<D>>, DatabaseFault>
+    ensures rest { IfOk result IsAtRest }
+    ensures opens { OpensPlace D.Disk false (P.lying place.old) (P.lying place.new) result }
+{
+    let options = options(rt, pages(cache, place.len(rt)))?;
+    let had_log = place.has_log(rt);
+    let files = place.take(rt)?;
+
+    // A file that is new gets the sums of SQLite's cksumvfs, by which the next opening finds a changed byte.
+    match Connection::open_files_with(rt.alloc(), files, options, true) {
+        Ok(conn) => Ok(conn),
+        Err((error, left)) => {
+            place.leave(left.into_files());
+            remove_new_log(rt, place, had_log);
+            Err(fault_of(error))
+        }
+    }
+}
+
+/// Removes the log that an opening made, in which nothing is, so that nothing lies beside a file that is not ours, unless
+/// there was a log before. The files are taken for that, so that no other program has them.
+pub fn remove_new_log<D: Disk + Drop, P: Place<D>>(rt: &HostRuntime, place: &mut P, had_log: bool)
+    ensures { KeepsLying (P.lying place.old) (P.lying place.new) }
+{
+    if had_log {
+        return;
+    }
+    if let Ok(files) = place.take(rt) {
+        place.remove_empty_log(rt);
+        place.leave(files);
+    }
+}
+
+/// How many pages are kept of a file of so many bytes.
+fn pages(cache: Cache, len: u64) -> usize {
+    let pages = match cache {
+        Cache::OfTheFile => MOST_PAGES_ONCE.min(len / PAGE_LEN as u64 + SPARE_PAGES),
+        Cache::Largest => MOST_PAGES,
+    };
+    pages as usize
+}
+
+/// How the files are read and written, with so many pages kept. The seed is drawn at random.
+fn options(rt: &HostRuntime, pages: usize) -> Result<Options, DatabaseFault>
+    ensures { IfErr result (λ fault. fault ≡ DatabaseFault.Disk) }
+{
+    match RandomState::new(rt) {
+        Ok(state) => Ok(Options {
+            cache_pages: pages,
+            ..Options::new(state.hash_one(&0u8))
+        }),
+        Err(_) => Err(DatabaseFault::Disk),
+    }
+}

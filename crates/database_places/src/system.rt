@@ -1,0 +1,136 @@
+//! A place in the file system.
+
+ghost use Rattle.std.specs.Prelude.{◌≡◌, None, false};
+ghost use Rattle.database_places.specs.Faults.{is_absence};
+ghost use Rattle.database_places.specs.Places.{Leaves};
+
+use crate::fault::fault_of_files;
+use crate::opening::PAGE_LEN;
+use crate::place::Place;
+use command_line::{DatabaseFault, read_up_to};
+use http_wire::Device;
+use sqlite::{File, Files, Unknown};
+use sqlite_std_file::OpenError;
+use std::alloc::AllocError;
+use std::fs;
+use std::io::{self, ErrorKind};
+
+/// A shorter log has nothing in it: its head takes 32 bytes, and a frame 24 and a page, which has 512 at least
+/// (SQLite's file format, section 4.1).
+const LEAST_LOG: u64 = 568;
+
+/// The file of this name, and the log beside it. The name is a path, also `:memory:` and one that begins with `file:`.
+/// What lies there is known to the system alone.
+#[derive(Clone, Copy)]
+pub struct SystemPlace<'a> {
+    name: &'a str,
+}
+
+impl<'a> SystemPlace<'a> {
+    pub fn new(name: &'a str) -> SystemPlace<'a> {
+        SystemPlace { name }
+    }
+}
+
+impl Place<File> for SystemPlace<'_> {
+    ghost lying = { λ _. None };
+
+    fn is_missing(&self, rt: &HostRuntime) -> bool {
+        matches!(fs::exists(rt, self.name), Ok(false))
+    }
+
+    fn is_empty(&self, rt: &HostRuntime) -> bool {
+        match fs::metadata(rt, self.name) {
+            Ok(found) => found.is_file() && found.len() == 0 && is_log_empty(rt, self.name),
+            Err(_) => false,
+        }
+    }
+
+    fn first_page(&self, rt: &HostRuntime) -> Vec<u8> {
+        let Ok(file) = fs::File::open(rt, self.name) else {
+            return Vec::new(rt.alloc());
+        };
+        match read_up_to(rt.alloc(), &mut Device::new(file), PAGE_LEN) {
+            Ok(page) => page,
+            Err(_) => Vec::new(rt.alloc()),
+        }
+    }
+
+    fn len(&self, rt: &HostRuntime) -> u64 {
+        match fs::metadata(rt, self.name) {
+            Ok(found) => found.len(),
+            Err(_) => 0,
+        }
+    }
+
+    fn has_log(&self, rt: &HostRuntime) -> bool {
+        match log_name(rt, self.name) {
+            Ok(log) => !matches!(fs::exists(rt, log.as_str()), Ok(false)),
+            Err(_) => true,
+        }
+    }
+
+    fn remove_empty_log(&self, rt: &HostRuntime) {
+        // An empty file more does no harm where it can't be removed.
+        let _ = remove_if_empty(rt, self.name);
+    }
+
+    fn take(&mut self, rt: &HostRuntime) -> Result<Files<File>, DatabaseFault> {
+        if self.name.is_empty() {
+            return Err(DatabaseFault::NoName);
+        }
+        match sqlite_std_file::open(rt, self.name, Unknown) {
+            Ok(files) => Ok(files),
+            Err(OpenError::Io(error)) if error.kind() == ErrorKind::Unsupported => {
+                Err(fault_of_name(rt, self.name))
+            }
+            Err(error) => Err(fault_of_files(&error)),
+        }
+    }
+
+    // Files that are let go are closed.
+    fn leave(&mut self, files: Files<File>)
+        ensures { Leaves None None files }
+    {
+        drop(files);
+    }
+}
+
+/// The name of the log beside the file of this name, as SQLite has it.
+fn log_name(rt: &HostRuntime, name: &str) -> Result<String, AllocError> {
+    let mut log = String::from_str(rt.alloc(), name)?;
+    log.push_str("-wal")?;
+    Ok(log)
+}
+
+/// Whether no log lies beside the file of this name, or one with nothing in it.
+fn is_log_empty(rt: &HostRuntime, name: &str) -> bool {
+    let Ok(log) = log_name(rt, name) else {
+        return false;
+    };
+    match fs::metadata(rt, log.as_str()) {
+        Ok(found) => found.len() < LEAST_LOG,
+        Err(error) => error.kind() == ErrorKind::NotFound,
+    }
+}
+
+fn remove_if_empty(rt: &HostRuntime, name: &str) -> io::Result<()> {
+    let Ok(log) = log_name(rt, name) else {
+        return Ok(());
+    };
+    if fs::metadata(rt, log.as_str())?.len() < LEAST_LOG {
+        fs::remove_file(rt, log.as_str())?;
+    }
+    Ok(())
+}
+
+/// What is wrong with a name whose file is none that a database may lie in.
+fn fault_of_name(rt: &HostRuntime, name: &str) -> DatabaseFault
+    ensures { is_absence result ≡ false }
+{
+    match fs::metadata(rt, name) {
+        Ok(found) if found.is_file() => DatabaseFault::Linked,
+        Ok(_) => DatabaseFault::NotAFile,
+        Err(_) => DatabaseFault::Disk,
+    }
+}
