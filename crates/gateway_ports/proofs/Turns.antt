@@ -22,25 +22,25 @@ use Rattle.gateway_ports.specs.InTurn.{Connection, Came, ServeInTurn, outputs_of
 
 -- ---- no connection
 
-came_none : (old : Option (List (List ℕ))) → Came old old []
+pub came_none : (old : Option (List (List ℕ))) → Came old old []
 came_none None = tt
 came_none (Some coming) = refl
 
-counted_none : (old : Option (List (List ℕ))) → AreCounted old [] 0
+pub counted_none : (old : Option (List (List ℕ))) → AreCounted old [] 0
 counted_none None = omega arith
 counted_none (Some coming) = refl
 
-counted_given_up : AreCounted None [] 1
+pub counted_given_up : AreCounted None [] 1
 counted_given_up = omega arith
 
-grows_none : (old : Option (List Output)) → Grows old old []
+pub grows_none : (old : Option (List Output)) → Grows old old []
 grows_none None = tt
 grows_none (Some outputs) = ap Some (sym (append_nil outputs))
 
 -- ---- one connection
 
 -- what was read of it is read of the bytes that came
-came_one : (old new : Option (List (List ℕ))) (left left' : Option (List ℕ)) (c : Connection) → Takes old new left → Consumes left left' c.read → (c.output.ended ≡ InputEnded → IsAtEnd left') → (c.output.ended ≡ Fault fault.ReadLimit → max_reads ≤ length c.read) → Came old new (c ∷ [])
+pub came_one : (old new : Option (List (List ℕ))) (left left' : Option (List ℕ)) (c : Connection) → Takes old new left → Consumes left left' c.read → (c.output.ended ≡ InputEnded → IsAtEnd left') → (c.output.ended ≡ Fault fault.ReadLimit → max_reads ≤ length c.read) → Came old new (c ∷ [])
 came_one None new left left' c takes reads end limited = tt
 came_one (Some []) new left left' c takes reads end limited = absurd takes
 came_one (Some (first ∷ more)) new left left' c takes reads end limited = known left' (subst (λ l. Consumes l left' c.read) takes.1 reads) end
@@ -49,12 +49,12 @@ came_one (Some (first ∷ more)) new left left' c takes reads end limited = know
     known None reads end = absurd reads
     known (Some rest) reads end = (record { more = rest; splits = reads; at_end = end; limited = limited }, takes.0)
 
-counted_one : (old : Option (List (List ℕ))) (c : Connection) → AreCounted old (c ∷ []) 1
+pub counted_one : (old : Option (List (List ℕ))) (c : Connection) → AreCounted old (c ∷ []) 1
 counted_one None c = omega arith
 counted_one (Some coming) c = refl
 
 -- what was written on it is its output
-grows_one : (old new : Option (List Output)) (written written' : Option (List ℕ)) (served : Served) (text : List ℕ) → IsUnwritten old written → Appends written written' text → Adds old new served written' → Grows old new (record { marks = served.marks.items; ended = served.ended; bytes = text } ∷ [])
+pub grows_one : (old new : Option (List Output)) (written written' : Option (List ℕ)) (served : Served) (text : List ℕ) → IsUnwritten old written → Appends written written' text → Adds old new served written' → Grows old new (record { marks = served.marks.items; ended = served.ended; bytes = text } ∷ [])
 grows_one None new written written' served text unwritten wrote adds = tt
 grows_one (Some outputs) new written written' served text unwritten wrote adds = known written' (subst (λ w. Appends w written' text) unwritten wrote) adds
   where
@@ -64,11 +64,11 @@ grows_one (Some outputs) new written written' served text unwritten wrote adds =
 
 -- ---- some, and then more
 
-turns_join : (limit : ℕ) (early before between after : List Request) (cs ds : List Connection) → ServeInTurn (keeping limit early before between) cs → ServeInTurn (keeping limit early between after) ds → ServeInTurn (keeping limit early before after) (cs ++ ds)
+pub turns_join : (limit : ℕ) (early before between after : List Request) (cs ds : List Connection) → ServeInTurn (keeping limit early before between) cs → ServeInTurn (keeping limit early between after) ds → ServeInTurn (keeping limit early before after) (cs ++ ds)
 turns_join limit early before between after [] ds first second = subst (λ b. ServeInTurn (keeping limit early b after) ds) first second
 turns_join limit early before between after (c ∷ cs) ds first second = (first.0, first.1, turns_join limit early first.0 between after cs ds first.2 second)
 
-came_join : (old mid new : Option (List (List ℕ))) (cs ds : List Connection) → Came old mid cs → Came mid new ds → Came old new (cs ++ ds)
+pub came_join : (old mid new : Option (List (List ℕ))) (cs ds : List Connection) → Came old mid cs → Came mid new ds → Came old new (cs ++ ds)
 came_join None mid new cs ds first second = tt
 came_join (Some coming) mid new [] ds first second = subst (λ m. Came m new ds) first second
 came_join (Some []) mid new (c ∷ cs) ds first second = absurd first
@@ -84,7 +84,7 @@ counted_most : (mid : Option (List (List ℕ))) (ds : List Connection) (n : ℕ)
 counted_most None ds n counted = counted
 counted_most (Some coming) ds n counted = omega (arith, counted)
 
-counted_join : (old mid : Option (List (List ℕ))) (cs ds : List Connection) (m n : ℕ) → Came old mid cs → AreCounted old cs m → AreCounted mid ds n → AreCounted old (cs ++ ds) (m + n)
+pub counted_join : (old mid : Option (List (List ℕ))) (cs ds : List Connection) (m n : ℕ) → Came old mid cs → AreCounted old cs m → AreCounted mid ds n → AreCounted old (cs ++ ds) (m + n)
 counted_join None mid cs ds m n came first second = omega (arith, length-append cs ds, first, counted_most mid ds n second)
 counted_join (Some coming) mid cs ds m n came first second = omega (arith, length-append cs ds, first, counted_known coming mid cs ds n came second)
 
@@ -92,7 +92,7 @@ outputs_join : (cs ds : List Connection) → outputs_of (cs ++ ds) ≡ outputs_o
 outputs_join [] ds = refl
 outputs_join (c ∷ cs) ds = ap (λ os. c.output ∷ os) (outputs_join cs ds)
 
-grows_join : (old mid new : Option (List Output)) (cs ds : List Connection) → Grows old mid (outputs_of cs) → Grows mid new (outputs_of ds) → Grows old new (outputs_of (cs ++ ds))
+pub grows_join : (old mid new : Option (List Output)) (cs ds : List Connection) → Grows old mid (outputs_of cs) → Grows mid new (outputs_of ds) → Grows old new (outputs_of (cs ++ ds))
 grows_join None mid new cs ds first second = tt
 grows_join (Some outputs) mid new cs ds first second =
     subst (λ m. Grows m new (outputs_of ds)) first second

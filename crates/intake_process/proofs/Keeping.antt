@@ -1,0 +1,139 @@
+-- What is kept while a register is opened and closed.
+use Rattle.std.proofs.Common.{◌≡◌, ℕ, Bool, true, false, true≢false, List, [], length, Option, Some, None, Result, Ok, Err, IsSome, OnOk, refl, sym, ◌∙◌, subst, inl, inr}
+use Rattle.std.specs.Prelude.{is_err, is_some}
+use Rattle.sqlite_disk.specs.declared.Disk.{Ghosts}
+use Rattle.sqlite_disk.specs.declared.Files.{Files}
+use Rattle.sqlite_store.specs.declared.store.FileStore.{FileStore}
+use Rattle.sqlite.specs.Held.{Held}
+use Rattle.sqlite.specs.Files.{file_state, over_files}
+use Rattle.filing_model.specs.Request.{Request}
+use Rattle.register_opening.specs.Registers.{IsRegisterOf}
+use Rattle.intake_core.specs.declared.intake.Intake.{Intake}
+use Rattle.table_rows.proofs.CleanLemmas.{always_clean, are_clean}
+use Rattle.table_rows.proofs.FileLemmas.{finds}
+use Rattle.command_line.specs.declared.fault.DatabaseFault.{DatabaseFault}
+use Rattle.database_places.specs.Closing.{IsClosedIn}
+use Rattle.database_places.specs.Opening.{ComesFrom, StaysIn}
+use Rattle.database_places.specs.Places.{Lie, KeepsLying}
+use Rattle.database_places.specs.Places as place
+use Rattle.intake_process.specs.declared.begun.Totals.{Totals}
+use Rattle.intake_process.specs.declared.fault.OpeningFault.{OpeningFault}
+use Rattle.intake_process.specs.declared.process.Closed.{Closed}
+use Rattle.intake_process.specs.Begun.{HoldsAs, AreTotals, FindsIntake, MakesIntake}
+use Rattle.intake_process.specs.Process.{Parts, IsHonest, KeepsBy, OpensProcess, ClosesProcess}
+
+pub none_of : {A : Type 0} (o : Option A) → is_some o ≡ false → o ≡ None
+none_of None is = refl
+none_of (Some x) is = absurd (true≢false is)
+
+pub then_ok : {A E X : Type 0} (r : Result A E) → X → OnOk r X
+then_ok (Ok a) x = x
+then_ok (Err e) x = tt
+
+pub not_ok : {A E : Type 0} (X : Type 0) (r : Result A E) → is_err r ≡ true → OnOk r X
+not_ok X (Ok a) is = absurd (true≢false (sym is))
+not_ok X (Err e) is = tt
+
+pub ok_gives : {A E X : Type 0} (r : Result A E) → is_err r ≡ false → OnOk r X → X
+ok_gives (Ok a) is x = x
+ok_gives (Err e) is x = absurd (true≢false is)
+
+-- what lay there lies there, or what was left of it
+pub stayed : {D : Type 0} (g : Ghosts D) (old new : Option (Option (Files D))) (fault : DatabaseFault) → StaysIn g old new fault → (there : Files D) → old ≡ Some (Some there) → (files : Files D) × (new ≡ Some (Some files))
+stayed g old new fault stays there lies = elim (subst (λ l. StaysIn g l new fault) lies stays) [ inl same ↦ (there, same) | inr left ↦ (left.0, left.1) ]
+
+module _ {D : Type 0} {g : Ghosts D} where
+  -- ---- it is opened
+
+  -- a refusal leaves it closed, and nothing is certain
+  pub refuses : (has : Bool) (limit : ℕ) (old new : Parts g) (fault : OpeningFault) → new.is_certain ≡ false → new.intake ≡ None → ((there : Files D) → old.lying ≡ Some (Some there) → (files : Files D) × (new.lying ≡ Some (Some files))) → OpensProcess g has limit old new (Err fault)
+  refuses has limit old new fault unsure closed back = record {
+    leaves = λ honest is. record { kept = λ early F keeps certain. absurd (true≢false (sym certain ∙ unsure)); certain = λ certain. absurd (true≢false (sym certain ∙ unsure)) };
+    counted = λ honest is certain early F keeps. tt;
+    made = λ honest is none known. tt;
+    certain = tt;
+    is_open = tt;
+    refused = closed;
+    back = back;
+  }
+
+  pub given_up : (old mid after : Option (Option (Files D))) (conn : Held (FileStore D g)) (files : Files D) → ComesFrom old mid conn → place.Leaves mid after files → (there : Files D) → old ≡ Some (Some there) → after ≡ Some (Some files)
+  given_up old mid after conn files comes leaves there lies =
+      let came = subst (λ l. ComesFrom l mid conn) lies comes in
+      subst (λ m. place.Leaves m after files) came.0 leaves
+
+  came_empty : (old mid : Option (Option (Files D))) (conn : Held (FileStore D g)) → IsSome old → ComesFrom old mid conn → mid ≡ Some None
+  came_empty None mid conn known comes = absurd (true≢false (sym known))
+  came_empty (Some None) mid conn known comes = comes.0
+  came_empty (Some (Some files)) mid conn known comes = comes.0
+
+  found_there : (has : Bool) (limit : ℕ) (old new : Parts g) (conn : Held (FileStore D g)) (intake : Intake (FileStore D g)) (totals : Totals) → old.intake ≡ None → ComesFrom old.lying new.lying conn → FindsIntake over_files conn limit intake totals
+      → IsHonest g → (early : ℕ) (F : List Request) → KeepsBy old.intake old.lying limit early F → (HoldsAs over_files limit early F intake × AreTotals F totals) × (new.lying ≡ Some None)
+  found_there has limit old new conn intake totals none comes finds_it honest early F keeps =
+      let lies = subst (λ i. KeepsBy {g = g} i old.lying limit early F) none keeps in
+      let came = subst (λ l. ComesFrom l new.lying conn) lies.1.1 comes in
+      let both = came.1 (always_clean honest conn) in
+      let hold = lies.1.2 in
+      let is_db = finds lies.1.0 conn both.0 both.1 hold.db hold.held in
+      (finds_it (always_clean honest intake.store.conn) early F lies.0 (subst (IsRegisterOf early F) (sym is_db) hold.register), came.0)
+
+  -- it is open
+  pub opens : (has : Bool) (limit : ℕ) (old new : Parts g) (conn : Held (FileStore D g)) (intake : Intake (FileStore D g)) (totals : Totals) → old.intake ≡ None → new.intake ≡ Some intake → new.is_certain ≡ old.is_certain → ComesFrom old.lying new.lying conn
+      → (has ≡ true → FindsIntake over_files conn limit intake totals) → (has ≡ false → MakesIntake over_files limit intake totals) → OpensProcess g has limit old new (Ok (Some totals))
+  opens has limit old new conn intake totals none up same comes found made = record {
+    leaves = λ honest is. record {
+      kept = λ early F keeps certain.
+          let held = found_there has limit old new conn intake totals none comes (found is) honest early F (keeps (sym same ∙ certain)) in
+          subst (λ i. KeepsBy i new.lying limit early F) (sym up) (held.0.0, held.1);
+      certain = λ certain. sym same ∙ certain;
+    };
+    counted = λ honest is certain early F keeps. (found_there has limit old new conn intake totals none comes (found is) honest early F (keeps certain)).0.1;
+    made = λ honest is closed known certain. subst (λ i. KeepsBy i new.lying limit 0 []) (sym up) ((made is (always_clean honest intake.store.conn)).0, came_empty old.lying new.lying conn known comes);
+    certain = same;
+    is_open = subst (λ i. IsSome i) (sym up) refl;
+    refused = tt;
+    back = tt;
+  }
+
+  -- ---- it is closed
+
+  copied : (intake : Intake (FileStore D g)) (files : Files D) (lying lying' : Option (Option (Files D))) → IsHonest g → IsClosedIn g intake.store.conn files → place.Leaves lying lying' files → (limit early : ℕ) (F : List Request) → KeepsBy (Some intake) lying limit early F → KeepsBy {g = g} None lying' limit early F
+  copied intake files lying lying' honest closed leaves limit early F keeps =
+      let conn = intake.store.conn in
+      let clean = are_clean g honest files.log files.db in
+      let stands = keeps.0.holds.rows.stands in
+      let is_open = (closed.copied clean).was_open in
+      let now = (file_state conn).now in
+      let register : IsRegisterOf early F now = subst (λ n. IsRegisterOf n F now) keeps.0.early_is (stands.now is_open) in (
+        keeps.0.holds.firsts',
+        (
+          files,
+          subst (λ l. place.Leaves l lying' files) keeps.1 leaves,
+          record { db = now; register = register; held = closed.holds clean now register.sound (stands.committed is_open); usable = closed.usable },
+        ),
+      )
+
+  counts : (intake : Intake (FileStore D g)) (old : Parts g) → old.intake ≡ Some intake → (limit early : ℕ) (F : List Request) → KeepsBy old.intake old.lying limit early F → intake.store.kept ≡ length F
+  counts intake old up limit early F keeps = (subst (λ i. KeepsBy i old.lying limit early F) up keeps).0.holds.rows.kept_is
+
+  pub closes : (intake : Intake (FileStore D g)) (files : Files D) (old new : Parts g) (closed : Closed) → old.intake ≡ Some intake → new.intake ≡ None → new.is_certain ≡ old.is_certain → closed.kept ≡ intake.store.kept → IsClosedIn g intake.store.conn files → place.Leaves old.lying new.lying files
+      → ClosesProcess g old new closed
+  closes intake files old new closed up shut same kept is leaves = record {
+    leaves = λ honest limit. record {
+      kept = λ early F keeps certain.
+          subst (λ i. KeepsBy {g = g} i new.lying limit early F) (sym shut)
+          (copied intake files old.lying new.lying honest is leaves limit early F (subst (λ i. KeepsBy i old.lying limit early F) up (keeps (sym same ∙ certain))));
+      certain = λ certain. sym same ∙ certain;
+    };
+    counted = λ honest some certain limit early F keeps. kept ∙ counts intake old up limit early F (keeps certain);
+    certain = then_ok closed.outcome same;
+    is_closed = shut;
+  }
+
+  pub not_closes : (intake : Intake (FileStore D g)) (old new : Parts g) (closed : Closed) → old.intake ≡ Some intake → new.intake ≡ None → new.is_certain ≡ false → closed.kept ≡ intake.store.kept → is_err closed.outcome ≡ true → ClosesProcess g old new closed
+  not_closes intake old new closed up shut unsure kept failed = record {
+    leaves = λ honest limit. record { kept = λ early F keeps certain. absurd (true≢false (sym certain ∙ unsure)); certain = λ certain. absurd (true≢false (sym certain ∙ unsure)) };
+    counted = λ honest some certain limit early F keeps. kept ∙ counts intake old up limit early F (keeps certain);
+    certain = not_ok _ closed.outcome failed;
+    is_closed = shut;
+  }

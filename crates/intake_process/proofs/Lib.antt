@@ -1,0 +1,3 @@
+mod Away
+mod Keeping
+mod Turns

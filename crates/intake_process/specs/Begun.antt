@@ -1,0 +1,29 @@
+-- An intake that begins over a database.
+use Rattle.std.specs.Prelude.{◌≡◌, ℕ, List, [], length}
+use Rattle.sqlite.specs.Store.{Ghosts}
+use Rattle.sqlite.specs.Held.{Held, state}
+use Rattle.filing_model.specs.Request.{Request, firsts}
+use Rattle.filing_model.specs.Register.{register}
+use Rattle.register_opening.specs.Registers.{IsRegisterOf}
+use Rattle.intake_core.specs.declared.intake.Intake.{Intake}
+use Rattle.intake_core.specs.Held.{HoldsRequests, IsClean, limit_of, early_of}
+use Rattle.intake_process.specs.declared.begun.Totals.{Totals}
+
+-- The intake holds these requests and keeps at most `limit`, and so many of them were kept before there were problem details.
+pub record HoldsAs {S : Type 0} (g : Ghosts S) (limit early : ℕ) (requests : List Request) (intake : Intake S) : Type 0 where
+  pub holds : HoldsRequests g intake requests
+  pub limit_is : limit_of intake ≡ limit
+  pub early_is : early_of intake ≡ early
+
+-- so many requests are kept and registered
+abbrev pub AreTotals : List Request → Totals → Type 0
+AreTotals requests totals = (totals.kept ≡ length requests) × (totals.filings ≡ length (register requests))
+
+-- Where the disk is clean, the intake holds the requests that the database's rows stand for, which the totals count.
+abbrev pub FindsIntake : {S : Type 0} → Ghosts S → Held S → ℕ → Intake S → Totals → Type 0
+FindsIntake g conn limit intake totals =
+    IsClean g intake → (early : ℕ) (requests : List Request) → firsts requests ≡ requests → IsRegisterOf early requests (state g conn).now → HoldsAs g limit early requests intake × AreTotals requests totals
+
+-- where the disk is clean, the intake holds no request yet
+abbrev pub MakesIntake : {S : Type 0} → Ghosts S → ℕ → Intake S → Totals → Type 0
+MakesIntake g limit intake totals = IsClean g intake → HoldsAs g limit 0 [] intake × AreTotals [] totals

@@ -1,0 +1,4 @@
+pub mod Begun
+pub mod Process
+pub mod Turning
+pub mod Turns

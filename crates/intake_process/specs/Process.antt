@@ -1,0 +1,85 @@
+-- What the process keeps that an intake runs in, and what its calls do.
+use Rattle.std.specs.Prelude.{◌≡◌, ◌↔◌, ℕ, Bool, true, false, List, [], length, Option, Some, None, Result, IsSome, IfOk, IfErr, IfSome, OnOk}
+use Rattle.sqlite_disk.specs.declared.Disk.{Ghosts}
+use Rattle.sqlite_disk.specs.declared.Files.{Files}
+use Rattle.sqlite_store.specs.declared.store.FileStore.{FileStore}
+use Rattle.sqlite.specs.Store as database
+use Rattle.sqlite.specs.Files.{over_files}
+use Rattle.http_wire.specs.Wire.{Wire}
+use Rattle.filing_model.specs.Request.{Request, firsts}
+use Rattle.register_store.specs.Files.{HoldRegister}
+use Rattle.intake_core.specs.declared.intake.Intake.{Intake}
+use Rattle.intake_core.specs.Held.{has_stopped}
+use Rattle.gateway_server.specs.Progress.{ServesToEnd}
+use Rattle.database_places.specs.Places.{Lie}
+use Rattle.intake_process.specs.declared.begun.Totals.{Totals}
+use Rattle.intake_process.specs.declared.fault.OpeningFault.{OpeningFault}
+use Rattle.intake_process.specs.declared.process.Answered.{Answered}
+use Rattle.intake_process.specs.declared.process.Closed.{Closed}
+use Rattle.intake_process.specs.declared.process.IntakeProcess.{IntakeProcess}
+use Rattle.intake_process.specs.declared.process.Outcome.TheVariants as outcome
+use Rattle.intake_process.specs.Begun.{HoldsAs, AreTotals}
+use Rattle.intake_process.specs.Turning.{TurnsAway}
+
+-- What contracts see of it: the intake, if it is open; the files that lie in its place, if there are some, where that is known; and whether
+-- no close and no opening failed.
+pub record Parts {D : Type 0} (g : Ghosts D) : Type 0 where
+  pub intake : Option (Intake (FileStore D g))
+  pub lying : Option (Option (Files D))
+  pub is_certain : Bool
+
+abbrev pub parts : {D P : Type 0} {g : Ghosts D} → (P → Option (Option (Files D))) → IntakeProcess D P g → Parts g
+parts lying process = record { intake = process.intake; lying = lying process.place; is_certain = process.is_certain }
+
+-- each read of such a disk gave what was written
+abbrev pub IsHonest : {D : Type 0} → Ghosts D → Type 0
+IsHonest {D} g = (disk : D) → g.is_clean disk ≡ true
+
+-- the intake is open and holds these requests, or it is closed and the files in the place hold them
+abbrev pub KeepsBy : {D : Type 0} {g : Ghosts D} → Option (Intake (FileStore D g)) → Option (Option (Files D)) → ℕ → ℕ → List Request → Type 0
+KeepsBy (Some intake) lying limit early requests = HoldsAs over_files limit early requests intake × (lying ≡ Some None)
+KeepsBy {D} {g} None lying limit early requests = (firsts requests ≡ requests) × Lie lying (λ files. HoldRegister g files early requests)
+
+-- the same, as long as no close and no opening failed
+abbrev pub Keeps : {D : Type 0} {g : Ghosts D} → Parts g → ℕ → ℕ → List Request → Type 0
+Keeps process limit early requests = process.is_certain ≡ true → KeepsBy process.intake process.lying limit early requests
+
+-- What a call leaves that answers no request: the requests of before. What is certain after it was certain before.
+pub record Leaves {D : Type 0} {g : Ghosts D} (limit : ℕ) (old new : Parts g) : Type 0 where
+  pub kept : (early : ℕ) (requests : List Request) → Keeps old limit early requests → Keeps new limit early requests
+  pub certain : new.is_certain ≡ true → old.is_certain ≡ true
+
+-- What opening it does, if its register has to be there, or is to be made.
+pub record OpensProcess {D : Type 0} (g : Ghosts D) (has_to_be_there : Bool) (limit : ℕ) (old new : Parts g) (result : Result (Option Totals) OpeningFault) : Type 0 where
+  -- the requests of before are kept, and counted
+  pub leaves : IsHonest g → has_to_be_there ≡ true → Leaves limit old new
+  pub counted : IsHonest g → has_to_be_there ≡ true → old.is_certain ≡ true → (early : ℕ) (requests : List Request) → Keeps old limit early requests
+      → IfOk result (λ totals. IfSome totals (AreTotals requests))
+  -- a register that is made has no requests
+  pub made : IsHonest g → has_to_be_there ≡ false → old.intake ≡ None → IsSome old.lying → OnOk result (Keeps new limit 0 [])
+  pub certain : OnOk result (new.is_certain ≡ old.is_certain)
+  pub is_open : OnOk result (IsSome new.intake)
+  -- after a refusal it is closed, and files that lay in the place lie there still, or what an opening left of them
+  pub refused : IfErr result (λ _. new.intake ≡ None)
+  pub back : IfErr result (λ _. (there : Files D) → old.lying ≡ Some (Some there) → (files : Files D) × (new.lying ≡ Some (Some files)))
+
+-- What answering a connection by an intake does, and whether the database refused a call.
+pub record ServesBy {S : Type 0} (g : database.Ghosts S) (from to : Wire) (old new : Intake S) (answered : Answered) : Type 0 where
+  pub serves : ServesToEnd g from to old new answered.served
+  pub failed : (answered.outcome ≡ outcome.Failed) ↔ (has_stopped new ≡ true)
+
+-- while it is open the intake serves the connection, and else it is turned away
+abbrev pub AnswersBy : {D : Type 0} {g : Ghosts D} → Wire → Wire → Option (Intake (FileStore D g)) → Option (Intake (FileStore D g)) → Answered → Type 0
+AnswersBy from to (Some old) new answered = (intake : Intake _) × (new ≡ Some intake) × ServesBy over_files from to old intake answered
+AnswersBy from to None new answered = (new ≡ None) × TurnsAway from to answered.served × (answered.outcome ≡ outcome.TurnedAway)
+
+-- the same, and nothing else changes
+abbrev pub AnswersWire : {D : Type 0} {g : Ghosts D} → Wire → Wire → Parts g → Parts g → Answered → Type 0
+AnswersWire from to old new answered = AnswersBy from to old.intake new.intake answered × (new.lying ≡ old.lying) × (new.is_certain ≡ old.is_certain)
+
+-- What closing it does: the requests of before are kept, and, if it was open, counted.
+pub record ClosesProcess {D : Type 0} (g : Ghosts D) (old new : Parts g) (closed : Closed) : Type 0 where
+  pub leaves : IsHonest g → (limit : ℕ) → Leaves limit old new
+  pub counted : IsHonest g → IsSome old.intake → old.is_certain ≡ true → (limit early : ℕ) (requests : List Request) → Keeps old limit early requests → closed.kept ≡ length requests
+  pub certain : OnOk closed.outcome (new.is_certain ≡ old.is_certain)
+  pub is_closed : new.intake ≡ None

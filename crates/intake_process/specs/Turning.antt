@@ -1,0 +1,70 @@
+-- A connection that is turned away, since there is no register; own rule.
+use Rattle.std.specs.Prelude.{◌≡◌, ◌≤◌, ℕ, Bool, true, false, List, [], ◌∷◌, length, Some, Result, Ok, Err, if◌then◌else◌}
+use Rattle.std.specs.Io.KnownBytes.{Consumes, Appends, IsAtEnd}
+use Rattle.http_messages.specs.declared.refusal.ConnFault.{ConnFault}
+use Rattle.http_messages.specs.declared.refusal.ConnFault.TheVariants as fault
+use Rattle.http_messages.specs.Message.{Arrival, Read, Refused, Ending, IsRest}
+use Rattle.http_messages.specs.Reads.{max_reads}
+use Rattle.http_messages.specs.Reply.{ReplyParts, render}
+use Rattle.http_wire.specs.Calls.{WritesAsked, WritesUpTo}
+use Rattle.http_wire.specs.Wire.{Wire}
+use Rattle.filing_model.specs.declared.served.Ended.{Ended}
+use Rattle.filing_model.specs.declared.served.Ended.TheVariants.{Closed, InputEnded, Fault}
+use Rattle.filing_model.specs.declared.served.Mark.{Mark}
+use Rattle.filing_model.specs.declared.served.Mark.TheVariants.{Unavailable, NotFiled}
+use Rattle.filing_model.specs.Reply.{unavailable}
+use Rattle.filing_model.specs.Serving.{BeginsArrivals}
+use Rattle.filing_model.specs.Text.{interim_of, is_head}
+use Rattle.gateway_server.specs.declared.serving.Served.{Served}
+use Rattle.gateway_server.specs.Answered.{WritesText}
+use Rattle.gateway_server.specs.Progress.{IsEndedBy}
+
+-- the 503, which has no content in reply to HEAD (RFC 9110, section 9.3.2)
+abbrev pub closing_reply : Bool → ReplyParts
+closing_reply is_head = record { status = 503; content = if is_head then [] else unavailable.content; kind = unavailable.kind }
+
+abbrev pub away_reply : Arrival → ReplyParts
+away_reply (Read message) = closing_reply (is_head message)
+away_reply (Refused refusal) = closing_reply false
+
+-- a request may be sent again, and what is refused in the place of one asks for nothing to be filed
+abbrev pub away_mark : Arrival → Mark
+away_mark (Read message) = Unavailable
+away_mark (Refused refusal) = NotFiled
+
+-- the reply closes the connection, unless it is not written whole
+abbrev pub end_by : Result (Unit {0}) ConnFault → Ended
+end_by (Ok done) = Closed
+end_by (Err fault) = Fault fault
+
+-- nothing arrived, or a fault came first; no more was written than the interim response that the bytes ask for
+abbrev pub IsUnanswered : List ℕ → Ended → List ℕ → Type 0
+IsUnanswered bytes Closed out = ⊥
+IsUnanswered bytes InputEnded out = IsRest bytes × WritesAsked (Some []) (Some out) bytes
+IsUnanswered bytes (Fault fault) out = WritesUpTo (Some []) (Some out) bytes fault
+
+-- The bytes begin with an arrival. Its interim response was written, and behind it the 503 that closes, or the first bytes of that.
+pub record AnswersAway (bytes : List ℕ) (mark : Mark) (ended : Ended) (out : List ℕ) : Type 0 where
+  pub arrival : Arrival
+  pub begins : BeginsArrivals bytes (arrival ∷ []) Ending.Closed
+  pub marked : mark ≡ away_mark arrival
+  pub sent : Result (Unit {0}) ConnFault
+  pub end : ended ≡ end_by sent
+  pub written : WritesText (Some (interim_of arrival)) (Some out) (render (away_reply arrival) true) sent
+
+-- of a connection that was turned away the first arrival was answered, or none
+abbrev pub IsTurnedAway : List ℕ → List Mark → Ended → List ℕ → Type 0
+IsTurnedAway bytes [] ended out = IsUnanswered bytes ended out
+IsTurnedAway bytes (mark ∷ []) ended out = AnswersAway bytes mark ended out
+IsTurnedAway bytes (mark ∷ another ∷ marks) ended out = ⊥
+
+-- What turning a connection away does with its wire, and what it came to.
+pub record TurnsAway (old new : Wire) (served : Served) : Type 0 where
+  pub got : List ℕ
+  pub sent : List ℕ
+  pub read : Consumes old.left new.left got
+  pub wrote : Appends old.written new.written sent
+  pub turned : IsTurnedAway got served.marks.items served.ended sent
+  pub at_end : served.ended ≡ InputEnded → IsAtEnd new.left
+  pub limited : served.ended ≡ Fault fault.ReadLimit → max_reads ≤ length got
+  pub fault : IsEndedBy old new served.ended

@@ -1,0 +1,53 @@
+-- Connections of a port that are served in turn, or turned away while the register is closed; own rules.
+use Rattle.std.specs.Prelude.{◌≡◌, ℕ, true, List, [], ◌∷◌, map, take, Option, IfSome}
+use Rattle.sqlite_disk.specs.declared.Disk.{Ghosts}
+use Rattle.filing_model.specs.Request.{Request}
+use Rattle.filing_model.specs.Serving.{Keeping, keeping}
+use Rattle.gateway_ports.specs.InTurn.{Connection, outputs_of, ServeInTurn, Came, AreCounted}
+use Rattle.gateway_ports.specs.Ports.{Traffic, Grows}
+use Rattle.intake_process.specs.Process.{Parts, Keeps, KeepsBy}
+use Rattle.intake_process.specs.Turning.{IsTurnedAway}
+
+-- a connection that came: it was served, or turned away
+pub data Turn : Type 0 where
+  Served : Connection → Turn
+  TurnedAway : Connection → Turn
+
+abbrev pub connection_of : Turn → Connection
+connection_of (Served connection) = connection
+connection_of (TurnedAway connection) = connection
+
+abbrev pub connections_of : List Turn → List Connection
+connections_of turns = map connection_of turns
+
+-- those that were served
+abbrev pub served_in : List Turn → List Connection
+served_in [] = []
+served_in (Served connection ∷ turns) = connection ∷ served_in turns
+served_in (TurnedAway connection ∷ turns) = served_in turns
+
+-- the others were turned away
+abbrev pub AreTurnedAway : List Turn → Type 0
+AreTurnedAway [] = Unit {0}
+AreTurnedAway (Served connection ∷ turns) = AreTurnedAway turns
+AreTurnedAway (TurnedAway connection ∷ turns) =
+    IsTurnedAway connection.read connection.output.marks connection.output.ended connection.output.bytes × AreTurnedAway turns
+
+-- These connections of a port were answered: the first that came, none left out. Those that were served were served in turn, whatever
+-- was turned away between them.
+pub record AreAnswered (requests : Keeping) (old new : Traffic) (turns : List Turn) (taken : Option ℕ) : Type 0 where
+  pub in_turn : ServeInTurn requests (served_in turns)
+  pub away : AreTurnedAway turns
+  pub came : Came old.coming new.coming (connections_of turns)
+  -- where it is answered how many were taken, these are so many, and the port was told what each came to
+  pub counted : IfSome taken (AreCounted old.coming (connections_of turns))
+  pub told : IfSome taken (λ _. Grows old.over new.over (outputs_of (connections_of turns)))
+
+-- What answering some connections of a port does with it and with the process of an intake. `taken` says how many came, where that is
+-- answered.
+pub record AnswersSome {D : Type 0} {g : Ghosts D} (limit : ℕ) (port port' : Traffic) (old new : Parts g) (taken : Option ℕ) : Type 0 where
+  -- As long as no close and no opening failed, some connections were answered, the first after the requests that were kept before, and
+  -- those are kept now that the last one left: by the intake, or in the place.
+  pub answers : (early : ℕ) (before : List Request) → Keeps old limit early before → new.is_certain ≡ true
+      → (after : List Request) × KeepsBy new.intake new.lying limit early after × (take early after ≡ take early before) × (turns : List Turn) × AreAnswered (keeping limit (take early before) before after) port port' turns taken
+  pub certain : new.is_certain ≡ true → old.is_certain ≡ true

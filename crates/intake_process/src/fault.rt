@@ -1,0 +1,27 @@
+//! Why a register is not opened.
+
+use command_files::Holding;
+use command_line::DatabaseFault;
+use register_store::{CreateFault, OpenFault};
+
+/// Why a register is not opened.
+#[derive(Clone, Copy, Debug)]
+pub enum OpeningFault {
+    /// The files gave no database. The fault does not go by the bytes of the file.
+    Files(DatabaseFault),
+    /// A register was to be made in a database that isn't empty.
+    Taken(Holding),
+    Create(CreateFault),
+    /// The database gave no register, and this is what it holds.
+    Open(OpenFault, Holding),
+}
+
+impl OpeningFault {
+    /// Whether the database is none of ours.
+    pub(crate) fn is_of_others(self) -> bool {
+        matches!(
+            self,
+            OpeningFault::Taken(_) | OpeningFault::Open(OpenFault::NotOurs, _)
+        )
+    }
+}

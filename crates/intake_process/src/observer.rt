@@ -1,0 +1,34 @@
+//! What the caller does beside the serving of a port.
+
+use crate::begun::Totals;
+use crate::fault::OpeningFault;
+use crate::process::Closed;
+use gateway_server::Served;
+
+/// What came of a connection.
+#[derive(Drop)]
+pub enum Went {
+    /// It was served.
+    Served,
+    /// It was served, and the database refused a call, after which the register was closed so.
+    Failed(Closed),
+    /// It was turned away, since the register is closed.
+    TurnedAway,
+    /// It was turned away, and for it the register was to be opened again.
+    NotOpened(OpeningFault),
+}
+
+/// Who is told what happens while a port is served, and says when a register that is closed may be opened again.
+pub trait Observer {
+    /// Whether the register, which is closed, is to be opened for a connection that came.
+    fn may_open(&mut self) -> bool;
+
+    /// The register is open again, and holds so much.
+    fn opened(&mut self, totals: Totals);
+
+    /// What a connection came to, which is told to the port after this.
+    fn served(&mut self, served: &Served);
+
+    /// A connection is over, and so many more may come.
+    fn ended(&mut self, went: Went, left: u32);
+}

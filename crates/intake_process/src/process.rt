@@ -1,0 +1,185 @@
+//! The process that an intake runs in.
+
+ghost use Rattle.std.specs.Prelude.{◌≡◌, ◌≤◌, ◌^◌, None, true, is_some};
+ghost use Rattle.http_wire.specs.Wire.{wire};
+ghost use Rattle.database_places.specs.Opening.{is_found};
+ghost use Rattle.intake_process.specs.Process.{ServesBy};
+
+use crate::begun::{Totals, begin, parted};
+use crate::fault::OpeningFault;
+use crate::turning::turn_away;
+use database_places::{Opening, Place, close, give_up, open, remove_new_log};
+use gateway_server::{Served, serve};
+use http_wire::{Sink, Source};
+use intake_core::Intake;
+use sqlite::{Alter, Error, FileStore};
+use sqlite_disk::Disk;
+use std::alloc::Global;
+
+/// What a close came to.
+#[derive(Drop)]
+pub struct Closed {
+    /// How many requests are kept.
+    pub kept: u64,
+    /// Why what was committed is not all in the database file, but in the log still, if it isn't.
+    pub outcome: Result<(), Error>,
+}
+
+/// Who answered a connection.
+#[derive(Clone, Copy, Debug, PartialEq, Eq)]
+pub enum Outcome {
+    /// The intake.
+    Served,
+    /// The intake, whose database refused a call.
+    Failed,
+    /// Nobody: the register is closed.
+    TurnedAway,
+}
+
+/// What answering a connection came to.
+#[derive(Drop)]
+pub struct Answered {
+    pub served: Served,
+    pub outcome: Outcome,
+}
+
+/// Serves a connection, and says whether the database refused a call.
+fn serve_by<R: Source, W: Sink, S: Alter>(
+    alloc: Global,
+    reader: &mut R,
+    writer: &mut W,
+    intake: &mut Intake<S>,
+) -> Answered
+    ensures { ServesBy S.Store (wire R.Source W.Sink reader.old writer.old)
+        (wire R.Source W.Sink reader.new writer.new) intake.old intake.new result }
+{
+    let served = serve(alloc, reader, writer, intake);
+    let outcome = if intake.is_down() {
+        Outcome::Failed
+    } else {
+        Outcome::Served
+    };
+    Answered { served, outcome }
+}
+
+/// The intake of a register that lies in a place: open, or closed.
+#[derive(Drop)]
+pub struct IntakeProcess<D: Disk + Drop, P: Place<D> + Drop> {
+    place: P,
+    /// None while it is closed.
+    intake: Option<Intake<FileStore<D>>>,
+    /// Whether no close and no opening failed. After one that did, what lies in the place may be what a crash leaves.
+    is_certain: bool,
+}
+
+impl<D: Disk + Drop, P: Place<D> + Drop> IntakeProcess<D, P> {
+    ghost use Rattle.intake_process.specs.Process.{parts, OpensProcess, AnswersWire, ClosesProcess};
+
+    /// The intake of the register that lies in this place, or is to be made there. It is closed.
+    pub fn new(place: P) -> IntakeProcess<D, P>
+        ensures { parts P.lying result ≡ record { intake = None; lying = P.lying place; is_certain = true } }
+    {
+        IntakeProcess {
+            place,
+            intake: None,
+            is_certain: true,
+        }
+    }
+
+    /// The place.
+    pub fn place(&self) -> &P
+        ensures { P.lying result.now ≡ P.lying self.now.place }
+    {
+        &self.place
+    }
+
+    pub fn is_open(&self) -> bool
+        ensures { result ≡ is_some self.now.intake }
+    {
+        self.intake.is_some()
+    }
+
+    /// Whether no close and no opening failed.
+    pub fn is_certain(&self) -> bool
+        ensures { result ≡ self.now.is_certain }
+    {
+        self.is_certain
+    }
+
+    /// Opens it, if it is closed, and says how much the register holds then. It keeps at most `limit` keys. A refusal
+    /// leaves the files in the place, and leaves a database that is damaged or none of ours as it was.
+    pub fn open(
+        &mut self,
+        rt: &HostRuntime,
+        opening: Opening,
+        limit: u64,
+    ) -> Result<Option<Totals>, OpeningFault>
+        requires { limit ≤ 2 ^ 62 }
+        ensures { OpensProcess D.Disk (is_found opening) limit (parts P.lying self.old) (parts P.lying self.new) result }
+    {
+        if self.intake.is_some() {
+            return Ok(None);
+        }
+        let had_log = self.place.has_log(rt);
+        let conn = match open(rt, &mut self.place, opening) {
+            Ok(conn) => conn,
+            Err(fault) => {
+                self.is_certain = false;
+                return Err(OpeningFault::Files(fault));
+            }
+        };
+        match begin(rt, conn, opening, limit) {
+            Ok((intake, totals)) => {
+                self.intake = Some(intake);
+                Ok(Some(totals))
+            }
+            Err((fault, back)) => {
+                self.is_certain = false;
+                give_up(&mut self.place, back);
+                if fault.is_of_others() {
+                    remove_new_log(rt, &mut self.place, had_log);
+                }
+                Err(fault)
+            }
+        }
+    }
+
+    /// Serves a connection, or turns it away while the register is closed.
+    pub fn answer<R: Source, W: Sink>(
+        &mut self,
+        alloc: Global,
+        reader: &mut R,
+        writer: &mut W,
+    ) -> Answered
+        ensures { AnswersWire (wire R.Source W.Sink reader.old writer.old)
+            (wire R.Source W.Sink reader.new writer.new) (parts P.lying self.old) (parts P.lying self.new) result }
+    {
+        match &mut self.intake {
+            Some(intake) => serve_by(alloc, reader, writer, intake),
+            None => Answered {
+                served: turn_away(alloc, reader, writer),
+                outcome: Outcome::TurnedAway,
+            },
+        }
+    }
+
+    /// Closes it, if it is open, and leaves the files in the place in any case.
+    pub fn close(&mut self) -> Closed
+        ensures { ClosesProcess D.Disk (parts P.lying self.old) (parts P.lying self.new) result }
+    {
+        match self.intake.take() {
+            Some(intake) => {
+                let (kept, conn) = parted(intake);
+                let outcome = close(&mut self.place, conn);
+                if outcome.is_err() {
+                    self.is_certain = false;
+                }
+                Closed { kept, outcome }
+            }
+            None => Closed {
+                kept: 0,
+                outcome: Ok(()),
+            },
+        }
+    }
+}

@@ -1,0 +1,98 @@
+//! The connections of a port are answered, one after another, by an intake that is opened again after a refusal.
+
+ghost use Rattle.std.specs.Prelude.{◌≤◌, ◌^◌, ℕ, option_map};
+ghost use Rattle.std.specs.Result.{result_ok};
+ghost use Rattle.intake_process.specs.Process.{parts, IsHonest, Leaves};
+ghost use Rattle.intake_process.specs.Turns.{AnswersSome};
+
+use crate::fault::OpeningFault;
+use crate::observer::{Observer, Went};
+use crate::process::{IntakeProcess, Outcome};
+use database_places::{Cache, Opening, Place};
+use gateway_ports::{Port, PortFault};
+use sqlite_disk::Disk;
+
+/// Answers the next `most` connections that come on a port, each by the register as the one before it left it. If the
+/// database refuses a call the register is closed. It is opened again for a connection that comes later, if the observer
+/// lets it, and until it is open connections are turned away. One that its peer gave up before counts as well.
+pub fn serve_port<D: Disk + Drop, P: Place<D> + Drop, L: Port, O: Observer>(
+    rt: &HostRuntime,
+    port: &mut L,
+    process: &mut IntakeProcess<D, P>,
+    observer: &mut O,
+    limit: u64,
+    most: u32,
+) -> Result<(), PortFault>
+    requires { limit ≤ 2 ^ 62 }
+    ensures { IsHonest D.Disk → AnswersSome limit (L.traffic port.old) (L.traffic port.new)
+        (parts P.lying process.old) (parts P.lying process.new) (option_map (λ _. most) (result_ok result)) }
+{
+    for taken in 0..most {
+        serve_next(rt, port, process, observer, limit, most - taken - 1)?;
+    }
+    Ok(())
+}
+
+/// Answers the next connection, unless its peer gave it up. So many more may come.
+fn serve_next<D: Disk + Drop, P: Place<D> + Drop, L: Port, O: Observer>(
+    rt: &HostRuntime,
+    port: &mut L,
+    process: &mut IntakeProcess<D, P>,
+    observer: &mut O,
+    limit: u64,
+    left: u32,
+) -> Result<(), PortFault>
+    requires { limit ≤ 2 ^ 62 }
+    ensures { IsHonest D.Disk → AnswersSome limit (L.traffic port.old) (L.traffic port.new)
+        (parts P.lying process.old) (parts P.lying process.new) (option_map (λ _. 1) (result_ok result)) }
+{
+    if let Some((mut reader, mut writer)) = port.accept()? {
+        let refusal = open_again(rt, process, observer, limit);
+        let answered = process.answer(rt.alloc(), &mut reader, &mut writer);
+        observer.served(&answered.served);
+        port.end(reader, writer, answered.served)?;
+        observer.ended(went(process, answered.outcome, refusal), left);
+    }
+    Ok(())
+}
+
+/// Opens the register again, if it is closed and the observer lets it. It answers why it was not opened, if that was
+/// tried.
+fn open_again<D: Disk + Drop, P: Place<D> + Drop, O: Observer>(
+    rt: &HostRuntime,
+    process: &mut IntakeProcess<D, P>,
+    observer: &mut O,
+    limit: u64,
+) -> Option<OpeningFault>
+    requires { limit ≤ 2 ^ 62 }
+    ensures { IsHonest D.Disk → Leaves limit (parts P.lying process.old) (parts P.lying process.new) }
+{
+    if process.is_open() || !observer.may_open() {
+        return None;
+    }
+    match process.open(rt, Opening::Found(Cache::Largest), limit) {
+        Ok(Some(totals)) => {
+            observer.opened(totals);
+            None
+        }
+        Ok(None) => None,
+        Err(fault) => Some(fault),
+    }
+}
+
+/// What came of a connection that was answered so. If the database refused a call the register is closed.
+fn went<D: Disk + Drop, P: Place<D> + Drop>(
+    process: &mut IntakeProcess<D, P>,
+    outcome: Outcome,
+    refusal: Option<OpeningFault>,
+) -> Went
+    ensures { IsHonest D.Disk → (limit : ℕ)
+        → Leaves limit (parts P.lying process.old) (parts P.lying process.new) }
+{
+    match (outcome, refusal) {
+        (Outcome::Served, _) => Went::Served,
+        (Outcome::Failed, _) => Went::Failed(process.close()),
+        (Outcome::TurnedAway, Some(fault)) => Went::NotOpened(fault),
+        (Outcome::TurnedAway, None) => Went::TurnedAway,
+    }
+}
