@@ -1,5 +1,6 @@
 //! How long a connection may take: its reads and writes wait no longer than its time allows.
 
+use std::alloc::AllocError;
 use std::io::{self, ErrorKind, Read, Write};
 use std::net::TcpStream;
 use std::time::{Clock, Duration, Instant};
@@ -10,10 +11,16 @@ pub trait Waits {
     fn limit_waits(&self, most: Duration) -> io::Result<()>;
 }
 
-impl Waits for &TcpStream {
+impl Waits for TcpStream {
     fn limit_waits(&self, most: Duration) -> io::Result<()> {
         self.set_read_timeout(Some(most))?;
         self.set_write_timeout(Some(most))
+    }
+}
+
+impl Waits for &TcpStream {
+    fn limit_waits(&self, most: Duration) -> io::Result<()> {
+        (**self).limit_waits(most)
     }
 }
 
@@ -25,12 +32,19 @@ struct Span {
 }
 
 /// The time that a connection may take, by this clock.
-#[derive(Drop)]
 pub struct Deadline<'a, C> {
     clock: &'a C,
     /// None if it may take any time. The clock is not looked at then.
     span: Option<Span>,
 }
+
+impl<C> Clone for Deadline<'_, C> {
+    fn clone(&self) -> Result<Self, AllocError> {
+        Ok(*self)
+    }
+}
+
+impl<C> Copy for Deadline<'_, C> {}
 
 impl<'a, C: Clock> Deadline<'a, C> {
     /// So much time from now on, or any time if no patience is given.
@@ -75,13 +89,16 @@ impl<'a, C: Clock> Deadline<'a, C> {
 #[derive(Drop)]
 pub struct Patient<'a, S, C> {
     stream: S,
-    deadline: &'a Deadline<'a, C>,
+    deadline: Deadline<'a, C>,
 }
 
 impl<'a, S: Waits, C: Clock> Patient<'a, S, C> {
     /// The stream, for as long as this time lasts.
-    pub fn new(stream: S, deadline: &'a Deadline<'a, C>) -> Patient<'a, S, C> {
-        Patient { stream, deadline }
+    pub fn new(stream: S, deadline: &Deadline<'a, C>) -> Patient<'a, S, C> {
+        Patient {
+            stream,
+            deadline: *deadline,
+        }
     }
 }
 

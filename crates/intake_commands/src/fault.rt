@@ -190,10 +190,6 @@ pub enum Fault<'a> {
     Report(#[from] ReportFault<'a>),
     #[error("{0}")]
     Connection(ConnFault),
-    #[error("connection {connection}: {fault}")]
-    Served { connection: u32, fault: ConnFault },
-    #[error("connection {connection}: cut off after {seconds} seconds")]
-    Late { connection: u32, seconds: u32 },
     #[error("127.0.0.1:{port}: {error}")]
     Network { port: u16, error: io::Error },
 }
@@ -214,11 +210,7 @@ impl Fault<'_> {
             Fault::Report(fault) => fault.status(),
             Fault::Register { fault, .. } => fault.status(),
             Fault::Limit | Fault::NoInit => 2,
-            Fault::InMemory(_)
-            | Fault::Connection(_)
-            | Fault::Served { .. }
-            | Fault::Late { .. }
-            | Fault::Network { .. } => 3,
+            Fault::InMemory(_) | Fault::Connection(_) | Fault::Network { .. } => 3,
         }
     }
 
@@ -236,5 +228,37 @@ impl Fault<'_> {
         // Nothing is left to be done if this text can't be written either.
         let _ = writeln!(errors, "intake: {self}");
         self.status()
+    }
+}
+
+/// What goes wrong with one connection of a port. The next one is served all the same. Its text is one line.
+#[derive(Debug, Drop, Error)]
+pub enum ConnectionFault {
+    #[error("connection {connection}: {fault}")]
+    Served { connection: u32, fault: ConnFault },
+    #[error("connection {connection}: cut off after {seconds} seconds")]
+    Late { connection: u32, seconds: u32 },
+    /// The system refused what it takes to serve it.
+    #[error("127.0.0.1:{port}: {error}")]
+    Network { port: u16, error: io::Error },
+    /// No memory was left for its line.
+    #[error("{text}", text = CommandFault::Memory)]
+    Memory,
+    /// Its line was not printed.
+    #[error("{text}", text = CommandFault::Output)]
+    Output,
+}
+
+impl From<AllocError> for ConnectionFault {
+    fn from(_error: AllocError) -> Self {
+        ConnectionFault::Memory
+    }
+}
+
+impl ConnectionFault {
+    /// Writes the text as a line.
+    pub fn tell<E: Write>(&self, errors: &mut E) {
+        // Nothing is left to be done if this text can't be written.
+        let _ = writeln!(errors, "intake: {self}");
     }
 }

@@ -7,13 +7,16 @@ mod calls;
 mod fault;
 mod finding;
 mod limit;
+mod line;
 mod log;
 mod note;
 mod pause;
+mod port;
 mod progress;
 mod register;
 mod room;
 mod serving;
 mod tasks;
+mod told;
 
 pub use tasks::{main, perform};

@@ -1,11 +1,19 @@
-//! What is noted of a connection while it is served: the first bytes that came, and the statuses that went out.
+//! A port whose connections are logged: of each are noted the first bytes that came and the statuses that went out, and
+//! once it is over its line is printed.
 
+ghost use Rattle.std.specs.Prelude.{◌≡◌};
+
+use crate::calls;
+use crate::fault::ConnectionFault;
+use crate::line::ConnectionLine;
+use crate::port::StreamPort;
+use command_line::show;
+use gateway_ports::Port;
 use gateway_server::{Ended, Served};
 use http_wire::{DeviceFailed, Sink, Source};
-use register_store::Completed;
 use std::alloc::{AllocError, Global};
-use std::fmt;
-use std::fmt::Write;
+use std::io::{self, Write};
+use std::net::TcpStream;
 
 /// How many bytes of a connection are noted: those of the longest request. The filers of requests that come after them
 /// are not told.
@@ -20,16 +28,13 @@ pub struct Noted<R> {
 
 impl<R: Source> Noted<R> {
     /// The reader, of which nothing was read.
-    pub fn new(alloc: Global, inner: R) -> Noted<R> {
+    fn new(alloc: Global, inner: R) -> Noted<R>
+        ensures { result.inner ≡ inner }
+    {
         Noted {
             inner,
             bytes: Vec::new(alloc),
         }
-    }
-
-    /// The bytes that were noted.
-    pub fn bytes(&self) -> &[u8] {
-        self.bytes.as_slice()
     }
 }
 
@@ -58,23 +63,21 @@ impl<R: Source> Source for Noted<R> {
 #[derive(Drop)]
 pub struct Statuses<W> {
     inner: W,
+    /// The statuses of the replies that were begun. Interim responses are none.
     statuses: Vec<u16>,
     is_within: bool,
 }
 
 impl<W: Sink> Statuses<W> {
     /// The writer, to which nothing was written.
-    pub fn new(alloc: Global, inner: W) -> Statuses<W> {
+    fn new(alloc: Global, inner: W) -> Statuses<W>
+        ensures { result.inner ≡ inner }
+    {
         Statuses {
             inner,
             statuses: Vec::new(alloc),
             is_within: false,
         }
-    }
-
-    /// The statuses of the replies that were begun. Interim responses are none.
-    pub fn statuses(&self) -> &[u16] {
-        self.statuses.as_slice()
     }
 }
 
@@ -108,49 +111,116 @@ impl<W: Sink> Sink for Statuses<W> {
     }
 }
 
-/// The line of a connection in the log, a JSON object: its number, how it ended, the filers of the requests that were
-/// filed, how many requests and refusals there were, and the statuses of the replies.
-#[derive(Clone, Copy)]
-pub struct ConnectionLine<'a> {
-    pub connection: u32,
-    pub served: &'a Served,
-    pub completed: &'a [Completed],
-    pub statuses: &'a [u16],
+/// A port whose connections have each a line on the output once they are over.
+#[derive(Drop)]
+pub struct Logged<'o, P, O> {
+    alloc: Global,
+    port: P,
+    output: &'o mut O,
+    /// Why the line of the connection that was over last was not printed.
+    failure: Option<ConnectionFault>,
 }
 
-fn write_ended<W: fmt::Write>(ended: Ended, f: &mut fmt::Formatter<W>) -> fmt::Result {
-    match ended {
-        Ended::Closed => f.write_str("closed"),
-        Ended::InputEnded => f.write_str("input ended"),
-        Ended::Fault(fault) => write!(f, "{fault}"),
+impl<'o, P, O> Logged<'o, P, O> {
+    /// The port with its log on this output, in which nothing is written yet.
+    pub fn new(alloc: Global, port: P, output: &'o mut O) -> Logged<'o, P, O> {
+        Logged {
+            alloc,
+            port,
+            output,
+            failure: None,
+        }
     }
 }
 
-fn write_filers<W: fmt::Write>(list: &[Completed], f: &mut fmt::Formatter<W>) -> fmt::Result {
-    for (at, it) in list.iter().enumerate() {
-        let comma = if at == 0 { "" } else { "," };
-        // A filer's code has letters, digits, '.', '_' and '-' alone.
-        write!(f, "{comma}\"{}\"", it.filer)?;
+/// Prints the line of a connection that was served so, of which these bytes and statuses were noted.
+fn show_line<O: Write>(
+    alloc: Global,
+    output: &mut O,
+    connection: u32,
+    served: &Served,
+    bytes: &[u8],
+    statuses: &[u16],
+) -> Result<(), ConnectionFault> {
+    let completed = calls::completed(alloc, bytes, &served.marks)?;
+    let line = ConnectionLine {
+        connection,
+        served,
+        completed: &completed,
+        statuses,
+    };
+    let text = format!(in alloc; "{line}")?;
+    match show(output, text.as_bytes()) {
+        Ok(()) => Ok(()),
+        Err(_) => Err(ConnectionFault::Output),
     }
-    Ok(())
 }
 
-fn write_statuses<W: fmt::Write>(list: &[u16], f: &mut fmt::Formatter<W>) -> fmt::Result {
-    for (at, status) in list.iter().enumerate() {
-        let comma = if at == 0 { "" } else { "," };
-        write!(f, "{comma}{status}")?;
+impl<P: StreamPort, O: Write> Port for Logged<'_, P, O> {
+    type Reader = Noted<P::Reader>;
+
+    type Writer = Statuses<P::Writer>;
+
+    ghost traffic = { λ logged. P.Port.traffic logged.port };
+
+    fn listen(&mut self) -> io::Result<()> {
+        self.port.listen()
     }
-    Ok(())
+
+    fn accept(&mut self) -> io::Result<Option<(Noted<P::Reader>, Statuses<P::Writer>)>> {
+        match self.port.accept()? {
+            Some((reader, writer)) => Ok(Some((
+                Noted::new(self.alloc, reader),
+                Statuses::new(self.alloc, writer),
+            ))),
+            None => Ok(None),
+        }
+    }
+
+    fn end(
+        &mut self,
+        reader: Noted<P::Reader>,
+        writer: Statuses<P::Writer>,
+        served: Served,
+    ) -> Result<(), AllocError> {
+        self.failure = show_line(
+            self.alloc,
+            self.output,
+            self.port.taken(),
+            &served,
+            reader.bytes.as_slice(),
+            writer.statuses.as_slice(),
+        )
+        .err();
+        self.port.end(reader.inner, writer.inner, served)
+    }
 }
 
-impl fmt::Display for ConnectionLine<'_> {
-    fn fmt<W: fmt::Write>(&self, f: &mut fmt::Formatter<W>) -> fmt::Result {
-        write!(f, "{{\"connection\":{},\"ended\":\"", self.connection)?;
-        write_ended(self.served.ended, f)?;
-        f.write_str("\",\"filers\":[")?;
-        write_filers(self.completed, f)?;
-        write!(f, "],\"places\":{},\"statuses\":[", self.served.marks.len())?;
-        write_statuses(self.statuses, f)?;
-        f.write_str("]}\n")
+impl<P: StreamPort, O: Write> StreamPort for Logged<'_, P, O> {
+    fn next(&mut self) -> io::Result<Option<TcpStream>> {
+        self.port.next()
+    }
+
+    fn begin(&mut self, stream: TcpStream) -> Option<(Noted<P::Reader>, Statuses<P::Writer>)> {
+        let (reader, writer) = self.port.begin(stream)?;
+        Some((
+            Noted::new(self.alloc, reader),
+            Statuses::new(self.alloc, writer),
+        ))
+    }
+
+    fn taken(&self) -> u32 {
+        self.port.taken()
+    }
+
+    fn fault_of(&self, ended: Ended) -> Option<ConnectionFault> {
+        self.port.fault_of(ended)
+    }
+
+    fn failure(&self) -> Option<&ConnectionFault> {
+        match &self.failure {
+            Some(fault) => Some(fault),
+            None => self.port.failure(),
+        }
     }
 }

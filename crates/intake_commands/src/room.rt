@@ -2,11 +2,12 @@
 
 use gateway_server::Mark;
 
-/// How many keys a register may keep, and how many it keeps at most.
+/// How many keys a register may keep, how many it keeps at most, and whether it was found full.
 #[derive(Clone, Copy)]
 pub struct Room {
     limit: u64,
     kept: u64,
+    is_full: bool,
     is_told: bool,
 }
 
@@ -16,22 +17,30 @@ impl Room {
         Room {
             limit,
             kept,
+            is_full: false,
             is_told: false,
         }
     }
 
-    pub fn limit(self) -> u64 {
-        self.limit
+    /// The room after the requests of a connection, which have these marks. The register is full if one was turned away,
+    /// and the keys may be as many as the limit. Each request that was done may have brought a key.
+    pub fn after(self, marks: &[Mark]) -> Room {
+        let done = marks.iter().filter(|mark| **mark == Mark::Done).count();
+        let kept = self.kept.saturating_add(done as u64);
+        let is_full = kept >= self.limit && marks.contains(&Mark::Unavailable);
+        Room {
+            kept,
+            is_full: self.is_full || is_full,
+            ..self
+        }
     }
 
-    /// Whether the requests of a connection, which have these marks, show for the first time that the register is full: one
-    /// was turned away, and the keys may be as many as the limit. Each request that was done may have brought a key.
-    pub fn is_used_up_by(&mut self, marks: &[Mark]) -> bool {
-        let done = marks.iter().filter(|mark| **mark == Mark::Done).count();
-        self.kept = self.kept.saturating_add(done as u64);
-        let is_full = self.kept >= self.limit && marks.contains(&Mark::Unavailable);
-        let is_news = is_full && !self.is_told;
-        self.is_told = self.is_told || is_full;
-        is_news
+    /// The limit, if the register was found full, and that is news.
+    pub fn newly_full(&mut self) -> Option<u64> {
+        if self.is_full && !self.is_told {
+            self.is_told = true;
+            return Some(self.limit);
+        }
+        None
     }
 }

@@ -6,15 +6,15 @@ ghost use Rattle.table_rows.specs.Standing.{IsAtRest};
 use crate::calls;
 use crate::fault::{Fault, VisitFault};
 use crate::limit::Limit;
-use crate::log::{ConnectionLine, Noted, Statuses};
+use crate::log::Logged;
 use crate::note::Note;
 use crate::pause::Pause;
+use crate::port::{StreamPort, TimedPort};
 use crate::register::{create, left_by, open, refused, tell_close};
 use crate::room::Room;
-use command_files::{Cache, Deadline, FileSystem, Left, Opening, Patient, Work, on_database};
-use command_line::show;
-use gateway_server::{Ended, Mark, Served};
-use http_wire::{Device, Sink, Source};
+use crate::told::Told;
+use command_files::{Cache, FileSystem, Left, Opening, Work, on_database};
+use gateway_ports::{Port, PortFault, serve_each};
 use intake_core::Intake;
 use intake_options::Serving;
 use register_store::Store;
@@ -22,362 +22,8 @@ use sqlite::{Alter, Connection};
 use sqlite_disk::Disk;
 use std::alloc::{AllocError, Global};
 use std::io::{self, Write};
-use std::net::{TcpListener, TcpStream};
-use std::time::{Duration, Instant};
-
-/// What answers the requests of a connection.
-trait Answers {
-    /// Serves one connection.
-    fn serve<R: Source, W: Sink>(
-        &mut self,
-        alloc: Global,
-        reader: &mut R,
-        writer: &mut W,
-    ) -> Result<Served, AllocError>;
-}
-
-impl<S: Alter> Answers for Intake<S> {
-    fn serve<R: Source, W: Sink>(
-        &mut self,
-        alloc: Global,
-        reader: &mut R,
-        writer: &mut W,
-    ) -> Result<Served, AllocError> {
-        Ok(calls::serve(alloc, reader, writer, self))
-    }
-}
-
-/// There is no register: each request gets 503.
-#[derive(Drop)]
-struct NoRegister;
-
-impl Answers for NoRegister {
-    fn serve<R: Source, W: Sink>(
-        &mut self,
-        alloc: Global,
-        reader: &mut R,
-        writer: &mut W,
-    ) -> Result<Served, AllocError> {
-        calls::turn_away(alloc, reader, writer)
-    }
-}
-
-/// A port that is listened on, and how many of its connections were taken.
-#[derive(Drop)]
-struct Port<'a> {
-    serving: Serving<'a>,
-    limit: Limit,
-    listener: TcpListener,
-    taken: u32,
-}
-
-impl<'a> Port<'a> {
-    /// Listens on the port.
-    fn listen(rt: &HostRuntime, serving: Serving<'a>, limit: Limit) -> Result<Port<'a>, Fault<'a>> {
-        let port = serving.port;
-        match TcpListener::bind(rt, ("127.0.0.1", port)) {
-            Ok(listener) => Ok(Port {
-                serving,
-                limit,
-                listener,
-                taken: 0,
-            }),
-            Err(error) => Err(Fault::Network { port, error }),
-        }
-    }
-
-    /// Waits for the next connection. None is one that its peer gave up before.
-    fn accept(&self) -> Result<Option<TcpStream>, Fault<'a>> {
-        match self.listener.accept() {
-            Ok((stream, _)) => Ok(Some(stream)),
-            Err(error) if error.kind() == io::ErrorKind::ConnectionAborted => Ok(None),
-            Err(error) => Err(Fault::Network {
-                port: self.serving.port,
-                error,
-            }),
-        }
-    }
-
-    /// Serves a connection for as long as its time lasts, and prints its line.
-    fn serve_logged<A: Answers, O: Write>(
-        &self,
-        alloc: Global,
-        answers: &mut A,
-        stream: &TcpStream,
-        deadline: &Deadline<'_, HostRuntime>,
-        output: &mut O,
-    ) -> Result<Served, Fault<'a>> {
-        let mut reader = Noted::new(alloc, Device::new(Patient::new(stream, deadline)));
-        let mut writer = Statuses::new(alloc, Device::new(Patient::new(stream, deadline)));
-        let served = answers.serve(alloc, &mut reader, &mut writer)?;
-        self.log(alloc, &served, reader.bytes(), writer.statuses(), output)?;
-        Ok(served)
-    }
-
-    /// Prints the line of the connection that was taken last, of which these bytes and statuses were noted.
-    fn log<O: Write>(
-        &self,
-        alloc: Global,
-        served: &Served,
-        bytes: &[u8],
-        statuses: &[u16],
-        output: &mut O,
-    ) -> Result<(), Fault<'a>> {
-        let completed = calls::completed(alloc, bytes, &served.marks)?;
-        let line = ConnectionLine {
-            connection: self.taken,
-            served,
-            completed: &completed,
-            statuses,
-        };
-        show_line(alloc, &line, output)
-    }
-
-    /// The time that the connection which is served now may take.
-    fn deadline<'r>(&self, rt: &'r HostRuntime) -> Result<Deadline<'r, HostRuntime>, Fault<'a>> {
-        let patience = self.serving.patience;
-        match Deadline::after(
-            rt,
-            patience.map(|seconds| Duration::from_secs(u64::from(seconds))),
-        ) {
-            Ok(deadline) => Ok(deadline),
-            Err(error) => Err(Fault::Network {
-                port: self.serving.port,
-                error,
-            }),
-        }
-    }
-
-    /// Serves the connection that was taken last, for as long as its time lasts.
-    fn serve_stream<A: Answers, O: Write>(
-        &self,
-        rt: &HostRuntime,
-        answers: &mut A,
-        stream: &TcpStream,
-        output: &mut O,
-    ) -> Result<Went<'a>, Fault<'a>> {
-        // Replies are written whole, and without this each may wait for the peer to tell of the one before.
-        let _ = stream.set_nodelay(true);
-        let deadline = self.deadline(rt)?;
-        let served = if self.serving.log {
-            self.serve_logged(rt.alloc(), answers, stream, &deadline, output)?
-        } else {
-            serve_plain(rt.alloc(), answers, stream, &deadline)?
-        };
-        let Served { marks, ended } = served;
-        let fault = self.fault_of(ended, &deadline);
-        Ok(Went { marks, fault })
-    }
-
-    /// The fault in which the connection that was taken last ended, if it did.
-    fn fault_of(&self, ended: Ended, deadline: &Deadline<'_, HostRuntime>) -> Option<Fault<'a>> {
-        let connection = self.taken;
-        match (ended, self.serving.patience) {
-            (Ended::Fault(_), Some(seconds)) if deadline.is_over() => Some(Fault::Late {
-                connection,
-                seconds,
-            }),
-            (Ended::Fault(fault), _) => Some(Fault::Served { connection, fault }),
-            _ => None,
-        }
-    }
-
-    /// Serves the connection that was taken last, reports a fault in which it ends, and gives the marks of its requests.
-    fn serve<A: Answers, O: Write, E: Write>(
-        &self,
-        rt: &HostRuntime,
-        answers: &mut A,
-        stream: &TcpStream,
-        output: &mut O,
-        errors: &mut E,
-    ) -> Vec<Mark> {
-        match self.serve_stream(rt, answers, stream, output) {
-            Ok(Went { marks, fault }) => {
-                if let Some(fault) = fault {
-                    fault.tell(errors);
-                }
-                marks
-            }
-            Err(fault) => {
-                fault.tell(errors);
-                Vec::new(rt.alloc())
-            }
-        }
-    }
-
-    /// Serves the connection that was taken last by this register, and reports that its database refused a call or that
-    /// it is full.
-    fn serve_by<S: Alter, O: Write, E: Write>(
-        &self,
-        rt: &HostRuntime,
-        intake: &mut Intake<S>,
-        room: &mut Room,
-        stream: &TcpStream,
-        output: &mut O,
-        errors: &mut E,
-    ) {
-        let marks = self.serve(rt, intake, stream, output, errors);
-        if intake.is_down() {
-            Note::Down.tell(errors);
-        } else if room.is_used_up_by(marks.as_slice()) {
-            Note::Full {
-                limit: room.limit(),
-            }
-            .tell(errors);
-        }
-    }
-
-    /// Serves the connections that are left by this register, one after the other, until its database refuses a call.
-    /// One that ends in a fault, or that its peer gave up before, counts as served.
-    fn serve_left<S: Alter, O: Write, E: Write>(
-        &mut self,
-        rt: &HostRuntime,
-        intake: &mut Intake<S>,
-        room: &mut Room,
-        output: &mut O,
-        errors: &mut E,
-    ) -> Result<(), Fault<'a>> {
-        for taken in self.taken..self.serving.connections {
-            if intake.is_down() {
-                return Ok(());
-            }
-            self.taken = taken + 1;
-            if let Some(stream) = self.accept()? {
-                self.serve_by(rt, intake, room, &stream, output, errors);
-            }
-        }
-        Ok(())
-    }
-
-    /// Serves the connections that are left while there is no register. It is opened again for the first of them, and
-    /// then serves more. After each failure more it is left alone for a while, in which connections are turned away.
-    fn serve_down<D: Disk + Drop, F: FileSystem<D>, O: Write, E: Write>(
-        &mut self,
-        rt: &HostRuntime,
-        system: &F,
-        output: &mut O,
-        errors: &mut E,
-    ) -> Result<(), Fault<'a>> {
-        let mut pause = Pause::none();
-        for _ in self.taken..self.serving.connections {
-            if self.taken >= self.serving.connections {
-                return Ok(());
-            }
-            self.taken += 1;
-            if let Some(stream) = self.accept()? {
-                if pause.is_over(rt) {
-                    pause = self.serve_again(rt, system, stream, pause, output, errors)?;
-                } else {
-                    self.turn_away(rt, &stream, output, errors);
-                }
-            }
-        }
-        Ok(())
-    }
-
-    /// Answers the connection that was taken last that there is no register.
-    fn turn_away<O: Write, E: Write>(
-        &self,
-        rt: &HostRuntime,
-        stream: &TcpStream,
-        output: &mut O,
-        errors: &mut E,
-    ) {
-        drop(self.serve(rt, &mut NoRegister, stream, output, errors));
-    }
-
-    /// Opens the register again, which serves this connection and those that are left. If it is not opened the
-    /// connection is turned away. Gives the pause before it is opened once more.
-    fn serve_again<D: Disk + Drop, F: FileSystem<D>, O: Write, E: Write>(
-        &mut self,
-        rt: &HostRuntime,
-        system: &F,
-        stream: TcpStream,
-        pause: Pause,
-        output: &mut O,
-        errors: &mut E,
-    ) -> Result<Pause, Fault<'a>> {
-        let name = self.serving.database;
-        let mut waiting = Some(stream);
-        let work = Resumed {
-            port: &mut *self,
-            waiting: &mut waiting,
-            output: &mut *output,
-            errors: &mut *errors,
-        };
-        let has_kept = match on_database(rt, system, name, Opening::Found(Cache::Largest), work) {
-            Ok(visited) => {
-                tell_close(visited.closed, name, errors);
-                visited.answer?
-            }
-            Err(_) => false,
-        };
-        if let Some(stream) = waiting {
-            self.turn_away(rt, &stream, output, errors);
-        }
-        Ok(self.paused(rt, has_kept, pause, errors))
-    }
-
-    /// The pause after a failure, which is reported if connections are left. A register that kept a request since it was
-    /// opened failed for the first time.
-    fn paused<E: Write>(
-        &self,
-        rt: &HostRuntime,
-        has_kept: bool,
-        pause: Pause,
-        errors: &mut E,
-    ) -> Pause {
-        if has_kept {
-            return Pause::none();
-        }
-        let longer = pause.longer(rt);
-        if self.taken < self.serving.connections {
-            let seconds = longer.seconds();
-            Note::Paused { seconds }.tell(errors);
-        }
-        longer
-    }
-
-    /// The port, if connections are left.
-    fn if_left(self) -> Option<Port<'a>> {
-        if self.taken < self.serving.connections {
-            Some(self)
-        } else {
-            None
-        }
-    }
-}
-
-/// What came of a connection.
-#[derive(Drop)]
-struct Went<'a> {
-    /// The marks of its requests.
-    marks: Vec<Mark>,
-    /// The fault in which it ended, if it did.
-    fault: Option<Fault<'a>>,
-}
-
-/// Serves a connection for as long as its time lasts. Nothing is printed of it.
-fn serve_plain<'a, A: Answers>(
-    alloc: Global,
-    answers: &mut A,
-    stream: &TcpStream,
-    deadline: &Deadline<'_, HostRuntime>,
-) -> Result<Served, Fault<'a>> {
-    let mut reader = Device::new(Patient::new(stream, deadline));
-    let mut writer = Device::new(Patient::new(stream, deadline));
-    Ok(answers.serve(alloc, &mut reader, &mut writer)?)
-}
-
-/// Prints the line of a connection.
-fn show_line<'a, O: Write>(
-    alloc: Global,
-    line: &ConnectionLine<'_>,
-    output: &mut O,
-) -> Result<(), Fault<'a>> {
-    let text = format!(in alloc; "{line}")?;
-    Ok(show(output, text.as_bytes())?)
-}
+use std::net::TcpStream;
+use std::time::Instant;
 
 /// How long it took since then, in milliseconds; 0 if the system has no clock.
 fn milliseconds_since(rt: &HostRuntime, start: io::Result<Instant>) -> u128 {
@@ -400,54 +46,6 @@ fn left_of<S: Alter>(intake: Intake<S>) -> (Left<S>, u64) {
         (Left::Failed(conn), count)
     } else {
         (Left::Open(conn), count)
-    }
-}
-
-/// Makes the register or opens it, listens on the port, and serves its connections.
-#[derive(Drop)]
-struct Begun<'a, 'o, O, E> {
-    serving: Serving<'a>,
-    limit: Limit,
-    start: io::Result<Instant>,
-    output: &'o mut O,
-    errors: &'o mut E,
-}
-
-impl<'a, O: Write, E: Write> Work for Begun<'a, '_, O, E> {
-    /// The port, where connections are left since the database refused a call.
-    type Answer = Result<Option<Port<'a>>, Fault<'a>>;
-
-    fn on<S: Alter + Drop>(
-        self,
-        rt: &HostRuntime,
-        conn: Connection<S>,
-    ) -> (Left<S>, Result<Option<Port<'a>>, Fault<'a>>) {
-        let Begun {
-            serving,
-            limit,
-            start,
-            output,
-            errors,
-        } = self;
-        let register = match register_of(rt.alloc(), serving, conn) {
-            Ok(register) => register,
-            Err(fault) => return refused(serving.database, fault),
-        };
-        let ready = ready(rt, serving.port, &register, start);
-        let mut room = Room::new(limit.keys, kept(&register));
-        let mut intake = Intake::new(rt.alloc(), register, limit.keys);
-        let served = serve_port(
-            rt,
-            serving,
-            limit,
-            &mut intake,
-            &mut room,
-            ready,
-            output,
-            errors,
-        );
-        let (left, _) = left_of(intake);
-        (left, served)
     }
 }
 
@@ -487,34 +85,127 @@ fn ready<S: Alter>(
     }
 }
 
+/// A failure of the port.
+fn network_fault<'a>(serving: Serving<'a>, error: io::Error) -> Fault<'a> {
+    Fault::Network {
+        port: serving.port,
+        error,
+    }
+}
+
+/// How many connections are left.
+fn left<P: StreamPort, E: Write>(serving: Serving<'_>, port: &Told<'_, P, E>) -> u32 {
+    serving.connections.saturating_sub(port.taken())
+}
+
+/// Serves the connections that are left by this register, one after the other, until its database refuses a call. One
+/// that ends in a fault, or that its peer gave up before, counts as served.
+fn serve_left<'a, P: StreamPort, S: Alter, E: Write>(
+    alloc: Global,
+    serving: Serving<'a>,
+    port: &mut Told<'_, P, E>,
+    intake: &mut Intake<S>,
+) -> Result<(), Fault<'a>> {
+    let most = left(serving, port);
+    let served = serve_each(alloc, port, intake, most);
+    port.close(intake.is_down());
+    match served {
+        Ok(_) => Ok(()),
+        Err(PortFault::Network(error)) => Err(network_fault(serving, error)),
+        Err(PortFault::Memory) => Err(AllocError.into()),
+    }
+}
+
 /// Listens on the port, and serves its connections by this register.
-fn serve_port<'a, S: Alter, O: Write, E: Write>(
-    rt: &HostRuntime,
+fn serve_first<'a, P: StreamPort, S: Alter, E: Write>(
+    alloc: Global,
+    serving: Serving<'a>,
+    port: &mut Told<'_, P, E>,
+    intake: &mut Intake<S>,
+    ready: Note,
+) -> Result<(), Fault<'a>> {
+    if let Err(error) = port.listen() {
+        return Err(network_fault(serving, error));
+    }
+    ready.tell(port.errors());
+    serve_left(alloc, serving, port, intake)
+}
+
+/// Serves by this register the connection that waits for it, and those that are left.
+fn serve_more<'a, P: StreamPort, S: Alter, E: Write>(
+    alloc: Global,
+    serving: Serving<'a>,
+    port: &mut Told<'_, P, E>,
+    intake: &mut Intake<S>,
+    waiting: Option<TcpStream>,
+) -> Result<(), Fault<'a>> {
+    if let Some(stream) = waiting {
+        serve_stream(alloc, port, intake, stream)?;
+    }
+    serve_left(alloc, serving, port, intake)
+}
+
+/// Serves the connection that was taken last.
+fn serve_stream<P: StreamPort, S: Alter, E: Write>(
+    alloc: Global,
+    port: &mut Told<'_, P, E>,
+    intake: &mut Intake<S>,
+    stream: TcpStream,
+) -> Result<(), AllocError> {
+    if let Some((mut reader, mut writer)) = port.begin(stream) {
+        let served = calls::serve(alloc, &mut reader, &mut writer, intake);
+        port.end(reader, writer, served)?;
+    }
+    Ok(())
+}
+
+/// Makes the register or opens it, listens on the port, and serves its connections.
+#[derive(Drop)]
+struct Begun<'a, 'o, 'p, P, E> {
     serving: Serving<'a>,
     limit: Limit,
-    intake: &mut Intake<S>,
-    room: &mut Room,
-    ready: Note,
-    output: &mut O,
-    errors: &mut E,
-) -> Result<Option<Port<'a>>, Fault<'a>> {
-    let mut port = Port::listen(rt, serving, limit)?;
-    ready.tell(errors);
-    port.serve_left(rt, intake, room, output, errors)?;
-    Ok(port.if_left())
+    start: io::Result<Instant>,
+    port: &'p mut Told<'o, P, E>,
+}
+
+impl<'a, P: StreamPort, E: Write> Work for Begun<'a, '_, '_, P, E> {
+    type Answer = Result<(), Fault<'a>>;
+
+    fn on<S: Alter + Drop>(
+        self,
+        rt: &HostRuntime,
+        conn: Connection<S>,
+    ) -> (Left<S>, Result<(), Fault<'a>>) {
+        let Begun {
+            serving,
+            limit,
+            start,
+            port,
+        } = self;
+        let register = match register_of(rt.alloc(), serving, conn) {
+            Ok(register) => register,
+            Err(fault) => return refused(serving.database, fault),
+        };
+        let ready = ready(rt, serving.port, &register, start);
+        port.open(Room::new(limit.keys, kept(&register)));
+        let mut intake = Intake::new(rt.alloc(), register, limit.keys);
+        let served = serve_first(rt.alloc(), serving, port, &mut intake, ready);
+        let (left, _) = left_of(intake);
+        (left, served)
+    }
 }
 
 /// Opens the register again, and serves by it the connection that waits for that, and those that are left.
 #[derive(Drop)]
-struct Resumed<'a, 'o, O, E> {
-    port: &'o mut Port<'a>,
+struct Resumed<'a, 'o, 'p, P, E> {
+    serving: Serving<'a>,
+    limit: Limit,
+    port: &'p mut Told<'o, P, E>,
     /// None once it is served.
-    waiting: &'o mut Option<TcpStream>,
-    output: &'o mut O,
-    errors: &'o mut E,
+    waiting: &'p mut Option<TcpStream>,
 }
 
-impl<'a, O: Write, E: Write> Work for Resumed<'a, '_, O, E> {
+impl<'a, P: StreamPort, E: Write> Work for Resumed<'a, '_, '_, P, E> {
     /// Whether the register kept a request since it was opened.
     type Answer = Result<bool, Fault<'a>>;
 
@@ -524,23 +215,20 @@ impl<'a, O: Write, E: Write> Work for Resumed<'a, '_, O, E> {
         conn: Connection<S>,
     ) -> (Left<S>, Result<bool, Fault<'a>>) {
         let Resumed {
+            serving,
+            limit,
             port,
             waiting,
-            output,
-            errors,
         } = self;
         let register = match open(rt.alloc(), conn) {
             Ok(register) => register,
             Err(fault) => return (left_by(fault), Ok(false)),
         };
-        Note::OpenAgain.tell(errors);
+        Note::OpenAgain.tell(port.errors());
         let before = kept(&register);
-        let mut room = Room::new(port.limit.keys, before);
-        let mut intake = Intake::new(rt.alloc(), register, port.limit.keys);
-        if let Some(stream) = waiting.take() {
-            port.serve_by(rt, &mut intake, &mut room, &stream, output, errors);
-        }
-        let served = port.serve_left(rt, &mut intake, &mut room, output, errors);
+        port.open(Room::new(limit.keys, before));
+        let mut intake = Intake::new(rt.alloc(), register, limit.keys);
+        let served = serve_more(rt.alloc(), serving, port, &mut intake, waiting.take());
         let (left, after) = left_of(intake);
         (left, served.map(|_| after > before))
     }
@@ -555,23 +243,39 @@ pub fn serve_file<'a, D: Disk + Drop, F: FileSystem<D>, O: Write, E: Write>(
     errors: &mut E,
 ) -> Result<(), Fault<'a>> {
     let limit = Limit::new(serving.limit)?;
-    if let Some(mut port) = begin(rt, system, serving, limit, output, errors)? {
-        port.serve_down(rt, system, output, errors)?;
+    let port = TimedPort::new(rt, serving.port, serving.patience);
+    if serving.log {
+        let mut told = Told::new(Logged::new(rt.alloc(), port, output), errors);
+        serve_port(rt, system, serving, limit, &mut told)
+    } else {
+        let mut told = Told::new(port, errors);
+        serve_port(rt, system, serving, limit, &mut told)
     }
-    let connections = serving.connections;
-    Note::Served { connections }.tell(errors);
-    Ok(())
 }
 
-/// Makes the register of the file or opens it, and serves by it.
-fn begin<'a, D: Disk + Drop, F: FileSystem<D>, O: Write, E: Write>(
+/// Serves the connections of a port on the register of a file.
+fn serve_port<'a, D: Disk + Drop, F: FileSystem<D>, P: StreamPort, E: Write>(
     rt: &HostRuntime,
     system: &F,
     serving: Serving<'a>,
     limit: Limit,
-    output: &mut O,
-    errors: &mut E,
-) -> Result<Option<Port<'a>>, Fault<'a>> {
+    port: &mut Told<'_, P, E>,
+) -> Result<(), Fault<'a>> {
+    begin(rt, system, serving, limit, port)?;
+    serve_down(rt, system, serving, limit, port)?;
+    let connections = serving.connections;
+    Note::Served { connections }.tell(port.errors());
+    Ok(())
+}
+
+/// Makes the register of the file or opens it, and serves by it.
+fn begin<'a, D: Disk + Drop, F: FileSystem<D>, P: StreamPort, E: Write>(
+    rt: &HostRuntime,
+    system: &F,
+    serving: Serving<'a>,
+    limit: Limit,
+    port: &mut Told<'_, P, E>,
+) -> Result<(), Fault<'a>> {
     let name = serving.database;
     let opening = if serving.new {
         Opening::Made(Cache::Largest)
@@ -582,10 +286,106 @@ fn begin<'a, D: Disk + Drop, F: FileSystem<D>, O: Write, E: Write>(
         serving,
         limit,
         start: Instant::now(rt),
-        output: &mut *output,
-        errors: &mut *errors,
+        port: &mut *port,
     };
     let visited = on_database(rt, system, name, opening, work)?;
-    tell_close(visited.closed, name, errors);
+    tell_close(visited.closed, name, port.errors());
     visited.answer
+}
+
+/// Serves the connections that are left while there is no register. It is opened again for the first of them, and then
+/// serves more. After each failure more it is left alone for a while, in which connections are turned away.
+fn serve_down<'a, D: Disk + Drop, F: FileSystem<D>, P: StreamPort, E: Write>(
+    rt: &HostRuntime,
+    system: &F,
+    serving: Serving<'a>,
+    limit: Limit,
+    port: &mut Told<'_, P, E>,
+) -> Result<(), Fault<'a>> {
+    let mut pause = Pause::none();
+    for _ in 0..left(serving, port) {
+        if left(serving, port) == 0 {
+            return Ok(());
+        }
+        match port.next() {
+            Ok(Some(stream)) if pause.is_over(rt) => {
+                pause = serve_again(rt, system, serving, limit, port, stream, pause)?;
+            }
+            Ok(Some(stream)) => turn_away(rt.alloc(), port, stream),
+            Ok(None) => {}
+            Err(error) => return Err(network_fault(serving, error)),
+        }
+    }
+    Ok(())
+}
+
+/// Answers the connection that was taken last that there is no register.
+fn turn_away<P: StreamPort, E: Write>(alloc: Global, port: &mut Told<'_, P, E>, stream: TcpStream) {
+    if let Err(error) = try_turn_away(alloc, port, stream) {
+        Fault::from(error).tell(port.errors());
+    }
+}
+
+fn try_turn_away<P: StreamPort, E: Write>(
+    alloc: Global,
+    port: &mut Told<'_, P, E>,
+    stream: TcpStream,
+) -> Result<(), AllocError> {
+    if let Some((mut reader, mut writer)) = port.begin(stream) {
+        let served = calls::turn_away(alloc, &mut reader, &mut writer)?;
+        port.end(reader, writer, served)?;
+    }
+    Ok(())
+}
+
+/// Opens the register again, which serves this connection and those that are left. If it is not opened the connection is
+/// turned away. Gives the pause before it is opened once more.
+fn serve_again<'a, D: Disk + Drop, F: FileSystem<D>, P: StreamPort, E: Write>(
+    rt: &HostRuntime,
+    system: &F,
+    serving: Serving<'a>,
+    limit: Limit,
+    port: &mut Told<'_, P, E>,
+    stream: TcpStream,
+    pause: Pause,
+) -> Result<Pause, Fault<'a>> {
+    let name = serving.database;
+    let mut waiting = Some(stream);
+    let work = Resumed {
+        serving,
+        limit,
+        port: &mut *port,
+        waiting: &mut waiting,
+    };
+    let has_kept = match on_database(rt, system, name, Opening::Found(Cache::Largest), work) {
+        Ok(visited) => {
+            tell_close(visited.closed, name, port.errors());
+            visited.answer?
+        }
+        Err(_) => false,
+    };
+    if let Some(stream) = waiting {
+        turn_away(rt.alloc(), port, stream);
+    }
+    Ok(paused(rt, serving, port, has_kept, pause))
+}
+
+/// The pause after a failure, which is reported if connections are left. A register that kept a request since it was
+/// opened failed for the first time.
+fn paused<P: StreamPort, E: Write>(
+    rt: &HostRuntime,
+    serving: Serving<'_>,
+    port: &mut Told<'_, P, E>,
+    has_kept: bool,
+    pause: Pause,
+) -> Pause {
+    if has_kept {
+        return Pause::none();
+    }
+    let longer = pause.longer(rt);
+    if left(serving, port) > 0 {
+        let seconds = longer.seconds();
+        Note::Paused { seconds }.tell(port.errors());
+    }
+    longer
 }

@@ -1,0 +1,158 @@
+//! A port of this machine whose connections take no longer than their time.
+
+ghost use Rattle.std.specs.Prelude.{None};
+
+use crate::fault::ConnectionFault;
+use command_files::{Deadline, Patient};
+use gateway_ports::{Port, TcpPort};
+use gateway_server::{Ended, Served};
+use http_wire::Device;
+use std::alloc::AllocError;
+use std::io;
+use std::net::TcpStream;
+use std::time::Duration;
+
+/// A port of this machine: a connection that came may wait before its time begins, and what failed of one is known.
+pub trait StreamPort: Port {
+    /// Waits for the next connection. None is one that its peer gave up before.
+    fn next(&mut self) -> io::Result<Option<TcpStream>>;
+
+    /// Begins the time of the connection that was taken last. None is one that the system refuses.
+    fn begin(&mut self, stream: TcpStream) -> Option<(Self::Reader, Self::Writer)>;
+
+    /// How many connections were taken.
+    fn taken(&self) -> u32;
+
+    /// The fault in which the connection that was taken last ended, if it did.
+    fn fault_of(&self, ended: Ended) -> Option<ConnectionFault>;
+
+    /// What else failed of the connection that was taken last.
+    fn failure(&self) -> Option<&ConnectionFault>;
+}
+
+/// What reads or writes the bytes of a connection, as long as its time lasts.
+type Timed<'r> = Device<Patient<'r, TcpStream, HostRuntime>>;
+
+/// A port of 127.0.0.1 whose connections take no longer than their time.
+#[derive(Drop)]
+pub struct TimedPort<'r> {
+    rt: &'r HostRuntime,
+    number: u16,
+    port: TcpPort<'r>,
+    /// How many seconds each connection may take. Any time if none is given.
+    patience: Option<u32>,
+    taken: u32,
+    /// The time of the connection that was taken last, once it has begun.
+    deadline: Option<Deadline<'r, HostRuntime>>,
+    /// Why the connection that was taken last was not begun.
+    failure: Option<ConnectionFault>,
+}
+
+impl<'r> TimedPort<'r> {
+    /// The port of this number, which nobody listens on yet.
+    pub fn new(rt: &'r HostRuntime, number: u16, patience: Option<u32>) -> TimedPort<'r> {
+        TimedPort {
+            rt,
+            number,
+            port: TcpPort::new(rt, number),
+            patience,
+            taken: 0,
+            deadline: None,
+            failure: None,
+        }
+    }
+
+    /// Both halves of a connection, whose time begins.
+    fn halves(&mut self, stream: TcpStream) -> io::Result<(Timed<'r>, Timed<'r>)> {
+        let deadline = Deadline::after(
+            self.rt,
+            self.patience
+                .map(|seconds| Duration::from_secs(u64::from(seconds))),
+        )?;
+        self.deadline = Some(deadline);
+        let reader = Device::new(Patient::new(stream.try_clone()?, &deadline));
+        let writer = Device::new(Patient::new(stream, &deadline));
+        Ok((reader, writer))
+    }
+
+    /// Whether the time of the connection that was taken last is over.
+    fn is_late(&self) -> bool {
+        match &self.deadline {
+            Some(deadline) => deadline.is_over(),
+            None => false,
+        }
+    }
+}
+
+impl<'r> Port for TimedPort<'r> {
+    type Reader = Timed<'r>;
+
+    type Writer = Timed<'r>;
+
+    ghost traffic = { λ _. record { coming = None; over = None } };
+
+    fn listen(&mut self) -> io::Result<()> {
+        self.port.listen()
+    }
+
+    fn accept(&mut self) -> io::Result<Option<(Timed<'r>, Timed<'r>)>> {
+        let Some(stream) = self.next()? else {
+            return Ok(None);
+        };
+        match self.begin(stream) {
+            Some((reader, writer)) => Ok(Some((reader, writer))),
+            None => Ok(None),
+        }
+    }
+
+    fn end(
+        &mut self,
+        _reader: Timed<'r>,
+        _writer: Timed<'r>,
+        _served: Served,
+    ) -> Result<(), AllocError> {
+        Ok(())
+    }
+}
+
+impl<'r> StreamPort for TimedPort<'r> {
+    fn next(&mut self) -> io::Result<Option<TcpStream>> {
+        self.taken = self.taken.saturating_add(1);
+        self.deadline = None;
+        self.failure = None;
+        self.port.next_stream()
+    }
+
+    fn begin(&mut self, stream: TcpStream) -> Option<(Timed<'r>, Timed<'r>)> {
+        match self.halves(stream) {
+            Ok(halves) => Some(halves),
+            Err(error) => {
+                self.failure = Some(ConnectionFault::Network {
+                    port: self.number,
+                    error,
+                });
+                None
+            }
+        }
+    }
+
+    fn taken(&self) -> u32 {
+        self.taken
+    }
+
+    fn fault_of(&self, ended: Ended) -> Option<ConnectionFault> {
+        let connection = self.taken;
+        match (ended, self.patience) {
+            (Ended::Fault(_), Some(seconds)) if self.is_late() => Some(ConnectionFault::Late {
+                connection,
+                seconds,
+            }),
+            (Ended::Fault(fault), _) => Some(ConnectionFault::Served { connection, fault }),
+            _ => None,
+        }
+    }
+
+    fn failure(&self) -> Option<&ConnectionFault> {
+        self.failure.as_ref()
+    }
+}
