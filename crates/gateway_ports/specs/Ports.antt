@@ -27,12 +27,17 @@ abbrev pub IsUnwritten : Option (List Output) → Option (List ℕ) → Type 0
 IsUnwritten None written = Unit {0}
 IsUnwritten (Some outputs) written = written ≡ Some []
 
--- A connection came, of which nothing is read or written; or one that its peer gave up before, which none of the known ones is; or none, and
--- all is as it was. First comes what contracts see of the halves of a connection.
+-- none of the known connections is left
+abbrev pub NoneIsLeft : Option (List (List ℕ)) → Type 0
+NoneIsLeft None = Unit {0}
+NoneIsLeft (Some coming) = coming ≡ []
+
+-- A connection came, of which nothing is read or written; or one that its peer gave up before, which none of the known ones is; or none, since
+-- none of the known ones is left, and all is as it was. First comes what contracts see of the halves of a connection.
 abbrev pub Comes : {R W E : Type 0} → (R → W → Wire) → Traffic → Traffic → Result (Option (R × W)) E → Type 0
 Comes shows old new (Ok (Some (reader, writer))) = (new.over ≡ old.over) × Takes old.coming new.coming (shows reader writer).left × IsUnwritten old.over (shows reader writer).written
 Comes shows old new (Ok None) = (new ≡ old) × (old.coming ≡ None)
-Comes shows old new (Err error) = new ≡ old
+Comes shows old new (Err error) = (new ≡ old) × NoneIsLeft old.coming
 
 -- the known outputs, and behind them these
 abbrev pub Grows : Option (List Output) → Option (List Output) → List Output → Type 0

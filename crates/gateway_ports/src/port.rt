@@ -1,6 +1,6 @@
 //! A port, as a list of connections.
 
-ghost use Rattle.std.specs.Prelude.{◌≡◌, OnOk};
+ghost use Rattle.std.specs.Prelude.{◌≡◌, None, IfErr, OnOk};
 ghost use Rattle.http_wire.specs.Wire.{wire};
 ghost use Rattle.gateway_ports.specs.Ports.{Traffic, Comes, Adds};
 
@@ -20,9 +20,11 @@ pub trait Port {
     // What comes from here on, and what the connections came to that are over, where these are known.
     ghost traffic: { Self → Traffic };
 
-    /// Begins to listen. No connection comes on a port that isn't listened on.
+    /// Begins to listen. No connection comes on a port that isn't listened on. A port whose connections are known doesn't
+    /// refuse it.
     fn listen(&mut self) -> io::Result<()>
-        ensures { traffic self.new ≡ traffic self.old };
+        ensures same { traffic self.new ≡ traffic self.old }
+        ensures refused { IfErr result (λ _. (traffic self.old).coming ≡ None) };
 
     /// Waits for the next connection. None is one that its peer gave up before.
     fn accept(&mut self) -> io::Result<Option<(Self::Reader, Self::Writer)>>

@@ -1,6 +1,6 @@
 //! Connections of a port are served by an intake, one after another.
 
-ghost use Rattle.std.specs.Prelude.{◌≡◌, ◌⊎◌, ◌<◌, IfOk, true, option_map};
+ghost use Rattle.std.specs.Prelude.{◌≡◌, ◌⊎◌, ◌<◌, Ok, IfOk, true, option_map};
 ghost use Rattle.std.specs.Result.{result_ok};
 ghost use Rattle.intake_core.specs.Held.{has_stopped};
 ghost use Rattle.gateway_ports.specs.InTurn.{ServesSome};
@@ -32,7 +32,7 @@ impl From<AllocError> for PortFault {
 
 /// Serves the connections that come on a port, each after the requests that the one before it left, until so many came
 /// or the database refuses a call. It answers how many came. One that ends in a fault, or that its peer gave up before,
-/// counts as well.
+/// counts as well. None is taken if the database refused a call before.
 pub fn serve_each<P: Port, S: Alter>(
     alloc: Global,
     port: &mut P,
@@ -42,6 +42,7 @@ pub fn serve_each<P: Port, S: Alter>(
     ensures served { ServesSome S.Store (P.traffic port.old) (P.traffic port.new) intake.old intake.new
         (result_ok result) }
     ensures all { IfOk result (λ taken. (taken ≡ most) ⊎ ((taken < most) × (has_stopped intake.new ≡ true))) }
+    ensures down { has_stopped intake.old ≡ true → result ≡ Ok 0 }
 {
     for taken in 0..most {
         if intake.is_down() {
