@@ -12,7 +12,7 @@ pub returns-in_err-reader : goal.returns-in_err-reader
 returns-in_err-reader g c = λ honest.
     let process = parts g.P.Place.lying c.args.process.now in
     subst (λ taken. AnswersSome c.args.limit (g.L.Port.traffic c.args.port.now) (g.L.Port.traffic c.accept.new.self) process process taken) (sym (ap (option_map (λ _. 1)) (none_told c.from_residual.result c.from_residual.ensures.0)))
-    (none c.args.limit (g.L.Port.traffic c.args.port.now) (g.L.Port.traffic c.accept.new.self) process None c.in_err-reader.ensures tt)
+    (none c.args.limit (g.L.Port.traffic c.args.port.now) (g.L.Port.traffic c.accept.new.self) process None c.in_err-reader.ensures.0 tt)
 
 pub returns-in_err-end : goal.returns-in_err-end
 returns-in_err-end g c = λ honest.
