@@ -1,6 +1,6 @@
 -- What is kept while a register is opened and closed.
 use Rattle.std.proofs.Common.{◌≡◌, ℕ, Bool, true, false, true≢false, List, [], length, Option, Some, None, Result, Ok, Err, IsSome, OnOk, refl, sym, ◌∙◌, subst, inl, inr}
-use Rattle.std.specs.Prelude.{is_err, is_some}
+use Rattle.std.specs.Prelude.{◌↔◌, is_err, is_some}
 use Rattle.sqlite_disk.specs.declared.Disk.{Ghosts}
 use Rattle.sqlite_disk.specs.declared.Files.{Files}
 use Rattle.sqlite_store.specs.declared.store.FileStore.{FileStore}
@@ -9,6 +9,8 @@ use Rattle.sqlite.specs.Files.{file_state, over_files}
 use Rattle.filing_model.specs.Request.{Request}
 use Rattle.register_opening.specs.Registers.{IsRegisterOf}
 use Rattle.intake_core.specs.declared.intake.Intake.{Intake}
+use Rattle.intake_core.specs.Held.{has_stopped}
+use Rattle.http_wire.specs.Wire.{Wire}
 use Rattle.table_rows.proofs.CleanLemmas.{always_clean, are_clean}
 use Rattle.table_rows.proofs.FileLemmas.{finds}
 use Rattle.command_line.specs.declared.fault.DatabaseFault.{DatabaseFault}
@@ -18,13 +20,20 @@ use Rattle.database_places.specs.Places.{Lie, KeepsLying}
 use Rattle.database_places.specs.Places as place
 use Rattle.intake_process.specs.declared.begun.Totals.{Totals}
 use Rattle.intake_process.specs.declared.fault.OpeningFault.{OpeningFault}
+use Rattle.intake_process.specs.declared.process.Answered.{Answered}
 use Rattle.intake_process.specs.declared.process.Closed.{Closed}
+use Rattle.intake_process.specs.declared.process.Outcome.{Outcome}
+use Rattle.intake_process.specs.declared.process.Outcome.TheVariants as outcome
 use Rattle.intake_process.specs.Begun.{HoldsAs, AreTotals, FindsIntake, MakesIntake}
-use Rattle.intake_process.specs.Process.{Parts, IsHonest, KeepsBy, OpensProcess, ClosesProcess}
+use Rattle.intake_process.specs.Process.{Parts, IsAwake, AnswersBy, IsHonest, KeepsBy, OpensProcess, ClosesProcess}
 
 pub none_of : {A : Type 0} (o : Option A) → is_some o ≡ false → o ≡ None
 none_of None is = refl
 none_of (Some x) is = absurd (true≢false is)
+
+not_true : (b : Bool) → (b ≡ true → ⊥) → b ≡ false
+not_true true other = absurd (other refl)
+not_true false other = refl
 
 pub then_ok : {A E X : Type 0} (r : Result A E) → X → OnOk r X
 then_ok (Ok a) x = x
@@ -137,3 +146,21 @@ module _ {D : Type 0} {g : Ghosts D} where
     certain = not_ok _ closed.outcome failed;
     is_closed = shut;
   }
+
+  -- ---- its database refused a call, or not
+
+  awake_by : (o : Outcome) (intake : Intake (FileStore D g)) (last new : Option (Intake (FileStore D g))) → last ≡ Some intake → (o ≡ outcome.Failed) ↔ (has_stopped intake ≡ true) → (o ≡ outcome.Failed → new ≡ None) → ((o ≡ outcome.Failed → ⊥) → new ≡ last) → IsAwake new
+  awake_by outcome.Served intake last new is stops closed others =
+      let other : outcome.Served ≡ outcome.Failed → ⊥ = λ e. cc in
+      subst (λ i. IsAwake i) (sym (others other ∙ is)) (not_true (has_stopped intake) (λ stopped. other (stops.1 stopped)))
+  awake_by outcome.Failed intake last new is stops closed others = subst (λ i. IsAwake i) (sym (closed refl)) tt
+  awake_by outcome.TurnedAway intake last new is stops closed others =
+      let other : outcome.TurnedAway ≡ outcome.Failed → ⊥ = λ e. cc in
+      subst (λ i. IsAwake i) (sym (others other ∙ is)) (not_true (has_stopped intake) (λ stopped. other (stops.1 stopped)))
+
+  -- it is closed after that
+  pub awake : (from to : Wire) (first last new : Option (Intake (FileStore D g))) (answered : Answered) → AnswersBy from to first last answered → (answered.outcome ≡ outcome.Failed → new ≡ None) → ((answered.outcome ≡ outcome.Failed → ⊥) → new ≡ last) → IsAwake new
+  awake from to (Some intake) last new answered by closed others = awake_by answered.outcome by.0 last new by.1 by.2.failed closed others
+  awake from to None last new answered by closed others =
+      let other : answered.outcome ≡ outcome.Failed → ⊥ = λ e. (let no : outcome.TurnedAway ≡ outcome.Failed = sym by.2 ∙ e in cc) in
+      subst (λ i. IsAwake i) (sym (others other ∙ by.0)) tt

@@ -49,6 +49,11 @@ pub record Leaves {D : Type 0} {g : Ghosts D} (limit : ℕ) (old new : Parts g) 
   pub kept : (early : ℕ) (requests : List Request) → Keeps old limit early requests → Keeps new limit early requests
   pub certain : new.is_certain ≡ true → old.is_certain ≡ true
 
+-- the database of the intake, if that is open, refused no call
+abbrev pub IsAwake : {S : Type 0} → Option (Intake S) → Type 0
+IsAwake (Some intake) = has_stopped intake ≡ false
+IsAwake None = Unit {0}
+
 -- What opening it does, if its register has to be there, or is to be made.
 pub record OpensProcess {D : Type 0} (g : Ghosts D) (has_to_be_there : Bool) (limit : ℕ) (old new : Parts g) (result : Result (Option Totals) OpeningFault) : Type 0 where
   -- the requests of before are kept, and counted

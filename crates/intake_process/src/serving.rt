@@ -1,8 +1,8 @@
 //! The connections of a port are answered, one after another, by an intake that is opened again after a refusal.
 
-ghost use Rattle.std.specs.Prelude.{◌≤◌, ◌^◌, ℕ, option_map};
+ghost use Rattle.std.specs.Prelude.{◌≡◌, ◌≢◌, ◌≤◌, ◌^◌, ℕ, None, OnOk, option_map};
 ghost use Rattle.std.specs.Result.{result_ok};
-ghost use Rattle.intake_process.specs.Process.{parts, IsHonest, Leaves};
+ghost use Rattle.intake_process.specs.Process.{parts, IsAwake, IsHonest, Leaves};
 ghost use Rattle.intake_process.specs.Turns.{AnswersSome};
 
 use crate::fault::OpeningFault;
@@ -24,8 +24,9 @@ pub fn serve_port<D: Disk + Drop, P: Place<D> + Drop, L: Port, O: Observer>(
     most: u32,
 ) -> Result<(), PortFault>
     requires { limit ≤ 2 ^ 62 }
-    ensures { IsHonest D.Disk → AnswersSome limit (L.traffic port.old) (L.traffic port.new)
+    ensures answers { IsHonest D.Disk → AnswersSome limit (L.traffic port.old) (L.traffic port.new)
         (parts P.lying process.old) (parts P.lying process.new) (option_map (λ _. most) (result_ok result)) }
+    ensures closed { IsAwake process.old.intake → OnOk result (IsAwake process.new.intake) }
 {
     for taken in 0..most {
         serve_next(rt, port, process, observer, limit, most - taken - 1)?;
@@ -43,8 +44,9 @@ fn serve_next<D: Disk + Drop, P: Place<D> + Drop, L: Port, O: Observer>(
     left: u32,
 ) -> Result<(), PortFault>
     requires { limit ≤ 2 ^ 62 }
-    ensures { IsHonest D.Disk → AnswersSome limit (L.traffic port.old) (L.traffic port.new)
+    ensures answers { IsHonest D.Disk → AnswersSome limit (L.traffic port.old) (L.traffic port.new)
         (parts P.lying process.old) (parts P.lying process.new) (option_map (λ _. 1) (result_ok result)) }
+    ensures closed { IsAwake process.old.intake → OnOk result (IsAwake process.new.intake) }
 {
     if let Some((mut reader, mut writer)) = port.accept()? {
         let refusal = open_again(rt, process, observer, limit);
@@ -86,8 +88,10 @@ fn went<D: Disk + Drop, P: Place<D> + Drop>(
     outcome: Outcome,
     refusal: Option<OpeningFault>,
 ) -> Went
-    ensures { IsHonest D.Disk → (limit : ℕ)
+    ensures leaves { IsHonest D.Disk → (limit : ℕ)
         → Leaves limit (parts P.lying process.old) (parts P.lying process.new) }
+    ensures failed { outcome ≡ Outcome.Failed → process.new.intake ≡ None }
+    ensures others { outcome ≢ Outcome.Failed → process.new ≡ process.old }
 {
     match (outcome, refusal) {
         (Outcome::Served, _) => Went::Served,
