@@ -1,11 +1,12 @@
 -- Connections of a port that are served in turn, or turned away while the register is closed; own rules.
-use Rattle.std.specs.Prelude.{◌≡◌, ℕ, true, List, [], ◌∷◌, map, take, Option, IfSome}
+use Rattle.std.specs.Prelude.{◌≡◌, ℕ, Bool, true, false, List, [], ◌∷◌, map, take, Option, Some, None, IfSome, IsSome, option_map, Result, OnOk}
+use Rattle.std.specs.Result.{result_ok}
 use Rattle.sqlite_disk.specs.declared.Disk.{Ghosts}
 use Rattle.filing_model.specs.Request.{Request}
 use Rattle.filing_model.specs.Serving.{Keeping, keeping}
 use Rattle.gateway_ports.specs.InTurn.{Connection, outputs_of, ServeInTurn, Came, AreCounted}
 use Rattle.gateway_ports.specs.Ports.{Traffic, Grows}
-use Rattle.intake_process.specs.Process.{Parts, Keeps, KeepsBy}
+use Rattle.intake_process.specs.Process.{Parts, IsHonest, Keeps, KeepsBy}
 use Rattle.intake_process.specs.Turning.{IsTurnedAway}
 
 -- a connection that came: it was served, or turned away
@@ -51,3 +52,12 @@ pub record AnswersSome {D : Type 0} {g : Ghosts D} (limit : ℕ) (port port' : T
   pub answers : (early : ℕ) (before : List Request) → Keeps old limit early before → new.is_certain ≡ true
       → (after : List Request) × KeepsBy new.intake new.lying limit early after × (take early after ≡ take early before) × (turns : List Turn) × AreAnswered (keeping limit (take early before) before after) port port' turns taken
   pub certain : new.is_certain ≡ true → old.is_certain ≡ true
+
+-- What serving a port by a register that lies in a place does, as a whole: it is opened, if it has to be there, or made, serves the port, and
+-- is closed.
+pub record ServesRegister {D E : Type 0} {g : Ghosts D} (has_to_be_there : Bool) (limit most : ℕ) (port port' : Traffic) (old new : Parts g) (result : Result (Unit {0}) E) : Type 0 where
+  -- from the requests that lay there
+  pub found : IsHonest g → has_to_be_there ≡ true → AnswersSome limit port port' old new (option_map (λ _. most) (result_ok result))
+  -- from none
+  pub made : IsHonest g → has_to_be_there ≡ false → old.intake ≡ None → IsSome old.lying → OnOk result ((opened : Parts g) × Keeps opened limit 0 [] × AnswersSome limit port port' opened new (Some most))
+  pub closed : new.intake ≡ None

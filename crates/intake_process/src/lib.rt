@@ -15,5 +15,5 @@ pub use begun::Totals;
 pub use fault::OpeningFault;
 pub use observer::{Observer, Went};
 pub use process::{Answered, Closed, IntakeProcess, Outcome};
-pub use serving::serve_port;
+pub use serving::{ServingFault, serve_port, serve_register};
 pub use turning::turn_away;

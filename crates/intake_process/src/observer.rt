@@ -20,6 +20,9 @@ pub enum Went {
 
 /// Who is told what happens while a port is served, and says when a register that is closed may be opened again.
 pub trait Observer {
+    /// The port is listened on, and the register that serves it holds so much.
+    fn ready(&mut self, totals: Totals);
+
     /// Whether the register, which is closed, is to be opened for a connection that came.
     fn may_open(&mut self) -> bool;
 
@@ -31,4 +34,7 @@ pub trait Observer {
 
     /// A connection is over, and so many more may come.
     fn ended(&mut self, went: Went, left: u32);
+
+    /// No connection is answered any more, and the register was closed so.
+    fn closed(&mut self, closed: Closed);
 }

@@ -3,14 +3,74 @@
 ghost use Rattle.std.specs.Prelude.{◌≡◌, ◌≢◌, ◌≤◌, ◌^◌, ℕ, None, OnOk, option_map};
 ghost use Rattle.std.specs.Result.{result_ok};
 ghost use Rattle.intake_process.specs.Process.{parts, IsAwake, IsHonest, Leaves};
-ghost use Rattle.intake_process.specs.Turns.{AnswersSome};
+ghost use Rattle.intake_process.specs.Turns.{AnswersSome, ServesRegister};
+ghost use Rattle.database_places.specs.Opening.{is_found};
 
+use crate::begun::Totals;
 use crate::fault::OpeningFault;
 use crate::observer::{Observer, Went};
 use crate::process::{IntakeProcess, Outcome};
 use database_places::{Cache, Opening, Place};
 use gateway_ports::{Port, PortFault};
 use sqlite_disk::Disk;
+
+/// Why a port is not served to its end.
+#[derive(Debug, Drop)]
+pub enum ServingFault {
+    /// The register was not opened.
+    Register(OpeningFault),
+    Port(PortFault),
+}
+
+/// Serves a port by the register that lies in the place of a process, as a whole: it is opened or made, the port is
+/// listened on and its next `most` connections are answered, and the register is closed.
+pub fn serve_register<D: Disk + Drop, P: Place<D> + Drop, L: Port, O: Observer>(
+    rt: &HostRuntime,
+    port: &mut L,
+    process: &mut IntakeProcess<D, P>,
+    observer: &mut O,
+    opening: Opening,
+    limit: u64,
+    most: u32,
+) -> Result<(), ServingFault>
+    requires { limit ≤ 2 ^ 62 }
+    ensures { ServesRegister (is_found opening) limit most (L.traffic port.old) (L.traffic port.new)
+        (parts P.lying process.old) (parts P.lying process.new) result }
+{
+    let totals = match process.open(rt, opening, limit) {
+        Ok(totals) => totals,
+        Err(fault) => return Err(ServingFault::Register(fault)),
+    };
+    let served = listen_and_serve(rt, port, process, observer, totals, limit, most);
+    observer.closed(process.close());
+    match served {
+        Ok(()) => Ok(()),
+        Err(fault) => Err(ServingFault::Port(fault)),
+    }
+}
+
+/// Listens on a port, and answers its connections by a register that holds so much.
+fn listen_and_serve<D: Disk + Drop, P: Place<D> + Drop, L: Port, O: Observer>(
+    rt: &HostRuntime,
+    port: &mut L,
+    process: &mut IntakeProcess<D, P>,
+    observer: &mut O,
+    totals: Option<Totals>,
+    limit: u64,
+    most: u32,
+) -> Result<(), PortFault>
+    requires { limit ≤ 2 ^ 62 }
+    ensures { IsHonest D.Disk → AnswersSome limit (L.traffic port.old) (L.traffic port.new)
+        (parts P.lying process.old) (parts P.lying process.new) (option_map (λ _. most) (result_ok result)) }
+{
+    if let Err(error) = port.listen() {
+        return Err(PortFault::Network(error));
+    }
+    if let Some(totals) = totals {
+        observer.ready(totals);
+    }
+    serve_port(rt, port, process, observer, limit, most)
+}
 
 /// Answers the next `most` connections that come on a port, each by the register as the one before it left it. If the
 /// database refuses a call the register is closed. It is opened again for a connection that comes later, if the observer
