@@ -1,6 +1,6 @@
 //! A database is closed, and its files are left in a place.
 
-ghost use Rattle.std.specs.Prelude.{OnOk, IfErr, Option};
+ghost use Rattle.std.specs.Prelude.{OnOk, IfErr};
 ghost use Rattle.sqlite_disk.specs.declared.Files.{Files as Pair};
 ghost use Rattle.database_places.specs.Closing.{IsClosedIn, IsNotClosed, IsGivenUp};
 ghost use Rattle.database_places.specs.Places.{Leaves};
@@ -9,8 +9,8 @@ use crate::place::Place;
 use sqlite::{Connection, Error, FileStore};
 use sqlite_disk::Disk;
 
-/// Closes a connection and leaves its files in a place in any case: with all that was committed in the database file, or
-/// with the error for which it isn't all there, but in the log still.
+/// Closes a connection and leaves its files in a place in any case: with all that was committed in the database file,
+/// or with the error for which it isn't all there, but in the log still.
 pub fn close<D: Disk + Drop, P: Place<D>>(
     place: &mut P,
     conn: Connection<FileStore<D>>,

@@ -45,9 +45,9 @@ pub enum Opening {
     Made(Cache),
 }
 
-/// Opens the database that lies in a place. A file that is not there, or is empty, gets a database without tables if one
-/// is to be made; else it is not made, or stays empty. A refusal leaves the files in the place, and beside a file that is
-/// no database no log that was not there. Its fault does not go by the bytes of the file.
+/// Opens the database that lies in a place. A file that is not there, or is empty, gets a database without tables if
+/// one is to be made; else it is not made, or stays empty. A refusal leaves the files in the place, and beside a file
+/// that is no database no log that was not there. Its fault does not go by the bytes of the file.
 pub fn open<D: Disk + Drop, P: Place<D>>(
     rt: &HostRuntime,
     place: &mut P,
@@ -104,8 +104,8 @@ fn make<D: Disk + Drop, P: Place<D>>(
     }
 }
 
-/// Removes the log that an opening made, in which nothing is, so that nothing lies beside a file that is not ours, unless
-/// there was a log before. The files are taken for that, so that no other program has them.
+/// Removes the log that an opening made, in which nothing is, so that nothing lies beside a file that is not ours,
+/// unless there was a log before. The files are taken for that, so that no other program has them.
 pub fn remove_new_log<D: Disk + Drop, P: Place<D>>(rt: &HostRuntime, place: &mut P, had_log: bool)
     ensures { KeepsLying (P.lying place.old) (P.lying place.new) }
 {

@@ -1,12 +1,11 @@
 //! An intake begins over a database: its register is made there, or is there. This is written over any store, since
 //! each function that names a store in files, where it calls such code, costs much to prove.
 
-ghost use Rattle.std.specs.Prelude.{◌≡◌, ◌≤◌, ◌^◌, ◌↔◌, [], true, false, IsTrue, IfOk};
-ghost use Rattle.sqlite.specs.Held.{state};
+ghost use Rattle.std.specs.Prelude.{◌≡◌, ◌≤◌, ◌^◌, ◌↔◌, true, false, IsTrue, IfOk};
 ghost use Rattle.table_rows.specs.Standing.{IsAtRest};
 ghost use Rattle.table_rows.specs.Tables.{no_schema};
 ghost use Rattle.database_places.specs.Opening.{is_found};
-ghost use Rattle.intake_core.specs.Held.{store_of, IsClean};
+ghost use Rattle.intake_core.specs.Held.{store_of};
 ghost use Rattle.intake_process.specs.Begun.{FindsIntake, MakesIntake};
 
 use crate::fault::OpeningFault;
@@ -88,8 +87,8 @@ fn make_intake<S: Alter + Drop>(
     }
 }
 
-/// The intake over the register that is made in this database or lies there, which keeps at most `limit` keys. A refusal
-/// gives the connection back.
+/// The intake over the register that is made in this database or lies there, which keeps at most `limit` keys. A
+/// refusal gives the connection back.
 pub(crate) fn begin<S: Alter + Drop>(
     rt: &HostRuntime,
     mut conn: Connection<S>,

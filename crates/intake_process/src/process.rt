@@ -115,7 +115,8 @@ impl<D: Disk + Drop, P: Place<D> + Drop> IntakeProcess<D, P> {
         limit: u64,
     ) -> Result<Option<Totals>, OpeningFault>
         requires { limit ≤ 2 ^ 62 }
-        ensures { OpensProcess D.Disk (is_found opening) limit (parts P.lying self.old) (parts P.lying self.new) result }
+        ensures { OpensProcess D.Disk (is_found opening) limit (parts P.lying self.old) (parts P.lying self.new)
+            result }
     {
         if self.intake.is_some() {
             return Ok(None);

@@ -73,8 +73,8 @@ fn listen_and_serve<D: Disk + Drop, P: Place<D> + Drop, L: Port, O: Observer>(
 }
 
 /// Answers the next `most` connections that come on a port, each by the register as the one before it left it. If the
-/// database refuses a call the register is closed. It is opened again for a connection that comes later, if the observer
-/// lets it, and until it is open connections are turned away. One that its peer gave up before counts as well.
+/// database refuses a call the register is closed. It is opened again for a connection that comes later, if the
+/// observer lets it, and until it is open connections are turned away. One that its peer gave up before counts as well.
 pub fn serve_port<D: Disk + Drop, P: Place<D> + Drop, L: Port, O: Observer>(
     rt: &HostRuntime,
     port: &mut L,
