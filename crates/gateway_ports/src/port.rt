@@ -20,8 +20,8 @@ pub trait Port {
     // What comes from here on, and what the connections came to that are over, where these are known.
     ghost traffic: { Self → Traffic };
 
-    /// Begins to listen. No connection comes on a port that isn't listened on. A port whose connections are known doesn't
-    /// refuse it.
+    /// Begins to listen. No connection comes on a port that isn't listened on. A port whose connections are known
+    /// doesn't refuse it.
     fn listen(&mut self) -> io::Result<()>
         ensures same { traffic self.new ≡ traffic self.old }
         ensures refused { IfErr result (λ _. (traffic self.old).coming ≡ None) };

@@ -22,8 +22,8 @@ impl Room {
         }
     }
 
-    /// The room after the requests of a connection, which have these marks. The register is full if one was turned away,
-    /// and the keys may be as many as the limit. Each request that was done may have brought a key.
+    /// The room after the requests of a connection, which have these marks. The register is full if one was turned
+    /// away, and the keys may be as many as the limit. Each request that was done may have brought a key.
     pub fn after(self, marks: &[Mark]) -> Room {
         let done = marks.iter().filter(|mark| **mark == Mark::Done).count();
         let kept = self.kept.saturating_add(done as u64);

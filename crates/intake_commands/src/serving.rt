@@ -338,8 +338,8 @@ fn try_turn_away<P: StreamPort, E: Write>(
     Ok(())
 }
 
-/// Opens the register again, which serves this connection and those that are left. If it is not opened the connection is
-/// turned away. Gives the pause before it is opened once more.
+/// Opens the register again, which serves this connection and those that are left. If it is not opened the connection
+/// is turned away. Gives the pause before it is opened once more.
 fn serve_again<'a, D: Disk + Drop, F: FileSystem<D>, P: StreamPort, E: Write>(
     rt: &HostRuntime,
     system: &F,

@@ -88,8 +88,8 @@ impl<'o, P: StreamPort, E: Write> Told<'o, P, E> {
         }
     }
 
-    /// Reports what became of a connection that ended so. Its line shows what it came to, if it is logged: if that failed,
-    /// nothing else is reported of it.
+    /// Reports in which fault the connection that was taken last ended, if it did. If its line was not printed, that is
+    /// reported and nothing else of it.
     fn tell_end(&mut self, ended: Ended, room: Option<Room>)
         ensures { self.new.port ≡ self.old.port }
     {
