@@ -1,18 +1,15 @@
-//! The calls of a register and of an intake that the tasks make, each in a function that promises
-//! nothing: what the tasks do is not stated, and so no task carries the clauses of what it calls.
+//! The calls of a register and of an intake that serving makes, each in a function that promises nothing: what is
+//! served beside the loop is not stated, and so nothing there carries the clauses of what it calls.
 
-ghost use Rattle.std.specs.Prelude.{◌≤◌, ◌^◌, None, false};
+ghost use Rattle.std.specs.Prelude.{None, false};
 ghost use Rattle.table_rows.specs.Standing.{IsAtRest};
 
 use gateway_server::{Ended, Mark, Served, completed as completed_of, serve as serve_connection};
 use http_wire::{ConnFault, Inbox, Kind, Next, Reply, Sink, Source, write_reply};
-use intake_core::{FilingRow, Intake, Unavailable, word_reply};
-use register_store::{
-    Completed, Counts, CreateFault, OpenFault, Store, StoreFault, Watch, read_register,
-};
-use sqlite::{Alter, Connection, MemStore};
+use intake_core::{Intake, word_reply};
+use register_store::{Completed, CreateFault, OpenFault, Store, StoreFault};
+use sqlite::{Alter, Connection};
 use std::alloc::{AllocError, Global};
-use xbrl_report::{Fact, Findings, Judged, judge};
 
 /// Makes the tables of a register. A refusal gives the connection back.
 pub fn create<S: Alter + Drop>(
@@ -34,50 +31,9 @@ pub fn open<S: Alter + Drop>(
     Store::open_or_back(alloc, conn)
 }
 
-/// How much a register holds that is sound.
-pub fn check<S: Alter, W: Watch>(
-    alloc: Global,
-    conn: &mut Connection<S>,
-    watch: &mut W,
-) -> Result<Counts, OpenFault>
-    requires { IsAtRest conn.old }
-{
-    read_register(alloc, conn, watch)
-}
-
-/// Upgrades the register of an earlier version. A refusal gives the connection back.
-pub fn migrate<S: Alter + Drop>(
-    alloc: Global,
-    conn: Connection<S>,
-) -> Result<Store<S>, (OpenFault, Connection<S>)>
-    requires { IsAtRest conn }
-{
-    Store::migrate_or_back(alloc, conn)
-}
-
-/// The facts of a filing.
-pub fn facts<S: Alter>(
-    register: &mut Store<S>,
-    number: u64,
-) -> Result<Option<Vec<Fact>>, StoreFault> {
-    register.facts(number)
-}
-
 /// How many keys and filings a register has.
 pub fn counts<S: Alter>(register: &Store<S>) -> Result<(u64, u64), StoreFault> {
     Ok((register.kept_count()?, register.filing_count()?))
-}
-
-/// An intake over a register in memory, which begins empty.
-pub fn in_memory(alloc: Global, limit: u64) -> Result<Intake<MemStore>, CreateFault>
-    requires { limit ≤ 2 ^ 62 }
-{
-    Intake::in_memory(alloc, limit)
-}
-
-/// The filings of a filer.
-pub fn list<S: Alter>(intake: &mut Intake<S>, filer: &str) -> Result<Vec<FilingRow>, Unavailable> {
-    intake.list(filer)
 }
 
 /// Serves one connection.
@@ -152,12 +108,4 @@ pub fn turn_away<R: Source, W: Sink>(
         Err(fault) => Ended::Fault(fault),
     };
     Ok(Served { marks, ended })
-}
-
-/// The findings of a report of this filer; none where it is valid.
-pub fn findings(alloc: Global, filer: &str, body: &[u8]) -> Result<Option<Findings>, AllocError> {
-    match judge(alloc, filer, body)? {
-        Judged::Valid(_) => Ok(None),
-        Judged::Refused(findings) => Ok(Some(findings)),
-    }
 }

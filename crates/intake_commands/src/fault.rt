@@ -4,6 +4,7 @@ use command_files::{Holding, ReportFault, Verdict};
 use command_line::CommandFault;
 use http_wire::ConnFault;
 use intake_core::Unavailable;
+use intake_tasks::TextFault;
 use register_store::{CreateFault, OpenFault, StoreFault};
 use sqlite::{Error as DatabaseError, ErrorCode};
 use std::alloc::AllocError;
@@ -197,6 +198,15 @@ pub enum Fault<'a> {
 impl From<AllocError> for Fault<'_> {
     fn from(_error: AllocError) -> Self {
         Fault::Command(CommandFault::Memory)
+    }
+}
+
+impl From<TextFault> for Fault<'_> {
+    fn from(fault: TextFault) -> Self {
+        Fault::Command(match fault {
+            TextFault::Memory => CommandFault::Memory,
+            TextFault::Output => CommandFault::Output,
+        })
     }
 }
 

@@ -5,7 +5,6 @@
 
 mod calls;
 mod fault;
-mod finding;
 mod limit;
 mod line;
 mod log;

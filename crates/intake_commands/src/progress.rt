@@ -1,5 +1,6 @@
 //! How far the check of a register is.
 
+use intake_tasks::Progress;
 use register_store::Watch;
 use std::io::{IsTerminal, Write};
 
@@ -8,29 +9,21 @@ const MANY: u64 = 10_000;
 
 /// Tells on standard error how far the check of many requests is, a hundred times at most, where that is a terminal.
 #[derive(Drop)]
-pub struct Progress<'a> {
+pub struct TerminalProgress<'a> {
     rt: &'a HostRuntime,
     has_told: bool,
 }
 
-impl<'a> Progress<'a> {
-    pub fn new(rt: &'a HostRuntime) -> Progress<'a> {
-        Progress {
+impl<'a> TerminalProgress<'a> {
+    pub fn new(rt: &'a HostRuntime) -> TerminalProgress<'a> {
+        TerminalProgress {
             rt,
             has_told: false,
         }
     }
-
-    /// Ends the line, where there is one.
-    pub fn end(&self) {
-        if self.has_told {
-            // Nothing is left to be done where this can't be written.
-            let _ = writeln!(self.rt.stderr());
-        }
-    }
 }
 
-impl Watch for Progress<'_> {
+impl Watch for TerminalProgress<'_> {
     fn passed(&mut self, requests: u64, all: u64) {
         if all >= MANY && requests.is_multiple_of(all / 100) && self.rt.stderr().is_terminal() {
             self.has_told = true;
@@ -38,6 +31,16 @@ impl Watch for Progress<'_> {
                 self.rt.stderr(),
                 "\rintake: {requests} of {all} requests are sound"
             );
+        }
+    }
+}
+
+impl Progress for TerminalProgress<'_> {
+    /// Ends the line, if there is one.
+    fn end(&mut self) {
+        if self.has_told {
+            // Nothing is left to be done where this can't be written.
+            let _ = writeln!(self.rt.stderr());
         }
     }
 }

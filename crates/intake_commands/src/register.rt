@@ -5,18 +5,16 @@ ghost use Rattle.table_rows.specs.Standing.{IsAtRest};
 
 use crate::calls;
 use crate::fault::{Fault, Refusal, VisitFault};
-use crate::progress::Progress;
+use crate::progress::TerminalProgress;
 use command_files::{Cache, FileSystem, Holding, Left, Opening, Work, held_in, on_database};
-use command_line::show;
-use gateway_server::fact_line;
-use intake_core::{FilingRow, Intake, list_reply};
+use intake_core::Intake;
 use intake_options::{DEFAULT_LIMIT, Errand};
-use register_store::{Counts, OpenFault, Store};
+use intake_tasks::{CheckFault, ListFault, Migrated, ShowFault, check, list, migrate, show};
+use register_store::{OpenFault, Store};
 use sqlite::{Alter, Connection, Error};
 use sqlite_disk::Disk;
-use std::alloc::{AllocError, Global};
+use std::alloc::Global;
 use std::io::Write;
-use xbrl_report::Fact;
 
 /// An errand to the register of the file with this name.
 #[derive(Drop)]
@@ -40,10 +38,10 @@ impl<'a, O: Write> Work for Visit<'a, '_, O> {
             output,
         } = self;
         match errand {
-            Errand::List { filer } => list(rt.alloc(), name, conn, filer, output),
+            Errand::List { filer } => list_filings(rt.alloc(), name, conn, filer, output),
             Errand::Show { number } => show_filing(rt.alloc(), name, conn, number, output),
-            Errand::Check => check(rt, name, conn, output),
-            Errand::Migrate => migrate(rt.alloc(), name, conn, output),
+            Errand::Check => check_register(rt, name, conn, output),
+            Errand::Migrate => migrate_register(rt.alloc(), name, conn, output),
         }
     }
 }
@@ -115,24 +113,8 @@ pub fn refused<S: Alter, T>(name: &str, fault: VisitFault) -> (Left<S>, Result<T
     (left_by(fault), Err(fault.at(name)))
 }
 
-/// The content of the reply that lists these filings, as a line.
-fn list_line(alloc: Global, rows: &[FilingRow]) -> Result<Vec<u8>, AllocError> {
-    let mut text = list_reply(alloc, rows)?.content;
-    text.push(b'\n')?;
-    Ok(text)
-}
-
-fn show_rows<'a, O: Write>(
-    alloc: Global,
-    rows: &[FilingRow],
-    output: &mut O,
-) -> Result<(), Fault<'a>> {
-    let text = list_line(alloc, rows)?;
-    Ok(show(output, text.as_slice())?)
-}
-
 /// Prints the filings of a filer, as the reply to a GET lists them.
-fn list<'a, S: Alter + Drop, O: Write>(
+fn list_filings<'a, S: Alter + Drop, O: Write>(
     alloc: Global,
     name: &'a str,
     conn: Connection<S>,
@@ -146,30 +128,12 @@ fn list<'a, S: Alter + Drop, O: Write>(
         Err(fault) => return refused(name, fault),
     };
     let mut intake = Intake::new(alloc, register, DEFAULT_LIMIT);
-    let shown = match calls::list(&mut intake, filer) {
-        Ok(rows) => show_rows(alloc, rows.as_slice(), output),
-        Err(fault) => Err(VisitFault::List(fault).at(name)),
+    let listed = match list(alloc, &mut intake, filer, output) {
+        Ok(()) => Ok(()),
+        Err(ListFault::Intake(fault)) => Err(VisitFault::List(fault).at(name)),
+        Err(ListFault::Text(fault)) => Err(fault.into()),
     };
-    (Left::Open(intake.into_store().into_conn()), shown)
-}
-
-/// A line for each fact.
-fn fact_lines(alloc: Global, facts: &[Fact]) -> Result<String, AllocError> {
-    let mut text = String::new(alloc);
-    for fact in facts {
-        text.push_str(fact_line(alloc, fact)?.as_str())?;
-        text.push('\n')?;
-    }
-    Ok(text)
-}
-
-fn show_facts<'a, O: Write>(
-    alloc: Global,
-    facts: &[Fact],
-    output: &mut O,
-) -> Result<(), Fault<'a>> {
-    let text = fact_lines(alloc, facts)?;
-    Ok(show(output, text.as_bytes())?)
+    (Left::Open(intake.into_store().into_conn()), listed)
 }
 
 /// Prints the facts of a filing.
@@ -186,26 +150,17 @@ fn show_filing<'a, S: Alter + Drop, O: Write>(
         Ok(register) => register,
         Err(fault) => return refused(name, fault),
     };
-    let shown = match calls::facts(&mut register, number) {
-        Ok(Some(facts)) => show_facts(alloc, facts.as_slice(), output),
-        Ok(None) => Err(VisitFault::NoFiling { number }.at(name)),
-        Err(fault) => Err(VisitFault::Store(fault).at(name)),
+    let shown = match show(alloc, &mut register, number, output) {
+        Ok(()) => Ok(()),
+        Err(ShowFault::NoFiling) => Err(VisitFault::NoFiling { number }.at(name)),
+        Err(ShowFault::Store(fault)) => Err(VisitFault::Store(fault).at(name)),
+        Err(ShowFault::Text(fault)) => Err(fault.into()),
     };
     (Left::Open(register.into_conn()), shown)
 }
 
-fn show_sound<'a, O: Write>(
-    alloc: Global,
-    counts: Counts,
-    output: &mut O,
-) -> Result<(), Fault<'a>> {
-    let Counts { kept, filings, .. } = counts;
-    let text = format!(in alloc; "sound: {kept} kept, {filings} filings\n")?;
-    Ok(show(output, text.as_bytes())?)
-}
-
-/// Counts what the register holds, tells how far that is, and prints that it is sound, where it is.
-fn check<'a, S: Alter + Drop, O: Write>(
+/// Checks the register, tells how far that is, and prints how much it holds, if it is sound.
+fn check_register<'a, S: Alter + Drop, O: Write>(
     rt: &HostRuntime,
     name: &'a str,
     mut conn: Connection<S>,
@@ -213,15 +168,11 @@ fn check<'a, S: Alter + Drop, O: Write>(
 ) -> (Left<S>, Result<(), Fault<'a>>)
     requires { IsAtRest conn }
 {
-    let mut progress = Progress::new(rt);
-    let checked = calls::check(rt.alloc(), &mut conn, &mut progress);
-    progress.end();
-    match checked {
-        Ok(counts) => {
-            let shown = show_sound(rt.alloc(), counts, output);
-            (Left::Open(conn), shown)
-        }
-        Err(fault) => refused(
+    let mut progress = TerminalProgress::new(rt);
+    match check(rt.alloc(), &mut conn, &mut progress, output) {
+        Ok(()) => (Left::Open(conn), Ok(())),
+        Err(CheckFault::Text(fault)) => (Left::Open(conn), Err(fault.into())),
+        Err(CheckFault::Open(fault)) => refused(
             name,
             VisitFault::Open(Refusal {
                 fault,
@@ -229,10 +180,6 @@ fn check<'a, S: Alter + Drop, O: Write>(
             }),
         ),
     }
-}
-
-fn show_migrated<'a, O: Write>(output: &mut O) -> Result<(), Fault<'a>> {
-    Ok(show(output, b"migrated\n")?)
 }
 
 /// Why a database that holds this was not migrated.
@@ -247,7 +194,7 @@ fn not_migrated(fault: OpenFault, held: Holding) -> VisitFault {
 }
 
 /// Makes a register of an earlier version one of this version, and prints that it is.
-fn migrate<'a, S: Alter + Drop, O: Write>(
+fn migrate_register<'a, S: Alter + Drop, O: Write>(
     alloc: Global,
     name: &'a str,
     conn: Connection<S>,
@@ -255,9 +202,12 @@ fn migrate<'a, S: Alter + Drop, O: Write>(
 ) -> (Left<S>, Result<(), Fault<'a>>)
     requires { IsAtRest conn }
 {
-    match calls::migrate(alloc, conn) {
-        Ok(register) => {
-            let shown = show_migrated(output);
+    match migrate(alloc, conn, output) {
+        Ok(Migrated { register, printed }) => {
+            let shown = match printed {
+                Ok(()) => Ok(()),
+                Err(fault) => Err(fault.into()),
+            };
             (Left::Open(register.into_conn()), shown)
         }
         Err((fault, back)) => refused(name, not_migrated(fault, held_in(&back))),

@@ -4,38 +4,34 @@ use crate::fault::Fault;
 use crate::limit::Limit;
 use crate::register::run_errand;
 use crate::serving::serve_file;
-use crate::{calls, finding};
 use command_files::{FileSystem, SystemFiles, report, show_verdict};
-use command_line::{CommandFault, DONE, show, show_refusal, words};
+use command_line::{CommandFault, DONE, show_refusal, words};
 use gateway_server::Ended;
 use http_wire::Device;
 use intake_options::{Errand, Task};
+use intake_tasks::{lint, run};
 use key_string::is_filer;
 use sqlite_disk::Disk;
-use std::alloc::{AllocError, Global};
+use std::alloc::Global;
 use std::io::{IsTerminal, Read, Write};
-use xbrl_report::{Finding, Findings};
 
 /// The status where something was found in a report.
 const FOUND: u8 = 1;
 
 /// Serves one connection on a register in memory, which begins empty.
-fn run<'a, R: Read, O: Write>(
+fn run_once<'a, R: Read, O: Write>(
     alloc: Global,
     limit: u64,
     input: &mut R,
     output: &mut O,
 ) -> Result<(), Fault<'a>> {
     let limit = Limit::new(limit)?;
-    let mut intake = match calls::in_memory(alloc, limit.keys) {
-        Ok(intake) => intake,
-        Err(fault) => return Err(Fault::InMemory(fault)),
-    };
     let mut reader = Device::new(input);
     let mut writer = Device::new(output);
-    match calls::serve(alloc, &mut reader, &mut writer, &mut intake).ended {
-        Ended::Closed | Ended::InputEnded => Ok(()),
-        Ended::Fault(fault) => Err(Fault::Connection(fault)),
+    match run(alloc, limit.keys, &mut reader, &mut writer) {
+        Ok(Ended::Closed | Ended::InputEnded) => Ok(()),
+        Ok(Ended::Fault(fault)) => Err(Fault::Connection(fault)),
+        Err(fault) => Err(Fault::InMemory(fault)),
     }
 }
 
@@ -85,35 +81,6 @@ fn perform_errand<'a, D: Disk + Drop, F: FileSystem<D>, O: Write, E: Write>(
     }
 }
 
-/// A line for each finding of the report in the file of this name.
-fn finding_lines(alloc: Global, name: &str, findings: &[Finding]) -> Result<String, AllocError> {
-    let mut text = String::new(alloc);
-    for finding in findings {
-        text.push_str(finding::line(alloc, name, finding)?.as_str())?;
-    }
-    Ok(text)
-}
-
-/// The findings of the report in the file of this name; none where it is valid.
-fn findings_of<'a>(
-    rt: &HostRuntime,
-    code: &str,
-    name: &'a str,
-) -> Result<Option<Findings>, Fault<'a>> {
-    let body = report(rt, name)?;
-    Ok(calls::findings(rt.alloc(), code, body.as_slice())?)
-}
-
-fn show_findings<'a, O: Write>(
-    alloc: Global,
-    name: &str,
-    findings: &[Finding],
-    output: &mut O,
-) -> Result<(), Fault<'a>> {
-    let text = finding_lines(alloc, name, findings)?;
-    Ok(show(output, text.as_bytes())?)
-}
-
 /// Prints a line for each finding of a report. Whether there is one.
 fn lint_file<'a, O: Write>(
     rt: &HostRuntime,
@@ -121,17 +88,12 @@ fn lint_file<'a, O: Write>(
     name: &'a str,
     output: &mut O,
 ) -> Result<bool, Fault<'a>> {
-    match findings_of(rt, code, name)? {
-        Some(findings) => {
-            show_findings(rt.alloc(), name, findings.list(), output)?;
-            Ok(true)
-        }
-        None => Ok(false),
-    }
+    let body = report(rt, name)?;
+    Ok(lint(rt.alloc(), code, name, &body, output)?)
 }
 
 /// Prints a line for each finding of these reports. The status says whether there is one.
-fn lint<'a, O: Write>(
+fn lint_files<'a, O: Write>(
     rt: &HostRuntime,
     code: &str,
     names: &[&'a str],
@@ -163,12 +125,12 @@ fn perform_task<'a, D: Disk + Drop, F: FileSystem<D>, R: Read, O: Write, E: Writ
     errors: &mut E,
 ) -> Result<u8, Fault<'a>> {
     match task {
-        Task::Run { limit } => done(run(rt.alloc(), *limit, input, output)),
+        Task::Run { limit } => done(run_once(rt.alloc(), *limit, input, output)),
         Task::Serve(serving) => done(serve_file(rt, system, *serving, output, errors)),
         Task::Visit { database, errand } => done(perform_errand(
             rt, system, database, *errand, output, errors,
         )),
-        Task::Lint { filer, files } => lint(rt, filer, files, output),
+        Task::Lint { filer, files } => lint_files(rt, filer, files, output),
     }
 }
 

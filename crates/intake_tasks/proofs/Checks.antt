@@ -1,0 +1,48 @@
+-- What a check prints follows from what the reading of the register told.
+use Rattle.std.proofs.Common.{◌≡◌, Option, List, ℕ, Ok, Err, inr, subst, length}
+use Rattle.std.specs.Io.KnownBytes.{Appends}
+use Rattle.sqlite.specs.Store.{Ghosts}
+use Rattle.sqlite.specs.Held.{Held}
+use Rattle.filing_model.specs.Register.{register}
+use Rattle.register_opening.specs.declared.fault.OpenFault.{OpenFault}
+use Rattle.register_opening.specs.declared.opening.Counts.{Counts}
+use Rattle.register_opening.specs.Opening.{ReadsRegister}
+use Rattle.intake_tasks.specs.declared.checking.CheckFault.TheVariants as checking
+use Rattle.intake_tasks.specs.Lines.{sound_line}
+use Rattle.intake_tasks.specs.Tasks.{ChecksRegister}
+
+-- the counts that are printed are those of the requests
+named : (out out' : Option (List ℕ)) (kept filings m n : ℕ) → kept ≡ m → filings ≡ n → Appends out out' (sound_line kept filings) → Appends out out' (sound_line m n)
+named out out' kept filings m n kept_is filings_is printed =
+    subst (λ k. Appends out out' (sound_line m k)) filings_is (subst (λ k. Appends out out' (sound_line k filings)) kept_is printed)
+
+module _ {S X : Type 0} (g : Ghosts S) (out out' : Option (List ℕ)) (old new : Held S) where
+  -- it is refused, and nothing is printed
+  pub refusal : (why : OpenFault) → out' ≡ out → ReadsRegister g old new (Err why) → ChecksRegister {S = S} {X = X} g out out' old new (Err (checking.Open why))
+  refusal why none read = record {
+    sound = λ _ _. tt;
+    only = λ _. tt;
+    refused = read.refused;
+    failed = read.sound;
+    quiet = inr none;
+    same = λ _. tt;
+    mode = read.mode;
+    survives = read.survives;
+  }
+
+  -- it is sound, and its counts are printed
+  pub soundness : (counts : Counts) (x : X) → Appends out out' (sound_line counts.kept counts.filings) → ReadsRegister g old new (Ok counts) → ChecksRegister g out out' old new (Ok x)
+  soundness counts x printed read = record {
+    sound = λ clean declared.
+        let f = read.found clean declared in
+        (counts.early, f.0, f.1, named out out' counts.kept counts.filings (length f.0) (length (register f.0)) f.3 f.4 printed);
+    only = λ clean early requests stands.
+        let f = read.only clean early requests stands in
+        named out out' counts.kept counts.filings (length requests) (length (register requests)) f.2 f.3 printed;
+    refused = λ _. tt;
+    failed = λ _. tt;
+    quiet = tt;
+    same = read.same;
+    mode = read.mode;
+    survives = read.survives;
+  }

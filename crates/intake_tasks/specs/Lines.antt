@@ -1,0 +1,40 @@
+-- What is printed, byte for byte; own rules.
+use Rattle.std.specs.Prelude.{ℕ, List, ◌++◌, flat_map, codes, None}
+use Rattle.std.specs.Fmt.{decimal}
+use Rattle.serde_json.specs.Data.{string}
+use Rattle.serde_json.specs.Written.{compact_text}
+use Rattle.xbrl_report.specs.CodeNumber.{text_of}
+use Rattle.xbrl_report.specs.FactRecord.{FactRecord}
+use Rattle.xbrl_report.specs.Pair.{Pair}
+use Rattle.filing_model.specs.Listing.{listings}
+use Rattle.filing_model.specs.Register.{Filing}
+use Rattle.filing_model.specs.Reply.{list_reply}
+use Rattle.intake_answers.specs.Line.{fact_line}
+
+-- a text, and the end of its line
+abbrev pub line : List ℕ → List ℕ
+line text = text ++ codes "\n"
+
+-- the filings of the filer among these, as the reply to a GET lists them
+abbrev pub list_line : List ℕ → List Filing → List ℕ
+list_line filer filings = line (list_reply (listings filer None filings)).content
+
+-- a line for each fact
+abbrev pub fact_lines : List FactRecord → List ℕ
+fact_lines facts = flat_map (λ fact. line (fact_line fact)) facts
+
+-- that a register is sound in which so many requests are kept, and so many of them are filings
+abbrev pub sound_line : ℕ → ℕ → List ℕ
+sound_line kept filings = codes "sound: " ++ decimal kept ++ codes " kept, " ++ decimal filings ++ codes " filings\n"
+
+-- that a register was migrated
+abbrev pub migrated_line : List ℕ
+migrated_line = codes "migrated\n"
+
+-- a finding of the report in the file of this name: the word of its code, and its place as JSON
+abbrev pub finding_line : List ℕ → Pair → List ℕ
+finding_line name finding = name ++ codes ": " ++ text_of finding.code ++ codes " " ++ compact_text (string finding.place) ++ codes "\n"
+
+-- a line for each of these findings
+abbrev pub finding_lines : List ℕ → List Pair → List ℕ
+finding_lines name findings = flat_map (finding_line name) findings
