@@ -1,0 +1,7 @@
+mod Positions
+mod Modes
+mod Spots
+mod Tokens
+mod Tapes
+mod Parts
+mod Lists

@@ -1,0 +1,6 @@
+pub mod Lead
+pub mod Offset
+pub mod Position
+pub mod Place
+pub mod Scan
+pub mod OnTape

@@ -1,0 +1,40 @@
+-- What a look-up on a tape answers. No public clause cites this file.
+use Rattle.std.specs.Prelude.{◌≡◌, ℕ, ◌+◌, List, ◌++◌, ◌∷◌, ◌<◌, ◌≤◌, length, map, drop, Option, Some, None, MatchOption}
+use Rattle.std.specs.Borrow.{Bor}
+use Rattle.json.specs.Token.{Token, key}
+use Rattle.json.specs.Json.{Members, no_members, after_end_array}
+use Rattle.json.specs.Tree.{json_tokens, members_tokens}
+use Rattle.json.specs.Tape.{node_token, LinkAt}
+use Rattle.json.specs.declared.tape.Node.{Node}
+use Rattle.report_places.specs.Lead.{Found}
+
+-- v begins so many tokens after `from`, and `at` is that token
+pub record StandsAt (ts : List Token) (from : ℕ) (v : Found) (at : ℕ) : Type 0 where
+  pub token : at ≡ from + v.0
+  pub rest : List Token
+  pub begins : drop at ts ≡ json_tokens v.1 ++ rest
+
+abbrev pub IsFound : List Token → ℕ → Option Found → Option ℕ → Type 0
+IsFound ts from found result = MatchOption result (found ≡ None) (λ at. (v : Found) × (found ≡ Some v) × StandsAt ts from v at)
+
+-- the tokens that the nodes stand for, from node i on
+abbrev pub left_at : List Node → ℕ → List Token
+left_at nodes i = drop i (map node_token nodes)
+
+pub record IsNode (nodes : List Node) (i : ℕ) (node : Node) : Type 0 where
+  pub within : i < length nodes
+  pub first : left_at nodes i ≡ node_token node ∷ left_at nodes (i + 1)
+  pub link : LinkAt (map node_token nodes) i node
+
+abbrev pub IsNodeAt : List Node → ℕ → Option Node → Type 0
+IsNodeAt nodes i result = MatchOption result (length nodes ≤ i) (IsNode nodes i)
+
+-- the name is the key at node i; without one no member begins there
+abbrev pub IsNameAt : List Node → ℕ → Option (Bor (List ℕ)) → Type 0
+IsNameAt nodes i result =
+    MatchOption result ((ms : Members) (rest : List Token) → left_at nodes i ≡ members_tokens ms ++ rest → ms ≡ no_members)
+    (λ name. (i < length nodes) × (left_at nodes i ≡ key name.now ∷ left_at nodes (i + 1)))
+
+-- neither the end nor a closing bracket
+abbrev pub HasElementAt : List Node → ℕ → Type 0
+HasElementAt nodes i = (i < length nodes) × (after_end_array (left_at nodes i) ≡ None)

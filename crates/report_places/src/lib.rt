@@ -1,0 +1,15 @@
+//! Where in the bytes of a JSON text the value is that a JSON Pointer names.
+//!
+//! `places` answers an offset, a line and a column for each pointer. What a value means is nothing that it knows.
+#![tactic(auto)]
+
+mod lead;
+mod mode;
+mod part;
+mod place;
+mod position;
+mod spot;
+mod tape;
+
+pub use place::{Place, places};
+pub use position::{Position, position_of};
