@@ -5,3 +5,4 @@ mod Tokens
 mod Tapes
 mod Parts
 mod Lists
+mod Strings

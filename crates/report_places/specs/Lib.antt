@@ -4,3 +4,4 @@ pub mod Position
 pub mod Place
 pub mod Scan
 pub mod OnTape
+pub mod Shown

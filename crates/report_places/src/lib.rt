@@ -8,8 +8,10 @@ mod mode;
 mod part;
 mod place;
 mod position;
+mod shown;
 mod spot;
 mod tape;
 
 pub use place::{Place, places};
 pub use position::{Position, position_of};
+pub use shown::value_text;

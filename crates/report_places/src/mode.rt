@@ -59,7 +59,7 @@ fn is_bracket(byte: u8) -> bool
     matches!(byte, b'{' | b'}' | b'[' | b']')
 }
 
-fn ends_word(byte: u8) -> bool
+pub(crate) fn ends_word(byte: u8) -> bool
     ensures { result ≡ (is_operator byte || is_space byte) }
 {
     matches!(

@@ -46,7 +46,7 @@ impl Position {
     }
 }
 
-fn begins_character(byte: u8) -> bool
+pub(crate) fn begins_character(byte: u8) -> bool
     ensures { result ≡ begins_character byte }
 {
     !matches!(byte, 0x80..=0xbf)
