@@ -6,3 +6,4 @@ mod Tapes
 mod Parts
 mod Lists
 mod Strings
+mod Once

@@ -1,14 +1,13 @@
 -- A byte begins a token where the lexer says so.
-use Rattle.std.proofs.Common.{◌≡◌, ℕ, ◌+◌, List, ◌∷◌, cond, Bool, true, false, count_by, refl, sym, ap, ◌∙◌, subst, inl, inr, ◌⊎◌}
-use Rattle.std.proofs.Math.Nat.{zero-add}
-use Rattle.std.proofs.lemmas.Bool.{cases_eq, ne_eqb}
-use Rattle.std.proofs.lemmas.List.Sums.{sum_by-cons}
-use Rattle.json.specs.Token.{bad}
+use Rattle.std.proofs.Common.{◌≡◌, ℕ, ◌+◌, List, [], ◌∷◌, ◌++◌, cond, Bool, true, false, count_by, refl, sym, ap, ◌∙◌, subst, inl, inr, ◌⊎◌}
+use Rattle.std.proofs.lemmas.Bool.{cases_eq, ne_eqb, or_left, false≢true}
+use Rattle.std.proofs.lemmas.List.Sums.{sum_by-cons, sum_by-append}
+use Rattle.json.specs.Token.{Token, bad, begin_object, end_object, begin_array, end_array}
 use Rattle.json.specs.Text.{content, plain}
 use Rattle.json.specs.Word.{word}
 use Rattle.json.specs.Lex.{Lexeme, token, string_token, operator_lexeme, class, lex, Mode, between, in_word, in_string, in_escape}
 use Rattle.report_places.specs.Offset.{is_token}
-use Rattle.report_places.specs.Scan.{next_mode, begins}
+use Rattle.report_places.specs.Scan.{next_mode, begins, is_bracket}
 
 either_way : (P : ℕ → Type 0) (n : ℕ) → P n → (x : ℕ) → ((x ≡ n → ⊥) → P x) → P x
 either_way P n p x k = go (cases_eq x n)
@@ -43,65 +42,87 @@ one_if b = cond b 1 0
 pub one_more : (l : Lexeme) (ls : List Lexeme) → count_by is_token (l ∷ ls) ≡ one_if (is_token l) + count_by is_token ls
 one_more l ls = sum_by-cons (λ k. one_if (is_token k)) l ls
 
-abbrev pub Counts : Mode → List ℕ → ℕ → Type 0
-Counts m ys x = count_by is_token (lex m (x ∷ ys)) ≡ one_if (begins m x) + count_by is_token (lex (next_mode m (class x)) ys)
+-- the lexemes that begin with the byte x, at most one
+pub record Cut (m : Mode) (ys : List ℕ) (x : ℕ) : Type 0 where
+  pub front : List Lexeme
+  pub is : lex m (x ∷ ys) ≡ front ++ lex (next_mode m (class x)) ys
+  pub count : count_by is_token front ≡ one_if (begins m x)
+
+-- the byte x begins a token in each mode that lets one begin
+pub record Begun (m : Mode) (ys : List ℕ) (x : ℕ) : Type 0 where
+  pub first : Token
+  pub more : List Lexeme
+  pub is : lex between (x ∷ ys) ≡ token first ∷ more
+  pub same : lex m (x ∷ ys) ≡ lex between (x ∷ ys)
 
 module _ (ys : List ℕ) where
-  none : (m : Mode) → count_by is_token (lex m ys) ≡ 0 + count_by is_token (lex m ys)
-  none m = sym (zero-add (count_by is_token (lex m ys)))
-
-  mark : (x : ℕ) → count_by is_token (operator_lexeme x ∷ lex between ys) ≡ one_if (is_token (operator_lexeme x)) + count_by is_token (lex between ys)
-  mark x = one_more (operator_lexeme x) (lex between ys)
-
-  pub one_byte : (m : Mode) (x : ℕ) → Counts m ys x
+  cut_between : (x : ℕ) → Cut between ys x
   unfolding lex
-  one_byte between x =
-      every_byte (Counts between ys) (one_more (token (string_token (content plain ys))) (lex in_string ys)) (one_more (token bad) (lex in_word ys)) (mark 123) (mark 125) (mark 91) (mark 93) (mark 58) (mark 44) (none between) (none between) (none between) (none between)
-      (λ y o. rw (
-        ne_eqb y 34 o.quote,
-        ne_eqb y 92 o.backslash,
-        ne_eqb y 123 o.open_brace,
-        ne_eqb y 125 o.close_brace,
-        ne_eqb y 91 o.open_bracket,
-        ne_eqb y 93 o.close_bracket,
-        ne_eqb y 58 o.colon,
-        ne_eqb y 44 o.comma,
-        ne_eqb y 32 o.space,
-        ne_eqb y 9 o.tab,
-        ne_eqb y 10 o.line_feed,
-        ne_eqb y 13 o.carriage_return,
-      ) (one_more (token (word (y ∷ ys))) (lex in_word ys))) x
-  one_byte in_word x =
-      every_byte (Counts in_word ys) (none in_word) (none in_word) (mark 123) (mark 125) (mark 91) (mark 93) (mark 58) (mark 44) (none between) (none between) (none between) (none between)
-      (λ y o. rw (
-        ne_eqb y 34 o.quote,
-        ne_eqb y 92 o.backslash,
-        ne_eqb y 123 o.open_brace,
-        ne_eqb y 125 o.close_brace,
-        ne_eqb y 91 o.open_bracket,
-        ne_eqb y 93 o.close_bracket,
-        ne_eqb y 58 o.colon,
-        ne_eqb y 44 o.comma,
-        ne_eqb y 32 o.space,
-        ne_eqb y 9 o.tab,
-        ne_eqb y 10 o.line_feed,
-        ne_eqb y 13 o.carriage_return,
-      ) (none in_word)) x
-  one_byte in_string x =
-      every_byte (Counts in_string ys) (none between) (none in_escape) (none in_string) (none in_string) (none in_string) (none in_string) (none in_string) (none in_string)
-      (none in_string) (none in_string) (none in_string) (none in_string)
-      (λ y o. rw (
-        ne_eqb y 34 o.quote,
-        ne_eqb y 92 o.backslash,
-        ne_eqb y 123 o.open_brace,
-        ne_eqb y 125 o.close_brace,
-        ne_eqb y 91 o.open_bracket,
-        ne_eqb y 93 o.close_bracket,
-        ne_eqb y 58 o.colon,
-        ne_eqb y 44 o.comma,
-        ne_eqb y 32 o.space,
-        ne_eqb y 9 o.tab,
-        ne_eqb y 10 o.line_feed,
-        ne_eqb y 13 o.carriage_return,
-      ) (none in_string)) x
-  one_byte in_escape x = none in_string
+  cut_between x =
+      every_byte (Cut between ys) (record { front = token (string_token (content plain ys)) ∷ []; is = refl; count = refl }) (record { front = token bad ∷ []; is = refl; count = refl })
+      (record { front = operator_lexeme 123 ∷ []; is = refl; count = refl }) (record { front = operator_lexeme 125 ∷ []; is = refl; count = refl })
+      (record { front = operator_lexeme 91 ∷ []; is = refl; count = refl }) (record { front = operator_lexeme 93 ∷ []; is = refl; count = refl })
+      (record { front = operator_lexeme 58 ∷ []; is = refl; count = refl }) (record { front = operator_lexeme 44 ∷ []; is = refl; count = refl })
+      (record { front = []; is = refl; count = refl }) (record { front = []; is = refl; count = refl }) (record { front = []; is = refl; count = refl }) (record { front = []; is = refl; count = refl })
+      (λ y o. record { front = token (word (y ∷ ys)) ∷ []; is = rw (ne_eqb y 34 o.quote, ne_eqb y 92 o.backslash, ne_eqb y 123 o.open_brace, ne_eqb y 125 o.close_brace, ne_eqb y 91 o.open_bracket, ne_eqb y 93 o.close_bracket, ne_eqb y 58 o.colon, ne_eqb y 44 o.comma, ne_eqb y 32 o.space, ne_eqb y 9 o.tab, ne_eqb y 10 o.line_feed, ne_eqb y 13 o.carriage_return) refl; count = rw (ne_eqb y 123 o.open_brace, ne_eqb y 125 o.close_brace, ne_eqb y 91 o.open_bracket, ne_eqb y 93 o.close_bracket, ne_eqb y 58 o.colon, ne_eqb y 44 o.comma, ne_eqb y 32 o.space, ne_eqb y 9 o.tab, ne_eqb y 10 o.line_feed, ne_eqb y 13 o.carriage_return) refl }) x
+
+  cut_in_word : (x : ℕ) → Cut in_word ys x
+  unfolding lex
+  cut_in_word x =
+      every_byte (Cut in_word ys) (record { front = []; is = refl; count = refl }) (record { front = []; is = refl; count = refl })
+      (record { front = operator_lexeme 123 ∷ []; is = refl; count = refl }) (record { front = operator_lexeme 125 ∷ []; is = refl; count = refl })
+      (record { front = operator_lexeme 91 ∷ []; is = refl; count = refl }) (record { front = operator_lexeme 93 ∷ []; is = refl; count = refl })
+      (record { front = operator_lexeme 58 ∷ []; is = refl; count = refl }) (record { front = operator_lexeme 44 ∷ []; is = refl; count = refl })
+      (record { front = []; is = refl; count = refl }) (record { front = []; is = refl; count = refl }) (record { front = []; is = refl; count = refl }) (record { front = []; is = refl; count = refl })
+      (λ y o. record { front = []; is = rw (ne_eqb y 34 o.quote, ne_eqb y 92 o.backslash, ne_eqb y 123 o.open_brace, ne_eqb y 125 o.close_brace, ne_eqb y 91 o.open_bracket, ne_eqb y 93 o.close_bracket, ne_eqb y 58 o.colon, ne_eqb y 44 o.comma, ne_eqb y 32 o.space, ne_eqb y 9 o.tab, ne_eqb y 10 o.line_feed, ne_eqb y 13 o.carriage_return) refl; count = rw (ne_eqb y 123 o.open_brace, ne_eqb y 125 o.close_brace, ne_eqb y 91 o.open_bracket, ne_eqb y 93 o.close_bracket) refl }) x
+
+  cut_in_string : (x : ℕ) → Cut in_string ys x
+  unfolding lex
+  cut_in_string x =
+      every_byte (Cut in_string ys) (record { front = []; is = refl; count = refl }) (record { front = []; is = refl; count = refl })
+      (record { front = []; is = refl; count = refl }) (record { front = []; is = refl; count = refl }) (record { front = []; is = refl; count = refl }) (record { front = []; is = refl; count = refl })
+      (record { front = []; is = refl; count = refl }) (record { front = []; is = refl; count = refl }) (record { front = []; is = refl; count = refl }) (record { front = []; is = refl; count = refl })
+      (record { front = []; is = refl; count = refl }) (record { front = []; is = refl; count = refl })
+      (λ y o. record { front = []; is = rw (ne_eqb y 34 o.quote, ne_eqb y 92 o.backslash, ne_eqb y 123 o.open_brace, ne_eqb y 125 o.close_brace, ne_eqb y 91 o.open_bracket, ne_eqb y 93 o.close_bracket, ne_eqb y 58 o.colon, ne_eqb y 44 o.comma, ne_eqb y 32 o.space, ne_eqb y 9 o.tab, ne_eqb y 10 o.line_feed, ne_eqb y 13 o.carriage_return) refl; count = refl }) x
+
+  cut_in_escape : (x : ℕ) → Cut in_escape ys x
+  unfolding lex
+  cut_in_escape x = record { front = []; is = refl; count = refl }
+
+  pub cut : (m : Mode) (x : ℕ) → Cut m ys x
+  cut between x = cut_between x
+  cut in_word x = cut_in_word x
+  cut in_string x = cut_in_string x
+  cut in_escape x = cut_in_escape x
+
+  pub one_byte : (m : Mode) (x : ℕ) → count_by is_token (lex m (x ∷ ys)) ≡ one_if (begins m x) + count_by is_token (lex (next_mode m (class x)) ys)
+  one_byte m x =
+      let k = cut m x in
+      ap (count_by is_token) k.is ∙ sum_by-append (λ l. one_if (is_token l)) k.front (lex (next_mode m (class x)) ys) ∙ ap (λ n. n + count_by is_token (lex (next_mode m (class x)) ys)) k.count
+
+  abbrev Between : ℕ → Type 0
+  Between x = begins between x ≡ true → (t : Token) × (ls : List Lexeme) × (lex between (x ∷ ys) ≡ token t ∷ ls)
+
+  begun_between : (x : ℕ) → Between x
+  unfolding lex
+  begun_between x =
+      every_byte Between (λ b. (string_token (content plain ys), lex in_string ys, refl)) (λ b. (bad, lex in_word ys, refl))
+      (λ b. (begin_object, lex between ys, refl)) (λ b. (end_object, lex between ys, refl)) (λ b. (begin_array, lex between ys, refl)) (λ b. (end_array, lex between ys, refl))
+      (λ b. absurd (false≢true b)) (λ b. absurd (false≢true b)) (λ b. absurd (false≢true b)) (λ b. absurd (false≢true b)) (λ b. absurd (false≢true b)) (λ b. absurd (false≢true b))
+      (λ y o b. (word (y ∷ ys), lex in_word ys, rw (ne_eqb y 34 o.quote, ne_eqb y 92 o.backslash, ne_eqb y 123 o.open_brace, ne_eqb y 125 o.close_brace, ne_eqb y 91 o.open_bracket, ne_eqb y 93 o.close_bracket, ne_eqb y 58 o.colon, ne_eqb y 44 o.comma, ne_eqb y 32 o.space, ne_eqb y 9 o.tab, ne_eqb y 10 o.line_feed, ne_eqb y 13 o.carriage_return) refl)) x
+
+  abbrev InWord : ℕ → Type 0
+  InWord x = is_bracket x ≡ true → lex in_word (x ∷ ys) ≡ lex between (x ∷ ys)
+
+  begun_in_word : (x : ℕ) → InWord x
+  unfolding lex
+  begun_in_word x =
+      every_byte InWord (λ b. absurd (false≢true b)) (λ b. absurd (false≢true b)) (λ b. refl) (λ b. refl) (λ b. refl) (λ b. refl)
+      (λ b. refl) (λ b. refl) (λ b. absurd (false≢true b)) (λ b. absurd (false≢true b)) (λ b. absurd (false≢true b)) (λ b. absurd (false≢true b))
+      (λ y o b. (let none : is_bracket y ≡ false = rw (ne_eqb y 123 o.open_brace, ne_eqb y 125 o.close_brace, ne_eqb y 91 o.open_bracket, ne_eqb y 93 o.close_bracket) refl in absurd (false≢true (sym none ∙ b)))) x
+
+  pub begun : (m : Mode) (x : ℕ) → begins m x ≡ true → Begun m ys x
+  begun between x b = let f = begun_between x b in record { first = f.0; more = f.1; is = f.2; same = refl }
+  begun in_word x b = let f = begun_between x (or_left (is_bracket x) _ b) in record { first = f.0; more = f.1; is = f.2; same = begun_in_word x b }
+  begun in_string x b = absurd (false≢true b)
+  begun in_escape x b = absurd (false≢true b)

@@ -2,17 +2,24 @@
 use Rattle.std.proofs.Common.{◌≡◌, ℕ, zero, suc, ◌+◌, ◌<◌, ◌≤◌, List, [], ◌∷◌, ◌++◌, length, take, drop, append_assoc, append-nil, get_or, fold, cond, Bool, true, false, count_by, refl, sym, ap, ◌∙◌, subst, arith, add_comm}
 use Rattle.std.proofs.Math.Nat.{zero-add}
 use Rattle.std.proofs.lemmas.List.{drop_more, drop_all}
-use Rattle.json.specs.Lex.{class, lex, Mode, between}
+use Rattle.std.proofs.lemmas.List.Sums.{sum_by-append}
+use Rattle.json.specs.Find.{BeginsWith}
+use Rattle.json.specs.Token.{Token}
+use Rattle.json.specs.Tree.{json_tokens}
+use Rattle.json.specs.Lex as lexer
+use Rattle.json.specs.Lex.{Lexeme, class, lex, Mode, between, tokens}
 use Rattle.json.specs.Json.{Json}
 use Rattle.report_places.specs.Lead.{lead}
 use Rattle.report_places.specs.Place.{IsPlaceOf}
+use Rattle.report_places.specs.OnTape.{led, Begins}
+use Rattle.report_places.proofs.Tokens.{goes_on}
 use Rattle.report_places.specs.declared.lead.Lead.{Lead}
 use Rattle.report_places.specs.Offset.{is_token, token_count, BeginsAt}
 use Rattle.report_places.specs.Position.{start, step, position_after, is_line_feed, begins_character}
 use Rattle.report_places.specs.Scan.{next_mode, begins, spot_if, spots_from}
 use Rattle.report_places.specs.declared.position.Position.{Position}
 use Rattle.report_places.specs.declared.spot.Spot.{Spot}
-use Rattle.report_places.proofs.Modes.{one_if, one_byte}
+use Rattle.report_places.proofs.Modes.{one_if, one_byte, cut, begun}
 use Rattle.report_places.proofs.Positions.{position-fold}
 
 abbrev counted : Mode → List ℕ → ℕ
@@ -25,6 +32,13 @@ record IsSpot (m : Mode) (p : Position) (offset : ℕ) (xs : List ℕ) (k : ℕ)
   before : counted m (take n xs) ≡ k
   with_it : counted m (take (n + 1) xs) ≡ k + 1
   position : s.position ≡ fold step p (take n xs)
+  -- the lexemes before it, and the token that begins there
+  front : List Lexeme
+  split : lex m xs ≡ front ++ lex between (drop n xs)
+  count : count_by is_token front ≡ k
+  token : Token
+  more : List Lexeme
+  first : lex between (drop n xs) ≡ lexer.token token ∷ more
 
 lex-nil : (m : Mode) → counted m [] ≡ 0
 unfolding lex
@@ -43,20 +57,32 @@ module _ (m : Mode) (p : Position) (offset x : ℕ) (xs : List ℕ) where
         before = omega (arith, one_byte (take is.n xs) m x, is.before);
         with_it = omega (arith, ap (λ i. counted m (take i (x ∷ xs))) two, one_byte (take (is.n + 1) xs) m x, is.with_it);
         position = is.position;
+        front = (cut xs m x).front ++ is.front;
+        split = (cut xs m x).is ∙ ap (λ l. (cut xs m x).front ++ l) is.split ∙ sym (append_assoc (cut xs m x).front is.front (lex between (drop is.n xs)));
+        count = sum_by-append (λ l. one_if (is_token l)) (cut xs m x).front is.front ∙ omega (arith, (cut xs m x).count, is.count, e);
+        token = is.token;
+        more = is.more;
+        first = is.first;
       }
 
-  first : one_if (begins m x) ≡ 1 → IsSpot m p offset (x ∷ xs) 0 (record { offset = offset; position = p })
+  first : begins m x ≡ true → IsSpot m p offset (x ∷ xs) 0 (record { offset = offset; position = p })
   first e = record {
     n = 0;
     place = omega arith;
     before = lex-nil m;
-    with_it = omega (arith, one_byte [] m x, lex-nil (next_mode m (class x)), e);
+    with_it = omega (arith, one_byte [] m x, lex-nil (next_mode m (class x)), ap one_if e);
     position = refl;
+    front = [];
+    split = (begun xs m x e).same;
+    count = refl;
+    token = (begun xs m x e).first;
+    more = (begun xs m x e).more;
+    first = (begun xs m x e).is;
   }
 
   either : (d : Spot) → ((j : ℕ) → j < length (after m p offset x xs) → IsSpot (next_mode m (class x)) (step p x) (offset + 1) xs j (get_or (after m p offset x xs) j d))
       → (b : Bool) → begins m x ≡ b → (j : ℕ) → j < length (spot_if b offset p (after m p offset x xs)) → IsSpot m p offset (x ∷ xs) j (get_or (spot_if b offset p (after m p offset x xs)) j d)
-  either d later true e zero l = first (ap one_if e)
+  either d later true e zero l = first e
   either d later true e (suc j) l =
       let n : 1 + j ≡ suc j = omega arith in
       let P : ℕ → Type 0 = λ i. IsSpot m p offset (x ∷ xs) i (get_or (after m p offset x xs) j d) in
@@ -82,24 +108,19 @@ length-spots_from m p offset (x ∷ xs) = how_many m p offset x xs (length-spots
 pub length-spots : (text : List ℕ) → length (spots_from between start 0 text) ≡ token_count text
 length-spots text = length-spots_from between start 0 text
 
-pub spot_begins : (text : List ℕ) (k : ℕ) (d : Spot) → k < length (spots_from between start 0 text)
-    → BeginsAt text k (get_or (spots_from between start 0 text) k d).offset × ((get_or (spots_from between start 0 text) k d).position ≡ position_after (take (get_or (spots_from between start 0 text) k d).offset text))
-spot_begins text k d h =
-    let is = spot_is between start 0 text d k h in
-    let at : (get_or (spots_from between start 0 text) k d).offset ≡ is.n = omega (arith, is.place) in (
-      record { before = ap (λ n. token_count (take n text)) at ∙ is.before; with_it = ap (λ n. token_count (take (n + 1) text)) at ∙ is.with_it },
-      is.position ∙ position-fold (take is.n text) ∙ ap (λ n. position_after (take n text)) (sym at),
-    )
-
 -- where a pointer leads, there the spot of that token is its place
-pub place_is : (text : List ℕ) (value : Json) (pointer : List ℕ) (led : Lead) (spot : Spot) → led ≡ lead pointer value → spot ≡ get_or (spots_from between start 0 text) led.token spot
-    → led.token < length (spots_from between start 0 text) → IsPlaceOf text value pointer (record { offset = spot.offset; position = spot.position; is_there = led.is_there })
-place_is text value pointer led spot same is within =
-    let facts = spot_begins text led.token spot within in
-    let begins = subst (λ s. BeginsAt text led.token s.offset) (sym is) facts.0 in
+pub place_is : (text : List ℕ) (value : Json) (pointer : List ℕ) (found : Lead) (spot : Spot) → tokens text ≡ json_tokens value → found ≡ led (lead pointer value)
+    → Begins (tokens text) found.token (lead pointer value).value → spot ≡ get_or (spots_from between start 0 text) found.token spot → found.token < length (spots_from between start 0 text)
+    → IsPlaceOf text value pointer (record { offset = spot.offset; position = spot.position; is_there = found.is_there })
+place_is text value pointer found spot spelled same stands is within =
+    let s = spot_is between start 0 text spot found.token within in
+    let at : spot.offset ≡ s.n = ap (λ t. t.offset) is ∙ omega (arith, s.place) in
+    let token : found.token ≡ (lead pointer value).token = ap (λ l. l.token) same in
     record {
-      begins = subst (λ l. BeginsAt text l.token spot.offset) same begins;
-      position = subst (λ s. s.position ≡ position_after (take s.offset text)) (sym is) facts.1;
+      begins = record { before = ap (λ n. token_count (take n text)) at ∙ s.before ∙ token; with_it = ap (λ n. token_count (take (n + 1) text)) at ∙ s.with_it ∙ ap (λ k. k + 1) token };
+      goes_on = subst (λ n. BeginsWith (tokens (drop n text)) (lead pointer value).value) (sym at)
+          (goes_on text value s.front (lex between (drop s.n text)) s.more s.token (lead pointer value).value stands.0 spelled s.split s.first (ap (λ k. drop k (tokens text)) s.count ∙ stands.1));
+      position = ap (λ t. t.position) is ∙ s.position ∙ position-fold (take s.n text) ∙ ap (λ n. position_after (take n text)) (sym at);
       is_there = ap (λ l. l.is_there) same;
     }
 

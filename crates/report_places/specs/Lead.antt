@@ -1,11 +1,10 @@
 -- Where a JSON Pointer leads in a value (RFC 6901, section 4). A place is told by how many tokens of the value's text stand before it: the tokens
 -- of a text are those of its value, one after another (`json_tokens`).
-use Rattle.std.specs.Prelude.{ℕ, zero, suc, ◌+◌, ◌==◌, List, [], ◌∷◌, ◌++◌, length, true, false, if◌then◌else◌, Option, Some, None, option_map, option_and_then}
+use Rattle.std.specs.Prelude.{ℕ, zero, suc, ◌+◌, ◌==◌, List, [], ◌∷◌, ◌++◌, length, Bool, true, false, if◌then◌else◌, Option, Some, None, option_map, option_and_then}
 use Rattle.std.specs.Str.{bytes_eq}
 use Rattle.json.specs.Json.{Json, null, boolean, number, string, array, object, Items, no_items, item, Members, no_members, member}
 use Rattle.json.specs.Tree.{json_tokens}
 use Rattle.serde_json.specs.Find.{unescape, index_of}
-use Rattle.report_places.specs.declared.lead.Lead.{Lead}
 
 -- a value, and how many tokens stand before it
 abbrev pub Found : Type 0
@@ -39,15 +38,21 @@ child part (string s) = None
 child part (array vs) = behind 1 (option_and_then (λ i. element_of i vs) (index_of part))
 child part (object ms) = behind 1 (member_of (unescape part) ms)
 
--- to the child, or no further than to the value at token k
-abbrev pub go_on : ℕ → Option Found → (ℕ → Json → Lead) → Lead
-go_on k None further = record { token = k; is_there = false }
-go_on k (Some v) further = further (k + v.0) v.1
+-- the value that a pointer names, or the nearest one above it that is there, and the token at which it begins
+pub record Reached : Type 0 where
+  pub token : ℕ
+  pub value : Json
+  pub is_there : Bool
+
+-- to the child, or no further than to the value j at token k
+abbrev pub go_on : ℕ → Json → Option Found → (ℕ → Json → Reached) → Reached
+go_on k j None further = record { token = k; value = j; is_there = false }
+go_on k j (Some v) further = further (k + v.0) v.1
 
 -- by all these parts, from the value j at token k
-abbrev pub along : List (List ℕ) → ℕ → Json → Lead
-along [] k j = record { token = k; is_there = true }
-along (part ∷ parts) k j = go_on k (child part j) (along parts)
+abbrev pub along : List (List ℕ) → ℕ → Json → Reached
+along [] k j = record { token = k; value = j; is_there = true }
+along (part ∷ parts) k j = go_on k j (child part j) (along parts)
 
 -- the parts between slashes; `part` has been read of the first
 unfoldable pub parts_of : List ℕ → List ℕ → List (List ℕ)
@@ -55,6 +60,6 @@ parts_of part [] = part ∷ []
 parts_of part (x ∷ rest) = if x == 47 then part ∷ parts_of [] rest else parts_of (part ++ x ∷ []) rest
 
 -- A pointer is empty, or a slash and its parts; any other text leads nowhere.
-abbrev pub lead : List ℕ → Json → Lead
-lead [] j = record { token = 0; is_there = true }
-lead (x ∷ rest) j = if x == 47 then along (parts_of [] rest) 0 j else record { token = 0; is_there = false }
+abbrev pub lead : List ℕ → Json → Reached
+lead [] j = record { token = 0; value = j; is_there = true }
+lead (x ∷ rest) j = if x == 47 then along (parts_of [] rest) 0 j else record { token = 0; value = j; is_there = false }

@@ -2,11 +2,12 @@
 use Rattle.std.specs.Prelude.{◌≡◌, ℕ, ◌+◌, List, ◌++◌, ◌∷◌, ◌<◌, ◌≤◌, length, map, drop, Option, Some, None, MatchOption}
 use Rattle.std.specs.Borrow.{Bor}
 use Rattle.json.specs.Token.{Token, key}
-use Rattle.json.specs.Json.{Members, no_members, after_end_array}
+use Rattle.json.specs.Json.{Json, Members, no_members, after_end_array}
 use Rattle.json.specs.Tree.{json_tokens, members_tokens}
 use Rattle.json.specs.Tape.{node_token, LinkAt}
 use Rattle.json.specs.declared.tape.Node.{Node}
-use Rattle.report_places.specs.Lead.{Found}
+use Rattle.report_places.specs.Lead.{Found, Reached}
+use Rattle.report_places.specs.declared.lead.Lead.{Lead}
 
 -- v begins so many tokens after `from`, and `at` is that token
 pub record StandsAt (ts : List Token) (from : ℕ) (v : Found) (at : ℕ) : Type 0 where
@@ -38,3 +39,11 @@ IsNameAt nodes i result =
 -- neither the end nor a closing bracket
 abbrev pub HasElementAt : List Node → ℕ → Type 0
 HasElementAt nodes i = (i < length nodes) × (after_end_array (left_at nodes i) ≡ None)
+
+-- what the code tells of where a pointer leads
+abbrev pub led : Reached → Lead
+led r = record { token = r.token; is_there = r.is_there }
+
+-- the value begins at that token
+abbrev pub Begins : List Token → ℕ → Json → Type 0
+Begins ts k v = (rest : List Token) × (drop k ts ≡ json_tokens v ++ rest)

@@ -1,15 +1,19 @@
 -- The places that pointers name in a text.
-use Rattle.std.specs.Prelude.{◌≡◌, ℕ, List, [], ◌∷◌, take, Option, Some, None, Vec, IsUtf8, ⊤}
+use Rattle.std.specs.Prelude.{◌≡◌, ℕ, List, [], ◌∷◌, take, drop, Option, Some, None, Vec, IsUtf8, ⊤}
 use Rattle.std.specs.Global.{Global}
+use Rattle.json.specs.Find.{BeginsWith}
 use Rattle.json.specs.Json.{Json, document}
+use Rattle.json.specs.Lex.{tokens}
 use Rattle.report_places.specs.declared.place.Place.{Place}
 use Rattle.report_places.specs.Lead.{lead}
 use Rattle.report_places.specs.Offset.{BeginsAt}
 use Rattle.report_places.specs.Position.{position_after}
 
--- in the text of that value
+-- In the text of that value, before the offset stand all tokens that come before the value that is reached, and from there on the text
+-- begins with it.
 pub record IsPlaceOf (text : List ℕ) (value : Json) (pointer : List ℕ) (place : Place) : Type 0 where
   pub begins : BeginsAt text (lead pointer value).token place.offset
+  pub goes_on : BeginsWith (tokens (drop place.offset text)) (lead pointer value).value
   pub position : place.position ≡ position_after (take place.offset text)
   pub is_there : place.is_there ≡ (lead pointer value).is_there
 

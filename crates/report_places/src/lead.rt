@@ -1,9 +1,10 @@
 //! Where a pointer leads on the tape of a text.
-ghost use Rattle.std.specs.Prelude.{◌≡◌, ◌<◌, length, map};
+ghost use Rattle.std.specs.Prelude.{◌≡◌, map};
 ghost use Rattle.json.specs.Json.{Json};
 ghost use Rattle.json.specs.Tree.{json_tokens};
 ghost use Rattle.json.specs.Tape.{node_token, Linked};
 ghost use Rattle.report_places.specs.Lead.{lead};
+ghost use Rattle.report_places.specs.OnTape.{led, Begins};
 
 use crate::tape::child;
 use json::Node;
@@ -18,9 +19,10 @@ pub(crate) struct Lead {
 /// Where a pointer leads.
 pub(crate) fn lead_of(nodes: &[Node<'_>], pointer: &str) -> Lead
     requires { Linked (map node_token nodes.now) 0 nodes.now }
-    ensures same { (value : Json) → map node_token nodes.now ≡ json_tokens value → result ≡ lead pointer.now value }
-    ensures within { (value : Json) → map node_token nodes.now ≡ json_tokens value
-        → result.token < length nodes.now }
+    ensures same { (value : Json) → map node_token nodes.now ≡ json_tokens value
+        → result ≡ led (lead pointer.now value) }
+    ensures stands { (value : Json) → map node_token nodes.now ≡ json_tokens value
+        → Begins (map node_token nodes.now) result.token (lead pointer.now value).value }
 {
     let mut token = 0;
     if pointer.is_empty() {

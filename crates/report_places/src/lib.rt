@@ -3,6 +3,7 @@
 //! `places` answers an offset, a line and a column for each pointer. What a value means is nothing that it knows.
 #![tactic(auto)]
 
+pub mod laws;
 mod lead;
 mod mode;
 mod part;
@@ -11,6 +12,8 @@ mod position;
 mod shown;
 mod spot;
 mod tape;
+#[cfg(test)]
+mod tests;
 
 pub use place::{Place, places};
 pub use position::{Position, position_of};

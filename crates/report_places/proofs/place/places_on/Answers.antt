@@ -1,4 +1,4 @@
-use Rattle.std.proofs.Common.{◌≡◌, ℕ, ◌<◌, List, [], ◌∷◌, ◌++◌, length, map, take, get_or, sym, ap, ◌∙◌, subst, arith}
+use Rattle.std.proofs.Common.{◌≡◌, ℕ, ◌<◌, List, [], ◌∷◌, ◌++◌, length, map, take, drop, get_or, sym, ap, ◌∙◌, subst, arith}
 use Rattle.std.proofs.lemmas.List.{length-map}
 use Rattle.json.specs.Json.{document}
 use Rattle.json.specs.Lex.{tokens, between}
@@ -7,7 +7,9 @@ use Rattle.json.specs.Tree.{json_tokens}
 use Rattle.json.proofs.Unique.Spelling.{tokens-document}
 use Rattle.report_places.specs.Position.{start}
 use Rattle.report_places.specs.Scan.{spots_from}
+use Rattle.report_places.specs.OnTape.{Begins}
 use Rattle.report_places.specs.Place.{ArePlacesOf}
+use Rattle.report_places.proofs.Tapes.{within_nodes}
 use Rattle.report_places.specs.declared.place.Place.{Place}
 use Rattle.report_places.proofs.Lists.{push_place, one_pointer_more}
 use Rattle.report_places.proofs.Spots.{length-spots, place_is}
@@ -21,7 +23,7 @@ index-spot-requires c =
     let spelled = tokens-document text value c.requires.1 in
     let on_tape : map node_token c.nodes-nodes.result.now ≡ json_tokens value = c.nodes-nodes.ensures.tokens ∙ c.requires.2 ∙ spelled in
     let spots : c.in_ok-spots.spots.items ≡ spots_from between start 0 text = c.in_ok-spots.ensures ∙ ap (spots_from between start 0) c.as_bytes.ensures.value in
-    omega (arith, c.lead_of-lead.ensures.within value on_tape, ap length on_tape, length-map c.nodes-nodes.result.now node_token, ap length spelled, length-tokens text value spelled, ap length spots, length-spots text)
+    omega (arith, within_nodes c.nodes-nodes.result.now c.lead_of-lead.result.token _ _ (c.lead_of-lead.ensures.stands value on_tape).1, ap length on_tape, length-map c.nodes-nodes.result.now node_token, ap length spelled, length-tokens text value spelled, ap length spots, length-spots text)
 
 pub loop-pointer-preserved : goal.loop-pointer-preserved
 loop-pointer-preserved c value doc =
@@ -30,11 +32,13 @@ loop-pointer-preserved c value doc =
     let on_tape : map node_token c.nodes-nodes.result.now ≡ json_tokens value = c.nodes-nodes.ensures.tokens ∙ c.requires.2 ∙ spelled in
     let spots : c.in_ok-spots.spots.items ≡ spots_from between start 0 text = c.in_ok-spots.ensures ∙ ap (spots_from between start 0) c.as_bytes.ensures.value in
     let lead = c.lead_of-lead.result in
+    let stands = c.lead_of-lead.ensures.stands value on_tape in
     let spot = c.index-spot.result.now in
     let within : lead.token < length (spots_from between start 0 text) =
-    omega (arith, c.lead_of-lead.ensures.within value on_tape, ap length on_tape, length-map c.nodes-nodes.result.now node_token, ap length spelled, length-tokens text value spelled, length-spots text) in
+    omega (arith, within_nodes c.nodes-nodes.result.now c.lead_of-lead.result.token _ _ (c.lead_of-lead.ensures.stands value on_tape).1, ap length on_tape, length-map c.nodes-nodes.result.now node_token, ap length spelled, length-tokens text value spelled, length-spots text) in
     let place : Place = record { offset = spot.offset; position = spot.position; is_there = lead.is_there } in
-    let is = place_is text value _ lead spot (c.lead_of-lead.ensures.same value on_tape) (c.index-spot.ensures ∙ ap (λ l. get_or l lead.token spot) spots) within in
+    let is = place_is text value _ lead spot spelled (c.lead_of-lead.ensures.same value on_tape)
+    (stands.0, ap (drop lead.token) (sym (c.nodes-nodes.ensures.tokens ∙ c.requires.2)) ∙ stands.1) (c.index-spot.ensures ∙ ap (λ l. get_or l lead.token spot) spots) within in
     let before = map (λ pointer. pointer.now) (take c.loop-pointer.pointer-index c.args.pointers.now) in
     let pushed = push_place text value before c.loop-pointer.places.items _ place (c.loop-pointer.invariant value doc) is in
     let P : List (List ℕ) → List Place → Type 0 = ArePlacesOf text value in
