@@ -24,8 +24,27 @@ fn starts_with_zero(bytes: &[u8]) -> bool
     !bytes.is_empty() && bytes[0] == b'0'
 }
 
-/// Whether a part is the name, with `~0` for `~` and `~1` for a slash.
-pub(crate) fn unescapes_to(part: &[u8], name: &[u8]) -> bool
+/// Whether a part has nothing that is written otherwise than it is.
+pub(crate) fn is_plain(part: &str) -> bool
+    ensures { IsTrue result → unescape part.now ≡ part.now }
+{
+    !part.contains('~')
+}
+
+/// Whether a part, which may be known to stand for itself, is the name.
+pub(crate) fn is_name(part: &str, as_it_is: bool, name: &str) -> bool
+    requires { IsTrue as_it_is → unescape part.now ≡ part.now }
+    ensures { IsTrue result ↔ (unescape part.now ≡ name.now) }
+{
+    if as_it_is {
+        part == name
+    } else {
+        unescapes_to(part.as_bytes(), name.as_bytes())
+    }
+}
+
+// Whether a part is the name, with `~0` for `~` and `~1` for a slash.
+fn unescapes_to(part: &[u8], name: &[u8]) -> bool
     ensures { IsTrue result ↔ (unescape part.now ≡ name.now) }
 {
     let mut at = 0;

@@ -8,7 +8,7 @@ ghost use Rattle.serde_json.specs.Find.{unescape};
 ghost use Rattle.report_places.specs.Lead.{child as child_lem, element_of, member_of};
 ghost use Rattle.report_places.specs.OnTape.{IsFound, IsNodeAt, IsNameAt, HasElementAt};
 
-use crate::part::{index_in, unescapes_to};
+use crate::part::{index_in, is_name, is_plain};
 use json::Node;
 
 /// Where the value begins that a part of a pointer names in the value at `at`.
@@ -32,10 +32,11 @@ fn member(nodes: &[Node<'_>], from: usize, part: &str) -> Option<usize>
         → drop from (map node_token nodes.now) ≡ members_tokens members ++ rest
         → IsFound (map node_token nodes.now) from (member_of (unescape part.now) members) result }
 {
+    let as_it_is = is_plain(part);
     let mut found = None;
     let mut at = from;
     'members: while let Some(name) = name_at(nodes, at) {
-        if unescapes_to(part.as_bytes(), name.as_bytes()) {
+        if is_name(part, as_it_is, name) {
             found = Some(at + 1);
         }
         at = after(nodes, at + 1);

@@ -10,7 +10,7 @@ use Rattle.report_places.specs.OnTape.{left_at, IsFound}
 use Rattle.report_places.proofs.Lists.{skip_front, named, unnamed}
 use Rattle.report_places.proofs.Tapes.{first_member}
 use Rattle.report_places.proofs.tape.member.Goals as goal
-use Rattle.report_places.proofs.tape.member.Goals.{then-unescapes_to, else-unescapes_to}
+use Rattle.report_places.proofs.tape.member.Goals.{then-is_name, else-is_name}
 
 pub members-preserved : goal.members-preserved
 members-preserved c = (
@@ -31,11 +31,9 @@ members-preserved c = (
       let far : l.at - from + (1 + size) ≡ c.after-at.result - from = omega (arith, next, l.invariant.0) in
       let turn = now.3 ∙ ap (λ x. later_or (behind (l.at - from) (member_of wanted x)) now.1) f.2 in
       let pick = λ (b : Bool). later_or (behind (l.at - from) (later_or (behind (1 + size) more) (cond b (Some (1, f.0)) None))) now.1 in
-      let part : unescape c.as_bytes.result.now ≡ wanted = ap unescape c.as_bytes.ensures.value in
-      let key : c.as_bytes-in-Some.result.now ≡ name = c.as_bytes-in-Some.ensures.value in
-      elim c.if-unescapes_to.branch [
-        | then-unescapes_to w ↦
-            (let is : bytes_eq name wanted ≡ true = (bytes_eq-Decides name wanted).1 (sym (sym part ∙ c.unescapes_to.ensures.0 w.if-unescapes_to.true ∙ key)) in
+      elim c.if-is_name.branch [
+        | then-is_name w ↦
+            (let is : bytes_eq name wanted ≡ true = (bytes_eq-Decides name wanted).1 (sym (c.is_name.ensures.0 w.if-is_name.true)) in
             let there : Found = (l.at - from + 1, f.0) in (
               f.1,
               Some there,
@@ -43,8 +41,8 @@ members-preserved c = (
               turn ∙ ap pick is ∙ named (l.at - from) (1 + size) f.0 more now.1 ∙ ap (λ n. later_or (behind n more) (Some there)) far,
               subst (IsFound all from (Some there)) (sym w.found-is) (there, refl, record { token = omega (arith, l.invariant.0); rest = _; begins = f.3 }),
             ))
-        | else-unescapes_to w ↦
-            (let is : bytes_eq name wanted ≡ false = false_from_ne_true _ (λ t. true≢false (sym (c.unescapes_to.ensures.1 (part ∙ sym ((bytes_eq-Decides name wanted).0 t) ∙ sym key)) ∙ w.if-unescapes_to.false)) in (
+        | else-is_name w ↦
+            (let is : bytes_eq name wanted ≡ false = false_from_ne_true _ (λ t. true≢false (sym (c.is_name.ensures.1 (sym ((bytes_eq-Decides name wanted).0 t))) ∙ w.if-is_name.false)) in (
               f.1,
               now.1,
               cut,
