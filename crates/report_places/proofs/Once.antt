@@ -1,8 +1,8 @@
 -- The count of tokens rises with the bytes, so it rises to a number at one offset alone.
-use Rattle.std.proofs.Common.{◌≡◌, ℕ, zero, suc, ◌+◌, ◌<◌, ◌≤◌, List, [], ◌∷◌, take, count_by, ◌⊎◌, inl, inr, refl, arith}
+use Rattle.std.proofs.Common.{◌≡◌, ℕ, zero, suc, ◌+◌, ◌<◌, ◌≤◌, List, [], ◌∷◌, take, count_by, ◌⊎◌, inl, inr, arith}
 use Rattle.std.proofs.lemmas.Bool.{cases_lt}
 use Rattle.json.specs.Lex.{class, lex, Mode, between}
-use Rattle.report_places.specs.Offset.{is_token, token_count, BeginsAt}
+use Rattle.report_places.specs.Offset.{is_token, BeginsAt}
 use Rattle.report_places.specs.Scan.{next_mode}
 use Rattle.report_places.proofs.Modes.{one_byte}
 

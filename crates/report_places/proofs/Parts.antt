@@ -1,7 +1,7 @@
 -- A pointer, a part at a time.
-use Rattle.std.proofs.Common.{◌≡◌, ◌≢◌, ℕ, suc, ◌+◌, ◌<◌, List, [], ◌∷◌, ◌++◌, length, get_or, false, true, None, Some, refl, sym, ap, ◌∙◌, arith, append_assoc, append-nil, ne_eqb}
+use Rattle.std.proofs.Common.{◌≡◌, ◌≢◌, ℕ, suc, ◌<◌, List, [], ◌∷◌, ◌++◌, length, get_or, false, refl, sym, ap, ◌∙◌, arith, append_assoc, append-nil, ne_eqb}
 use Rattle.json.specs.Json.{Json}
-use Rattle.report_places.specs.Lead.{Found, along, child, go_on, lead, parts_of}
+use Rattle.report_places.specs.Lead.{along, child, go_on, lead, parts_of}
 
 abbrev pub Lacks : ℕ → List ℕ → Type 0
 Lacks c xs = (i : ℕ) → i < length xs → get_or xs i 0 ≢ c

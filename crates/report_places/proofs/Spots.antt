@@ -1,5 +1,5 @@
 -- The spots are where tokens begin.
-use Rattle.std.proofs.Common.{◌≡◌, ℕ, zero, suc, ◌+◌, ◌<◌, ◌≤◌, List, [], ◌∷◌, ◌++◌, length, take, drop, append_assoc, append-nil, get_or, fold, cond, Bool, true, false, count_by, refl, sym, ap, ◌∙◌, subst, arith, add_comm}
+use Rattle.std.proofs.Common.{◌≡◌, ℕ, zero, suc, ◌+◌, ◌<◌, ◌≤◌, List, [], ◌∷◌, ◌++◌, length, take, drop, append_assoc, append-nil, get_or, fold, cond, Bool, true, false, count_by, refl, sym, ap, ◌∙◌, subst, arith}
 use Rattle.std.proofs.Math.Nat.{zero-add}
 use Rattle.std.proofs.lemmas.List.{drop_more, drop_all}
 use Rattle.std.proofs.lemmas.List.Sums.{sum_by-append}
@@ -14,7 +14,7 @@ use Rattle.report_places.specs.Place.{IsPlaceOf}
 use Rattle.report_places.specs.OnTape.{led, Begins}
 use Rattle.report_places.proofs.Tokens.{goes_on}
 use Rattle.report_places.specs.declared.lead.Lead.{Lead}
-use Rattle.report_places.specs.Offset.{is_token, token_count, BeginsAt}
+use Rattle.report_places.specs.Offset.{is_token, token_count}
 use Rattle.report_places.specs.Position.{start, step, position_after, is_line_feed, begins_character}
 use Rattle.report_places.specs.Scan.{next_mode, begins, spot_if, spots_from}
 use Rattle.report_places.specs.declared.position.Position.{Position}

@@ -1,7 +1,7 @@
 -- Where tokens begin, a byte at a time. No public clause cites this file.
-use Rattle.std.specs.Prelude.{ℕ, ◌+◌, ◌==◌, ◌||◌, List, [], ◌∷◌, Bool, true, false, not, cond}
+use Rattle.std.specs.Prelude.{ℕ, ◌+◌, ◌==◌, ◌||◌, List, [], ◌∷◌, Bool, false, not, cond}
 use Rattle.json.specs.Word.{is_operator, is_space}
-use Rattle.json.specs.Lex.{Class, quote, backslash, operator, space, other, class, operator_lexeme, Mode, between, in_word, in_string, in_escape}
+use Rattle.json.specs.Lex.{Class, quote, backslash, operator, space, other, class, Mode, between, in_word, in_string, in_escape}
 use Rattle.report_places.specs.declared.mode.Mode as code
 use Rattle.report_places.specs.declared.mode.Mode.TheVariants.{Between, InWord, InString, InEscape}
 use Rattle.report_places.specs.declared.position.Position.{Position}

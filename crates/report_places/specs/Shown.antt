@@ -1,5 +1,5 @@
 -- The text of a value, to show it.
-use Rattle.std.specs.Prelude.{ℕ, zero, suc, ◌+◌, ◌==◌, ◌||◌, List, [], ◌∷◌, take, Bool, not, if◌then◌else◌, Option, Some, None, option_map}
+use Rattle.std.specs.Prelude.{ℕ, zero, suc, ◌==◌, ◌||◌, List, [], ◌∷◌, take, Bool, not, if◌then◌else◌, Option, Some, None, option_map}
 use Rattle.std.specs.List.{prefix_len}
 use Rattle.json.specs.Word.{is_operator, is_space}
 use Rattle.json.specs.Lex.{in_string}

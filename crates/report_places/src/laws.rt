@@ -1,4 +1,5 @@
-//! What holds of every text. What may live here: functions that do nothing, each with a law about the definitions as its contract.
+//! What holds of every text. What may live here: functions that do nothing, each with a law about the definitions as
+//! its contract.
 ghost use Rattle.std.specs.Prelude.{◌≡◌, List, ℕ};
 ghost use Rattle.report_places.specs.Offset.{BeginsAt};
 

@@ -1,5 +1,5 @@
 //! The text of a value, to show it.
-ghost use Rattle.std.specs.Prelude.{◌≡◌, ◌+◌, ◌≤◌, drop, take, length, option_map, MatchOption, None};
+ghost use Rattle.std.specs.Prelude.{◌≡◌, ◌≤◌, drop, take, length, option_map};
 ghost use Rattle.std.specs.List.{prefix_len};
 ghost use Rattle.json.specs.Lex.{in_string};
 ghost use Rattle.json.specs.Align.{span};

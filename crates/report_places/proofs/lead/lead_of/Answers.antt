@@ -1,8 +1,7 @@
-use Rattle.std.proofs.Common.{◌≡◌, [], ◌∷◌, ◌++◌, Some, map, true, false, sym, ap, ◌∙◌, arith, rules, append-nil}
+use Rattle.std.proofs.Common.{[], ◌++◌, sym, ap, ◌∙◌, arith, rules, append-nil}
 use Rattle.std.proofs.lemmas.Str.Pattern.{strip_prefix_char, split_parts}
-use Rattle.json.specs.Tape.{node_token}
 use Rattle.json.specs.Tree.{json_tokens}
-use Rattle.report_places.specs.Lead.{Reached, along, go_on, lead, parts_of}
+use Rattle.report_places.specs.Lead.{along, go_on, lead, parts_of}
 use Rattle.report_places.specs.OnTape.{led}
 use Rattle.report_places.proofs.Parts.{along_part, along_last, empty, no_slash}
 use Rattle.report_places.proofs.lead.lead_of.Goals as goal

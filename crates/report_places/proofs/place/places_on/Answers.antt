@@ -1,13 +1,11 @@
 use Rattle.std.proofs.Common.{◌≡◌, ℕ, ◌<◌, List, [], ◌∷◌, ◌++◌, length, map, take, drop, get_or, sym, ap, ◌∙◌, subst, arith}
 use Rattle.std.proofs.lemmas.List.{length-map}
-use Rattle.json.specs.Json.{document}
-use Rattle.json.specs.Lex.{tokens, between}
+use Rattle.json.specs.Lex.{between}
 use Rattle.json.specs.Tape.{node_token}
 use Rattle.json.specs.Tree.{json_tokens}
 use Rattle.json.proofs.Unique.Spelling.{tokens-document}
 use Rattle.report_places.specs.Position.{start}
 use Rattle.report_places.specs.Scan.{spots_from}
-use Rattle.report_places.specs.OnTape.{Begins}
 use Rattle.report_places.specs.Place.{ArePlacesOf}
 use Rattle.report_places.proofs.Tapes.{within_nodes}
 use Rattle.report_places.specs.declared.place.Place.{Place}

@@ -1,4 +1,4 @@
-use Rattle.std.proofs.Common.{◌≡◌, List, ℕ, map, take, Some}
+use Rattle.std.proofs.Common.{◌≡◌, map, take, Some}
 use Rattle.json.specs.Json.{Json, document}
 use Rattle.report_places.specs.Place.{ArePlacesOf}
 use Rattle.report_places.proofs.place.places_on.Given as goal

@@ -1,4 +1,4 @@
-use Rattle.std.proofs.Common.{◌≡◌, ◌+◌, ◌-◌, ◌++◌, ℕ, suc, take, drop, sym, ap, ◌∙◌, arith}
+use Rattle.std.proofs.Common.{◌+◌, ◌-◌, ◌++◌, ℕ, take, drop, sym, ap, ◌∙◌, arith}
 use Rattle.report_places.specs.Shown.{first_characters}
 use Rattle.report_places.proofs.Strings.{one_character, same_character, no_more, all_of_them}
 use Rattle.report_places.proofs.shown.characters_len.Goals as goal

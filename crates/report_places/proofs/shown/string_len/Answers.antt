@@ -1,4 +1,4 @@
-use Rattle.std.proofs.Common.{◌≡◌, ◌+◌, cond, Bool, true, false, get_or, sym, ap, ◌∙◌, subst, arith}
+use Rattle.std.proofs.Common.{◌+◌, cond, Bool, sym, ap, ◌∙◌, arith}
 use Rattle.json.specs.Lex.{in_string, in_escape}
 use Rattle.json.specs.Align.{span}
 use Rattle.std.proofs.Common.{drop}

@@ -1,4 +1,4 @@
-use Rattle.std.proofs.Common.{◌≡◌, ◌+◌, ◌≤◌, get_or, sym, ap, ◌∙◌, true, false, arith}
+use Rattle.std.proofs.Common.{◌+◌, ◌≤◌, get_or, sym, ap, ◌∙◌, true, false, arith}
 use Rattle.report_places.specs.Position.{start}
 use Rattle.report_places.specs.Scan.{mode_of, spots_from}
 use Rattle.json.specs.Lex.{between}

@@ -1,4 +1,4 @@
-use Rattle.std.proofs.Common.{◌<◌, map, length, get_or, subst, arith}
+use Rattle.std.proofs.Common.{◌<◌, map, length, subst, arith}
 use Rattle.std.proofs.lemmas.List.{get_or_default}
 use Rattle.json.specs.Tape.{node_token, LinkAt}
 use Rattle.json.specs.declared.tape.Node.TheVariants.{Object, Null}
