@@ -7,3 +7,4 @@ mod Parts
 mod Lists
 mod Strings
 mod Once
+mod Agree

@@ -18,6 +18,9 @@ abbrev pub later_or : Option Found → Option Found → Option Found
 later_or None earlier = earlier
 later_or (Some v) earlier = Some v
 
+abbrev pub value_of : Option Found → Option Json
+value_of = option_map (λ v. v.1)
+
 -- the value of the last member of that name; the name of a member is a token of its own
 abbrev pub member_of : List ℕ → Members → Option Found
 member_of name no_members = None

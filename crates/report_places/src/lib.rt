@@ -1,7 +1,7 @@
 //! Where in the bytes of a JSON text the value is that a JSON Pointer names.
 //!
-//! `places` answers an offset, a line and a column for each pointer, and `value_text` shows a value. What may live here:
-//! where something stands in a JSON text, whatever it means.
+//! `places` answers an offset, a line and a column for each pointer, and `value_text` shows a value. What may live
+//! here: where something stands in a JSON text, whatever it means.
 #![tactic(auto)]
 
 pub mod laws;
