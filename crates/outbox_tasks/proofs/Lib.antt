@@ -1,0 +1,6 @@
+mod Looks
+mod Opens
+mod Sendings
+mod Showings
+mod Trying
+mod Turns

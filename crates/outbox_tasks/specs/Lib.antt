@@ -1,0 +1,9 @@
+pub mod Dials
+pub mod Faults
+pub mod Lines
+pub mod Looking
+pub mod Memory
+pub mod Putting
+pub mod Rounds
+pub mod Sending
+pub mod Showing

@@ -1,0 +1,26 @@
+-- What contracts see of connections in memory.
+use Rattle.std.specs.Prelude.{ℕ, List, Some, map, option_map, false}
+use Rattle.outbox_tasks.specs.declared.memory.Finished.{Finished}
+use Rattle.outbox_tasks.specs.declared.memory.Kept.{Kept}
+use Rattle.outbox_tasks.specs.declared.memory.Replies.{Replies}
+use Rattle.outbox_tasks.specs.Dials.{Output, Traffic}
+
+-- what was written
+abbrev pub bytes_kept : Kept → List ℕ
+bytes_kept kept = kept.text.items
+
+-- how often memory was refused
+abbrev pub refusals : Kept → ℕ
+refusals kept = kept.refused
+
+-- what a connection came to
+abbrev pub output_of : Finished → Output
+output_of finished = record { id = finished.id; came = finished.came; bytes = finished.text.items }
+
+-- all that is to come, and what all that is over came to, unless memory was refused for one
+abbrev pub traffic_of : Replies → Traffic
+traffic_of replies = record {
+  coming = Some (map (λ bytes. bytes.items) replies.coming.now);
+  over = option_map (λ over. map output_of over.items) replies.over;
+  gives_up = false;
+}

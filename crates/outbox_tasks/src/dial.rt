@@ -1,0 +1,42 @@
+//! A network, as a list of the connections that are made on it.
+
+ghost use Rattle.std.specs.Prelude.{◌≡◌};
+ghost use Rattle.http_wire.specs.Wire.{wire};
+ghost use Rattle.outbox_tasks.specs.Dials.{Traffic, Connects, Adds};
+
+use filer_client::ExchangeFault;
+use http_wire::{Sink, Source};
+use outbox_core::State;
+use std::io;
+
+/// A network on which connections are made to a peer, one after another.
+pub trait Dial {
+    /// What reads the bytes that come on a connection.
+    type Reader: Source + Drop;
+
+    /// What writes on it.
+    type Writer: Sink + Drop;
+
+    // What the peer writes from here on, and what the connections came to that are over, where these are known; and
+    // whether it gives up.
+    ghost traffic: { Self → Traffic };
+
+    /// Makes a connection.
+    fn connect(&mut self) -> io::Result<(Self::Reader, Self::Writer)>
+        ensures { Connects (wire Self.Reader.Source Self.Writer.Sink) (traffic self.old) (traffic self.new) result };
+
+    /// Takes a connection back that is over, and what came of the exchange that was made on it for the entry of this id.
+    fn end(
+        &mut self,
+        reader: Self::Reader,
+        writer: Self::Writer,
+        id: u64,
+        came: Result<State, ExchangeFault>,
+    )
+        ensures coming { (traffic self.new).coming ≡ (traffic self.old).coming }
+        ensures over { Adds (traffic self.old).over (traffic self.new).over id came (Self.Writer.written writer) };
+
+    /// Whether no more exchanges of a round are to be made after one that failed.
+    fn gives_up(&self) -> bool
+        ensures { result ≡ (traffic self.now).gives_up };
+}

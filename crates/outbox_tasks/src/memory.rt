@@ -1,0 +1,134 @@
+//! A network in memory, on which what comes is given.
+
+ghost use Rattle.std.specs.Prelude.{◌≡◌, ◌++◌, ◌∷◌, [], Some, IfSome, map, option_map, false};
+ghost use Rattle.outbox_tasks.specs.Memory.{bytes_kept, refusals, output_of, traffic_of};
+
+use crate::dial::Dial;
+use filer_client::ExchangeFault;
+use http_wire::{Device, DeviceFailed, Sink};
+use outbox_core::State;
+use std::alloc::Global;
+use std::io;
+
+/// What was written so far. A write fails where memory runs out.
+#[derive(Drop)]
+pub struct Kept {
+    text: Vec<u8>,
+    refused: u64,
+}
+
+impl Sink for Kept {
+    ghost written = { λ kept. Some (bytes_kept kept) };
+
+    ghost write_failures = { refusals };
+
+    fn write(&mut self, text: &[u8]) -> Result<usize, DeviceFailed> {
+        match self.text.extend_from_slice(text) {
+            Ok(()) => Ok(text.len()),
+            Err(_) => {
+                self.refused = self.refused.saturating_add(1);
+                Err(DeviceFailed)
+            }
+        }
+    }
+}
+
+/// What a connection came to that is over.
+#[derive(Drop)]
+pub struct Finished {
+    /// The entry for which it was made.
+    pub id: u64,
+    /// What came of the exchange.
+    pub came: Result<State, ExchangeFault>,
+    /// What was written.
+    pub text: Vec<u8>,
+}
+
+/// A network on which a peer writes one of these texts on each connection.
+#[derive(Drop)]
+pub struct Replies<'a> {
+    alloc: Global,
+    coming: &'a [Vec<u8>],
+    /// None once memory was refused for one.
+    over: Option<Vec<Finished>>,
+}
+
+impl<'a> Replies<'a> {
+    /// The network on which these come.
+    pub fn new(alloc: Global, coming: &'a [Vec<u8>]) -> Replies<'a>
+        ensures { traffic_of result ≡ record
+            { coming = Some (map (λ bytes. bytes.items) coming.now); over = Some []; gives_up = false } }
+    {
+        Replies {
+            alloc,
+            coming,
+            over: Some(Vec::new(alloc)),
+        }
+    }
+
+    /// What the connections came to that are over, in the order in which they were made, unless memory was refused for
+    /// one.
+    pub fn finished(&self) -> Option<&[Finished]>
+        ensures { option_map (λ all. map output_of all.now) result ≡ (traffic_of self.now).over }
+    {
+        match &self.over {
+            Some(over) => Some(over.as_slice()),
+            None => None,
+        }
+    }
+}
+
+/// These and one more, unless memory is refused for it.
+fn with_one(over: Vec<Finished>, finished: Finished) -> Option<Vec<Finished>>
+    ensures { IfSome result (λ all. all.items ≡ over.items ++ finished ∷ []) }
+{
+    let mut over = over;
+    match over.push(finished) {
+        Ok(()) => Some(over),
+        Err(_) => None,
+    }
+}
+
+impl<'a> Dial for Replies<'a> {
+    type Reader = Device<&'a [u8]>;
+
+    type Writer = Kept;
+
+    ghost traffic = { traffic_of };
+
+    fn connect(&mut self) -> io::Result<(Device<&'a [u8]>, Kept)> {
+        match self.coming.split_first() {
+            Some((first, more)) => {
+                self.coming = more;
+                let writer = Kept {
+                    text: Vec::new(self.alloc),
+                    refused: 0,
+                };
+                Ok((Device::new(first.as_slice()), writer))
+            }
+            None => Err(io::ErrorKind::ConnectionRefused.into()),
+        }
+    }
+
+    fn end(
+        &mut self,
+        _reader: Device<&'a [u8]>,
+        writer: Kept,
+        id: u64,
+        came: Result<State, ExchangeFault>,
+    ) {
+        let finished = Finished {
+            id,
+            came,
+            text: writer.text,
+        };
+        self.over = match self.over.take() {
+            Some(over) => with_one(over, finished),
+            None => None,
+        };
+    }
+
+    fn gives_up(&self) -> bool {
+        false
+    }
+}
