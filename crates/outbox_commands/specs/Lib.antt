@@ -1,1 +1,2 @@
+pub mod Networks
 pub mod Targets

@@ -2,22 +2,24 @@
 
 ghost use Rattle.table_rows.specs.Standing.{IsAtRest};
 
-use crate::calls;
 use crate::fault::{Fault, VisitFault};
-use crate::line::{EntryLine, LongLine};
 use crate::options::{Peer, Target, Which};
 use crate::sending::send;
 use command_files::{Cache, FileSystem, Holding, Left, Opening, Work, held_in, on_database};
 use command_line::show;
 use key_string::KeyText;
-use outbox_core::{Entry, Outbox, OutboxFault, State};
+use outbox_core::{Entry, Outbox, OutboxFault, read_outbox};
+use outbox_tasks::{TaskFault, put, show_each, show_entry, show_states};
 use sqlite::{Alter, Connection, Error};
 use sqlite_disk::Disk;
-use std::alloc::{AllocError, Global};
+use std::alloc::Global;
 use std::io::Write;
 
 /// How many entries before a new one are compared with it.
 const MOST_COMPARED: u64 = 16;
+
+/// The port of a task that makes no connection.
+const NO_PORT: u16 = 0;
 
 /// What is done with an outbox.
 #[derive(Drop)]
@@ -157,9 +159,22 @@ fn create<S: Alter + Drop>(
     if held != Holding::Nothing {
         return Err(VisitFault::Taken(held));
     }
-    match calls::create(alloc, conn, filer) {
+    match Outbox::create_or_back(alloc, conn, filer) {
         Ok(outbox) => Ok(outbox),
         Err((fault, back)) => Err(VisitFault::of_opening(fault, held_in(&back))),
+    }
+}
+
+/// Reads the outbox of a database, which is one of this version unless this fails.
+fn read<S: Alter + Drop>(alloc: Global, conn: &mut Connection<S>) -> Result<(), OutboxFault>
+    requires { IsAtRest conn.old }
+    ensures { IsAtRest conn.new }
+{
+    let read = read_outbox(alloc, conn);
+    conn.set_step_limit(None);
+    match read {
+        Ok(_) => Ok(()),
+        Err(fault) => Err(fault),
     }
 }
 
@@ -167,7 +182,7 @@ fn create<S: Alter + Drop>(
 fn migrate<S: Alter + Drop>(alloc: Global, mut conn: Connection<S>) -> Result<Outbox<S>, VisitFault>
     requires { IsAtRest conn }
 {
-    match calls::read(alloc, &mut conn) {
+    match read(alloc, &mut conn) {
         Ok(()) => Err(VisitFault::IsCurrent),
         Err(OutboxFault::NotOurs) => migrate_earlier(alloc, conn),
         Err(fault) => Err(VisitFault::of_migrating(fault, held_in(&conn))),
@@ -181,7 +196,7 @@ fn migrate_earlier<S: Alter + Drop>(
 ) -> Result<Outbox<S>, VisitFault>
     requires { IsAtRest conn }
 {
-    match calls::migrate(alloc, conn) {
+    match Outbox::migrate_or_back(alloc, conn) {
         Ok(outbox) => Ok(outbox),
         Err((fault, back)) => Err(VisitFault::of_migrating(fault, held_in(&back))),
     }
@@ -191,7 +206,7 @@ fn migrate_earlier<S: Alter + Drop>(
 fn open<S: Alter + Drop>(alloc: Global, conn: Connection<S>) -> Result<Outbox<S>, VisitFault>
     requires { IsAtRest conn }
 {
-    match calls::open(alloc, conn) {
+    match Outbox::open_or_back(alloc, conn) {
         Ok(outbox) => Ok(outbox),
         Err((fault, back)) => Err(VisitFault::of_opening(fault, held_in(&back))),
     }
@@ -225,7 +240,7 @@ fn done<'a, S: Alter + Drop, O: Write, E: Write>(
             target,
             body,
         } => {
-            let id = put(rt, name, outbox, key, target, body, output)?;
+            let id = put_in(rt, name, outbox, key, target, body, output)?;
             if is_random {
                 tell_same(outbox, id, errors);
             }
@@ -233,8 +248,9 @@ fn done<'a, S: Alter + Drop, O: Write, E: Write>(
         }
         Errand::Migrate => show_migrated(output),
         Errand::Send { peer, which } => send(rt, name, peer, outbox, which, output, errors),
-        Errand::Status => show_states(rt.alloc(), name, outbox, output),
-        Errand::Show { entry } => show_entries(rt.alloc(), name, outbox, entry, output),
+        Errand::Status => told(name, show_states(rt.alloc(), outbox, output)),
+        Errand::Show { entry: Some(id) } => told(name, show_entry(rt.alloc(), outbox, id, output)),
+        Errand::Show { entry: None } => told(name, show_each(rt.alloc(), outbox, output)),
     }
 }
 
@@ -242,23 +258,16 @@ fn show_migrated<'a, O: Write>(output: &mut O) -> Result<(), Fault<'a>> {
     Ok(show(output, b"migrated\n")?)
 }
 
-/// Prints the id of an entry that was put in. Where the output takes nothing the fault names it, so that the report is
-/// not put in again.
-fn show_id<'a, O: Write>(
-    rt: &HostRuntime,
-    name: &'a str,
-    id: u64,
-    output: &mut O,
-) -> Result<(), Fault<'a>> {
-    let text = format!(in rt.alloc(); "entry {id}\n")?;
-    match show(output, text.as_bytes()) {
+/// What came of a task that makes no connection, on the outbox of the file with this name.
+fn told<'a>(name: &'a str, done: Result<(), TaskFault>) -> Result<(), Fault<'a>> {
+    match done {
         Ok(()) => Ok(()),
-        Err(_) => Err(VisitFault::NotTold { id }.at(name)),
+        Err(fault) => Err(Fault::of_task(fault, name, NO_PORT, None)),
     }
 }
 
 /// Puts a report in, and prints its id before the files are closed, since it is kept from then on.
-fn put<'a, S: Alter + Drop, O: Write>(
+fn put_in<'a, S: Alter + Drop, O: Write>(
     rt: &HostRuntime,
     name: &'a str,
     outbox: &mut Outbox<S>,
@@ -267,12 +276,9 @@ fn put<'a, S: Alter + Drop, O: Write>(
     body: Vec<u8>,
     output: &mut O,
 ) -> Result<u64, Fault<'a>> {
-    match calls::put(outbox, key, target, body) {
-        Ok(id) => {
-            show_id(rt, name, id, output)?;
-            Ok(id)
-        }
-        Err(fault) => Err(VisitFault::from(fault).at(name)),
+    match put(rt.alloc(), outbox, key, target.number, body, output) {
+        Ok(id) => Ok(id),
+        Err(fault) => Err(Fault::of_task(fault, name, NO_PORT, None)),
     }
 }
 
@@ -286,7 +292,7 @@ fn is_same(one: &Entry, other: &Entry) -> bool {
 fn same_before<S: Alter + Drop>(outbox: &mut Outbox<S>, entry: &Entry) -> Option<u64> {
     let first = entry.id.saturating_sub(MOST_COMPARED).max(1);
     for id in (first..entry.id).rev() {
-        if let Ok(Some(other)) = calls::entry(outbox, id) {
+        if let Ok(Some(other)) = outbox.entry(id) {
             if is_same(entry, &other) {
                 return Some(id);
             }
@@ -297,111 +303,11 @@ fn same_before<S: Alter + Drop>(outbox: &mut Outbox<S>, entry: &Entry) -> Option
 
 /// Says on the standard error if one of the last few entries has the report of this one too.
 fn tell_same<S: Alter + Drop, E: Write>(outbox: &mut Outbox<S>, id: u64, errors: &mut E) {
-    let Ok(Some(entry)) = calls::entry(outbox, id) else {
+    let Ok(Some(entry)) = outbox.entry(id) else {
         return;
     };
     if let Some(same) = same_before(outbox, &entry) {
         // Nothing is left to be done if this text can't be written either.
         let _ = writeln!(errors, "outbox: the same report is entry {same}");
-    }
-}
-
-/// The entry of this id.
-pub fn entry_of<'a, S: Alter + Drop>(
-    outbox: &mut Outbox<S>,
-    name: &'a str,
-    id: u64,
-) -> Result<Entry, Fault<'a>> {
-    match calls::entry(outbox, id) {
-        Ok(Some(entry)) => Ok(entry),
-        Ok(None) => Err(VisitFault::NoEntry { id }.at(name)),
-        Err(fault) => Err(VisitFault::from(fault).at(name)),
-    }
-}
-
-/// The id and the state of each entry.
-pub fn states_of<'a, S: Alter + Drop>(
-    outbox: &mut Outbox<S>,
-    name: &'a str,
-) -> Result<Vec<(u64, State)>, Fault<'a>> {
-    match calls::states(outbox) {
-        Ok(states) => Ok(states),
-        Err(fault) => Err(VisitFault::from(fault).at(name)),
-    }
-}
-
-/// The lines of entries.
-fn lines(alloc: Global, states: &[(u64, State)]) -> Result<String, AllocError> {
-    let mut text = String::new(alloc);
-    for &(id, state) in states {
-        text.push_str(format!(in alloc; "{}", EntryLine { id, state })?.as_str())?;
-    }
-    Ok(text)
-}
-
-fn show_lines<'a, O: Write>(
-    alloc: Global,
-    states: &[(u64, State)],
-    output: &mut O,
-) -> Result<(), Fault<'a>> {
-    let text = lines(alloc, states)?;
-    Ok(show(output, text.as_bytes())?)
-}
-
-/// Prints the line of each entry.
-fn show_states<'a, S: Alter + Drop, O: Write>(
-    alloc: Global,
-    name: &'a str,
-    outbox: &mut Outbox<S>,
-    output: &mut O,
-) -> Result<(), Fault<'a>> {
-    let states = states_of(outbox, name)?;
-    show_lines(alloc, states.as_slice(), output)
-}
-
-/// Prints the line of an entry with its length, what it is to replace, and its key.
-fn show_long<'a, S: Alter + Drop, O: Write>(
-    alloc: Global,
-    name: &'a str,
-    outbox: &mut Outbox<S>,
-    id: u64,
-    output: &mut O,
-) -> Result<(), Fault<'a>> {
-    let entry = entry_of(outbox, name, id)?;
-    let line = LongLine {
-        id,
-        state: entry.state,
-        bytes: entry.body.len(),
-        replaces: entry.target,
-        key: entry.key.as_str(),
-    };
-    let text = format!(in alloc; "{line}")?;
-    Ok(show(output, text.as_bytes())?)
-}
-
-/// Prints such a line for each entry.
-fn show_each<'a, S: Alter + Drop, O: Write>(
-    alloc: Global,
-    name: &'a str,
-    outbox: &mut Outbox<S>,
-    output: &mut O,
-) -> Result<(), Fault<'a>> {
-    for &(id, _) in &states_of(outbox, name)? {
-        show_long(alloc, name, outbox, id, output)?;
-    }
-    Ok(())
-}
-
-/// Prints such a line for the entry of this id, or for each.
-fn show_entries<'a, S: Alter + Drop, O: Write>(
-    alloc: Global,
-    name: &'a str,
-    outbox: &mut Outbox<S>,
-    id: Option<u64>,
-    output: &mut O,
-) -> Result<(), Fault<'a>> {
-    match id {
-        Some(id) => show_long(alloc, name, outbox, id, output),
-        None => show_each(alloc, name, outbox, output),
     }
 }

@@ -7,6 +7,7 @@ use filer_client::ExchangeFault;
 use http_wire::ReplyFault;
 use key_string::KeyFault;
 use outbox_core::{OutboxFault, PutFault, StoreFault, TakeFault};
+use outbox_tasks::{LineFault, SendFault, TaskFault};
 use std::alloc::AllocError;
 use std::io::Write;
 use std::{fmt, io};
@@ -183,6 +184,52 @@ impl From<AllocError> for Fault<'_> {
     }
 }
 
+impl From<LineFault> for Fault<'_> {
+    fn from(fault: LineFault) -> Self {
+        Fault::Command(match fault {
+            LineFault::Output => CommandFault::Output,
+            LineFault::Memory => CommandFault::Memory,
+        })
+    }
+}
+
+impl<'a> Fault<'a> {
+    /// Why a task was not done on the outbox of the file with this name, which has a peer at this port, if it has one.
+    /// So many seconds of patience with it are over, if its last exchange failed by that.
+    pub fn of_task(fault: TaskFault, name: &'a str, port: u16, late: Option<u64>) -> Fault<'a> {
+        match fault {
+            TaskFault::Read(fault) => VisitFault::from(fault).at(name),
+            TaskFault::NoEntry { id } => VisitFault::NoEntry { id }.at(name),
+            TaskFault::Put(fault) => VisitFault::from(fault).at(name),
+            TaskFault::NotTold {
+                id,
+                fault: LineFault::Output,
+            } => VisitFault::NotTold { id }.at(name),
+            TaskFault::NotTold { fault, .. } => fault.into(),
+            TaskFault::Send { id, fault } => Fault::of_sending(fault, name, id, port, late),
+            TaskFault::Line(fault) => fault.into(),
+        }
+    }
+
+    /// The same of the entry of this id, which was not sent.
+    fn of_sending(
+        fault: SendFault,
+        name: &'a str,
+        id: u64,
+        port: u16,
+        late: Option<u64>,
+    ) -> Fault<'a> {
+        match (fault, late) {
+            (SendFault::Connect(error), _) => Fault::Connect { port, error },
+            (SendFault::Exchange(ExchangeFault::Take(fault)), _) => {
+                VisitFault::of_taking(fault, id).at(name)
+            }
+            (SendFault::Exchange(_), Some(seconds)) => Fault::Patience { port, seconds },
+            (SendFault::Exchange(fault), None) => Fault::Exchange { port, fault },
+        }
+    }
+}
+
 impl Fault<'_> {
     /// The status that the program ends with: 1 for a database that is no outbox or cannot become
     /// one, 2 for the command line, 3 for a fault of memory, the disk or the network, 4 where an
@@ -207,19 +254,6 @@ impl Fault<'_> {
         match self {
             Fault::Outbox { fault, .. } => fault.verdict(),
             Fault::Command(CommandFault::Database { fault, .. }) => Verdict::of(*fault),
-            _ => None,
-        }
-    }
-
-    /// Why the exchange of an entry failed, if that is no reason against the next exchange: its connection broke, or
-    /// what came is no whole reply.
-    pub fn of_entry(&self) -> Option<ExchangeFault> {
-        match self {
-            Fault::Exchange {
-                fault: ExchangeFault::Reply(ReplyFault::Memory) | ExchangeFault::Take(_),
-                ..
-            } => None,
-            Fault::Exchange { fault, .. } => Some(*fault),
             _ => None,
         }
     }

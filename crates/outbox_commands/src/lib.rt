@@ -4,14 +4,12 @@
 #![tactic(auto)]
 
 mod answer;
-mod calls;
 mod errand;
 mod fault;
 mod held;
-mod line;
+mod network;
 mod options;
 mod sending;
 mod tasks;
 
-pub use line::EntryLine;
 pub use tasks::{main, perform};

@@ -1,0 +1,152 @@
+//! The network of `outbox send`: a port of this machine, and what its peer answered.
+
+ghost use Rattle.std.specs.Prelude.{◌≡◌};
+
+use crate::answer::{Noted, tell_open, tell_refused};
+use crate::fault::Cause;
+use crate::options::Peer;
+use command_files::{Deadline, Patient};
+use filer_client::ExchangeFault;
+use http_wire::{Device, ReplyFault};
+use outbox_core::State;
+use outbox_tasks::{Dial, TcpDial};
+use std::alloc::Global;
+use std::io::{self, Write};
+use std::net::TcpStream;
+use std::time::Duration;
+
+/// What came of an exchange: the state of its entry or a fault, and the first bytes of the reply.
+#[derive(Drop)]
+struct Exchanged {
+    id: u64,
+    came: Result<State, ExchangeFault>,
+    noted: Vec<u8>,
+}
+
+/// A port of this machine, to which a connection takes no longer than the patience with the peer. Once the line of an
+/// entry is printed, it reports on the standard error why the entry is not confirmed.
+#[derive(Drop)]
+pub struct PeerDial<'r, 'e, E> {
+    rt: &'r HostRuntime,
+    port: u16,
+    patience: Option<u64>,
+    filer: String,
+    deadline: Option<Deadline<'r, HostRuntime>>,
+    /// Whether the time of the last exchange was over, and so it failed.
+    is_late: bool,
+    /// What is to be reported of the last exchange, once the line of its entry is printed.
+    untold: Option<Exchanged>,
+    errors: &'e mut E,
+}
+
+impl<'r, 'e, E: Write> PeerDial<'r, 'e, E> {
+    /// The port of this peer, to which a filer of this code sends.
+    pub fn new(
+        rt: &'r HostRuntime,
+        peer: Peer,
+        filer: String,
+        errors: &'e mut E,
+    ) -> PeerDial<'r, 'e, E> {
+        PeerDial {
+            rt,
+            port: peer.port,
+            patience: peer.patience,
+            filer,
+            deadline: None,
+            is_late: false,
+            untold: None,
+            errors,
+        }
+    }
+
+    /// The patience with the peer in seconds, if the last exchange failed since its time was over.
+    pub fn lost_patience(&self) -> Option<u64> {
+        if self.is_late { self.patience } else { None }
+    }
+
+    /// Reports on the standard error why the last entry is not confirmed, and what to do. Its line is printed.
+    pub fn tell(&mut self)
+        ensures { self.new.is_late ≡ self.old.is_late }
+    {
+        if let Some(exchanged) = self.untold.take() {
+            // Nothing is left to be done if these texts can't be written either.
+            let _ = explain(
+                self.rt.alloc(),
+                self.filer.as_str(),
+                &exchanged,
+                self.errors,
+            );
+        }
+    }
+
+    /// Whether an exchange failed since its time was over.
+    fn has_lost_patience(&self, came: Result<State, ExchangeFault>) -> bool {
+        match (came, &self.deadline) {
+            (
+                Err(ExchangeFault::Write { .. } | ExchangeFault::Reply(ReplyFault::Read)),
+                Some(deadline),
+            ) => self.patience.is_some() && deadline.is_over(),
+            _ => false,
+        }
+    }
+}
+
+/// Reports what came of an exchange for an entry of this filer, if that leaves the entry unconfirmed.
+fn explain<E: Write>(
+    alloc: Global,
+    filer: &str,
+    exchanged: &Exchanged,
+    errors: &mut E,
+) -> io::Result<()> {
+    let id = exchanged.id;
+    let noted = exchanged.noted.as_slice();
+    match exchanged.came {
+        Ok(State::Open) => tell_open(alloc, id, noted, errors),
+        Ok(State::Refused) => tell_refused(alloc, id, filer, noted, errors),
+        Ok(State::Clashed) => writeln!(
+            errors,
+            "outbox: entry {id}: clashed; the register has another report under its key: put it in under a new one"
+        ),
+        Ok(State::Confirmed(_)) => Ok(()),
+        Err(fault) => writeln!(errors, "outbox: entry {id}: {}", Cause(fault)),
+    }
+}
+
+impl<'r, E: Write> Dial for PeerDial<'r, '_, E> {
+    type Reader = Noted<Device<Patient<'r, TcpStream, HostRuntime>>>;
+
+    type Writer = Device<Patient<'r, TcpStream, HostRuntime>>;
+
+    ghost use Rattle.outbox_commands.specs.Networks.{unknown};
+
+    ghost traffic = { λ network. unknown network.is_late };
+
+    fn connect(&mut self) -> io::Result<(Self::Reader, Self::Writer)> {
+        self.tell();
+        let stream = TcpDial::new(self.rt, self.port).next_stream()?;
+        let deadline = Deadline::after(self.rt, self.patience.map(Duration::from_secs))?;
+        self.deadline = Some(deadline);
+        let reader = Device::new(Patient::new(stream.try_clone()?, &deadline));
+        let writer = Device::new(Patient::new(stream, &deadline));
+        Ok((Noted::new(self.rt.alloc(), reader), writer))
+    }
+
+    fn end(
+        &mut self,
+        reader: Self::Reader,
+        _writer: Self::Writer,
+        id: u64,
+        came: Result<State, ExchangeFault>,
+    ) {
+        self.is_late = self.has_lost_patience(came);
+        self.untold = Some(Exchanged {
+            id,
+            came,
+            noted: reader.into_bytes(),
+        });
+    }
+
+    fn gives_up(&self) -> bool {
+        self.is_late
+    }
+}
