@@ -1,0 +1,4 @@
+mod Exchanging
+mod Happening
+mod Limits
+mod Situations

@@ -1,0 +1,46 @@
+//! What the programs do, as their contracts say it, and that the headline holds of what they keep. What may live here:
+//! what may happen at the programs, one thing after another, and laws over every list of such things. There is no code.
+#![tactic(auto)]
+
+ghost use Rattle.std.specs.Prelude.{◌≡◌, ◌≤◌, ◌^◌, ℕ, List, [], Option, Some};
+ghost use Rattle.filing_model.specs.Outbox.{State, Open, moved};
+ghost use Rattle.filing_model.specs.Request.{Request};
+ghost use Rattle.filing_model.specs.Serving.{keeping};
+ghost use Rattle.filing_world.specs.World.{World, Outbox};
+ghost use Rattle.filing_world.specs.Headline.{AreFilers};
+ghost use Rattle.filer_client.specs.Exchange.{IsOpenRequest, Hears};
+ghost use Rattle.gateway_ports.specs.InTurn.{Connection, ServeInTurn};
+ghost use Rattle.world_ports.specs.Deliveries.{Delivery, AreOf};
+ghost use Rattle.programs.specs.Exchanged.{IsBox, IsSent, ComesOf, IsMoved};
+ghost use Rattle.programs.specs.Happenings.{Situation, Happening, at_first, Happen, IsReached, AreRegistered, AreServings};
+
+/// What an exchange writes is sent, and what it hears is handed to its entry, whatever came in between at other ends: the
+/// entry is in the state that the exchange answers.
+pub fn an_exchange_is_sent_and_handed()
+    ensures sent { (old : World) (outbox id : ℕ) (box : Outbox) (text : List ℕ) → IsBox old outbox box
+        → IsOpenRequest box.filer box.entries id text → (new : World) × IsSent old outbox id text new }
+    ensures handed { (old : World) (outbox id output given : ℕ) (box : Outbox) (text bytes : List ℕ)
+        (left : Option (List ℕ)) (to : State) → IsBox old outbox box
+        → IsOpenRequest box.filer box.entries id text → ComesOf old outbox id output given bytes
+        → Hears (Some bytes) left (λ reply. to ≡ moved Open reply) → (new : World) × IsMoved old outbox id output box to new }
+{}
+
+/// Connections that were served in turn, as a run of `intake serve` serves them, happened one after another.
+pub fn connections_happen()
+    ensures { (limit keys : ℕ) (old : Situation) (connections : List Connection) (deliveries : List Delivery)
+        (after : List Request) → keys ≤ limit → ServeInTurn (keeping keys [] old.requests after) connections
+        → AreOf old.sent connections deliveries
+        → (new : Situation) × AreServings limit old deliveries connections after new }
+{}
+
+/// Whatever the programs do, one thing after another and each as its contract says: events lead to a world that is kept
+/// so, the headline holds of it, and each entry that an outbox counts as confirmed is in the register exactly once, with
+/// its bytes, under its number.
+pub fn any_programs()
+    ensures reached { (filers : List (List ℕ)) (limit : ℕ) (happenings : List Happening) (situation : Situation)
+        → AreFilers filers → limit ≤ 2 ^ 62 → Happen limit (at_first filers) happenings situation
+        → IsReached filers limit situation }
+    ensures registered { (filers : List (List ℕ)) (limit : ℕ) (happenings : List Happening) (situation : Situation)
+        → AreFilers filers → limit ≤ 2 ^ 62 → Happen limit (at_first filers) happenings situation
+        → AreRegistered situation }
+{}
