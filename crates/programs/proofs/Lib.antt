@@ -1,3 +1,4 @@
+mod Away
 mod Exchanging
 mod Happening
 mod Limits

@@ -17,38 +17,45 @@ use Rattle.outbox_opening.specs.Entries.{Contents, contents_of, empty}
 use Rattle.outbox_core.specs.Entries.{opened, set_state}
 use Rattle.filer_client.specs.Exchange.{IsOpenRequest}
 use Rattle.gateway_ports.specs.InTurn.{Connection}
+use Rattle.intake_process.specs.Turning.{IsTurnedAway}
 use Rattle.world_ports.specs.Deliveries.{Delivery, IsOf}
 
 -- ---- what is kept
 
--- what the intake wrote on a connection on which bytes of this item came
+-- what was written on a connection on which bytes of this item came
 pub record Answer : Type 0 where
   pub item : ℕ
   pub bytes : List ℕ
 
 -- The requests that the register keeps, what each outbox has, and what went over the network: the items that were written to the intake, for
--- an entry of an outbox or by a stranger, and what the intake wrote on each connection. Each list is numbered from 1.
+-- an entry of an outbox or by a stranger, what the intake wrote on each connection that it served, and what was written on those that were
+-- turned away. Each list is numbered from 1.
 pub record Situation : Type 0 where
   pub requests : List Request
   pub outboxes : List Contents
   pub sent : List Sent
   pub answers : List Answer
+  pub refusals : List Answer
 
 -- an empty register, and an outbox without entries for each of these filers
 abbrev pub at_first : List (List ℕ) → Situation
-at_first filers = record { requests = []; outboxes = map empty filers; sent = []; answers = [] }
+at_first filers = record { requests = []; outboxes = map empty filers; sent = []; answers = []; refusals = [] }
 
 -- ---- what a program does
 
 pub data Happening : Type 0 where
   -- `intake serve` served a connection, on which first bytes of an item came
   Serving : Delivery → Connection → Happening
+  -- its register was closed, and it turned such a connection away
+  TurningAway : Delivery → Connection → Happening
   -- `outbox put` put an entry in
   Putting : (outbox : ℕ) (key : List ℕ) (target : Option ℕ) (body : List ℕ) → Happening
   -- `outbox send` wrote this for an entry, its whole request or a first part
   Writing : (outbox id : ℕ) (written : List ℕ) → Happening
   -- `outbox send` read so many first bytes of an answer, and the entry came to this state
   Hearing : (outbox id answer given : ℕ) → State → Happening
+  -- the same of what was written on a connection that was turned away
+  HearingRefusal : (outbox id refusal given : ℕ) → State → Happening
   -- somebody else wrote this to the intake
   Stranger : (written : List ℕ) → Happening
 
@@ -59,6 +66,12 @@ pub record IsServing (limit : ℕ) (old : Situation) (delivery : Delivery) (conn
   pub few : keys ≤ limit
   pub serves : Serves (keeping keys [] old.requests new.requests) connection.read connection.output.marks connection.output.ended connection.output.bytes
   pub becomes : new ≡ record old { requests = new.requests; answers = old.answers ++ record { item = delivery.item; bytes = connection.output.bytes } ∷ [] }
+
+-- The connection was turned away, and nothing is kept of it.
+pub record IsTurningAway (old : Situation) (delivery : Delivery) (connection : Connection) (new : Situation) : Type 0 where
+  pub came : IsOf old.sent connection delivery
+  pub turned : IsTurnedAway connection.read connection.output.marks connection.output.ended connection.output.bytes
+  pub becomes : new ≡ record old { refusals = old.refusals ++ record { item = delivery.item; bytes = connection.output.bytes } ∷ [] }
 
 -- what an outbox has, as the world has it
 abbrev pub box_of : Contents → Outbox
@@ -82,10 +95,10 @@ pub record IsWriting (old : Situation) (outbox id : ℕ) (written : List ℕ) (n
   pub part : IsPrefixOf written text
   pub becomes : new ≡ record old { sent = old.sent ++ record { from = Some (outbox, id); bytes = written } ∷ [] }
 
--- First bytes of an answer to what was written for the entry give a reply, and the entry, which was open, moved by it.
-pub record IsHearing (old : Situation) (outbox id answer given : ℕ) (to : State) (new : Situation) : Type 0 where
+-- First bytes of one of these answers, which is to what was written for the entry, give a reply, and the entry, which was open, moved by it.
+pub record IsHearing (old : Situation) (answers : List Answer) (outbox id answer given : ℕ) (to : State) (new : Situation) : Type 0 where
   pub from : Answer
-  pub from_here : numbered old.answers answer ≡ Some from
+  pub from_here : numbered answers answer ≡ Some from
   pub item : Sent
   pub item_here : numbered old.sent from.item ≡ Some item
   pub sender : item.from ≡ Some (outbox, id)
@@ -101,9 +114,11 @@ pub record IsHearing (old : Situation) (outbox id answer given : ℕ) (to : Stat
 -- what one of them makes of what is kept
 abbrev pub Makes : ℕ → Situation → Happening → Situation → Type 0
 Makes limit old (Serving delivery connection) new = IsServing limit old delivery connection new
+Makes limit old (TurningAway delivery connection) new = IsTurningAway old delivery connection new
 Makes limit old (Putting outbox key target body) new = IsPutting old outbox (opened key target body) new
 Makes limit old (Writing outbox id written) new = IsWriting old outbox id written new
-Makes limit old (Hearing outbox id answer given to) new = IsHearing old outbox id answer given to new
+Makes limit old (Hearing outbox id answer given to) new = IsHearing old old.answers outbox id answer given to new
+Makes limit old (HearingRefusal outbox id refusal given to) new = IsHearing old old.refusals outbox id refusal given to new
 Makes limit old (Stranger written) new = new ≡ record old { sent = old.sent ++ record { from = None; bytes = written } ∷ [] }
 
 -- one after another, whichever program each is of
@@ -125,7 +140,8 @@ AreAnswersOf [] [] = Unit {0}
 AreAnswersOf (answer ∷ answers) (output ∷ outputs) = (output.item ≡ answer.item) × (output.bytes ≡ answer.bytes) × AreAnswersOf answers outputs
 AreAnswersOf _ _ = ⊥
 
--- The register keeps the first of all requests that the world completed, the outboxes are the same, and so is what went over the network.
+-- The register keeps the first of all requests that the world completed, the outboxes are the same, and so is what was written to the intake
+-- and what it wrote on the connections that it served.
 pub record IsKept (limit : ℕ) (situation : Situation) (world : World) : Type 0 where
   pub limit_is : world.limit ≡ limit
   pub requests : situation.requests ≡ firsts world.done
