@@ -1,6 +1,6 @@
 -- What is read of a connection that was turned away moves no entry.
 use Rattle.std.proofs.Common.{◌≡◌, ◌∙◌, ℕ, ◌≤◌, ◌⊎◌, Bool, true, false, List, [], ◌∷◌, ◌++◌, length, take, Option, Some, None, refl, sym, ap, subst, ⊎_elim, true≢false}
-use Rattle.std.specs.Prelude.{Result, Ok, Err, if◌then◌else◌, codes}
+use Rattle.std.specs.Prelude.{Result, Ok, Err, if◌then◌else◌, codes, bytes_eq}
 use Rattle.std.specs.Io.KnownBytes.{Appends}
 use Rattle.std.proofs.lemmas.Bool.{cases_Bool}
 use Rattle.std.proofs.lemmas.Slice.Eq.{bytes_eq-Decides}
@@ -43,19 +43,19 @@ away_is_open is_head' = open_still (tree (closing_reply is_head').content)
 
 module _ (r : Request) (m : Message) where
   by_resource : (found : Option (List ℕ × Option ℕ)) → is_head m ≡ true → bare (is_head m) (route_by_resource found m) ≡ FileReport r → ⊥
-  by_resource None yes files = let e = rw yes at files in cc
-  by_resource (Some (filer, target)) yes files =
-      let method : m.head.method ≡ codes "HEAD" = (bytes_eq-Decides m.head.method (codes "HEAD")).0 yes in
+  by_resource None heads files = let e = rw heads at files in cc
+  by_resource (Some (filer, target)) heads files =
+      let method : m.head.method ≡ codes "HEAD" = (bytes_eq-Decides m.head.method (codes "HEAD")).0 heads in
       let post : bytes_eq m.head.method (codes "POST") ≡ false = ap (λ xs. bytes_eq xs (codes "POST")) method in
       let get : bytes_eq m.head.method (codes "GET") ≡ false = ap (λ xs. bytes_eq xs (codes "GET")) method in
-      let e = rw (yes, post, get) at files in
+      let e = rw (heads, post, get) at files in
       cc
 
   no_head : route m ≡ FileReport r → is_head m ≡ false
   unfolding route
   no_head files = ⊎_elim
-      (λ (yes : is_head m ≡ true). absurd (by_resource (resource_of_path m.head.path) yes files))
-      (λ (no : is_head m ≡ false). no)
+      (λ (heads : is_head m ≡ true). absurd (by_resource (resource_of_path m.head.path) heads files))
+      (λ (other : is_head m ≡ false). other)
       (cases_Bool (is_head m))
 
 -- ---- what is read
