@@ -1,5 +1,5 @@
 -- What is read of a connection that was turned away moves no entry.
-use Rattle.std.proofs.Common.{◌≡◌, ◌∙◌, ℕ, ◌≤◌, ◌⊎◌, Bool, true, false, List, [], ◌∷◌, ◌++◌, length, take, Option, Some, None, refl, sym, ap, subst, ⊎_elim, true≢false}
+use Rattle.std.proofs.Common.{◌≡◌, ◌∙◌, ℕ, ◌⊎◌, Bool, true, false, List, [], ◌∷◌, length, take, Option, Some, None, refl, sym, ap, subst, ⊎_elim}
 use Rattle.std.specs.Prelude.{Result, Ok, Err, if◌then◌else◌, codes, bytes_eq}
 use Rattle.std.specs.Io.KnownBytes.{Appends}
 use Rattle.std.proofs.lemmas.Bool.{cases_Bool}
@@ -8,25 +8,24 @@ use Rattle.serde_json.specs.Data.{Data}
 use Rattle.xbrl_report.specs.Findings.{tree}
 use Rattle.http_messages.specs.declared.refusal.ConnFault.{ConnFault}
 use Rattle.http_messages.specs.declared.refusal.ConnFault.TheVariants.{Read as ReadFault, Write, ReadLimit, Memory}
-use Rattle.http_messages.specs.Message.{Arrival, Ending, Asks, IsInterimFor, interim}
+use Rattle.http_messages.specs.Message.{Arrival, Ending, Asks, interim}
 use Rattle.http_messages.specs.Reply.{ReplyParts, render}
 use Rattle.http_messages.specs.Request.{Request as Message}
 use Rattle.http_messages.specs.Response.{GivesReply, SpellsReply, IsReadable}
 use Rattle.http_messages.proofs.ReplyRead.{reply-alone}
 use Rattle.http_messages.proofs.UniqueReply.{SpellsReply-nothing}
-use Rattle.http_wire.specs.Calls.{WritesAsked, WritesUpTo}
+use Rattle.http_wire.specs.Calls.{WritesAsked}
 use Rattle.filing_model.specs.declared.served.Ended.{Ended}
 use Rattle.filing_model.specs.declared.served.Ended.TheVariants.{Closed, InputEnded, Fault}
 use Rattle.filing_model.specs.declared.served.Mark.{Mark}
-use Rattle.filing_model.specs.Outbox.{State, Open, moved, state_told, IsSendable, bytes_of}
+use Rattle.filing_model.specs.Outbox.{Open, moved, state_told, IsSendable, bytes_of}
 use Rattle.filing_model.specs.Prefix.{IsPrefixOf}
-use Rattle.filing_model.specs.Reply.{unavailable}
 use Rattle.filing_model.specs.Request.{Request}
-use Rattle.filing_model.specs.Text.{Route, Reject, ListFilings, FileReport, route, resource_of_path, route_by_resource, route_by_method, bare, interim_of, is_head}
+use Rattle.filing_model.specs.Text.{FileReport, route, resource_of_path, route_by_resource, bare, interim_of, is_head}
 use Rattle.filing_model.proofs.Finals.{unavailable-readable}
 use Rattle.filing_model.proofs.Lists.{prefix_refl, prefix_trans, take_prefix, take_within, take_all, take_nil}
-use Rattle.filing_world.proofs.Posting.{IsAlone, FilesAlone, posted, own_front}
-use Rattle.gateway_server.specs.Answered.{WritesText, WritesPart}
+use Rattle.filing_world.proofs.Posting.{FilesAlone, posted, own_front}
+use Rattle.gateway_server.specs.Answered.{WritesText}
 use Rattle.intake_process.specs.Turning.{closing_reply, away_reply, IsUnanswered, AnswersAway, IsTurnedAway}
 
 -- ---- a 503 moves nothing
@@ -114,7 +113,7 @@ module _ (r : Request) (sendable : IsSendable r) (given : ℕ) (heard : ReplyPar
       let silent : interim_of (Arrival.Read m) ≡ [] = rw alone.silent refl in
       let reply : away_reply (Arrival.Read m) ≡ closing_reply false = ap closing_reply (no_head r m alone.filed) in
       let wrote' : WritesText (Some []) (Some out) (render (closing_reply false) true) sent =
-          subst (λ x. WritesText (Some x) (Some out) (render (closing_reply false) true) sent) silent (subst (λ x. WritesText (Some (interim_of (Arrival.Read m))) (Some out) (render x true) sent) reply wrote) in
+      subst (λ x. WritesText (Some x) (Some out) (render (closing_reply false) true) sent) silent (subst (λ x. WritesText (Some (interim_of (Arrival.Read m))) (Some out) (render x true) sent) reply wrote) in
       ap (moved Open) (heard_is heard (closing_reply false) true unavailable-readable out k (part_of (render (closing_reply false) true) sent wrote') gives) ∙ away_is_open false
 
   answered : (mark : Mark) (ended : Ended) → AnswersAway front mark ended out → moved Open heard ≡ Open

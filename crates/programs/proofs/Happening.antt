@@ -1,8 +1,8 @@
 -- Whatever programs do is a run of the world.
-use Rattle.std.proofs.Common.{◌≡◌, ◌∙◌, ℕ, zero, suc, ◌^◌, ◌≤◌, ◌⊎◌, List, [], ◌∷◌, ◌++◌, map, take, Option, Some, None, refl, sym, ap, subst, ⊎_elim}
+use Rattle.std.proofs.Common.{◌≡◌, ◌∙◌, ℕ, zero, suc, ◌^◌, ◌≤◌, List, [], ◌∷◌, ◌++◌, map, take, Option, Some, None, refl, sym, ap, subst, ⊎_elim}
 use Rattle.filing_model.specs.declared.served.Ended.{Ended}
 use Rattle.filing_model.specs.declared.served.Mark.{Mark}
-use Rattle.filing_model.specs.Outbox.{Entry, State, Open, moved, request_of, bytes_of}
+use Rattle.filing_model.specs.Outbox.{State, Open, request_of, bytes_of}
 use Rattle.filing_model.specs.Register.{register, numbers_of}
 use Rattle.filing_model.specs.Request.{Request, firsts}
 use Rattle.filing_model.specs.Stopping.{No}
@@ -20,10 +20,11 @@ use Rattle.outbox_core.specs.Entries.{opened, in_state, set_state}
 use Rattle.filer_client.specs.Exchange.{IsOpenRequest}
 use Rattle.gateway_ports.specs.InTurn.{Connection, ServeInTurn}
 use Rattle.intake_process.specs.Turning.{IsTurnedAway}
+use Rattle.intake_process.specs.Turns.{Turn, Served, TurnedAway, connections_of, served_in, AreTurnedAway}
 use Rattle.world_ports.specs.Deliveries.{Delivery, IsOf, AreOf, events_of, AreOutputsOf}
 use Rattle.world_ports.proofs.Delivering.{delivered}
 use Rattle.programs.specs.Exchanged.{IsBox, ComesOf}
-use Rattle.programs.specs.Happenings.{Answer, Situation, at_first, Happening, Serving, TurningAway, Putting, Writing, Hearing, HearingRefusal, Stranger, IsServing, IsTurningAway, box_of, IsPutting, IsWriting, IsHearing, Makes, Happen, AreWrittenOf, AreAnswersOf, IsKept, IsReached, AreRegistered, AreServings}
+use Rattle.programs.specs.Happenings.{Answer, Situation, at_first, Happening, Serving, TurningAway, Putting, Writing, Hearing, HearingRefusal, Stranger, IsServing, IsTurningAway, box_of, IsPutting, IsWriting, IsHearing, Makes, Happen, AreWrittenOf, AreAnswersOf, IsKept, IsReached, AreRegistered, TurnsHappen}
 use Rattle.programs.proofs.Away.{moves_nothing}
 use Rattle.programs.proofs.Exchanging.{sent, handed}
 use Rattle.programs.proofs.Limits.{serves_more}
@@ -217,9 +218,9 @@ module _ (limit : ℕ) where
         turned = subst (λ read. IsTurnedAway read connection.output.marks connection.output.ended connection.output.bytes) is.came.read is.turned;
       } in
       let refused : AreRefusals old.sent (old.refusals ++ last ∷ []) = λ number refusal here. ⊎_elim
-          (λ (before : numbered old.refusals number ≡ Some refusal). stands.refused number refusal before)
-          (λ (same : refusal ≡ last). subst (IsRefusalOf old.sent) (sym same) of)
-          (numbered_push old.refusals last number refusal here) in
+      (λ (before : numbered old.refusals number ≡ Some refusal). stands.refused number refusal before)
+      (λ (same : refusal ≡ last). subst (IsRefusalOf old.sent) (sym same) of)
+      (numbered_push old.refusals last number refusal here) in
       record {
         world = world;
         events = [];
@@ -330,19 +331,31 @@ module _ (limit : ℕ) where
       ap (λ filings. numbers_of (request_of contents.filer entry) filings) (ap register is.kept.requests ∙ register-firsts is.world.done)
       ∙ is.holds.confirmed outbox id number (box_of contents) entry box.here there confirmed
 
-  -- ---- connections in turn
+  -- ---- a run of `intake serve`
 
-  pub served : (keys : ℕ) (old : Situation) (connections : List Connection) (deliveries : List Delivery) (after : List Request) → keys ≤ limit → ServeInTurn (keeping keys [] old.requests after) connections → AreOf old.sent connections deliveries
-      → (new : Situation) × AreServings limit old deliveries connections after new
-  served keys old [] [] after few turns are = (old, record { happen = refl; requests = sym turns; outboxes = refl; sent = refl })
-  served keys old [] (d ∷ ds) after few turns are = absurd are
-  served keys old (c ∷ cs) [] after few turns are = absurd are
-  served keys old (c ∷ cs) (d ∷ ds) after few turns are =
-      let between : Situation = record old { requests = turns.0; answers = old.answers ++ record { item = d.item; bytes = c.output.bytes } ∷ [] } in
-      let rest = served keys between cs ds after few turns.2 are.1 in (
+  pub turned : (keys : ℕ) (old : Situation) (turns : List Turn) (deliveries : List Delivery) (after : List Request) → keys ≤ limit → ServeInTurn (keeping keys [] old.requests after) (served_in turns) → AreTurnedAway turns
+      → AreOf old.sent (connections_of turns) deliveries → (new : Situation) × TurnsHappen limit old deliveries turns after new
+  turned keys old [] [] after few in_turn away are = (old, record { happen = refl; requests = sym in_turn; outboxes = refl; sent = refl })
+  turned keys old [] (d ∷ ds) after few in_turn away are = absurd are
+  turned keys old (Served c ∷ ts) [] after few in_turn away are = absurd are
+  turned keys old (TurnedAway c ∷ ts) [] after few in_turn away are = absurd are
+  turned keys old (Served c ∷ ts) (d ∷ ds) after few in_turn away are =
+      let between : Situation = record old { requests = in_turn.0; answers = old.answers ++ record { item = d.item; bytes = c.output.bytes } ∷ [] } in
+      let rest = turned keys between ts ds after few in_turn.2 away are.1 in (
         rest.0,
         record {
-          happen = (between, record { came = are.0; keys = keys; few = few; serves = turns.1; becomes = refl }, rest.1.happen);
+          happen = (between, record { came = are.0; keys = keys; few = few; serves = in_turn.1; becomes = refl }, rest.1.happen);
+          requests = rest.1.requests;
+          outboxes = rest.1.outboxes;
+          sent = rest.1.sent;
+        },
+      )
+  turned keys old (TurnedAway c ∷ ts) (d ∷ ds) after few in_turn away are =
+      let between : Situation = record old { refusals = old.refusals ++ record { item = d.item; bytes = c.output.bytes } ∷ [] } in
+      let rest = turned keys between ts ds after few in_turn away.1 are.1 in (
+        rest.0,
+        record {
+          happen = (between, record { came = are.0; turned = away.0; becomes = refl }, rest.1.happen);
           requests = rest.1.requests;
           outboxes = rest.1.outboxes;
           sent = rest.1.sent;

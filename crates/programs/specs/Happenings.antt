@@ -18,6 +18,7 @@ use Rattle.outbox_core.specs.Entries.{opened, set_state}
 use Rattle.filer_client.specs.Exchange.{IsOpenRequest}
 use Rattle.gateway_ports.specs.InTurn.{Connection}
 use Rattle.intake_process.specs.Turning.{IsTurnedAway}
+use Rattle.intake_process.specs.Turns.{Turn, Served, TurnedAway}
 use Rattle.world_ports.specs.Deliveries.{Delivery, IsOf}
 
 -- ---- what is kept
@@ -164,17 +165,18 @@ AreRegistered situation =
     (outbox id number : ℕ) (contents : Contents) (entry : Entry) → numbered situation.outboxes outbox ≡ Some contents → numbered contents.entries id ≡ Some entry
     → entry.state ≡ Confirmed number → numbers_of (request_of contents.filer entry) (register situation.requests) ≡ number ∷ []
 
--- ---- a run of a program
+-- ---- a run of `intake serve`
 
--- what serving these connections makes, one after another
-abbrev pub servings : List Delivery → List Connection → List Happening
-servings [] connections = []
-servings (delivery ∷ deliveries) [] = []
-servings (delivery ∷ deliveries) (connection ∷ connections) = Serving delivery connection ∷ servings deliveries connections
+-- what answering these connections makes, one after another
+abbrev pub happenings_of : List Delivery → List Turn → List Happening
+happenings_of [] turns = []
+happenings_of (delivery ∷ deliveries) [] = []
+happenings_of (delivery ∷ deliveries) (Served connection ∷ turns) = Serving delivery connection ∷ happenings_of deliveries turns
+happenings_of (delivery ∷ deliveries) (TurnedAway connection ∷ turns) = TurningAway delivery connection ∷ happenings_of deliveries turns
 
--- The register keeps these requests after connections were served in turn, and what was written on each is an answer.
-pub record AreServings (limit : ℕ) (old : Situation) (deliveries : List Delivery) (connections : List Connection) (after : List Request) (new : Situation) : Type 0 where
-  pub happen : Happen limit old (servings deliveries connections) new
+-- Connections were answered, one after another: the register keeps these requests, and the outboxes and what they wrote are as before.
+pub record TurnsHappen (limit : ℕ) (old : Situation) (deliveries : List Delivery) (turns : List Turn) (after : List Request) (new : Situation) : Type 0 where
+  pub happen : Happen limit old (happenings_of deliveries turns) new
   pub requests : new.requests ≡ after
   pub outboxes : new.outboxes ≡ old.outboxes
   pub sent : new.sent ≡ old.sent

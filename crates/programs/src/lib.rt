@@ -9,10 +9,11 @@ ghost use Rattle.filing_model.specs.Serving.{keeping};
 ghost use Rattle.filing_world.specs.World.{World, Outbox};
 ghost use Rattle.filing_world.specs.Headline.{AreFilers};
 ghost use Rattle.filer_client.specs.Exchange.{IsOpenRequest, Hears};
-ghost use Rattle.gateway_ports.specs.InTurn.{Connection, ServeInTurn};
+ghost use Rattle.gateway_ports.specs.InTurn.{ServeInTurn};
+ghost use Rattle.intake_process.specs.Turns.{Turn, connections_of, served_in, AreTurnedAway};
 ghost use Rattle.world_ports.specs.Deliveries.{Delivery, AreOf};
 ghost use Rattle.programs.specs.Exchanged.{IsBox, IsSent, ComesOf, IsMoved};
-ghost use Rattle.programs.specs.Happenings.{Situation, Happening, at_first, Happen, IsReached, AreRegistered, AreServings};
+ghost use Rattle.programs.specs.Happenings.{Situation, Happening, at_first, Happen, IsReached, AreRegistered, TurnsHappen};
 
 /// What an exchange writes is sent, and what it hears is handed to its entry, whatever came in between at other ends: the
 /// entry is in the state that the exchange answers.
@@ -25,12 +26,14 @@ pub fn an_exchange_is_sent_and_handed()
         → Hears (Some bytes) left (λ reply. to ≡ moved Open reply) → (new : World) × IsMoved old outbox id output box to new }
 {}
 
-/// Connections that were served in turn, as a run of `intake serve` serves them, happened one after another.
-pub fn connections_happen()
-    ensures { (limit keys : ℕ) (old : Situation) (connections : List Connection) (deliveries : List Delivery)
-        (after : List Request) → keys ≤ limit → ServeInTurn (keeping keys [] old.requests after) connections
-        → AreOf old.sent connections deliveries
-        → (new : Situation) × AreServings limit old deliveries connections after new }
+/// Connections that a run of `intake serve` answered happened one after another: those that were served in turn, and
+/// those that were turned away between them.
+pub fn turns_happen()
+    ensures { (limit keys : ℕ) (old : Situation) (turns : List Turn) (deliveries : List Delivery)
+        (after : List Request) → keys ≤ limit
+        → ServeInTurn (keeping keys [] old.requests after) (served_in turns) → AreTurnedAway turns
+        → AreOf old.sent (connections_of turns) deliveries
+        → (new : Situation) × TurnsHappen limit old deliveries turns after new }
 {}
 
 /// Whatever the programs do, one thing after another and each as its contract says: events lead to a world that is kept
