@@ -5,7 +5,7 @@
     tools/count_trusted.py --names    the same, with the name of each definition
     tools/count_trusted.py --check    whether docs/TRUST.md has these tables; status 1 where it has others
 
-It reads the contracts of `run` and of the calls that show its world, and follows each name in them through `ghost use`, `use` and `pub use` to the
+It reads the contracts of `run`, of the calls that show its world, and of the law `any_programs`, and follows each name in them through `ghost use`, `use` and `pub use` to the
 definition that it stands for, and so on, down to the kit's own definitions, which it names and doesn't enter. Every line of a
 definition counts that is neither blank nor a comment. A file comes after those that cite it.
 
@@ -26,6 +26,8 @@ WORLD = "crates/world_events/src/world.rt"
 # The contract to believe, the calls that show the world that it answers, and the calls that lend the ends in it.
 HEADLINE = [(RUN, "run")] + [(WORLD, name) for name in ("register", "states", "confirmed", "done", "sent", "outputs", "World")]
 ENDS = [(WORLD, "intake"), (WORLD, "outbox")]
+# The law that the headline holds of what any programs keep.
+PROGRAMS = [("crates/programs/src/lib.rt", "any_programs")]
 
 IMPORT = re.compile(r"\s*(?:ghost |pub )*use (Rattle\.[\w.]+?)(?:\.\{(.*)\}|(?: as (\w+))?);?\s*$")
 RUST_IMPORT = re.compile(r"^use (\w+(?:::\w+)*?)::(?:\{([^}]*)\}|(\w+));", re.MULTILINE)
@@ -149,7 +151,7 @@ class RustFile:
         """What a function promises: its head and its clauses, without its body."""
         start = self.find(rf"\s*(?:pub )?fn {name}\b")[-1]
         indent = self.lines[start][: len(self.lines[start]) - len(self.lines[start].lstrip())]
-        end = self.lines.index(indent + "{", start)
+        end = next(i for i in range(start, len(self.lines)) if self.lines[i] in (indent + "{", indent + "{}"))
         return Definition(self.path, name, self.lines[start:end], self.imports)
 
 
@@ -286,14 +288,16 @@ def kit_table(found):
 
 
 def report(with_names):
-    first, second = Reached(HEADLINE), Reached(HEADLINE + ENDS)
+    first, second, third = Reached(HEADLINE), Reached(HEADLINE + ENDS), Reached(HEADLINE + PROGRAMS)
     parts = [
         ["The contract of `run`, the calls that show its world, and what they rest on:"],
         table(first, {}, with_names),
         ["The calls `intake` and `outbox`, which lend the ends in that world, and what they rest on beyond that:"],
         table(second, first.definitions, with_names),
-        ["What both name of the kit:"],
-        kit_table(second),
+        ["The law `any_programs`, and what it rests on beyond the first list:"],
+        table(third, first.definitions, with_names),
+        ["What they name of the kit:"],
+        kit_table(Reached(HEADLINE + ENDS + PROGRAMS)),
     ]
     return "\n\n".join("\n".join(part) for part in parts)
 
