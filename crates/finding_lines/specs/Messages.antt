@@ -1,0 +1,54 @@
+-- What is said of a finding.
+use Rattle.std.specs.Prelude.{ℕ, ◌==◌, List, [], ◌∷◌, ◌++◌, length, drop, nat_lt, if◌then◌else◌, codes, Option, Some}
+use Rattle.report_places.specs.Shown.{scalar, value_text}
+use Rattle.report_places.specs.declared.place.Place.{Place}
+use Rattle.xbrl_report.specs.declared.code.Code.{Code}
+use Rattle.xbrl_report.specs.declared.code.Code.TheVariants.{NotJson, NotObject, DocumentInfo, DocumentType, Namespaces, NamespaceUri, Taxonomy, Facts, Fact, Value, Decimals, Dimensions, ConceptMissing, EntityMissing, DimensionValue, Name, UnboundPrefix, NotTheFiler, Period, PeriodOrder, UnitForm, Number, Language, UnknownDimension, TooMany, NotReplaceable}
+
+-- what is wrong with the value at the place; the value stands before it
+abbrev pub phrase : Code → List ℕ
+phrase NotJson = codes "is no JSON text"
+phrase NotObject = codes "is no object"
+phrase DocumentInfo = codes "is no object"
+phrase DocumentType = codes "is not https://xbrl.org/2021/xbrl-json"
+phrase Namespaces = codes "is no object"
+phrase NamespaceUri = codes "is no text"
+phrase Taxonomy = codes "names no taxonomy in a list"
+phrase Facts = codes "is no object"
+phrase Fact = codes "is no object"
+phrase Value = codes "is neither a text nor null"
+phrase Decimals = codes "is no whole number of 64 bits"
+phrase Dimensions = codes "is no object"
+phrase ConceptMissing = codes "has no concept"
+phrase EntityMissing = codes "has no entity"
+phrase DimensionValue = codes "is no text"
+phrase Name = codes "or its name has the wrong form"
+phrase UnboundPrefix = codes "or its name has a prefix that is not bound"
+phrase NotTheFiler = codes "is not the filer"
+phrase Period = codes "is no period"
+phrase PeriodOrder = codes "does not begin before it ends"
+phrase UnitForm = codes "is no unit"
+phrase Number = codes "is no number"
+phrase Language = codes "is no language"
+phrase UnknownDimension = codes "belongs to no known dimension"
+phrase TooMany = codes "has more findings than are shown"
+phrase NotReplaceable = codes "may not replace that filing"
+
+-- behind a value that is shown in part
+abbrev pub dots : List ℕ → List ℕ → List ℕ
+dots shown whole = if nat_lt (length shown) (length whole) then codes "..." else []
+
+abbrev pub bracket_words : List ℕ → List ℕ
+bracket_words [] = codes "the object"
+bracket_words (b ∷ bytes) = if b == 91 then codes "the array" else codes "the object"
+
+abbrev subject_of : Option (List ℕ) → Option (List ℕ) → List ℕ → List ℕ
+subject_of (Some shown) (Some whole) bytes = shown ++ dots shown whole
+subject_of _ _ bytes = bracket_words bytes
+
+-- the value with which the bytes begin: 60 characters of a string, a number or a literal as they are in the text, or words
+abbrev pub subject : List ℕ → List ℕ
+subject bytes = subject_of (value_text bytes) (scalar bytes) bytes
+
+abbrev pub message : List ℕ → Place → Code → List ℕ
+message body place code = if place.is_there then subject (drop place.offset body) ++ codes " " ++ phrase code else codes "the member is missing"

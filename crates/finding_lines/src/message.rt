@@ -1,0 +1,84 @@
+//! What is said of a finding.
+ghost use Rattle.std.specs.Prelude.{◌≡◌, drop, IfOk};
+ghost use Rattle.finding_lines.specs.Messages.{phrase, subject, bracket_words, message};
+
+use crate::text::copied;
+use report_places::{Place, value_text, whole_value};
+use std::alloc::{AllocError, Global};
+use xbrl_report::Code;
+
+/// The sentence of a finding: the value at its place and what is wrong with it, or that there is no value.
+pub(crate) fn message(
+    alloc: Global,
+    body: &[u8],
+    place: &Place,
+    code: Code,
+) -> Result<Vec<u8>, AllocError>
+    ensures { IfOk result (λ written. written.items ≡ message body.now place.now code) }
+{
+    if !place.is_there {
+        return copied(alloc, b"the member is missing");
+    }
+    let mut message = subject(alloc, &body[place.offset.min(body.len())..])?;
+    message.push(b' ')?;
+    message.extend_from_slice(phrase(code).as_bytes())?;
+    Ok(message)
+}
+
+fn subject(alloc: Global, bytes: &[u8]) -> Result<Vec<u8>, AllocError>
+    ensures { IfOk result (λ written. written.items ≡ subject bytes.now) }
+{
+    match (value_text(bytes, 0), whole_value(bytes, 0)) {
+        (Some(shown), Some(whole)) => {
+            let mut subject = copied(alloc, shown)?;
+            if shown.len() < whole.len() {
+                subject.extend_from_slice(b"...")?;
+            }
+            Ok(subject)
+        }
+        _ => copied(alloc, bracket_words(bytes).as_bytes()),
+    }
+}
+
+fn bracket_words(bytes: &[u8]) -> &'static str
+    ensures { result.now ≡ bracket_words bytes.now }
+{
+    match bytes {
+        [b'[', ..] => "the array",
+        _ => "the object",
+    }
+}
+
+/// What is wrong with the value at the place.
+pub(crate) fn phrase(code: Code) -> &'static str
+    ensures { result.now ≡ phrase code }
+{
+    match code {
+        Code::NotJson => "is no JSON text",
+        Code::NotObject => "is no object",
+        Code::DocumentInfo => "is no object",
+        Code::DocumentType => "is not https://xbrl.org/2021/xbrl-json",
+        Code::Namespaces => "is no object",
+        Code::NamespaceUri => "is no text",
+        Code::Taxonomy => "names no taxonomy in a list",
+        Code::Facts => "is no object",
+        Code::Fact => "is no object",
+        Code::Value => "is neither a text nor null",
+        Code::Decimals => "is no whole number of 64 bits",
+        Code::Dimensions => "is no object",
+        Code::ConceptMissing => "has no concept",
+        Code::EntityMissing => "has no entity",
+        Code::DimensionValue => "is no text",
+        Code::Name => "or its name has the wrong form",
+        Code::UnboundPrefix => "or its name has a prefix that is not bound",
+        Code::NotTheFiler => "is not the filer",
+        Code::Period => "is no period",
+        Code::PeriodOrder => "does not begin before it ends",
+        Code::UnitForm => "is no unit",
+        Code::Number => "is no number",
+        Code::Language => "is no language",
+        Code::UnknownDimension => "belongs to no known dimension",
+        Code::TooMany => "has more findings than are shown",
+        Code::NotReplaceable => "may not replace that filing",
+    }
+}

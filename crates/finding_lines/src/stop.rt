@@ -1,0 +1,69 @@
+//! Where the reader stops in a body that is no JSON text.
+ghost use Rattle.std.specs.Prelude.{◌≡◌, IfOk};
+ghost use Rattle.finding_lines.specs.Lines.{IsStopIn, stop_words};
+
+use report_places::{Position, position_of};
+use serde_json::Value;
+use std::alloc::{AllocError, Global};
+
+/// Where the reader stopped, and whether more bytes could follow there.
+#[derive(Clone, Copy)]
+pub(crate) struct Stop {
+    pub position: Position,
+    pub is_cut: bool,
+}
+
+impl Stop {
+    /// Before all bytes.
+    pub(crate) const AT_THE_START: Stop = Stop {
+        position: Position { line: 1, column: 1 },
+        is_cut: false,
+    };
+
+    /// What is wrong there.
+    pub(crate) fn words(self) -> &'static str
+        ensures { result.now ≡ stop_words self }
+    {
+        if self.is_cut {
+            "the body ends too soon"
+        } else {
+            "the body is no JSON text"
+        }
+    }
+}
+
+/// Where the reader stops, if it does not read the body.
+pub(crate) fn stop_in(alloc: Global, body: &[u8]) -> Result<Option<Stop>, AllocError>
+    ensures { IfOk result (IsStopIn body.now) }
+{
+    match Value::from_slice(alloc, body) {
+        Ok(_) => Ok(None),
+        Err(error) if error.is_memory() => Err(AllocError),
+        Err(error) => {
+            let is_cut = error.is_eof();
+            let offset = if is_cut {
+                body.len()
+            } else {
+                offset_of(body, error.line(), error.column())
+            };
+            Ok(Some(Stop {
+                position: position_of(body, offset),
+                is_cut,
+            }))
+        }
+    }
+}
+
+// The offset of a byte, which the reader counts in its line.
+fn offset_of(body: &[u8], line: usize, column: usize) -> usize {
+    let mut line_feeds = line.saturating_sub(1);
+    for (index, byte) in body.iter().enumerate() {
+        if line_feeds == 0 {
+            return index.saturating_add(column).saturating_sub(1);
+        }
+        if *byte == b'\n' {
+            line_feeds -= 1;
+        }
+    }
+    body.len()
+}
