@@ -18,4 +18,4 @@ mod tests;
 
 pub use place::{Place, places};
 pub use position::{Position, position_of};
-pub use shown::value_text;
+pub use shown::{value_text, whole_value};

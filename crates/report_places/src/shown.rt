@@ -16,8 +16,15 @@ const SHOWN: usize = 60;
 pub fn value_text(text: &[u8], offset: usize) -> Option<&[u8]>
     ensures { option_map (λ shown. shown.now) result ≡ value_text_lem (drop offset text.now) }
 {
-    let value = scalar(&text[offset.min(text.len())..])?;
+    let value = whole_value(text, offset)?;
     Some(&value[..characters_len(value)])
+}
+
+/// All bytes of the string, number or literal at an offset. None begins at any other byte.
+pub fn whole_value(text: &[u8], offset: usize) -> Option<&[u8]>
+    ensures { option_map (λ value. value.now) result ≡ scalar_lem (drop offset text.now) }
+{
+    scalar(&text[offset.min(text.len())..])
 }
 
 fn scalar(bytes: &[u8]) -> Option<&[u8]>

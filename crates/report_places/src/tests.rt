@@ -1,4 +1,4 @@
-use crate::{Place, Position, places, position_of, value_text};
+use crate::{Place, Position, places, position_of, value_text, whole_value};
 use std::alloc::Global;
 use std::test::Fail;
 
@@ -109,4 +109,5 @@ fn shows_values(rt: HostRuntime) {
     let long = "\"éééééééééééééééééééééééééééééééééééééééééééééééééééééééééééééééé\"";
     let shown = "\"ééééééééééééééééééééééééééééééééééééééééééééééééééééééééééé";
     assert_eq!(rt; value_text(long.as_bytes(), 0), Some(shown.as_bytes()));
+    assert_eq!(rt; whole_value(long.as_bytes(), 0), Some(long.as_bytes()));
 }
