@@ -1,15 +1,33 @@
 //! Why a database was refused, as the head of its file tells (SQLite's file format, section 1.3).
 
-ghost use Rattle.std.specs.Prelude.{◌≢◌};
+ghost use Rattle.std.specs.Prelude.{◌≡◌, ◌≢◌};
 
 use crate::holding::{OF_OUTBOXES, OF_REGISTERS};
 use command_line::DatabaseFault;
+use database_places::Place;
+use sqlite_disk::Disk;
 
 /// The bytes with which each database begins.
 const MAGIC: &[u8] = b"SQLite format 3\0";
 
 /// How many bytes at the end of each page are reserved if it has a sum there.
 const SUM_LEN: u8 = 8;
+
+/// Why the database of this place is refused. If the refusal goes by its pages, the first of them says more. To be called
+/// once the files are left there.
+pub fn refusal<D: Disk + Drop, P: Place<D>>(
+    rt: &HostRuntime,
+    place: &P,
+    fault: DatabaseFault,
+) -> DatabaseFault
+    ensures { result ≡ DatabaseFault.Missing → fault ≡ DatabaseFault.Missing }
+{
+    match fault {
+        DatabaseFault::NotADatabase => no_database(place.first_page(rt).as_slice()),
+        DatabaseFault::Damaged => wrong_pages(place.first_page(rt).as_slice()),
+        _ => fault,
+    }
+}
 
 /// Why a file with this first page was refused as no database, or as one whose rows do not obey its schema.
 pub(crate) fn no_database(page: &[u8]) -> DatabaseFault

@@ -11,6 +11,7 @@ mod report_file;
 mod verdict;
 
 pub use database::{Cache, FileSystem, Left, Opening, SystemFiles, Visited, Work, on_database};
+pub use head::refusal;
 pub use holding::{Holding, held_in};
 pub use patience::{Deadline, Patient, Waits};
 pub use report_file::{ReportFault, report};

@@ -13,9 +13,9 @@ mod pause;
 mod port;
 mod progress;
 mod register;
+mod reporter;
 mod room;
 mod serving;
 mod tasks;
-mod told;
 
 pub use tasks::{main, perform};

@@ -13,7 +13,6 @@ use gateway_server::{Ended, Served};
 use http_wire::{DeviceFailed, Sink, Source};
 use std::alloc::{AllocError, Global};
 use std::io::{self, Write};
-use std::net::TcpStream;
 
 /// How many bytes of a connection are noted: those of the longest request. The filers of requests that come after them
 /// are not told.
@@ -197,18 +196,6 @@ impl<P: StreamPort, O: Write> Port for Logged<'_, P, O> {
 }
 
 impl<P: StreamPort, O: Write> StreamPort for Logged<'_, P, O> {
-    fn next(&mut self) -> io::Result<Option<TcpStream>> {
-        self.port.next()
-    }
-
-    fn begin(&mut self, stream: TcpStream) -> Option<(Noted<P::Reader>, Statuses<P::Writer>)> {
-        let (reader, writer) = self.port.begin(stream)?;
-        Some((
-            Noted::new(self.alloc, reader),
-            Statuses::new(self.alloc, writer),
-        ))
-    }
-
     fn taken(&self) -> u32 {
         self.port.taken()
     }

@@ -12,14 +12,8 @@ use std::io;
 use std::net::TcpStream;
 use std::time::Duration;
 
-/// A port of this machine: a connection that came may wait before its time begins, and what failed of one is known.
+/// A port of this machine, of whose connections is known what failed.
 pub trait StreamPort: Port {
-    /// Waits for the next connection. None is one that its peer gave up before.
-    fn next(&mut self) -> io::Result<Option<TcpStream>>;
-
-    /// Begins the time of the connection that was taken last. None is one that the system refuses.
-    fn begin(&mut self, stream: TcpStream) -> Option<(Self::Reader, Self::Writer)>;
-
     /// How many connections were taken.
     fn taken(&self) -> u32;
 
@@ -96,12 +90,21 @@ impl<'r> Port for TimedPort<'r> {
     }
 
     fn accept(&mut self) -> io::Result<Option<(Timed<'r>, Timed<'r>)>> {
-        let Some(stream) = self.next()? else {
+        self.taken = self.taken.saturating_add(1);
+        self.deadline = None;
+        self.failure = None;
+        let Some(stream) = self.port.next_stream()? else {
             return Ok(None);
         };
-        match self.begin(stream) {
-            Some((reader, writer)) => Ok(Some((reader, writer))),
-            None => Ok(None),
+        match self.halves(stream) {
+            Ok(halves) => Ok(Some(halves)),
+            Err(error) => {
+                self.failure = Some(ConnectionFault::Network {
+                    port: self.number,
+                    error,
+                });
+                Ok(None)
+            }
         }
     }
 
@@ -116,26 +119,6 @@ impl<'r> Port for TimedPort<'r> {
 }
 
 impl<'r> StreamPort for TimedPort<'r> {
-    fn next(&mut self) -> io::Result<Option<TcpStream>> {
-        self.taken = self.taken.saturating_add(1);
-        self.deadline = None;
-        self.failure = None;
-        self.port.next_stream()
-    }
-
-    fn begin(&mut self, stream: TcpStream) -> Option<(Timed<'r>, Timed<'r>)> {
-        match self.halves(stream) {
-            Ok(halves) => Some(halves),
-            Err(error) => {
-                self.failure = Some(ConnectionFault::Network {
-                    port: self.number,
-                    error,
-                });
-                None
-            }
-        }
-    }
-
     fn taken(&self) -> u32 {
         self.taken
     }

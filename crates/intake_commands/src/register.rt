@@ -67,27 +67,14 @@ pub fn run_errand<'a, D: Disk + Drop, F: FileSystem<D>, O: Write, E: Write>(
 }
 
 /// Says where the files of a register are not closed. What was answered is kept then, in the log beside the file.
-pub fn tell_close<E: Write>(closed: Result<(), Error>, name: &str, errors: &mut E) {
+fn tell_close<E: Write>(closed: Result<(), Error>, name: &str, errors: &mut E) {
     if let Err(error) = closed {
         VisitFault::NotClosed(error).at(name).tell(errors);
     }
 }
 
-/// Makes the tables of a register, in a database without tables.
-pub fn create<S: Alter + Drop>(alloc: Global, conn: Connection<S>) -> Result<Store<S>, VisitFault>
-    requires { IsAtRest conn }
-{
-    match held_in(&conn) {
-        Holding::Nothing => match calls::create(alloc, conn) {
-            Ok(register) => Ok(register),
-            Err((fault, _back)) => Err(VisitFault::Create(fault)),
-        },
-        held => Err(VisitFault::Taken(held)),
-    }
-}
-
 /// The register of a database that is there.
-pub fn open<S: Alter + Drop>(alloc: Global, conn: Connection<S>) -> Result<Store<S>, VisitFault>
+fn open<S: Alter + Drop>(alloc: Global, conn: Connection<S>) -> Result<Store<S>, VisitFault>
     requires { IsAtRest conn }
 {
     match calls::open(alloc, conn) {
@@ -100,7 +87,7 @@ pub fn open<S: Alter + Drop>(alloc: Global, conn: Connection<S>) -> Result<Store
 }
 
 /// What is left of a database that gave no register.
-pub fn left_by<S: Alter>(fault: VisitFault) -> Left<S> {
+fn left_by<S: Alter>(fault: VisitFault) -> Left<S> {
     if fault.is_of_others() {
         Left::NotOurs
     } else {
@@ -109,7 +96,7 @@ pub fn left_by<S: Alter>(fault: VisitFault) -> Left<S> {
 }
 
 /// What is left of the database in the file with this name, which gave no register, and why it gave none.
-pub fn refused<S: Alter, T>(name: &str, fault: VisitFault) -> (Left<S>, Result<T, Fault<'_>>) {
+fn refused<S: Alter, T>(name: &str, fault: VisitFault) -> (Left<S>, Result<T, Fault<'_>>) {
     (left_by(fault), Err(fault.at(name)))
 }
 

@@ -3,9 +3,10 @@
 use crate::fault::Fault;
 use crate::limit::Limit;
 use crate::register::run_errand;
-use crate::serving::serve_file;
+use crate::serving::serve_place;
 use command_files::{FileSystem, SystemFiles, report, show_verdict};
 use command_line::{CommandFault, DONE, show_refusal, words};
+use database_places::SystemPlace;
 use gateway_server::Ended;
 use http_wire::Device;
 use intake_options::{Errand, Task};
@@ -126,7 +127,10 @@ fn perform_task<'a, D: Disk + Drop, F: FileSystem<D>, R: Read, O: Write, E: Writ
 ) -> Result<u8, Fault<'a>> {
     match task {
         Task::Run { limit } => done(run_once(rt.alloc(), *limit, input, output)),
-        Task::Serve(serving) => done(serve_file(rt, system, *serving, output, errors)),
+        Task::Serve(serving) => {
+            let place = SystemPlace::new(serving.database);
+            done(serve_place(rt, place, *serving, output, errors))
+        }
         Task::Visit { database, errand } => done(perform_errand(
             rt, system, database, *errand, output, errors,
         )),

@@ -18,10 +18,13 @@ pub enum Went {
     NotOpened(OpeningFault),
 }
 
-/// Who is told what happens while a port is served, and says when a register that is closed may be opened again.
-pub trait Observer {
+/// Who sees what happens while a port of this kind is served, and says when a register that is closed may be opened again.
+pub trait Observer<L> {
     /// The port is listened on, and the register that serves it holds so much.
     fn ready(&mut self, totals: Totals);
+
+    /// A connection came on the port: one to be answered, or one that its peer gave up or the system refused.
+    fn accepted(&mut self, port: &L);
 
     /// Whether the register, which is closed, is to be opened for a connection that came.
     fn may_open(&mut self) -> bool;
@@ -32,8 +35,8 @@ pub trait Observer {
     /// What a connection came to, which is told to the port after this.
     fn served(&mut self, served: &Served);
 
-    /// A connection is over, and so many more may come.
-    fn ended(&mut self, went: Went, left: u32);
+    /// A connection of the port is over, and so many more may come.
+    fn ended(&mut self, port: &L, went: Went, left: u32);
 
     /// No connection is answered any more, and the register was closed so.
     fn closed(&mut self, closed: Closed);

@@ -24,7 +24,7 @@ pub enum ServingFault {
 
 /// Serves a port by the register that lies in the place of a process, as a whole: it is opened or made, the port is
 /// listened on and its next `most` connections are answered, and the register is closed.
-pub fn serve_register<D: Disk + Drop, P: Place<D> + Drop, L: Port, O: Observer>(
+pub fn serve_register<D: Disk + Drop, P: Place<D> + Drop, L: Port, O: Observer<L>>(
     rt: &HostRuntime,
     port: &mut L,
     process: &mut IntakeProcess<D, P>,
@@ -50,7 +50,7 @@ pub fn serve_register<D: Disk + Drop, P: Place<D> + Drop, L: Port, O: Observer>(
 }
 
 /// Listens on a port, and answers its connections by a register that holds so much.
-fn listen_and_serve<D: Disk + Drop, P: Place<D> + Drop, L: Port, O: Observer>(
+fn listen_and_serve<D: Disk + Drop, P: Place<D> + Drop, L: Port, O: Observer<L>>(
     rt: &HostRuntime,
     port: &mut L,
     process: &mut IntakeProcess<D, P>,
@@ -75,7 +75,7 @@ fn listen_and_serve<D: Disk + Drop, P: Place<D> + Drop, L: Port, O: Observer>(
 /// Answers the next `most` connections that come on a port, each by the register as the one before it left it. If the
 /// database refuses a call the register is closed. It is opened again for a connection that comes later, if the
 /// observer lets it, and until it is open connections are turned away. One that its peer gave up before counts as well.
-pub fn serve_port<D: Disk + Drop, P: Place<D> + Drop, L: Port, O: Observer>(
+pub fn serve_port<D: Disk + Drop, P: Place<D> + Drop, L: Port, O: Observer<L>>(
     rt: &HostRuntime,
     port: &mut L,
     process: &mut IntakeProcess<D, P>,
@@ -95,7 +95,7 @@ pub fn serve_port<D: Disk + Drop, P: Place<D> + Drop, L: Port, O: Observer>(
 }
 
 /// Answers the next connection, unless its peer gave it up. So many more may come.
-fn serve_next<D: Disk + Drop, P: Place<D> + Drop, L: Port, O: Observer>(
+fn serve_next<D: Disk + Drop, P: Place<D> + Drop, L: Port, O: Observer<L>>(
     rt: &HostRuntime,
     port: &mut L,
     process: &mut IntakeProcess<D, P>,
@@ -108,19 +108,21 @@ fn serve_next<D: Disk + Drop, P: Place<D> + Drop, L: Port, O: Observer>(
         (parts P.lying process.old) (parts P.lying process.new) (option_map (λ _. 1) (result_ok result)) }
     ensures closed { IsAwake process.old.intake → OnOk result (IsAwake process.new.intake) }
 {
-    if let Some((mut reader, mut writer)) = port.accept()? {
+    let came = port.accept()?;
+    observer.accepted(port);
+    if let Some((mut reader, mut writer)) = came {
         let refusal = open_again(rt, process, observer, limit);
         let answered = process.answer(rt.alloc(), &mut reader, &mut writer);
         observer.served(&answered.served);
         port.end(reader, writer, answered.served)?;
-        observer.ended(went(process, answered.outcome, refusal), left);
+        observer.ended(port, went(process, answered.outcome, refusal), left);
     }
     Ok(())
 }
 
 /// Opens the register again, if it is closed and the observer lets it. It answers why it was not opened, if that was
 /// tried.
-fn open_again<D: Disk + Drop, P: Place<D> + Drop, O: Observer>(
+fn open_again<D: Disk + Drop, P: Place<D> + Drop, L, O: Observer<L>>(
     rt: &HostRuntime,
     process: &mut IntakeProcess<D, P>,
     observer: &mut O,

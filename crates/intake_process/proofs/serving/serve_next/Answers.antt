@@ -9,11 +9,11 @@ use Rattle.intake_process.proofs.Keeping.{awake}
 use Rattle.intake_process.proofs.Turns.{none, one, between, same}
 use Rattle.intake_process.proofs.serving.serve_next.Goals as goal
 
-pub returns-in_err-reader-clause-answers : goal.returns-in_err-reader-clause-answers
-returns-in_err-reader-clause-answers g c = λ honest.
+pub returns-in_err-came-clause-answers : goal.returns-in_err-came-clause-answers
+returns-in_err-came-clause-answers g c = λ honest.
     let process = parts g.P.Place.lying c.args.process.now in
     subst (λ taken. AnswersSome c.args.limit (g.L.Port.traffic c.args.port.now) (g.L.Port.traffic c.accept.new.self) process process taken) (sym (ap (option_map (λ _. 1)) (none_told c.from_residual.result c.from_residual.ensures.0)))
-    (none c.args.limit (g.L.Port.traffic c.args.port.now) (g.L.Port.traffic c.accept.new.self) process None c.in_err-reader.ensures.0 tt)
+    (none c.args.limit (g.L.Port.traffic c.args.port.now) (g.L.Port.traffic c.accept.new.self) process None c.in_err-came.ensures.0 tt)
 
 pub returns-in_err-end-clause-answers : goal.returns-in_err-end-clause-answers
 returns-in_err-end-clause-answers g c = λ honest.
@@ -23,7 +23,7 @@ returns-in_err-end-clause-answers g c = λ honest.
     subst (λ taken. AnswersSome c.args.limit (g.L.Port.traffic c.args.port.now) (g.L.Port.traffic c.end.new.self) old last taken) (sym (ap (option_map (λ _. 1)) (none_told c.from_residual-in_err-end.result c.from_residual-in_err-end.ensures.0)))
     (between c.args.limit (g.L.Port.traffic c.args.port.now) (g.L.Port.traffic c.end.new.self) old first last last None (c.open_again-refusal.ensures honest)
     (one c.args.limit honest (g.L.Port.traffic c.args.port.now) (g.L.Port.traffic c.accept.new.self) (g.L.Port.traffic c.end.new.self) (wire g.L.Reader.Source g.L.Writer.Sink c.in-Some.reader c.in-Some.writer)
-    (wire g.L.Reader.Source g.L.Writer.Sink c.answer-answered.new.reader c.answer-answered.new.writer) first last c.answer-answered.result None (rw c.in-Some.is at c.in_ok-reader.ensures) c.answer-answered.ensures c.end.ensures.coming tt)
+    (wire g.L.Reader.Source g.L.Writer.Sink c.answer-answered.new.reader c.answer-answered.new.writer) first last c.answer-answered.result None (rw c.in-Some.is at c.in_ok-came.ensures) c.answer-answered.ensures c.end.ensures.coming tt)
     (same c.args.limit last))
 
 pub returns-in_ok-end-clause-answers : goal.returns-in_ok-end-clause-answers
@@ -33,12 +33,12 @@ returns-in_ok-end-clause-answers g c = λ honest.
     let last = parts g.P.Place.lying c.answer-answered.new.self in
     between c.args.limit (g.L.Port.traffic c.args.port.now) (g.L.Port.traffic c.end.new.self) old first last (parts g.P.Place.lying c.went.new.process) (Some 1) (c.open_again-refusal.ensures honest)
     (one c.args.limit honest (g.L.Port.traffic c.args.port.now) (g.L.Port.traffic c.accept.new.self) (g.L.Port.traffic c.end.new.self) (wire g.L.Reader.Source g.L.Writer.Sink c.in-Some.reader c.in-Some.writer)
-    (wire g.L.Reader.Source g.L.Writer.Sink c.answer-answered.new.reader c.answer-answered.new.writer) first last c.answer-answered.result (Some 1) (rw c.in-Some.is at c.in_ok-reader.ensures) c.answer-answered.ensures c.end.ensures.coming (refl, c.in_ok-end.ensures.over))
+    (wire g.L.Reader.Source g.L.Writer.Sink c.answer-answered.new.reader c.answer-answered.new.writer) first last c.answer-answered.result (Some 1) (rw c.in-Some.is at c.in_ok-came.ensures) c.answer-answered.ensures c.end.ensures.coming (refl, c.in_ok-end.ensures.over))
     (c.went.ensures.leaves honest c.args.limit)
 
 pub returns-in_default-clause-answers : goal.returns-in_default-clause-answers
 returns-in_default-clause-answers g c = λ honest.
-    let came = rw c.in_default.is at c.in_ok-reader.ensures in
+    let came = rw c.in_default.is at c.in_ok-came.ensures in
     none c.args.limit (g.L.Port.traffic c.args.port.now) (g.L.Port.traffic c.accept.new.self) (parts g.P.Place.lying c.args.process.now) (Some 1) came.0 (subst (λ coming. AreCounted coming [] 1) (sym came.1) counted_given_up)
 
 pub returns-in_ok-end-clause-closed : goal.returns-in_ok-end-clause-closed

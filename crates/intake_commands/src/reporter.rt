@@ -1,0 +1,174 @@
+//! What standard error has of a register that serves a port.
+
+use crate::fault::VisitFault;
+use crate::note::Note;
+use crate::pause::Pause;
+use crate::port::StreamPort;
+use crate::room::Room;
+use gateway_server::{Ended, Served};
+use intake_options::Serving;
+use intake_process::{Closed, Observer, Totals, Went};
+use std::io::Write;
+use std::time::Instant;
+
+/// Reports what fails while a register serves the connections of a port, and that the register is full. It leaves a
+/// register alone for a while that failed again.
+#[derive(Drop)]
+pub struct Reporter<'r, 'a, 'o, E> {
+    rt: &'r HostRuntime,
+    serving: Serving<'a>,
+    errors: &'o mut E,
+    /// When the register began to be opened; none if the system has no clock.
+    start: Option<Instant>,
+    /// The room of the register; none while it is closed.
+    room: Option<Room>,
+    /// What the connection came to that was served last, and the room after it.
+    last: Option<(Ended, Option<Room>)>,
+    /// How many requests the register kept when it was opened again; none before that.
+    kept: Option<u64>,
+    /// How long the register is left alone once it is closed.
+    pause: Pause,
+}
+
+impl<'r, 'a, 'o, E: Write> Reporter<'r, 'a, 'o, E> {
+    /// Reports on these errors. The register begins to be opened.
+    pub fn new(
+        rt: &'r HostRuntime,
+        serving: Serving<'a>,
+        errors: &'o mut E,
+    ) -> Reporter<'r, 'a, 'o, E> {
+        Reporter {
+            rt,
+            serving,
+            errors,
+            start: Instant::now(rt).ok(),
+            room: None,
+            last: None,
+            kept: None,
+            pause: Pause::none(),
+        }
+    }
+
+    /// Reports that all connections were served.
+    pub fn tell_served(&mut self) {
+        let connections = self.serving.connections;
+        Note::Served { connections }.tell(self.errors);
+    }
+
+    /// How long the opening took so far, in milliseconds; 0 if the system has no clock.
+    fn milliseconds(&self) -> u128 {
+        let Some(start) = self.start else {
+            return 0;
+        };
+        match start.elapsed(self.rt) {
+            Ok(time) => time.as_millis(),
+            Err(_) => 0,
+        }
+    }
+
+    /// Reports what failed of the connection that was taken last, beside the fault in which it ended. Whether something
+    /// did.
+    fn tell_failure<P: StreamPort>(&mut self, port: &P) -> bool {
+        match port.failure() {
+            Some(fault) => {
+                fault.tell(self.errors);
+                true
+            }
+            None => false,
+        }
+    }
+
+    /// Reports in which fault the connection that was taken last ended, if it did. If its line was not printed, that is
+    /// reported and nothing else of it.
+    fn tell_end<P: StreamPort>(&mut self, port: &P) {
+        if self.tell_failure(port) {
+            return;
+        }
+        let Some((ended, room)) = self.last else {
+            return;
+        };
+        if let Some(fault) = port.fault_of(ended) {
+            fault.tell(self.errors);
+        }
+        self.room = room;
+    }
+
+    /// Reports that the register is full, if that is not reported yet.
+    fn tell_full(&mut self) {
+        if let Some(room) = &mut self.room {
+            if let Some(limit) = room.newly_full() {
+                Note::Full { limit }.tell(self.errors);
+            }
+        }
+    }
+
+    /// The database refused a call, and the register, which keeps so many requests, is closed. One that kept a request
+    /// since it was opened failed for the first time.
+    fn tell_down(&mut self, kept: u64, left: u32) {
+        Note::Down.tell(self.errors);
+        self.room = None;
+        match self.kept {
+            Some(before) if kept <= before => self.leave_alone(left),
+            _ => self.pause = Pause::none(),
+        }
+    }
+
+    /// Leaves a register alone that failed again, for longer than before, which is reported if connections are left.
+    fn leave_alone(&mut self, left: u32) {
+        self.pause = self.pause.longer(self.rt);
+        if left > 0 {
+            let seconds = self.pause.seconds();
+            Note::Paused { seconds }.tell(self.errors);
+        }
+    }
+}
+
+impl<P: StreamPort, E: Write> Observer<P> for Reporter<'_, '_, '_, E> {
+    fn ready(&mut self, totals: Totals) {
+        self.room = Some(Room::new(self.serving.limit, totals.kept));
+        Note::Ready {
+            port: self.serving.port,
+            kept: totals.kept,
+            filings: totals.filings,
+            milliseconds: self.milliseconds(),
+        }
+        .tell(self.errors);
+    }
+
+    fn accepted(&mut self, port: &P) {
+        self.tell_failure(port);
+    }
+
+    fn may_open(&mut self) -> bool {
+        self.pause.is_over(self.rt)
+    }
+
+    fn opened(&mut self, totals: Totals) {
+        Note::OpenAgain.tell(self.errors);
+        self.kept = Some(totals.kept);
+        self.room = Some(Room::new(self.serving.limit, totals.kept));
+    }
+
+    fn served(&mut self, served: &Served) {
+        let room = self.room.map(|room| room.after(served.marks.as_slice()));
+        self.last = Some((served.ended, room));
+    }
+
+    fn ended(&mut self, port: &P, went: Went, left: u32) {
+        self.tell_end(port);
+        match went {
+            Went::Served => self.tell_full(),
+            Went::Failed(closed) => self.tell_down(closed.kept, left),
+            Went::TurnedAway => {}
+            Went::NotOpened(_) => self.leave_alone(left),
+        }
+    }
+
+    fn closed(&mut self, closed: Closed) {
+        if let Err(error) = closed.outcome {
+            VisitFault::NotClosed(error)
+                .at(self.serving.database)
+                .tell(self.errors);
+        }
+    }
+}
