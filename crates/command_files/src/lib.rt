@@ -10,7 +10,7 @@ mod patience;
 mod report_file;
 mod verdict;
 
-pub use database::{Cache, FileSystem, Left, Opening, SystemFiles, Visited, Work, on_database};
+pub use database::{Left, Visited, Work, on_database};
 pub use head::refusal;
 pub use holding::{Holding, held_in};
 pub use patience::{Deadline, Patient, Waits};

@@ -1,9 +1,9 @@
 //! The commands of `intake`: it answers the HTTP requests of filers, from standard input or a port, and shows what its
-//! register holds. What may live here: what a command opens, the one call of a library that it makes, and what it prints.
-//! What the bytes and the rows mean is not known here.
+//! register holds. What may live here: how the file and the port of a task are opened and closed, which call of
+//! `intake_tasks` or `intake_process` does the task, and how a fault is reported. What the bytes and the rows mean is
+//! not known here.
 #![tactic(auto)]
 
-mod calls;
 mod fault;
 mod limit;
 mod line;

@@ -3,13 +3,12 @@
 
 ghost use Rattle.std.specs.Prelude.{◌≡◌};
 
-use crate::calls;
 use crate::fault::ConnectionFault;
 use crate::line::ConnectionLine;
 use crate::port::StreamPort;
 use command_line::show;
 use gateway_ports::Port;
-use gateway_server::{Ended, Served};
+use gateway_server::{Ended, Served, completed};
 use http_wire::{DeviceFailed, Sink, Source};
 use std::alloc::{AllocError, Global};
 use std::io::{self, Write};
@@ -141,7 +140,7 @@ fn show_line<O: Write>(
     bytes: &[u8],
     statuses: &[u16],
 ) -> Result<(), ConnectionFault> {
-    let completed = calls::completed(alloc, bytes, &served.marks)?;
+    let completed = completed(alloc, bytes, &served.marks)?;
     let line = ConnectionLine {
         connection,
         served,

@@ -3,10 +3,10 @@
 ghost use Rattle.std.specs.Prelude.{None};
 ghost use Rattle.table_rows.specs.Standing.{IsAtRest};
 
-use crate::calls;
 use crate::fault::{Fault, Refusal, VisitFault};
 use crate::progress::TerminalProgress;
-use command_files::{Cache, FileSystem, Holding, Left, Opening, Work, held_in, on_database};
+use command_files::{Holding, Left, Work, held_in, on_database};
+use database_places::{Cache, Opening, Place};
 use intake_core::Intake;
 use intake_options::{DEFAULT_LIMIT, Errand};
 use intake_tasks::{CheckFault, ListFault, Migrated, ShowFault, check, list, migrate, show};
@@ -48,9 +48,9 @@ impl<'a, O: Write> Work for Visit<'a, '_, O> {
 
 /// Does an errand to the register of the file with this name. What came of it stays whether or not the files are then
 /// closed: where they are not, this is told.
-pub fn run_errand<'a, D: Disk + Drop, F: FileSystem<D>, O: Write, E: Write>(
+pub fn run_errand<'a, D: Disk + Drop, P: Place<D>, O: Write, E: Write>(
     rt: &HostRuntime,
-    system: &F,
+    place: &mut P,
     name: &'a str,
     errand: Errand<'a>,
     output: &mut O,
@@ -61,7 +61,7 @@ pub fn run_errand<'a, D: Disk + Drop, F: FileSystem<D>, O: Write, E: Write>(
         errand,
         output,
     };
-    let visited = on_database(rt, system, name, Opening::Found(Cache::OfTheFile), work)?;
+    let visited = on_database(rt, place, name, Opening::Found(Cache::OfTheFile), work)?;
     tell_close(visited.closed, name, errors);
     visited.answer
 }
@@ -77,7 +77,7 @@ fn tell_close<E: Write>(closed: Result<(), Error>, name: &str, errors: &mut E) {
 fn open<S: Alter + Drop>(alloc: Global, conn: Connection<S>) -> Result<Store<S>, VisitFault>
     requires { IsAtRest conn }
 {
-    match calls::open(alloc, conn) {
+    match Store::open_or_back(alloc, conn) {
         Ok(register) => Ok(register),
         Err((fault, back)) => Err(VisitFault::Open(Refusal {
             fault,

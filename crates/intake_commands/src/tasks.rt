@@ -4,9 +4,9 @@ use crate::fault::Fault;
 use crate::limit::Limit;
 use crate::register::run_errand;
 use crate::serving::serve_place;
-use command_files::{FileSystem, SystemFiles, report, show_verdict};
+use command_files::{report, show_verdict};
 use command_line::{CommandFault, DONE, show_refusal, words};
-use database_places::SystemPlace;
+use database_places::{Place, SystemPlace};
 use gateway_server::Ended;
 use http_wire::Device;
 use intake_options::{Errand, Task};
@@ -59,9 +59,9 @@ fn show_fault<'a, O: Write>(
 
 /// Does an errand to the register of a file. Where that is to judge the register, what is wrong with it goes to the
 /// output too.
-fn perform_errand<'a, D: Disk + Drop, F: FileSystem<D>, O: Write, E: Write>(
+fn perform_errand<'a, D: Disk + Drop, P: Place<D>, O: Write, E: Write>(
     rt: &HostRuntime,
-    system: &F,
+    place: &mut P,
     name: &'a str,
     errand: Errand<'a>,
     output: &mut O,
@@ -70,11 +70,11 @@ fn perform_errand<'a, D: Disk + Drop, F: FileSystem<D>, O: Write, E: Write>(
     match errand {
         Errand::List { filer: code } => {
             filer(code)?;
-            run_errand(rt, system, name, errand, output, errors)
+            run_errand(rt, place, name, errand, output, errors)
         }
-        Errand::Show { .. } => run_errand(rt, system, name, errand, output, errors),
+        Errand::Show { .. } => run_errand(rt, place, name, errand, output, errors),
         Errand::Check | Errand::Migrate => {
-            match run_errand(rt, system, name, errand, output, errors) {
+            match run_errand(rt, place, name, errand, output, errors) {
                 Ok(()) => Ok(()),
                 Err(fault) => show_fault(rt.alloc(), fault, output),
             }
@@ -117,9 +117,8 @@ fn done<'a>(performed: Result<(), Fault<'a>>) -> Result<u8, Fault<'a>> {
 }
 
 /// Performs a task, and answers the status.
-fn perform_task<'a, D: Disk + Drop, F: FileSystem<D>, R: Read, O: Write, E: Write>(
+fn perform_task<'a, R: Read, O: Write, E: Write>(
     rt: &HostRuntime,
-    system: &F,
     task: &Task<'a>,
     input: &mut R,
     output: &mut O,
@@ -131,9 +130,10 @@ fn perform_task<'a, D: Disk + Drop, F: FileSystem<D>, R: Read, O: Write, E: Writ
             let place = SystemPlace::new(serving.database);
             done(serve_place(rt, place, *serving, output, errors))
         }
-        Task::Visit { database, errand } => done(perform_errand(
-            rt, system, database, *errand, output, errors,
-        )),
+        Task::Visit { database, errand } => {
+            let mut place = SystemPlace::new(database);
+            done(perform_errand(rt, &mut place, database, *errand, output, errors))
+        }
         Task::Lint { filer, files } => lint_files(rt, filer, files, output),
     }
 }
@@ -144,9 +144,8 @@ fn asks_for_init(words: &[String]) -> bool {
 }
 
 /// Performs what these words ask for, and answers the status.
-fn perform_words<'a, D: Disk + Drop, F: FileSystem<D>, R: Read, O: Write, E: Write>(
+fn perform_words<'a, R: Read, O: Write, E: Write>(
     rt: &HostRuntime,
-    system: &F,
     words: &'a [String],
     input: &mut R,
     output: &mut O,
@@ -156,23 +155,21 @@ fn perform_words<'a, D: Disk + Drop, F: FileSystem<D>, R: Read, O: Write, E: Wri
         return Err(Fault::NoInit);
     }
     match intake_options::read(rt.alloc(), words) {
-        Ok(Some(task)) => perform_task(rt, system, &task, input, output, errors),
+        Ok(Some(task)) => perform_task(rt, &task, input, output, errors),
         Ok(None) => Err(CommandFault::NoTask.into()),
         Err(error) => Ok(show_refusal(&error, output, errors)?),
     }
 }
 
-/// Performs what these words ask for, the program's name first, over the databases of a file system, and answers the
-/// status. A fault's text goes to `errors`.
-pub fn perform<D: Disk + Drop, F: FileSystem<D>, R: Read, O: Write, E: Write>(
+/// Performs what these words ask for, the program's name first, and answers the status. A fault's text goes to `errors`.
+pub fn perform<R: Read, O: Write, E: Write>(
     rt: &HostRuntime,
-    system: &F,
     words: &[String],
     input: &mut R,
     output: &mut O,
     errors: &mut E,
 ) -> u8 {
-    match perform_words(rt, system, words, input, output, errors) {
+    match perform_words(rt, words, input, output, errors) {
         Ok(status) => status,
         Err(fault) => fault.tell(errors),
     }
@@ -196,7 +193,6 @@ pub fn main(rt: &HostRuntime) -> u8 {
             tell_terminal(rt, words.as_slice());
             perform(
                 rt,
-                &SystemFiles,
                 words.as_slice(),
                 &mut rt.reader(),
                 &mut rt.stdout(),

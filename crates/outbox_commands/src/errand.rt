@@ -5,8 +5,9 @@ ghost use Rattle.table_rows.specs.Standing.{IsAtRest};
 use crate::fault::{Fault, VisitFault};
 use crate::options::{Peer, Target, Which};
 use crate::sending::send;
-use command_files::{Cache, FileSystem, Holding, Left, Opening, Work, held_in, on_database};
+use command_files::{Holding, Left, Work, held_in, on_database};
 use command_line::show;
+use database_places::{Cache, Opening, Place};
 use key_string::KeyText;
 use outbox_core::{Entry, Outbox, OutboxFault, read_outbox};
 use outbox_tasks::{TaskFault, put, show_each, show_entry, show_states};
@@ -105,9 +106,9 @@ impl<'a, O: Write, E: Write> Visit<'a, '_, O, E> {
 
 /// Does an errand to the outbox of the file with this name. What was told stays whether or not the files are then
 /// closed: where they are not, this is told.
-pub fn run_errand<'a, D: Disk + Drop, F: FileSystem<D>, O: Write, E: Write>(
+pub fn run_errand<'a, D: Disk + Drop, P: Place<D>, O: Write, E: Write>(
     rt: &HostRuntime,
-    system: &F,
+    place: &mut P,
     name: &'a str,
     errand: Errand<'a>,
     output: &mut O,
@@ -120,7 +121,7 @@ pub fn run_errand<'a, D: Disk + Drop, F: FileSystem<D>, O: Write, E: Write>(
         output,
         errors: &mut *errors,
     };
-    let visited = on_database(rt, system, name, opening, work)?;
+    let visited = on_database(rt, place, name, opening, work)?;
     tell_close(visited.closed, name, errors);
     visited.answer
 }

@@ -1,6 +1,6 @@
-//! The commands of `outbox`: it keeps the reports that a filer is to send, and sends them. What may live here: what a
-//! command opens, the one call of a library that it makes, and what it prints. What the bytes and the rows mean is not
-//! known here.
+//! The commands of `outbox`: it keeps the reports that a filer is to send, and sends them. What may live here: how
+//! the file and the port of a task are opened and closed, which call of `outbox_tasks` does the task, and how a fault is
+//! reported. What the bytes and the rows mean is not known here.
 #![tactic(auto)]
 
 mod answer;

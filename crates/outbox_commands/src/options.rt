@@ -49,6 +49,20 @@ pub enum Task<'a> {
     },
 }
 
+impl<'a> Task<'a> {
+    /// The name of the file that the outbox lies in.
+    pub fn database(&self) -> &'a str {
+        match *self {
+            Task::Init { database, .. }
+            | Task::Put { database, .. }
+            | Task::Migrate { database }
+            | Task::Send { database, .. }
+            | Task::Status { database }
+            | Task::Show { database, .. } => database,
+        }
+    }
+}
+
 /// The filing that a report replaces, if it replaces one.
 #[derive(Clone, Copy)]
 pub struct Target {

@@ -4,8 +4,9 @@ use crate::errand::{Errand, run_errand};
 use crate::fault::Fault;
 use crate::options;
 use crate::options::{Target, Task};
-use command_files::{FileSystem, SystemFiles, report, show_verdict};
+use command_files::{report, show_verdict};
 use command_line::{CommandFault, DONE, show_refusal, words};
+use database_places::{Place, SystemPlace};
 use key_string::{KeyText, is_filer};
 use outbox_core::key_of;
 use rand::make_rng;
@@ -35,25 +36,25 @@ fn key<'a>(rt: &HostRuntime, text: Option<&str>) -> Result<KeyText, Fault<'a>> {
 }
 
 /// Makes an outbox of this filer.
-fn init<'a, D: Disk + Drop, F: FileSystem<D>, O: Write, E: Write>(
+fn init<'a, D: Disk + Drop, P: Place<D>, O: Write, E: Write>(
     rt: &HostRuntime,
-    system: &F,
+    place: &mut P,
     name: &'a str,
     filer: &'a str,
     output: &mut O,
     errors: &mut E,
 ) -> Result<(), Fault<'a>> {
     if is_filer(filer) {
-        run_errand(rt, system, name, Errand::Init { filer }, output, errors)
+        run_errand(rt, place, name, Errand::Init { filer }, output, errors)
     } else {
         Err(CommandFault::Filer.into())
     }
 }
 
 /// Puts a report in. The key and the report are looked at before the outbox is.
-fn put<'a, D: Disk + Drop, F: FileSystem<D>, O: Write, E: Write>(
+fn put<'a, D: Disk + Drop, P: Place<D>, O: Write, E: Write>(
     rt: &HostRuntime,
-    system: &F,
+    place: &mut P,
     name: &'a str,
     body_name: &'a str,
     key_text: Option<&str>,
@@ -69,7 +70,7 @@ fn put<'a, D: Disk + Drop, F: FileSystem<D>, O: Write, E: Write>(
         target,
         body,
     };
-    run_errand(rt, system, name, errand, output, errors)
+    run_errand(rt, place, name, errand, output, errors)
 }
 
 /// Prints what the fault says of the outbox, where it says something, and gives it back.
@@ -85,43 +86,43 @@ fn show_fault<'a, O: Write>(
 }
 
 /// Makes an outbox of an earlier version one of this version, and prints that it is; or why it is none.
-fn migrate<'a, D: Disk + Drop, F: FileSystem<D>, O: Write, E: Write>(
+fn migrate<'a, D: Disk + Drop, P: Place<D>, O: Write, E: Write>(
     rt: &HostRuntime,
-    system: &F,
+    place: &mut P,
     name: &'a str,
     output: &mut O,
     errors: &mut E,
 ) -> Result<(), Fault<'a>> {
-    match run_errand(rt, system, name, Errand::Migrate, output, errors) {
+    match run_errand(rt, place, name, Errand::Migrate, output, errors) {
         Ok(()) => Ok(()),
         Err(fault) => show_fault(rt.alloc(), fault, output),
     }
 }
 
-/// Performs a task.
-fn perform_task<'a, D: Disk + Drop, F: FileSystem<D>, O: Write, E: Write>(
+/// Performs a task on the outbox that lies in this place.
+fn perform_task<'a, D: Disk + Drop, P: Place<D>, O: Write, E: Write>(
     rt: &HostRuntime,
-    system: &F,
+    place: &mut P,
     task: Task<'a>,
     output: &mut O,
     errors: &mut E,
 ) -> Result<(), Fault<'a>> {
     match task {
-        Task::Init { database, filer } => init(rt, system, database, filer, output, errors),
+        Task::Init { database, filer } => init(rt, place, database, filer, output, errors),
         Task::Put {
             database,
             body,
             key,
             target,
-        } => put(rt, system, database, body, key, target, output, errors),
-        Task::Migrate { database } => migrate(rt, system, database, output, errors),
+        } => put(rt, place, database, body, key, target, output, errors),
+        Task::Migrate { database } => migrate(rt, place, database, output, errors),
         Task::Send {
             database,
             peer,
             which,
         } => run_errand(
             rt,
-            system,
+            place,
             database,
             Errand::Send { peer, which },
             output,
@@ -129,29 +130,29 @@ fn perform_task<'a, D: Disk + Drop, F: FileSystem<D>, O: Write, E: Write>(
         ),
         Task::Status { database } => run_errand(
             rt,
-            system,
+            place,
             database,
             Errand::Status,
             output,
             errors,
         ),
         Task::Show { database, entry } => {
-            run_errand(rt, system, database, Errand::Show { entry }, output, errors)
+            run_errand(rt, place, database, Errand::Show { entry }, output, errors)
         }
     }
 }
 
 /// Performs what these words ask for, and answers the status.
-fn perform_words<'a, D: Disk + Drop, F: FileSystem<D>, O: Write, E: Write>(
+fn perform_words<'a, O: Write, E: Write>(
     rt: &HostRuntime,
-    system: &F,
     words: &'a [String],
     output: &mut O,
     errors: &mut E,
 ) -> Result<u8, Fault<'a>> {
     match options::read(rt.alloc(), words) {
         Ok(Some(task)) => {
-            perform_task(rt, system, task, output, errors)?;
+            let mut place = SystemPlace::new(task.database());
+            perform_task(rt, &mut place, task, output, errors)?;
             Ok(DONE)
         }
         Ok(None) => Err(CommandFault::NoTask.into()),
@@ -159,16 +160,14 @@ fn perform_words<'a, D: Disk + Drop, F: FileSystem<D>, O: Write, E: Write>(
     }
 }
 
-/// Performs what these words ask for, the program's name first, over the databases of a file system, and answers the
-/// status. A fault's text goes to `errors`.
-pub fn perform<D: Disk + Drop, F: FileSystem<D>, O: Write, E: Write>(
+/// Performs what these words ask for, the program's name first, and answers the status. A fault's text goes to `errors`.
+pub fn perform<O: Write, E: Write>(
     rt: &HostRuntime,
-    system: &F,
     words: &[String],
     output: &mut O,
     errors: &mut E,
 ) -> u8 {
-    match perform_words(rt, system, words, output, errors) {
+    match perform_words(rt, words, output, errors) {
         Ok(status) => status,
         Err(fault) => fault.tell(errors),
     }
@@ -177,13 +176,7 @@ pub fn perform<D: Disk + Drop, F: FileSystem<D>, O: Write, E: Write>(
 /// The program: performs the words that it was started with, over the standard streams, and answers the status.
 pub fn main(rt: &HostRuntime) -> u8 {
     match words(rt) {
-        Ok(words) => perform(
-            rt,
-            &SystemFiles,
-            words.as_slice(),
-            &mut rt.stdout(),
-            &mut rt.stderr(),
-        ),
+        Ok(words) => perform(rt, words.as_slice(), &mut rt.stdout(), &mut rt.stderr()),
         Err(fault) => Fault::Command(fault).tell(&mut rt.stderr()),
     }
 }
