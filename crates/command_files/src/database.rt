@@ -49,34 +49,21 @@ pub fn on_database<'a, D: Disk + Drop, P: Place<D>, W: Work>(
     opening: Opening,
     work: W,
 ) -> Result<Visited<W::Answer>, CommandFault<'a>> {
-    let had_log = place.has_log(rt);
-    let conn = match open(rt, place, opening) {
+    let had_log = place.has_log();
+    let conn = match open(rt.alloc(), place, opening) {
         Ok(conn) => conn,
         Err(fault) => {
-            let fault = refusal(rt, place, fault);
+            let fault = refusal(rt.alloc(), place, fault);
             return Err(CommandFault::Database { name, fault });
         }
     };
-    let (left, answer) = done_on(rt, conn, work);
-    let closed = close_left(rt, place, had_log, left);
+    let (left, answer) = work.on(rt, conn);
+    let closed = close_left(place, had_log, left);
     Ok(Visited { answer, closed })
-}
-
-/// Gives the database the clock of the system, and does this work on it.
-fn done_on<S: Alter + Drop, W: Work>(
-    rt: &HostRuntime,
-    mut conn: Connection<S>,
-    work: W,
-) -> (Left<S>, W::Answer)
-    requires { IsAtRest conn }
-{
-    conn.set_clock(rt);
-    work.on(rt, conn)
 }
 
 /// Closes what is left of a database.
 fn close_left<D: Disk + Drop, P: Place<D>>(
-    rt: &HostRuntime,
     place: &mut P,
     had_log: bool,
     left: Left<FileStore<D>>,
@@ -84,7 +71,7 @@ fn close_left<D: Disk + Drop, P: Place<D>>(
     match left {
         Left::Open(conn) => return close(place, conn),
         Left::GivenUp => {}
-        Left::NotOurs => remove_new_log(rt, place, had_log),
+        Left::NotOurs => remove_new_log(place, had_log),
     }
     Ok(())
 }

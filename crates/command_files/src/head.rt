@@ -6,6 +6,7 @@ use crate::holding::{OF_OUTBOXES, OF_REGISTERS};
 use command_line::DatabaseFault;
 use database_places::Place;
 use sqlite_disk::Disk;
+use std::alloc::Global;
 
 /// The bytes with which each database begins.
 const MAGIC: &[u8] = b"SQLite format 3\0";
@@ -16,15 +17,15 @@ const SUM_LEN: u8 = 8;
 /// Why the database of this place is refused. If the refusal goes by its pages, the first of them says more. To be called
 /// once the files are left there.
 pub fn refusal<D: Disk + Drop, P: Place<D>>(
-    rt: &HostRuntime,
+    alloc: Global,
     place: &P,
     fault: DatabaseFault,
 ) -> DatabaseFault
     ensures { result ≡ DatabaseFault.Missing → fault ≡ DatabaseFault.Missing }
 {
     match fault {
-        DatabaseFault::NotADatabase => no_database(place.first_page(rt).as_slice()),
-        DatabaseFault::Damaged => wrong_pages(place.first_page(rt).as_slice()),
+        DatabaseFault::NotADatabase => no_database(place.first_page(alloc).as_slice()),
+        DatabaseFault::Damaged => wrong_pages(place.first_page(alloc).as_slice()),
         _ => fault,
     }
 }

@@ -9,6 +9,9 @@ use sqlite::Files;
 use sqlite_disk::{Disk, Memory};
 use std::alloc::Global;
 
+/// By this number is hashed what is read in memory.
+const SEED: u64 = 1;
+
 /// A disk on which a file can be made.
 pub trait Blank: Disk + Drop {
     /// A file of no bytes.
@@ -40,31 +43,35 @@ impl<D: Blank> Drawer<D> {
 impl<D: Blank> Place<D> for Drawer<D> {
     ghost lying = { λ drawer. Some drawer.files };
 
-    fn is_missing(&self, _rt: &HostRuntime) -> bool {
+    fn seed(&self) -> Option<u64> {
+        Some(SEED)
+    }
+
+    fn is_missing(&self) -> bool {
         self.files.is_none()
     }
 
     // An opening finds out whether files have a database.
-    fn is_empty(&self, _rt: &HostRuntime) -> bool {
+    fn is_empty(&self) -> bool {
         false
     }
 
-    fn first_page(&self, rt: &HostRuntime) -> Vec<u8> {
-        Vec::new(rt.alloc())
+    fn first_page(&self, alloc: Global) -> Vec<u8> {
+        Vec::new(alloc)
     }
 
-    fn len(&self, _rt: &HostRuntime) -> u64 {
+    fn len(&self) -> u64 {
         0
     }
 
     // Both files lie there or none, and an empty log harms nobody.
-    fn has_log(&self, _rt: &HostRuntime) -> bool {
+    fn has_log(&self) -> bool {
         true
     }
 
-    fn remove_empty_log(&self, _rt: &HostRuntime) {}
+    fn remove_empty_log(&self) {}
 
-    fn take(&mut self, _rt: &HostRuntime) -> Result<Files<D>, DatabaseFault> {
+    fn take(&mut self) -> Result<Files<D>, DatabaseFault> {
         match self.files.take() {
             Some(files) => {
                 if files.may_be_used() {

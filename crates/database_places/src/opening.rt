@@ -10,7 +10,7 @@ use crate::place::Place;
 use command_line::DatabaseFault;
 use sqlite::{Connection, FileStore, Options};
 use sqlite_disk::Disk;
-use std::hash::{BuildHasher, RandomState};
+use std::alloc::Global;
 
 /// How many pages of a file are kept in memory at most once they were read, while it is served: 32 MiB. A register of
 /// 100,000 small reports takes 4,400 pages.
@@ -49,7 +49,7 @@ pub enum Opening {
 /// one is to be made; else it is not made, or stays empty. A refusal leaves the files in the place, and beside a file
 /// that is no database no log that was not there. Its fault does not go by the bytes of the file.
 pub fn open<D: Disk + Drop, P: Place<D>>(
-    rt: &HostRuntime,
+    alloc: Global,
     place: &mut P,
     opening: Opening,
 ) -> Result<Connection<FileStore<D>>, DatabaseFault>
@@ -57,48 +57,48 @@ pub fn open<D: Disk + Drop, P: Place<D>>(
     ensures opens { OpensPlace D.Disk (is_found opening) (P.lying place.old) (P.lying place.new) result }
 {
     match opening {
-        Opening::Found(cache) => find(rt, place, cache),
-        Opening::Made(cache) => make(rt, place, cache),
+        Opening::Found(cache) => find(alloc, place, cache),
+        Opening::Made(cache) => make(alloc, place, cache),
     }
 }
 
 /// Opens the database of a file that is there and has bytes.
 fn find<D: Disk + Drop, P: Place<D>>(
-    rt: &HostRuntime,
+    alloc: Global,
     place: &mut P,
     cache: Cache,
 ) -> Result<Connection<FileStore<D>>, DatabaseFault>
     ensures rest { IfOk result IsAtRest }
     ensures opens { OpensPlace D.Disk true (P.lying place.old) (P.lying place.new) result }
 {
-    if place.is_missing(rt) {
+    if place.is_missing() {
         return Err(DatabaseFault::Missing);
     }
-    if place.is_empty(rt) {
+    if place.is_empty() {
         return Err(DatabaseFault::Empty);
     }
-    make(rt, place, cache)
+    make(alloc, place, cache)
 }
 
 /// Opens the database of a file, which is made if it is not there.
 fn make<D: Disk + Drop, P: Place<D>>(
-    rt: &HostRuntime,
+    alloc: Global,
     place: &mut P,
     cache: Cache,
 ) -> Result<Connection<FileStore<D>>, DatabaseFault>
     ensures rest { IfOk result IsAtRest }
     ensures opens { OpensPlace D.Disk false (P.lying place.old) (P.lying place.new) result }
 {
-    let options = options(rt, pages(cache, place.len(rt)))?;
-    let had_log = place.has_log(rt);
-    let files = place.take(rt)?;
+    let options = options(place.seed(), pages(cache, place.len()))?;
+    let had_log = place.has_log();
+    let files = place.take()?;
 
     // A file that is new gets the sums of SQLite's cksumvfs, by which the next opening finds a changed byte.
-    match Connection::open_files_with(rt.alloc(), files, options, true) {
+    match Connection::open_files_with(alloc, files, options, true) {
         Ok(conn) => Ok(conn),
         Err((error, left)) => {
             place.leave(left.into_files());
-            remove_new_log(rt, place, had_log);
+            remove_new_log(place, had_log);
             Err(fault_of(error))
         }
     }
@@ -106,14 +106,14 @@ fn make<D: Disk + Drop, P: Place<D>>(
 
 /// Removes the log that an opening made, in which nothing is, so that nothing lies beside a file that is not ours,
 /// unless there was a log before. The files are taken for that, so that no other program has them.
-pub fn remove_new_log<D: Disk + Drop, P: Place<D>>(rt: &HostRuntime, place: &mut P, had_log: bool)
+pub fn remove_new_log<D: Disk + Drop, P: Place<D>>(place: &mut P, had_log: bool)
     ensures { KeepsLying (P.lying place.old) (P.lying place.new) }
 {
     if had_log {
         return;
     }
-    if let Ok(files) = place.take(rt) {
-        place.remove_empty_log(rt);
+    if let Ok(files) = place.take() {
+        place.remove_empty_log();
         place.leave(files);
     }
 }
@@ -127,15 +127,15 @@ fn pages(cache: Cache, len: u64) -> usize {
     pages as usize
 }
 
-/// How the files are read and written, with so many pages kept. The seed is drawn at random.
-fn options(rt: &HostRuntime, pages: usize) -> Result<Options, DatabaseFault>
+/// How the files are read and written, with so many pages kept.
+fn options(seed: Option<u64>, pages: usize) -> Result<Options, DatabaseFault>
     ensures { IfErr result (λ fault. fault ≡ DatabaseFault.Disk) }
 {
-    match RandomState::new(rt) {
-        Ok(state) => Ok(Options {
+    match seed {
+        Some(seed) => Ok(Options {
             cache_pages: pages,
-            ..Options::new(state.hash_one(&0u8))
+            ..Options::new(seed)
         }),
-        Err(_) => Err(DatabaseFault::Disk),
+        None => Err(DatabaseFault::Disk),
     }
 }

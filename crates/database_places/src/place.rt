@@ -8,6 +8,7 @@ ghost use Rattle.database_places.specs.Places.{TellsMissing, TellsEmpty, Takes, 
 use command_line::DatabaseFault;
 use sqlite::Files;
 use sqlite_disk::Disk;
+use std::alloc::Global;
 
 /// A place in which the files of one database lie: the database file, and the log beside it. What opens and closes
 /// databases is written over any such place, so that it is proved once, and not for the files of the system.
@@ -15,29 +16,33 @@ pub trait Place<D: Disk + Drop> {
     // The files that lie there, if there are some, where that is known.
     ghost lying: { Self → Option (Option (Files D)) };
 
+    /// A number by which what is read there is hashed, or None if the system gives none. It is drawn at random, so that
+    /// nobody can make a file whose pages all have one hash.
+    fn seed(&self) -> Option<u64>;
+
     /// Whether there is no database file.
-    fn is_missing(&self, rt: &HostRuntime) -> bool
+    fn is_missing(&self) -> bool
         ensures { TellsMissing (lying self.now) result };
 
     /// Whether the database file is there and has no bytes, and no database is in the log beside it.
-    fn is_empty(&self, rt: &HostRuntime) -> bool
+    fn is_empty(&self) -> bool
         ensures { TellsEmpty D.Disk (lying self.now) result };
 
     /// The first bytes of the database file, up to the page of a new file; none if they cannot be read. To be called
     /// while the files are not taken.
-    fn first_page(&self, rt: &HostRuntime) -> Vec<u8>;
+    fn first_page(&self, alloc: Global) -> Vec<u8>;
 
     /// How many bytes the database file has, and 0 if that is not known.
-    fn len(&self, rt: &HostRuntime) -> u64;
+    fn len(&self) -> u64;
 
     /// Whether a log lies beside the database file.
-    fn has_log(&self, rt: &HostRuntime) -> bool;
+    fn has_log(&self) -> bool;
 
     /// Removes the log beside the database file, if nothing is in it. To be called while the files are taken.
-    fn remove_empty_log(&self, rt: &HostRuntime);
+    fn remove_empty_log(&self);
 
     /// Takes the files out. Those that are missing are made.
-    fn take(&mut self, rt: &HostRuntime) -> Result<Files<D>, DatabaseFault>
+    fn take(&mut self) -> Result<Files<D>, DatabaseFault>
         ensures log { IfOk result (λ files. IsTrue (D.Disk.is_usable files.log)) }
         ensures database { IfOk result (λ files. IsTrue (D.Disk.is_usable files.db)) }
         ensures taken { Takes D.Disk (lying self.old) (lying self.new) result }

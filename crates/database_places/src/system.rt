@@ -11,8 +11,9 @@ use command_line::{DatabaseFault, read_up_to};
 use http_wire::Device;
 use sqlite::{File, Files, Unknown};
 use sqlite_std_file::OpenError;
-use std::alloc::AllocError;
+use std::alloc::{AllocError, Global};
 use std::fs;
+use std::hash::{BuildHasher, RandomState};
 use std::io::{self, ErrorKind};
 
 /// A shorter log has nothing in it: its head takes 32 bytes, and a frame 24 and a page, which has 512 at least
@@ -22,67 +23,75 @@ const LEAST_LOG: u64 = 568;
 /// The file of this name, and the log beside it. The name is a path, also `:memory:` and one that begins with `file:`.
 /// What lies there is known to the system alone.
 #[derive(Clone, Copy)]
-pub struct SystemPlace<'a> {
+pub struct SystemPlace<'a, 'r> {
+    rt: &'r HostRuntime,
     name: &'a str,
 }
 
-impl<'a> SystemPlace<'a> {
-    pub fn new(name: &'a str) -> SystemPlace<'a> {
-        SystemPlace { name }
+impl<'a, 'r> SystemPlace<'a, 'r> {
+    pub fn new(rt: &'r HostRuntime, name: &'a str) -> SystemPlace<'a, 'r> {
+        SystemPlace { rt, name }
     }
 }
 
-impl Place<File> for SystemPlace<'_> {
+impl Place<File> for SystemPlace<'_, '_> {
     ghost lying = { λ _. None };
 
-    fn is_missing(&self, rt: &HostRuntime) -> bool {
-        matches!(fs::exists(rt, self.name), Ok(false))
+    fn seed(&self) -> Option<u64> {
+        match RandomState::new(self.rt) {
+            Ok(state) => Some(state.hash_one(&0u8)),
+            Err(_) => None,
+        }
     }
 
-    fn is_empty(&self, rt: &HostRuntime) -> bool {
-        match fs::metadata(rt, self.name) {
-            Ok(found) => found.is_file() && found.len() == 0 && is_log_empty(rt, self.name),
+    fn is_missing(&self) -> bool {
+        matches!(fs::exists(self.rt, self.name), Ok(false))
+    }
+
+    fn is_empty(&self) -> bool {
+        match fs::metadata(self.rt, self.name) {
+            Ok(found) => found.is_file() && found.len() == 0 && is_log_empty(self.rt, self.name),
             Err(_) => false,
         }
     }
 
-    fn first_page(&self, rt: &HostRuntime) -> Vec<u8> {
-        let Ok(file) = fs::File::open(rt, self.name) else {
-            return Vec::new(rt.alloc());
+    fn first_page(&self, alloc: Global) -> Vec<u8> {
+        let Ok(file) = fs::File::open(self.rt, self.name) else {
+            return Vec::new(alloc);
         };
-        match read_up_to(rt.alloc(), &mut Device::new(file), PAGE_LEN) {
+        match read_up_to(alloc, &mut Device::new(file), PAGE_LEN) {
             Ok(page) => page,
-            Err(_) => Vec::new(rt.alloc()),
+            Err(_) => Vec::new(alloc),
         }
     }
 
-    fn len(&self, rt: &HostRuntime) -> u64 {
-        match fs::metadata(rt, self.name) {
+    fn len(&self) -> u64 {
+        match fs::metadata(self.rt, self.name) {
             Ok(found) => found.len(),
             Err(_) => 0,
         }
     }
 
-    fn has_log(&self, rt: &HostRuntime) -> bool {
-        match log_name(rt, self.name) {
-            Ok(log) => !matches!(fs::exists(rt, log.as_str()), Ok(false)),
+    fn has_log(&self) -> bool {
+        match log_name(self.rt, self.name) {
+            Ok(log) => !matches!(fs::exists(self.rt, log.as_str()), Ok(false)),
             Err(_) => true,
         }
     }
 
-    fn remove_empty_log(&self, rt: &HostRuntime) {
+    fn remove_empty_log(&self) {
         // An empty file more does no harm where it can't be removed.
-        let _ = remove_if_empty(rt, self.name);
+        let _ = remove_if_empty(self.rt, self.name);
     }
 
-    fn take(&mut self, rt: &HostRuntime) -> Result<Files<File>, DatabaseFault> {
+    fn take(&mut self) -> Result<Files<File>, DatabaseFault> {
         if self.name.is_empty() {
             return Err(DatabaseFault::NoName);
         }
-        match sqlite_std_file::open(rt, self.name, Unknown) {
+        match sqlite_std_file::open(self.rt, self.name, Unknown) {
             Ok(files) => Ok(files),
             Err(OpenError::Io(error)) if error.kind() == ErrorKind::Unsupported => {
-                Err(fault_of_name(rt, self.name))
+                Err(fault_of_name(self.rt, self.name))
             }
             Err(error) => Err(fault_of_files(&error)),
         }

@@ -17,7 +17,7 @@ use gateway_ports::PortFault;
 use intake_options::Serving;
 use intake_process::{IntakeProcess, OpeningFault, ServingFault, serve_register};
 use sqlite_disk::Disk;
-use std::alloc::AllocError;
+use std::alloc::{AllocError, Global};
 use std::io::Write;
 
 /// Serves connections of a port on the register that lies in this place. It says when it is ready and when it ends.
@@ -63,7 +63,7 @@ fn serve_port<'a, D: Disk + Drop, P: Place<D> + Drop, L: StreamPort, E: Write>(
 {
     let mut reporter = Reporter::new(rt, serving, errors);
     let served = serve_register(
-        rt,
+        rt.alloc(),
         port,
         process,
         &mut reporter,
@@ -76,7 +76,7 @@ fn serve_port<'a, D: Disk + Drop, P: Place<D> + Drop, L: StreamPort, E: Write>(
             reporter.tell_served();
             Ok(())
         }
-        Err(fault) => Err(serving_fault(rt, process.place(), serving, fault)),
+        Err(fault) => Err(serving_fault(rt.alloc(), process.place(), serving, fault)),
     }
 }
 
@@ -93,13 +93,13 @@ fn opening(is_new: bool) -> Opening
 
 /// Why the port was not served to its end.
 fn serving_fault<'a, D: Disk + Drop, P: Place<D>>(
-    rt: &HostRuntime,
+    alloc: Global,
     place: &P,
     serving: Serving<'a>,
     fault: ServingFault,
 ) -> Fault<'a> {
     match fault {
-        ServingFault::Register(fault) => opening_fault(rt, place, serving.database, fault),
+        ServingFault::Register(fault) => opening_fault(alloc, place, serving.database, fault),
         ServingFault::Port(PortFault::Network(error)) => Fault::Network {
             port: serving.port,
             error,
@@ -110,14 +110,14 @@ fn serving_fault<'a, D: Disk + Drop, P: Place<D>>(
 
 /// Why the register that lies in this place, in the file with this name, was not opened.
 fn opening_fault<'a, D: Disk + Drop, P: Place<D>>(
-    rt: &HostRuntime,
+    alloc: Global,
     place: &P,
     name: &'a str,
     fault: OpeningFault,
 ) -> Fault<'a> {
     let fault = match fault {
         OpeningFault::Files(fault) => {
-            let fault = refusal(rt, place, fault);
+            let fault = refusal(alloc, place, fault);
             return CommandFault::Database { name, fault }.into();
         }
         OpeningFault::Taken(holding) => VisitFault::Taken(holding),

@@ -127,11 +127,11 @@ fn perform_task<'a, R: Read, O: Write, E: Write>(
     match task {
         Task::Run { limit } => done(run_once(rt.alloc(), *limit, input, output)),
         Task::Serve(serving) => {
-            let place = SystemPlace::new(serving.database);
+            let place = SystemPlace::new(rt, serving.database);
             done(serve_place(rt, place, *serving, output, errors))
         }
         Task::Visit { database, errand } => {
-            let mut place = SystemPlace::new(database);
+            let mut place = SystemPlace::new(rt, database);
             done(perform_errand(rt, &mut place, database, *errand, output, errors))
         }
         Task::Lint { filer, files } => lint_files(rt, filer, files, output),

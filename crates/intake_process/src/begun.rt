@@ -90,8 +90,8 @@ fn make_intake<S: Alter + Drop>(
 /// The intake over the register that is made in this database or lies there, which keeps at most `limit` keys. A
 /// refusal gives the connection back.
 pub(crate) fn begin<S: Alter + Drop>(
-    rt: &HostRuntime,
-    mut conn: Connection<S>,
+    alloc: Global,
+    conn: Connection<S>,
     opening: Opening,
     limit: u64,
 ) -> Result<(Intake<S>, Totals), (OpeningFault, Connection<S>)>
@@ -101,10 +101,9 @@ pub(crate) fn begin<S: Alter + Drop>(
         → IfOk result (λ begun. FindsIntake S.Store conn limit begun.0 begun.1) }
     ensures made { is_found opening ≡ false → IfOk result (λ begun. MakesIntake S.Store limit begun.0 begun.1) }
 {
-    conn.set_clock(rt);
     match opening {
-        Opening::Found(_) => find_intake(rt.alloc(), conn, limit),
-        Opening::Made(_) => make_intake(rt.alloc(), conn, limit),
+        Opening::Found(_) => find_intake(alloc, conn, limit),
+        Opening::Made(_) => make_intake(alloc, conn, limit),
     }
 }
 

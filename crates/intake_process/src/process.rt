@@ -110,7 +110,7 @@ impl<D: Disk + Drop, P: Place<D> + Drop> IntakeProcess<D, P> {
     /// leaves the files in the place, and leaves a database that is damaged or none of ours as it was.
     pub fn open(
         &mut self,
-        rt: &HostRuntime,
+        alloc: Global,
         opening: Opening,
         limit: u64,
     ) -> Result<Option<Totals>, OpeningFault>
@@ -121,15 +121,15 @@ impl<D: Disk + Drop, P: Place<D> + Drop> IntakeProcess<D, P> {
         if self.intake.is_some() {
             return Ok(None);
         }
-        let had_log = self.place.has_log(rt);
-        let conn = match open(rt, &mut self.place, opening) {
+        let had_log = self.place.has_log();
+        let conn = match open(alloc, &mut self.place, opening) {
             Ok(conn) => conn,
             Err(fault) => {
                 self.is_certain = false;
                 return Err(OpeningFault::Files(fault));
             }
         };
-        match begin(rt, conn, opening, limit) {
+        match begin(alloc, conn, opening, limit) {
             Ok((intake, totals)) => {
                 self.intake = Some(intake);
                 Ok(Some(totals))
@@ -138,7 +138,7 @@ impl<D: Disk + Drop, P: Place<D> + Drop> IntakeProcess<D, P> {
                 self.is_certain = false;
                 give_up(&mut self.place, back);
                 if fault.is_of_others() {
-                    remove_new_log(rt, &mut self.place, had_log);
+                    remove_new_log(&mut self.place, had_log);
                 }
                 Err(fault)
             }

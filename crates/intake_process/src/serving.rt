@@ -13,6 +13,7 @@ use crate::process::{IntakeProcess, Outcome};
 use database_places::{Cache, Opening, Place};
 use gateway_ports::{Port, PortFault};
 use sqlite_disk::Disk;
+use std::alloc::Global;
 
 /// Why a port is not served to its end.
 #[derive(Debug, Drop)]
@@ -25,7 +26,7 @@ pub enum ServingFault {
 /// Serves a port by the register that lies in the place of a process, as a whole: it is opened or made, the port is
 /// listened on and its next `most` connections are answered, and the register is closed.
 pub fn serve_register<D: Disk + Drop, P: Place<D> + Drop, L: Port, O: Observer<L>>(
-    rt: &HostRuntime,
+    alloc: Global,
     port: &mut L,
     process: &mut IntakeProcess<D, P>,
     observer: &mut O,
@@ -37,11 +38,11 @@ pub fn serve_register<D: Disk + Drop, P: Place<D> + Drop, L: Port, O: Observer<L
     ensures { ServesRegister (is_found opening) limit most (L.traffic port.old) (L.traffic port.new)
         (parts P.lying process.old) (parts P.lying process.new) result }
 {
-    let totals = match process.open(rt, opening, limit) {
+    let totals = match process.open(alloc, opening, limit) {
         Ok(totals) => totals,
         Err(fault) => return Err(ServingFault::Register(fault)),
     };
-    let served = listen_and_serve(rt, port, process, observer, totals, limit, most);
+    let served = listen_and_serve(alloc, port, process, observer, totals, limit, most);
     observer.closed(process.close());
     match served {
         Ok(()) => Ok(()),
@@ -51,7 +52,7 @@ pub fn serve_register<D: Disk + Drop, P: Place<D> + Drop, L: Port, O: Observer<L
 
 /// Listens on a port, and answers its connections by a register that holds so much.
 fn listen_and_serve<D: Disk + Drop, P: Place<D> + Drop, L: Port, O: Observer<L>>(
-    rt: &HostRuntime,
+    alloc: Global,
     port: &mut L,
     process: &mut IntakeProcess<D, P>,
     observer: &mut O,
@@ -69,14 +70,14 @@ fn listen_and_serve<D: Disk + Drop, P: Place<D> + Drop, L: Port, O: Observer<L>>
     if let Some(totals) = totals {
         observer.ready(totals);
     }
-    serve_port(rt, port, process, observer, limit, most)
+    serve_port(alloc, port, process, observer, limit, most)
 }
 
 /// Answers the next `most` connections that come on a port, each by the register as the one before it left it. If the
 /// database refuses a call the register is closed. It is opened again for a connection that comes later, if the
 /// observer lets it, and until it is open connections are turned away. One that its peer gave up before counts as well.
 pub fn serve_port<D: Disk + Drop, P: Place<D> + Drop, L: Port, O: Observer<L>>(
-    rt: &HostRuntime,
+    alloc: Global,
     port: &mut L,
     process: &mut IntakeProcess<D, P>,
     observer: &mut O,
@@ -89,14 +90,14 @@ pub fn serve_port<D: Disk + Drop, P: Place<D> + Drop, L: Port, O: Observer<L>>(
     ensures closed { IsAwake process.old.intake → OnOk result (IsAwake process.new.intake) }
 {
     for taken in 0..most {
-        serve_next(rt, port, process, observer, limit, most - taken - 1)?;
+        serve_next(alloc, port, process, observer, limit, most - taken - 1)?;
     }
     Ok(())
 }
 
 /// Answers the next connection, unless its peer gave it up. So many more may come.
 fn serve_next<D: Disk + Drop, P: Place<D> + Drop, L: Port, O: Observer<L>>(
-    rt: &HostRuntime,
+    alloc: Global,
     port: &mut L,
     process: &mut IntakeProcess<D, P>,
     observer: &mut O,
@@ -111,8 +112,8 @@ fn serve_next<D: Disk + Drop, P: Place<D> + Drop, L: Port, O: Observer<L>>(
     let came = port.accept()?;
     observer.accepted(port);
     if let Some((mut reader, mut writer)) = came {
-        let refusal = open_again(rt, process, observer, limit);
-        let answered = process.answer(rt.alloc(), &mut reader, &mut writer);
+        let refusal = open_again(alloc, process, observer, limit);
+        let answered = process.answer(alloc, &mut reader, &mut writer);
         observer.served(&answered.served);
         port.end(reader, writer, answered.served)?;
         observer.ended(port, went(process, answered.outcome, refusal), left);
@@ -123,7 +124,7 @@ fn serve_next<D: Disk + Drop, P: Place<D> + Drop, L: Port, O: Observer<L>>(
 /// Opens the register again, if it is closed and the observer lets it. It answers why it was not opened, if that was
 /// tried.
 fn open_again<D: Disk + Drop, P: Place<D> + Drop, L, O: Observer<L>>(
-    rt: &HostRuntime,
+    alloc: Global,
     process: &mut IntakeProcess<D, P>,
     observer: &mut O,
     limit: u64,
@@ -134,7 +135,7 @@ fn open_again<D: Disk + Drop, P: Place<D> + Drop, L, O: Observer<L>>(
     if process.is_open() || !observer.may_open() {
         return None;
     }
-    match process.open(rt, Opening::Found(Cache::Largest), limit) {
+    match process.open(alloc, Opening::Found(Cache::Largest), limit) {
         Ok(Some(totals)) => {
             observer.opened(totals);
             None

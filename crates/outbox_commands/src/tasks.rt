@@ -151,7 +151,7 @@ fn perform_words<'a, O: Write, E: Write>(
 ) -> Result<u8, Fault<'a>> {
     match options::read(rt.alloc(), words) {
         Ok(Some(task)) => {
-            let mut place = SystemPlace::new(task.database());
+            let mut place = SystemPlace::new(rt, task.database());
             perform_task(rt, &mut place, task, output, errors)?;
             Ok(DONE)
         }
