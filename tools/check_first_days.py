@@ -360,7 +360,7 @@ def copies(supervisor, register="register"):
 
 def try_restore(supervisor):
     """The copy of the first day is restored, by the commands of the page: the filings after it are lost, and named."""
-    commands = block("Restoring a copy", "systemctl stop")
+    commands = block("How do I restore a copy?", "systemctl stop")
     lost = next(lines for command, lines in commands if command.startswith("lost-filings"))
     lost.append(lost[0].replace("2024-annual-2", "2024-annual-3"))
     supervisor.play("a restore", commands, [(COPY_OF_PAGE, copies(supervisor)[0])], [("lost-filings", 1)])
@@ -379,7 +379,7 @@ def try_upgrade(supervisor):
     supervisor.paste("chown berruzpil: register.db; systemctl start berruzpil-intake")
     hold("an earlier register doesn't start", supervisor.until("systemctl is-failed berruzpil-intake"), (0, "failed\n"))
     hold("and there is an alert", supervisor.alert_of("berruzpil-intake.service"), True)
-    supervisor.play("an upgrade", block("A register of an earlier version", "systemctl stop"))
+    supervisor.play("an upgrade", block("How do I upgrade a register of an earlier version?", "systemctl stop"))
     supervisor.start_intake()
     asked = "curl -s -X POST http://127.0.0.1:8080/filings/ACME -H 'Idempotency-Key: \"k-1\"' -H 'Content-Length: 0'"
     hold("what was kept is answered as it was", supervisor.paste(asked), (0, '{"findings":[{"code":"not-json","place":""}],"status":"refused"}'))
@@ -396,13 +396,13 @@ def try_outbox_upgrade(filer):
     filer.paste("chown berruzpil: outbox.db")
     hold("a round over an earlier outbox", round_of(filer)[0], 1)
     hold("says what it is", trials.NO_OUTBOX in filer.paste(steps(FILER)[6][1][0])[1], True)
-    filer.play("an upgrade", block("An outbox of an earlier version", "systemctl stop"))
+    filer.play("an upgrade", block("How do I upgrade an outbox of an earlier version?", "systemctl stop"))
     filer.paste("rm outbox.db*; mv present/* .; cd /root/berruzpil")
 
 
 def try_several(supervisor, filer):
     """A second register behind the same nginx, and a second outbox, by the commands of the page."""
-    supervisor.play("several registers", block("More than one machine", "openssl req"))
+    supervisor.play("several registers", block("How do I run several registers?", "openssl req"))
     supervisor.paste("cd /root/berruzpil")
     ask = "curl -s --cacert /etc/berruzpil/intake-ca.pem --cert /etc/berruzpil/filer.pem --key /etc/berruzpil/filer.key"
     send = f"{ask} https://2025.example/filings/ACME -H 'Idempotency-Key: \"k-1\"' --data-binary @/var/lib/berruzpil/report.json"
@@ -416,7 +416,7 @@ def try_several(supervisor, filer):
     found = supervisor.paste("systemctl start berruzpil-snapshot@none")
     hold("a register that isn't there has no copy", found, (1, JOB.format("berruzpil-snapshot@none.service")))
     hold("and there is an alert of it", supervisor.alert_of("berruzpil-snapshot@none.service"), True)
-    filer.play("several outboxes", block("A filer", "runuser"))
+    filer.play("several outboxes", block("How do I run several outboxes?", "runuser"))
     filer.paste("runuser -u berruzpil -- outbox put --db /var/lib/berruzpil/beta.db --body /var/lib/berruzpil/report.json --key b-1")
     hold("a round of an outbox that may not file yet", round_of(filer, "berruzpil-outbox@beta.service")[0], 1)
     supervisor.paste("nginx-filer /etc/nginx/conf.d/nginx-intake.conf acme.pem acme BETA; systemctl reload nginx")
@@ -453,7 +453,7 @@ def try_stunnel(filer):
     if shutil.which("stunnel4") is None:
         print("not tried: stunnel4 is not installed")
         return
-    written = re.search(r"With stunnel: `deploy/(\S+)` to `(/etc/stunnel/)`,\s+and `(systemctl [^`]+)`", PAGE)
+    written = re.search(r"With\s+stunnel:\s+`deploy/(\S+)`\s+to\s+`(/etc/stunnel/)`,\s+and\s+`(systemctl [^`]+)`", PAGE)
     hold("what the page says of stunnel", bool(written), True)
     name, folder, command = (" ".join(it.split()) for it in written.groups())
     filer.play("stunnel", [["systemctl stop nginx", []], [f"install -m 0644 deploy/{name} {folder}", []], [command, []]])
