@@ -1,9 +1,10 @@
 #!/usr/bin/env python3
 """Makes the man pages of the programs from what they say by --help, so that there is one source for both.
 
-    tools/man_pages.py FOLDER       writes intake.1, outbox.1 and drill.1 there
+    tools/man_pages.py FOLDER               writes intake.1, outbox.1 and drill.1 there
+    tools/man_pages.py FOLDER PROGRAMS      the same, of the programs in the folder PROGRAMS
 
-The programs are those that `rt run` builds, as crates/intake/out/intake.
+Without PROGRAMS they are those that `rt run` builds, as crates/intake/out/intake.
 """
 import pathlib
 import re
@@ -14,19 +15,29 @@ ROOT = pathlib.Path(__file__).resolve().parent.parent
 SEE_ALSO = {"intake": "outbox", "outbox": "intake", "drill": "intake"}
 
 
+def programs_in(folder=None):
+    """The path of each program by its name: in a folder, or where it is built."""
+    return {name: str(pathlib.Path(folder, name).resolve() if folder else ROOT / "crates" / name / "out" / name) for name in SEE_ALSO}
+
+
+def printed(*words):
+    """What a command prints."""
+    return subprocess.run(words, capture_output=True, text=True, check=True).stdout
+
+
 def help_of(*words):
     """What a program says of itself or of one of its commands."""
-    return subprocess.run([*words, "--help"], capture_output=True, text=True, check=True).stdout
+    return printed(*words, "--help")
 
 
 def sections(text):
-    """The about text, and then each heading with its lines. What stands behind the last heading's lines, unindented, is a note."""
+    """The about text, and then each heading with its lines. The unindented lines at the end are notes, with what is indented below one."""
     found, notes, heading = {"about": []}, [], "about"
     for line in text.splitlines():
         if match := re.fullmatch(r"(Usage|Commands|Arguments|Options):(.*)", line):
             heading = match[1]
             found[heading] = [match[2].strip()] if match[2].strip() else []
-        elif heading != "about" and line and not line.startswith(" "):
+        elif heading != "about" and line and (notes or not line.startswith(" ")):
             notes.append(line)
         elif line.strip():
             found[heading].append(line)
@@ -52,15 +63,24 @@ def entries(lines):
     return [(name, " ".join(texts)) for name, texts in found]
 
 
-def page(name):
+def commands_of(whole):
+    """The commands of a program and what each does."""
+    return [(word, text) for word, text in entries(whole.get("Commands", [])) if word != "help"]
+
+
+def examples_in(notes):
+    """Command lines, each by itself."""
+    return [re.sub(r"^(Examples?:)?\s*", "", note) for note in notes]
+
+
+def page(name, program):
     """The man page of a program."""
-    program = str(ROOT / "crates" / name / "out" / name)
     whole, notes = sections(help_of(program))
     about = " ".join(line.strip() for line in whole["about"])
-    version = subprocess.run([program, "--version"], capture_output=True, text=True, check=True).stdout.split()[-1]
+    version = printed(program, "--version").split()[-1]
     out = [f'.TH {name.upper()} 1 "" "berruzpil {version}"', ".SH NAME", f"{name} \\- {escape(about[:1].lower() + about[1:])}"]
     out += [".SH SYNOPSIS", escape(" ".join(whole["Usage"]))]
-    commands = [(word, text) for word, text in entries(whole.get("Commands", [])) if word != "help"]
+    commands = commands_of(whole)
     if commands:
         out.append(".SH COMMANDS")
     for word, text in commands:
@@ -69,7 +89,7 @@ def page(name):
         for option, meaning in entries(part.get("Arguments", []) + part.get("Options", [])):
             if not option.startswith("-h"):
                 out += [".TP", escape(option), escape(meaning)]
-        out += [line for example in examples for line in (".PP", escape(example))]
+        out += [line for example in examples_in(examples) for line in (".PP", "Example:", ".B " + escape(example))]
     out += [".SH OPTIONS"]
     for option, meaning in entries(whole.get("Options", [])):
         out += [".TP", escape(option), escape(meaning)]
@@ -81,12 +101,12 @@ def page(name):
 
 
 def main():
-    if len(sys.argv) != 2:
+    if len(sys.argv) not in (2, 3):
         sys.exit(__doc__)
     folder = pathlib.Path(sys.argv[1])
     folder.mkdir(parents=True, exist_ok=True)
-    for name in SEE_ALSO:
-        (folder / f"{name}.1").write_text(page(name))
+    for name, program in programs_in(*sys.argv[2:]).items():
+        (folder / f"{name}.1").write_text(page(name, program), encoding="utf-8")
 
 
 if __name__ == "__main__":

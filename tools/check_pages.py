@@ -1,0 +1,399 @@
+#!/usr/bin/env python3
+"""Checks the pages of the repository: links, tables, lengths in examples, phrases that are hard to read, and commands.
+
+    tools/check_pages.py                        what needs neither root nor a built program
+    tools/check_pages.py --programs FOLDER      also the examples that need the programs intake and outbox, which are in FOLDER
+
+Links lead to files and headings that are there; nothing outside the repository is asked for. Each row of a table has as many cells as its head.
+Each page has at most a handful of the phrases in PHRASES. No line of README.md is longer than 400 characters.
+
+Every block of commands in README.md and docs/OPERATIONS.md is one that bash can read, and either runs here as it is written, or needs root, or
+needs the kit. Those that need root are played by tools/check_first_days.py. An example that runs is a row in EXAMPLES. With --programs each option
+that a page gives to intake or outbox has to be in their help. Ports 8080 and 8081 of 127.0.0.1 have to be free.
+
+Status 1 if something fails.
+"""
+import os
+import pathlib
+import re
+import shutil
+import signal
+import socket
+import sqlite3
+import subprocess
+import sys
+import tempfile
+from dataclasses import dataclass
+from typing import Callable
+
+import trials
+from man_pages import commands_of, help_of, sections
+
+ROOT = pathlib.Path(__file__).resolve().parent.parent
+README_WIDTH = 400
+HANDFUL = 5
+# What a page says in too few or too old words, and what to write.
+PHRASES = {
+    r"\b(?:is|are|was|were|be|been) told\b": "reports, prints, is reported",
+    r"\btells\b": "reports, says, shows",
+    r"\bof before\b": "earlier, of an earlier version",
+    r"(?:^|[.:;,(|] |\b(?:or|and|but|also|that|even) )[Ww]here (?:it|there|one|none|no|nothing|they|each|this|that|memory|a|the)\b": "if",
+    r"\bstands?\b(?!-)": "is, comes",
+    r"\ba text\b": "a string",
+    r"\b(?:hold|holds|held|holding) (?:[\w`'.]+ ){1,5}?to (?:the|what|its|their|it|this|them|account)\b": "compares .. with, tests .. against",
+    r"\b(?:is|are|was|were) to (?:be|come|replace|have|hold)\b": "has to, will, replaces",
+    r"\b(?:take|takes|taken|taking) along\b": "converts, upgrades",
+}
+# Commands that only root can use as they are written, and those of the kit.
+NEEDS_ROOT = re.compile(r"\b(?:systemctl|runuser|apt-get|useradd|journalctl|logrotate)\b|(?<![\w.])/(?:etc|var|usr/local|lib)/|^install ", re.M)
+NEEDS_KIT = re.compile(r"\brt (?:try|run|ci|check|lib|test|must-fail)\b|^\.ci/run\b", re.M)
+
+
+# ---- the text of a page
+
+
+def pages():
+    names = subprocess.check_output(["git", "ls-files", "--cached", "--others", "--exclude-standard", "*.md"], cwd=ROOT, text=True).split()
+    return sorted(name for name in names if (ROOT / name).is_file())
+
+
+def text_of(page):
+    return (ROOT / page).read_text(encoding="utf-8")
+
+
+def without_fences(text):
+    """The text with blank lines in place of blocks of code between fences."""
+    return re.sub(r"(?ms)^ *```.*?^ *```[^\n]*", lambda it: "\n" * it[0].count("\n"), text)
+
+
+def without_code(text):
+    """The text with blank lines in place of blocks of code, and without code in lines. Lines keep their numbers."""
+    lines, was_blank, is_code, indent_of_list = [], True, False, 0
+    for line in without_fences(text).split("\n"):
+        indent = len(line) - len(line.lstrip())
+        if item := re.match(r" *(?:[-*]|\d+\.) +", line):
+            indent_of_list = len(item[0])
+        elif line.strip() and not indent:
+            indent_of_list = 0
+        is_code = bool(line.strip()) and indent >= indent_of_list + 4 and (was_blank or is_code) or is_code and not line.strip()
+        was_blank = not line.strip()
+        lines.append("" if is_code else line)
+    return re.sub(r"(`+)(?!`)(.*?)(?<!`)\1(?!`)", lambda it: re.sub(r"[^\n]", "`", it[0]), "\n".join(lines), flags=re.S)
+
+
+def blocks_of(text):
+    """The indented blocks of code, each without its indent."""
+    text, block = without_fences(text), []
+    for line, prose in zip([*text.split("\n"), ""], [*without_code(text).split("\n"), "end"]):
+        if line.strip() and not prose.strip():
+            block.append(line)
+        elif line.strip() or prose == "end":
+            if block:
+                indent = min(len(it) - len(it.lstrip()) for it in block)
+                yield "\n".join(it[indent:] for it in block)
+            block = []
+
+
+def commands_in(block):
+    """The commands of a block, and what each prints."""
+    found, goes_on = [], False
+    for line in block.split("\n"):
+        if line.startswith("# ") and not goes_on and found:
+            found[-1][1].append(line[2:])
+        elif goes_on:
+            found[-1][0] += "\n" + line
+        else:
+            found.append([line, []])
+        goes_on = line.endswith("\\")
+    return found
+
+
+# ---- links, tables, phrases, lengths
+
+
+def anchors_of(page):
+    """What a link may name in a page: its headings, as GitHub turns them into words."""
+    found = []
+    for heading in re.findall(r"(?m)^#{1,6} +(.+?) *#*$", without_fences(text_of(page))):
+        shown = re.sub(r"\[([^\]]*)\]\([^)]*\)", r"\1", heading).replace("`", "")
+        word = re.sub(r"[^\w\- ]", "", shown.lower()).replace(" ", "-")
+        found.append(word if word not in found else f"{word}-{found.count(word)}")
+    return found
+
+
+def check_links(page):
+    faults = []
+    for target in re.findall(r"\[(?:[^\[\]]|\[[^\]]*\])*\]\(([^)\s]+)\)", without_code(text_of(page))):
+        if re.match(r"[a-z]+:", target):
+            continue
+        name, _, anchor = target.partition("#")
+        file = (ROOT / page).parent / name if name else ROOT / page
+        if not file.exists():
+            faults.append(f"{target}: there is no such file")
+        elif anchor and anchor not in anchors_of(file.resolve().relative_to(ROOT)):
+            faults.append(f"{target}: there is no such heading")
+    trials.tell(f"{page}: links", "; ".join(faults))
+
+
+def cells_in(row):
+    return len(re.split(r"(?<!\\)\|", row.strip().strip("|") if row.rstrip().endswith("|") else row.strip()[1:]))
+
+
+def check_tables(page):
+    faults, rows = [], []
+    for number, line in enumerate([*without_fences(text_of(page)).split("\n"), ""], 1):
+        if line.startswith("|"):
+            rows.append((number, line))
+            continue
+        if rows and (len(rows) < 2 or not re.fullmatch(r"\|(?: *:?-+:? *\|)+", rows[1][1].strip())):
+            faults.append(f"line {rows[0][0]}: rows without a head")
+        elif rows:
+            wanted = cells_in(rows[0][1])
+            faults += [f"line {at}: {cells_in(row)} cells in place of {wanted}" for at, row in rows if cells_in(row) != wanted]
+        rows = []
+    trials.tell(f"{page}: tables", "; ".join(faults))
+
+
+def check_phrases(page):
+    text = re.sub(r"[ \n]+", " ", re.sub(r"\n(?=\n|[-|#] ?|\d+\.)", "\n. ", without_code(text_of(page))))
+    found = [(it[0].strip(" .:;,(|"), better) for phrase, better in PHRASES.items() for it in re.finditer(phrase, text)]
+    counts = {it: [one for one, _ in found].count(it) for it, _ in found}
+    told = ", ".join(f"{it!r} {count} times ({dict(found)[it]})" for it, count in sorted(counts.items(), key=lambda one: -one[1])[:6])
+    trials.tell(f"{page}: {len(found)} phrases that are hard to read, at most {HANDFUL}", told if len(found) > HANDFUL else None)
+
+
+def check_readme():
+    long = [f"line {at}: {len(line)} characters" for at, line in enumerate(text_of("README.md").split("\n"), 1) if len(line) > README_WIDTH]
+    trials.tell(f"README.md: no line is longer than {README_WIDTH} characters", "; ".join(long))
+
+
+def check_lengths():
+    """A message that a page shows with its head has the length that it says."""
+    faults, count = [], 0
+    for block in re.findall(r"(?m)(?:^(?: {4}\S.*)?\n)+", text_of("docs/PROTOCOL.md")):
+        for length, content in re.findall(r"(?m)^ {4}Content-Length: (\d+)\n\n {4}(\{.*\})$", block):
+            count += 1
+            faults += [f"{length} in place of {len(content)}: {content}"] if int(length) != len(content) else []
+    trials.tell(f"docs/PROTOCOL.md: the lengths of {count} messages", "; ".join(faults) if count else "no message is shown")
+
+
+# ---- commands
+
+
+class Scratch:
+    """A folder with what the commands of a page find at the top of the repository: the example report, the runner, and the programs."""
+
+    def __init__(self, folder, programs):
+        self.folder, self.server = pathlib.Path(folder), None
+        for name in ("crates/intake/stdin", "conformance"):
+            target = self.folder / "top" / name
+            target.parent.mkdir(parents=True, exist_ok=True)
+            (shutil.copytree if (ROOT / name).is_dir() else shutil.copyfile)(ROOT / name, target)
+        for name in ("intake", "outbox") if programs else ():
+            out = self.folder / "top/crates" / name / "out"
+            out.mkdir(parents=True)
+            (out / name).symlink_to(pathlib.Path(programs, name).resolve())
+        self.top = self.folder / "top"
+        (self.folder / "tmp").mkdir()
+        path = os.pathsep.join([*([str(programs)] if programs else []), os.environ["PATH"]])
+        self.env = {"PATH": path, "HOME": str(self.folder), "TMPDIR": str(self.folder / "tmp"), "LANG": "C.UTF-8"}
+
+    def play(self, block):
+        """The status of a block, and what each of its commands prints."""
+        commands = commands_in(block)
+        script = self.folder / "script"
+        script.write_text("".join(f"{command}\nprintf '\\n@@\\n'\n" for command, _ in commands), encoding="utf-8")
+        with open(self.folder / "printed", "w+b") as printed:
+            process = subprocess.Popen(["bash", str(script)], cwd=self.top, env=self.env, stdin=subprocess.DEVNULL, stdout=printed,
+                                       stderr=subprocess.DEVNULL, start_new_session=True)  # fmt: skip
+            try:
+                status = process.wait(60)
+            except subprocess.TimeoutExpired:
+                status = "none after a minute"
+            finally:
+                # What the block left running is its own, and ends with it.
+                try:
+                    os.killpg(process.pid, signal.SIGKILL)
+                except ProcessLookupError:
+                    pass
+                process.wait()
+            printed.seek(0)
+            return status, printed.read().decode(errors="replace").split("\n@@\n")[:-1]
+
+    def run(self, *words):
+        subprocess.run(words, cwd=self.top, env=self.env, check=True, stdout=subprocess.DEVNULL, stderr=subprocess.DEVNULL)
+
+    def serve(self, *words):
+        """Starts an intake, and waits until it serves."""
+        self.server = subprocess.Popen(["intake", "serve", *words], cwd=self.top, env=self.env, stderr=subprocess.PIPE, text=True)
+        if "serving" not in self.server.stderr.readline():
+            raise subprocess.CalledProcessError(self.server.wait(), ["intake", "serve", *words])
+
+    def stop(self):
+        if self.server:
+            self.server.terminate()
+            self.server.communicate()
+
+
+def without_moments(text):
+    return re.sub(r"opened in \d+ ms", "opened in 3 ms", text).rstrip("\n")
+
+
+def as_written(block, status, printed):
+    """Each command prints what the page says."""
+    wanted = [(command, "\n".join(lines)) for command, lines in commands_in(block)]
+    if status or len(printed) != len(wanted):
+        return f"status {status} after {len(printed)} of {len(wanted)} commands"
+    return "; ".join(f"{command}: {shown!r} in place of {lines!r}" for (command, lines), shown in zip(wanted, printed)
+                     if without_moments(shown) != without_moments(lines))  # fmt: skip
+
+
+def lists_cases(_, status, printed):
+    """The runner lists all cases."""
+    count = len(printed[0].split("\n")) if printed else 0
+    return None if not status and count > 700 else f"status {status}, {count} lines"
+
+
+def prints_nothing(_, status, printed):
+    return None if not status and printed == [""] else f"status {status}, {printed}"
+
+
+def shows_findings(_, status, printed):
+    """The body and the key of the entry, and then the findings of its report."""
+    is_there = len(printed) == 2 and printed[0].split() == ["393", "2024-annual-1"] and '"code":"period"' in printed[1]
+    return None if is_there and not status else f"status {status}, {printed}"
+
+
+def make_copies(scratch):
+    """Two copies of a register, the later one with one request more."""
+    for name, count in [("earlier.db", 2), ("later.db", 3)]:
+        with sqlite3.connect(scratch.top / name) as database:
+            declared = re.search(r"kept \(seq.*?\)\)", text_of("docs/PROTOCOL.md"), re.S)[0]
+            database.execute(f"CREATE TABLE {declared} STRICT")
+            database.executemany("INSERT INTO kept VALUES (?, 'ACME', ?, x'', NULL)", [(seq, f"k-{seq}") for seq in range(1, count + 1)])
+        database.close()
+
+
+def make_refused_entry(scratch):
+    """An outbox whose entry 3 is refused, and the intake that refused it, where a filer's nginx listens."""
+    (scratch.top / "right.json").write_bytes(trials.REPORT)
+    (scratch.top / "wrong.json").write_bytes(trials.REPORT.replace(b"2024-12-31", b"2024-12-32"))
+    scratch.serve("--db", "r.db", "--port", "8081", "--connections", "9", "--new")
+    scratch.run("outbox", "init", "--db", "outbox.db", "--filer", "ACME")
+    for key, name in [("a", "right"), ("b", "right"), ("2024-annual-1", "wrong")]:
+        scratch.run("outbox", "put", "--db", "outbox.db", "--body", f"{name}.json", "--key", key)
+    scratch.run("sh", "-c", "outbox send --db outbox.db --port 8081 --all; true")
+
+
+@dataclass
+class Example:
+    """A block that runs here: where it is, how it begins, what it prints, and what has to be there."""
+
+    page: str
+    first: str
+    fault: Callable = as_written
+    port: int = 0
+    scene: Callable = None
+
+    def block(self):
+        return next((it for it in blocks_of(text_of(self.page)) if it.startswith(self.first)), None)
+
+
+EXAMPLES = [
+    Example("conformance/README.md", "python3 conformance/run.py list", lists_cases),
+    Example("docs/OPERATIONS.md", "sqlite3 later.db", prints_nothing, scene=make_copies),
+    Example("README.md", "export PATH=", port=8080),
+    Example("docs/PROTOCOL.md", "example=$(mktemp -d)", port=8080),
+    Example("docs/OPERATIONS.md", 'sqlite3 outbox.db "SELECT writefile', shows_findings, port=8081, scene=make_refused_entry),
+]
+
+
+def is_free(port):
+    with socket.socket() as peer:
+        return peer.connect_ex(("127.0.0.1", port)) != 0
+
+
+def play(example, programs=None):
+    """Runs an example in a folder of its own."""
+    what, block = f"{example.page}: {example.first} ..", example.block()
+    if block is None:
+        return trials.tell(what, "there is no such block")
+    if example.port and not is_free(example.port):
+        return trials.tell(what, f"somebody listens on port {example.port}")
+    with tempfile.TemporaryDirectory() as folder:
+        scratch = Scratch(folder, programs)
+        try:
+            if example.scene:
+                example.scene(scratch)
+            trials.tell(what, example.fault(block, *scratch.play(block)))
+        except subprocess.CalledProcessError as fault:
+            trials.tell(what, f"{' '.join(fault.cmd)}: status {fault.returncode}")
+        finally:
+            scratch.stop()
+
+
+def play_walk(programs):
+    """Runs the walk of README.md with these programs."""
+    play(next(it for it in EXAMPLES if it.page == "README.md"), programs)
+
+
+def check_commands(page):
+    """Bash can read every block, and each that needs neither root nor the kit is an example that runs."""
+    for block in blocks_of(text_of(page)):
+        if block.startswith("{"):
+            continue
+        read = subprocess.run(["bash", "-n"], input=block, capture_output=True, text=True)
+        first = block.split("\n")[0]
+        if read.returncode:
+            trials.tell(f"{page}: {first}", read.stderr.strip())
+        is_tried = any(it.page == page and block.startswith(it.first) for it in EXAMPLES)
+        if not is_tried and not NEEDS_ROOT.search(block) and not NEEDS_KIT.search(block):
+            trials.tell(f"{page}: {first}", "nothing tries this block")
+    trials.tell(f"{page}: blocks of commands are read")
+
+
+def check_options(programs):
+    """Each option that a page gives to a program is in its help."""
+    known = {}
+    for name in ("intake", "outbox"):
+        program = str(pathlib.Path(programs, name))
+        for word, _ in commands_of(sections(help_of(program))[0]):
+            known[name, word] = set(re.findall(r"(?<![\w-])--[a-z][\w-]*", help_of(program, word)))
+    for page in pages():
+        faults = []
+        code = re.findall(r"`([^`\n]+)`", text_of(page)) + [line for block in blocks_of(text_of(page)) for line in block.split("\n")]
+        for name, word, rest in (it for text in code for it in re.findall(r"(?<![\w./-])(intake|outbox) ([a-z]+)\b([^|;&<>()]*)", text)):
+            options = set(re.findall(r"(?<![\w-])--[a-z][\w-]*", rest))
+            if (name, word) not in known and options:
+                faults.append(f"{name} {word}: there is no such command")
+            faults += [f"{name} {word} {it}: there is no such option" for it in sorted(options - known.get((name, word), options))]
+        trials.tell(f"{page}: options of programs", "; ".join(faults))
+
+
+def main(words):
+    if words and (len(words) != 2 or words[0] != "--programs"):
+        print(__doc__, file=sys.stderr)
+        return 2
+    programs = pathlib.Path(words[1]).resolve() if words else None
+    if programs and not all((programs / name).is_file() for name in ("intake", "outbox")):
+        print(f"check_pages.py: {programs}: intake and outbox are not there", file=sys.stderr)
+        return 2
+    for page in pages():
+        check_links(page)
+        check_tables(page)
+        check_phrases(page)
+    check_readme()
+    check_lengths()
+    for page in ("README.md", "docs/OPERATIONS.md"):
+        check_commands(page)
+    for example in EXAMPLES:
+        if programs or not example.port:
+            play(example, programs)
+    if programs:
+        check_options(programs)
+    print(f"{len(trials.failures)} failed")
+    return 1 if trials.failures else 0
+
+
+if __name__ == "__main__":
+    sys.exit(main(sys.argv[1:]))
