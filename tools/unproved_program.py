@@ -1,0 +1,130 @@
+#!/usr/bin/env python3
+"""Builds a program by `rt try`, in some minutes and without any proof, and keeps it.
+
+    tools/unproved_program.py CLONE NAME FILE       writes the program NAME (intake, outbox or drill) of a clone to FILE
+
+`rt try` compiles a program with checks, runs it and throws it away. So this has it do something that lasts, copies its executable from /proc, and
+stops it. Nothing is proved of that program; it is for trials alone, and slower than the one that `rt run` builds. Status 1 if it can't be had.
+"""
+import contextlib
+import os
+import pathlib
+import shutil
+import socket
+import sqlite3
+import subprocess
+import sys
+import tempfile
+import time
+
+PATIENCE = 1800
+# An outbox with one open entry, as docs/PROTOCOL.md declares it.
+OUTBOX = """
+CREATE TABLE outbox_meta (id INTEGER PRIMARY KEY, kind TEXT NOT NULL, form INTEGER NOT NULL, filer TEXT NOT NULL) STRICT;
+CREATE TABLE entry (id INTEGER PRIMARY KEY, idem TEXT NOT NULL UNIQUE, body BLOB NOT NULL, state INTEGER NOT NULL, number INTEGER) STRICT;
+CREATE TABLE target (id INTEGER PRIMARY KEY, number INTEGER NOT NULL) STRICT;
+INSERT INTO outbox_meta VALUES (1, 'outbox', 2, 'ACME');
+INSERT INTO entry VALUES (1, 'k-1', x'7b7d', 0, NULL);
+"""
+# How often both ends are started again in a script that takes drill some seconds.
+RESTARTS = 2_000
+
+
+class NotBuilt(Exception):
+    """Why there is no program."""
+
+
+def free_port():
+    with socket.socket() as one:
+        one.bind(("127.0.0.1", 0))
+        return one.getsockname()[1]
+
+
+def lasting(name, crate, held):
+    """Words and an input with which a program runs until it is stopped. What it needs for that is made in `crate`, and gone with `held`."""
+    if name == "intake":
+        return ["serve", "--db", "t.db", "--port", str(free_port()), "--connections", "1", "--new"], ""
+    if name == "outbox":
+        database = crate / "open.db"
+        with contextlib.closing(sqlite3.connect(database)) as connection:
+            connection.executescript(OUTBOX)
+        held.callback(database.unlink)
+        # Somebody who listens and says nothing.
+        silent = held.enter_context(socket.create_server(("127.0.0.1", 0)))
+        return ["send", "--db", "open.db", "--port", str(silent.getsockname()[1]), "--entry", "1"], ""
+    if name == "drill":
+        return [], "outbox ACME\n" + "".join(f'put 1 "k-{at}" {{}}\nrestart server\nrestart outbox 1\n' for at in range(RESTARTS))
+    raise NotBuilt(f"{name} is none of intake, outbox and drill")
+
+
+def own_folders():
+    """Where the executables of the kit, of Python and of the system are."""
+    kit, python = (pathlib.Path(it).resolve().parents[1] for it in (shutil.which("rt"), sys.executable))
+    return [kit, python, *map(pathlib.Path, ("/usr", "/bin", "/lib"))]
+
+
+def descends(process, ancestor):
+    """Whether a process was started by this one, or by one that it started."""
+    while process > 1:
+        fields = pathlib.Path(f"/proc/{process}/stat").read_text().rpartition(")")[2].split()
+        process = int(fields[1])
+        if process == ancestor:
+            return True
+    return False
+
+
+def built_program(ancestor, others):
+    """An open executable of a process below this one that is none of the others', or None."""
+    for process in pathlib.Path("/proc").glob("[0-9]*"):
+        try:
+            path = pathlib.Path(os.readlink(process / "exe"))
+            if not any(path.is_relative_to(it) for it in others) and descends(int(process.name), ancestor):
+                return open(process / "exe", "rb")
+        except OSError:
+            continue
+    return None
+
+
+def build(clone, name, target):
+    crate = clone / "crates" / name
+    with contextlib.ExitStack() as held:
+        folder = pathlib.Path(held.enter_context(tempfile.TemporaryDirectory(prefix="unproved-"))).resolve()
+        (words, given), others = lasting(name, crate, held), own_folders()
+        (folder / "stdin").write_text(given)
+        with open(folder / "stdin") as stdin, open(folder / "said", "w+b") as said:
+            env = {**os.environ, "TMPDIR": str(folder)}
+            process = subprocess.Popen(["rt", "try", "--", *words], cwd=crate, stdin=stdin, stdout=said, stderr=said, env=env)
+            try:
+                deadline = time.monotonic() + PATIENCE
+                while process.poll() is None and time.monotonic() < deadline:
+                    if found := built_program(process.pid, others):
+                        with found, open(target, "wb") as kept:
+                            shutil.copyfileobj(found, kept)
+                        target.chmod(0o755)
+                        return
+                    time.sleep(0.05)
+            finally:
+                # It ends what it started, and removes its folder.
+                process.terminate()
+                process.wait()
+            said.seek(0)
+            raise NotBuilt(said.read().decode(errors="replace").strip()[-2000:] or f"nothing ran within {PATIENCE} s")
+
+
+def main():
+    if len(sys.argv) != 4:
+        sys.exit(__doc__)
+    if shutil.which("rt") is None:
+        sys.exit("unproved_program.py: there is no rt")
+    clone, name, target = pathlib.Path(sys.argv[1]).resolve(), sys.argv[2], pathlib.Path(sys.argv[3]).resolve()
+    try:
+        build(clone, name, target)
+        said = subprocess.run([target, "--version"], capture_output=True, text=True, timeout=60)
+        if said.returncode or not said.stdout.startswith(f"{name} "):
+            raise NotBuilt(f"--version: status {said.returncode}, {said.stdout}{said.stderr}")
+    except (NotBuilt, subprocess.TimeoutExpired) as fault:
+        sys.exit(f"unproved_program.py: {name}: {fault}")
+
+
+if __name__ == "__main__":
+    main()
