@@ -1,0 +1,3 @@
+mod Finding
+mod Leaving
+mod Outboxing

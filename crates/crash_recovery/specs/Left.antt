@@ -1,0 +1,53 @@
+-- What a store leaves in its two files where its process ends before it is closed; own rules.
+use Rattle.std.specs.Prelude.{◌≡◌, ◌⊎◌, true, IsTrue}
+use Rattle.sqlite_disk.specs.declared.Disk.{Ghosts}
+use Rattle.sqlite_disk.specs.declared.Files.{Files}
+use Rattle.sqlite_disk.specs.Disk.{MoreFaults}
+use Rattle.sqlite_store.specs.declared.store.FileStore.{FileStore}
+use Rattle.sqlite_store.specs.FileStore.{view}
+use Rattle.sqlite_store.specs.FileStore as store
+use Rattle.sqlite.specs.Held.{Held}
+use Rattle.sqlite.specs.Files.{faults_of, faults_left, IsFullLeft, IsClosed}
+use Rattle.sqlite.specs.declared.error.Error.{Error}
+use Rattle.sqlite.specs.declared.error.Error.TheVariants.{SqliteFailure}
+use Rattle.sqlite.specs.declared.error.ErrorCode.TheVariants.{OutOfMemory}
+use Rattle.sqlite.specs.declared.file.Leftover.{Leftover}
+
+-- each read of such a disk gave what was written
+abbrev pub IsHonest : {D : Type 0} → Ghosts D → Type 0
+IsHonest {D} g = (disk : D) → g.is_clean disk ≡ true
+
+module _ {D : Type 0} {g : Ghosts D} where
+  -- The process was killed: a read of each file returns what it returned before. Nothing was copied, cut or synced first.
+  pub record AreLeftByKill (it : FileStore D g) (files : Files D) : Type 0 where
+    pub log : g.seen files.log ≡ g.seen (store.files it).0
+    pub db : g.seen files.db ≡ g.seen (store.files it).1
+
+  -- The machine stopped: each file has contents that the disk may have then, whatever the other has. What was written since the
+  -- file's last sync may be there in part, and the end of the log may be torn.
+  pub record AreLeftByStop (it : FileStore D g) (files : Files D) : Type 0 where
+    pub log : g.may_leave (store.files it).0 (g.seen files.log)
+    pub db : g.may_leave (store.files it).1 (g.seen files.db)
+
+  -- The process was killed, or the machine stopped.
+  abbrev pub AreLeftBy : FileStore D g → Files D → Type 0
+  AreLeftBy it files = AreLeftByKill it files ⊎ AreLeftByStop it files
+
+  -- what each connection keeps of its store: a tree is numbered by its row in `sqlite_schema`
+  abbrev pub IsNumbered : FileStore D g → Type 0
+  IsNumbered it = IsTrue (view it).is_numbered
+
+  -- The last store of a connection: its own, or the one that a close which failed has left.
+  abbrev pub IsLastOf : Held (FileStore D g) → FileStore D g → Type 0
+  IsLastOf conn last = (last ≡ conn.store) ⊎ IsClosed conn last
+
+  -- The process of a connection ends, killed or with the machine, and these are the files then.
+  pub record EndsIn (conn : Held (FileStore D g)) (files : Files D) : Type 0 where
+    pub last : FileStore D g
+    pub is_last : IsLastOf conn last
+    pub numbered : IsNumbered last
+    pub left : AreLeftBy last files
+
+  -- An opening failed for memory, for the disk or for a limit of the format, and not for what the files hold.
+  abbrev pub FailsForCause : Files D → Leftover D g → Error → Type 0
+  FailsForCause files left error = (error ≡ SqliteFailure OutOfMemory) ⊎ (MoreFaults (faults_of g files) (faults_left left) ⊎ IsFullLeft left)

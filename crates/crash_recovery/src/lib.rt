@@ -1,0 +1,103 @@
+//! What is certain of a program that ends before it closes its files: it is killed, or the machine stops. What may live
+//! here: what files hold that were not closed, and laws on what the next opening finds in them. There is no code.
+//!
+//! What is proved, of disks that give back what was written:
+//!
+//! - A register or an outbox that is open, and between two calls, leaves files that hold its requests or entries, no more
+//!   and no fewer: by the log and the database file together, so also if a commit was never copied into the database file.
+//!   The next opening finds them, and fails for memory, for the disk or for a limit of the format alone.
+//! - One that ends inside a call that adds a request, puts an entry in or moves one leaves those of before, or those with
+//!   that one change, and after an answer those with the change.
+//! - The same holds after a close that failed, if the store that the close gave back is numbered, as that of each
+//!   connection is. The contract of the close does not say it of that store.
+//!
+//! A kill leaves of each file what a read of it returned. A stop of the machine leaves contents that the disk may have
+//! then, of each file apart: what was written since its last sync may be there in part, and the end of the log torn.
+//!
+//! What is not proved:
+//!
+//! - The clauses on crashes speak of the state in which a call ends. That a process which is killed inside a call is one
+//!   whose disk refuses each call from then on, so that the call ends in that state, is said here in words.
+//! - That a system keeps what a killed process wrote, and that a disk keeps what it synced, is asked of them.
+//! - A register or an outbox that is being made or migrated is not spoken of here, nor are a program's lines and status.
+//! - Of disks that gave back anything else nothing is said.
+#![tactic(auto)]
+
+ghost use Rattle.std.specs.Prelude.{◌⊎◌, ◌++◌, ◌∷◌, ℕ, List, [], Option, Result, IsTrue};
+ghost use Rattle.sqlite_disk.specs.declared.Files.{Files};
+ghost use Rattle.sqlite_store.specs.declared.store.FileStore.{FileStore as Stored};
+ghost use Rattle.sqlite.specs.Held.{Held};
+ghost use Rattle.sqlite.specs.Files.{over_files, FailsToOpenFiles};
+ghost use Rattle.sqlite.specs.declared.error.Error.{Error};
+ghost use Rattle.sqlite.specs.declared.file.Leftover.{Leftover};
+ghost use Rattle.http_messages.specs.Reply.{ReplyParts};
+ghost use Rattle.filing_model.specs.declared.state.State.{State};
+ghost use Rattle.filing_model.specs.Outbox.{Entry};
+ghost use Rattle.outbox_opening.specs.Entries.{Contents};
+ghost use Rattle.outbox_core.specs.declared.fault.PutFault.{PutFault};
+ghost use Rattle.outbox_core.specs.declared.fault.TakeFault.{TakeFault};
+ghost use Rattle.outbox_core.specs.Entries.{opened};
+ghost use Rattle.outbox_core.specs.OutboxParts.{OutboxParts, contents, HasEntries};
+ghost use Rattle.outbox_core.specs.OutboxParts as outbox;
+ghost use Rattle.outbox_core.specs.Calls.{PutsEntry, MovesEntry};
+ghost use Rattle.database_places.specs.Closing.{IsNotClosed};
+ghost use Rattle.database_places.specs.Opening.{IsFoundIn};
+ghost use Rattle.crash_recovery.specs.Left.{AreLeftByKill, AreLeftByStop, EndsIn, FailsForCause, IsHonest, IsLastOf, IsNumbered};
+ghost use Rattle.crash_recovery.specs.Outboxes.{HoldEitherOutbox, HoldMovedOutbox, HoldOutboxWithLog, OpensAsOutbox};
+
+use sqlite::{Connection, FileStore};
+use sqlite_disk::Disk;
+
+/// What a killed process leaves is among what a stop of the machine may leave. The files that a failed close left in their
+/// place are those that a kill after it leaves.
+pub fn a_kill_is_a_stop<D: Disk + Drop>()
+    ensures kill { (it : Stored D D.Disk) (files : Files D) → AreLeftByKill it files → AreLeftByStop it files }
+    ensures close { (conn : Held (Stored D D.Disk)) (files : Files D) (error : Error)
+        → (failed : IsNotClosed conn files error) → IsLastOf conn failed.last × AreLeftByKill failed.last files }
+{}
+
+/// Each connection to files, whatever was done with it, has a store whose trees are numbered.
+pub fn each_connection_is_numbered<D: Disk + Drop>(conn: Connection<FileStore<D>>)
+    ensures { IsHonest D.Disk → IsNumbered conn.store }
+{
+    drop(conn.into_store());
+}
+
+/// An opening of files that hold an outbox by their log and their database file together is to that outbox, and is not
+/// refused for what they hold.
+pub fn an_outbox_with_its_log_is_found<D: Disk + Drop>()
+    ensures found { IsHonest D.Disk → (files : Files D) (it : Contents) → HoldOutboxWithLog D.Disk files it
+        → (conn : Held (Stored D D.Disk)) → IsFoundIn files conn → OpensAsOutbox conn it }
+    ensures refused { (files : Files D) (it : Contents) → HoldOutboxWithLog D.Disk files it
+        → (left : Leftover D D.Disk) (error : Error) → FailsToOpenFiles files left error
+        → FailsForCause files left error }
+{}
+
+/// An outbox that is open, and between two calls, leaves its entries, and so does one that was just answered.
+pub fn an_outbox_outlives_its_process<D: Disk + Drop>()
+    ensures rest { IsHonest D.Disk → (box : OutboxParts (Stored D D.Disk)) (entries : List Entry) (files : Files D)
+        → IsTrue (outbox.shows over_files box).is_open → HasEntries over_files box entries → EndsIn box.conn files
+        → HoldOutboxWithLog D.Disk files (contents box entries) }
+    ensures durable { IsHonest D.Disk → (box : OutboxParts (Stored D D.Disk)) (it : Contents) (files : Files D)
+        → outbox.IsDurableAs over_files box it → EndsIn box.conn files → HoldOutboxWithLog D.Disk files it }
+{}
+
+/// An outbox that was open as an entry was put in leaves the entries of before, or those with this one.
+pub fn an_outbox_outlives_an_entry<D: Disk + Drop>()
+    ensures { IsHonest D.Disk → (old new : OutboxParts (Stored D D.Disk)) (key : List ℕ) (target : Option ℕ)
+        (body : List ℕ) (result : Result ℕ PutFault) (entries : List Entry) (files : Files D)
+        → PutsEntry over_files old new key target body result → IsTrue (outbox.shows over_files old).is_open
+        → HasEntries over_files old entries → EndsIn new.conn files
+        → HoldEitherOutbox D.Disk files (contents old entries)
+        (contents old (entries ++ opened key target body ∷ [])) }
+{}
+
+/// An outbox that was open as an entry was moved by a reply leaves the entries of before, or those after the move.
+pub fn an_outbox_outlives_a_move<D: Disk + Drop>()
+    ensures { IsHonest D.Disk → (old new : OutboxParts (Stored D D.Disk)) (id : ℕ) (reply : ReplyParts)
+        (result : Result State TakeFault) (entries : List Entry) (files : Files D)
+        → MovesEntry over_files old new id reply result → IsTrue (outbox.shows over_files old).is_open
+        → HasEntries over_files old entries → EndsIn new.conn files
+        → HoldOutboxWithLog D.Disk files (contents old entries)
+        ⊎ HoldMovedOutbox D.Disk files (contents old entries) id reply }
+{}
