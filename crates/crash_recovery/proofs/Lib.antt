@@ -1,3 +1,4 @@
 mod Finding
 mod Leaving
 mod Outboxing
+mod Registering

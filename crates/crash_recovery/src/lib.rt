@@ -33,6 +33,14 @@ ghost use Rattle.sqlite.specs.declared.file.Leftover.{Leftover};
 ghost use Rattle.http_messages.specs.Reply.{ReplyParts};
 ghost use Rattle.filing_model.specs.declared.state.State.{State};
 ghost use Rattle.filing_model.specs.Outbox.{Entry};
+ghost use Rattle.filing_model.specs.Request.{Request};
+ghost use Rattle.filing_model.specs.Views.{the_request};
+ghost use Rattle.table_rows.specs.declared.fault.StoreFault.{StoreFault};
+ghost use Rattle.register_store.specs.declared.outcome.NewRow.{NewRow};
+ghost use Rattle.register_store.specs.declared.outcome.Outcome.{Outcome};
+ghost use Rattle.register_store.specs.Store.{StoreParts, HasRequests, ForNew};
+ghost use Rattle.register_store.specs.Store as register;
+ghost use Rattle.register_store.specs.Calls.{AddsRequest};
 ghost use Rattle.outbox_opening.specs.Entries.{Contents};
 ghost use Rattle.outbox_core.specs.declared.fault.PutFault.{PutFault};
 ghost use Rattle.outbox_core.specs.declared.fault.TakeFault.{TakeFault};
@@ -44,6 +52,7 @@ ghost use Rattle.database_places.specs.Closing.{IsNotClosed};
 ghost use Rattle.database_places.specs.Opening.{IsFoundIn};
 ghost use Rattle.crash_recovery.specs.Left.{AreLeftByKill, AreLeftByStop, EndsIn, FailsForCause, IsHonest, IsLastOf, IsNumbered};
 ghost use Rattle.crash_recovery.specs.Outboxes.{HoldEitherOutbox, HoldMovedOutbox, HoldOutboxWithLog, OpensAsOutbox};
+ghost use Rattle.crash_recovery.specs.Registers.{HoldEitherRegister, HoldRegisterWithLog, OpensAsRegister};
 
 use sqlite::{Connection, FileStore};
 use sqlite_disk::Disk;
@@ -62,6 +71,37 @@ pub fn each_connection_is_numbered<D: Disk + Drop>(conn: Connection<FileStore<D>
 {
     drop(conn.into_store());
 }
+
+/// An opening of files that hold a register by their log and their database file together is to that register, and is not
+/// refused for what they hold.
+pub fn a_register_with_its_log_is_found<D: Disk + Drop>()
+    ensures found { IsHonest D.Disk → (files : Files D) (early : ℕ) (requests : List Request)
+        → HoldRegisterWithLog D.Disk files early requests → (conn : Held (Stored D D.Disk)) → IsFoundIn files conn
+        → OpensAsRegister conn early requests }
+    ensures refused { (files : Files D) (early : ℕ) (requests : List Request)
+        → HoldRegisterWithLog D.Disk files early requests → (left : Leftover D D.Disk) (error : Error)
+        → FailsToOpenFiles files left error → FailsForCause files left error }
+{}
+
+/// A register that is open, and between two calls, leaves its requests, and so does one that was just answered.
+pub fn a_register_outlives_its_process<D: Disk + Drop>()
+    ensures rest { IsHonest D.Disk → (store : StoreParts (Stored D D.Disk)) (requests : List Request) (files : Files D)
+        → IsTrue (register.shows over_files store).is_open → HasRequests over_files store requests
+        → EndsIn store.conn files → HoldRegisterWithLog D.Disk files store.early requests }
+    ensures durable { IsHonest D.Disk → (store : StoreParts (Stored D D.Disk)) (early : ℕ) (requests : List Request)
+        (files : Files D) → register.IsDurableAs over_files store early requests
+        → EndsIn store.conn files → HoldRegisterWithLog D.Disk files early requests }
+{}
+
+/// A register that was open as `Store::add` began leaves the requests of before, or those with the one that was added.
+pub fn a_register_outlives_an_addition<D: Disk + Drop>()
+    ensures { IsHonest D.Disk → (row : NewRow) (old new : StoreParts (Stored D D.Disk))
+        (result : Result Outcome StoreFault) (requests : List Request) (files : Files D)
+        → AddsRequest over_files row old new result → IsTrue (register.shows over_files old).is_open
+        → HasRequests over_files old requests → EndsIn new.conn files
+        → ForNew requests (the_request row.filer.now row.key.now row.target row.body.now) row.judged.now (λ r.
+            HoldEitherRegister D.Disk files old.early requests (requests ++ r ∷ [])) }
+{}
 
 /// An opening of files that hold an outbox by their log and their database file together is to that outbox, and is not
 /// refused for what they hold.
@@ -89,7 +129,7 @@ pub fn an_outbox_outlives_an_entry<D: Disk + Drop>()
         → PutsEntry over_files old new key target body result → IsTrue (outbox.shows over_files old).is_open
         → HasEntries over_files old entries → EndsIn new.conn files
         → HoldEitherOutbox D.Disk files (contents old entries)
-        (contents old (entries ++ opened key target body ∷ [])) }
+            (contents old (entries ++ opened key target body ∷ [])) }
 {}
 
 /// An outbox that was open as an entry was moved by a reply leaves the entries of before, or those after the move.

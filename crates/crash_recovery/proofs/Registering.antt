@@ -1,0 +1,79 @@
+-- What a register leaves in its files, and what an opening finds there.
+use Rattle.std.proofs.Common.{◌≡◌, ◌⊎◌, inl, inr, ℕ, List, Result, Ok, Err, IsTrue, IfOk, sym, subst}
+use Rattle.sqlite_disk.specs.declared.Disk.{Ghosts}
+use Rattle.sqlite_disk.specs.declared.Files.{Files}
+use Rattle.sqlite_wal.proofs.LogLemmas.{SeenMayStay}
+use Rattle.sqlite_store.specs.declared.store.FileStore.{FileStore}
+use Rattle.sqlite_store.specs.FileStore.{recovers}
+use Rattle.sqlite_trees.specs.Tree.{Trees}
+use Rattle.sqlite_schema.specs.declared.schema.Schema.{Schema}
+use Rattle.sqlite_catalog.specs.Listing.{IsSound}
+use Rattle.sqlite.specs.Held.{Held}
+use Rattle.sqlite.specs.State.{Survives}
+use Rattle.sqlite.specs.Files.{image_of, over_files, file_state, HoldsDatabase}
+use Rattle.filing_model.specs.Request.{Request}
+use Rattle.table_rows.proofs.CleanLemmas.{always_clean}
+use Rattle.register_opening.specs.declared.fault.OpenFault.{OpenFault}
+use Rattle.register_opening.specs.Registers.{IsRegisterOf, LeavesRegister}
+use Rattle.register_store.specs.Store.{StoreParts, shows, HasRequests}
+use Rattle.register_store.specs.Calls.{OpensOrGivesBack}
+use Rattle.database_places.specs.Opening.{IsFoundIn}
+use Rattle.crash_recovery.specs.Left.{IsHonest, EndsIn}
+use Rattle.crash_recovery.specs.Registers.{HoldRegisterWithLog, HoldEitherRegister, OpensAsRegister}
+use Rattle.crash_recovery.proofs.Finding.{found_there}
+use Rattle.crash_recovery.proofs.Leaving.{ends_with_one, leaves_now}
+
+sound_if : (early : ℕ) (F : List Request) (trees : Trees) → LeavesRegister early F trees → (schema : Schema) × IsSound schema trees
+sound_if early F trees leaves = (leaves.db.schema, subst (IsSound leaves.db.schema) (sym leaves.is) leaves.register.sound)
+
+module _ {D : Type 0} (g : Ghosts D) where
+  hold : (files : Files D) (early : ℕ) (F : List Request) (trees : Trees) → LeavesRegister early F trees → ∥ HoldsDatabase (image_of g files) trees ∥₁ → HoldRegisterWithLog g files early F
+  hold files early F trees leaves held = record { db = leaves.db; register = leaves.register; held = subst (λ t. ∥ HoldsDatabase (image_of g files) t ∥₁) leaves.is held }
+
+  module _ (honest : IsHonest g) where
+    opened_store : (conn : Held (FileStore D g)) (early : ℕ) (F : List Request) → IsRegisterOf early F (file_state conn).now
+        → (result : Result (StoreParts (FileStore D g)) (OpenFault × Held (FileStore D g))) → OpensOrGivesBack over_files conn result
+        → IfOk result (λ store. (store.early ≡ early) × HasRequests over_files store F)
+    opened_store conn early F rows (Ok store) opens = opens.outcome.only (always_clean honest store.conn) early F rows
+    opened_store conn early F rows (Err refusal) opens = tt
+
+    -- files that hold the register are found so
+    pub found : (files : Files D) (early : ℕ) (F : List Request) → HoldRegisterWithLog g files early F → (conn : Held (FileStore D g)) → IsFoundIn files conn → OpensAsRegister conn early F
+    found files early F it conn is =
+        let both = is (always_clean honest conn) in
+        let rows : IsRegisterOf early F (file_state conn).now = subst (IsRegisterOf early F) (sym (found_there files conn both.0 both.1 it.db it.register.sound it.held)) it.register in
+        record {
+          rows = rows;
+          store = opened_store conn early F rows;
+        }
+
+    module _ (stays : SeenMayStay g) where
+      -- the files hold a register that each outcome of a crash is
+      pub leaves_register : (conn : Held (FileStore D g)) (files : Files D) (early : ℕ) (F : List Request) → EndsIn conn files
+          → ((db : Trees) → recovers conn.store db → LeavesRegister early F db) → HoldRegisterWithLog g files early F
+      leaves_register conn files early F ends each =
+          let one = ends_with_one honest stays conn files ends each (sound_if early F) in hold files early F one.0 one.1 one.2
+
+      -- or one of two
+      leaves_either : (conn : Held (FileStore D g)) (files : Files D) (early : ℕ) (F G : List Request) → EndsIn conn files
+          → ((db : Trees) → recovers conn.store db → LeavesRegister early F db ⊎ LeavesRegister early G db) → HoldEitherRegister g files early F G
+      leaves_either conn files early F G ends each =
+          let one = ends_with_one honest stays conn files ends each (λ db. elim [ inl was ↦ sound_if early F db was | inr more ↦ sound_if early G db more ]) in
+          elim one.1 [ inl was ↦ inl (hold files early F one.0 was one.2) | inr more ↦ inr (hold files early G one.0 more one.2) ]
+
+      -- while the register is open and between calls, a crash leaves its requests
+      pub rests : (store : StoreParts (FileStore D g)) (F : List Request) → HasRequests over_files store F → IsTrue (shows over_files store).is_open
+          → (db : Trees) → recovers store.conn.store db → LeavesRegister store.early F db
+      rests store F had is_open db allowed = record {
+        db = (shows over_files store).now;
+        is = leaves_now honest stays store.conn is_open (had.stands.committed is_open) db allowed;
+        register = had.stands.now is_open;
+      }
+
+      -- after a call that commits one change at most, or inside it, the register of before, or that after the change
+      pub outlives_call : (old : StoreParts (FileStore D g)) (new : Held (FileStore D g)) (F G : List Request) {Commits : Trees → Type 0}
+          → HasRequests over_files old F → IsTrue (shows over_files old).is_open → Survives (shows over_files old) (file_state new) Commits
+          → ((db : Trees) → Commits db → LeavesRegister old.early G db) → (files : Files D) → EndsIn new files → HoldEitherRegister g files old.early F G
+      outlives_call old new F G had is_open survives commits files ends =
+          leaves_either new files old.early F G ends
+          (λ db allowed. elim (survives.crash (always_clean honest new) db allowed) [ inl was ↦ inl (rests old F had is_open db was) | inr done ↦ inr (commits db done) ])
