@@ -1,3 +1,4 @@
+mod Deciding
 mod Finding
 mod Leaving
 mod Outboxing

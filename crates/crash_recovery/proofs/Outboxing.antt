@@ -13,13 +13,15 @@ use Rattle.sqlite.specs.State.{Survives}
 use Rattle.sqlite.specs.Files.{image_of, over_files, file_state, HoldsDatabase}
 use Rattle.http_messages.specs.Reply.{ReplyParts}
 use Rattle.filing_model.specs.Outbox.{Entry, moved}
+use Rattle.table_rows.specs.Standing.{HasCommitted, CommitsNothing}
 use Rattle.table_rows.proofs.CleanLemmas.{always_clean}
 use Rattle.database_places.specs.Opening.{IsFoundIn}
 use Rattle.outbox_opening.specs.declared.fault.OutboxFault.{OutboxFault}
 use Rattle.outbox_opening.specs.Entries.{Contents, entry_at}
 use Rattle.outbox_opening.specs.Rows.{IsOutboxOf, LeavesOutbox}
 use Rattle.outbox_core.specs.Entries.{with_state}
-use Rattle.outbox_core.specs.OutboxParts.{OutboxParts, shows, contents, HasEntries, LeavesMoved}
+use Rattle.outbox_core.specs.OutboxParts.{OutboxParts, HasEntries, LeavesMoved}
+use Rattle.outbox_core.specs.Files.{HoldOutbox}
 use Rattle.outbox_core.specs.HandedOut.{FindsOrGivesBack}
 use Rattle.crash_recovery.specs.Left.{IsHonest, EndsIn}
 use Rattle.crash_recovery.specs.Outboxes.{HoldOutboxWithLog, HoldEitherOutbox, HoldMovedOutbox, OpensAsOutbox}
@@ -32,6 +34,10 @@ sound_if it trees leaves = (leaves.db.schema, subst (IsSound leaves.db.schema) (
 module _ {D : Type 0} (g : Ghosts D) where
   hold : (files : Files D) (it : Contents) (trees : Trees) → LeavesOutbox it trees → ∥ HoldsDatabase (image_of g files) trees ∥₁ → HoldOutboxWithLog g files it
   hold files it trees leaves held = record { db = leaves.db; outbox = leaves.outbox; held = subst (λ t. ∥ HoldsDatabase (image_of g files) t ∥₁) leaves.is held }
+
+  -- files that were closed hold it so, since the database file does alone
+  pub closed : (files : Files D) (it : Contents) → HoldOutbox g files it → HoldOutboxWithLog g files it
+  closed files it held = record { db = held.db; outbox = held.outbox; held = held.held.held.both }
 
   module _ (honest : IsHonest g) where
     opened_outbox : (conn : Held (FileStore D g)) (it : Contents) → IsOutboxOf it (file_state conn).now
@@ -54,38 +60,44 @@ module _ {D : Type 0} (g : Ghosts D) where
       leaves_outbox conn files it ends each =
           let one = ends_with_one honest stays conn files ends each (sound_if it) in hold files it one.0 one.1 one.2
 
-      -- while the outbox is open and between calls, a crash leaves its entries
-      pub rests : (outbox : OutboxParts (FileStore D g)) (entries : List Entry) → HasEntries over_files outbox entries → IsTrue (shows over_files outbox).is_open
-          → (db : Trees) → recovers outbox.conn.store db → LeavesOutbox (contents outbox entries) db
-      rests outbox entries had is_open db allowed = record {
-        db = (shows over_files outbox).now;
-        is = leaves_now honest stays outbox.conn is_open (had.stands.committed is_open) db allowed;
-        outbox = had.stands.now is_open;
+      -- while it is open and between calls, a crash leaves the outbox that is committed
+      pub rests : (conn : Held (FileStore D g)) (it : Contents) → HasCommitted (IsOutboxOf it) (file_state conn) → IsTrue (file_state conn).is_open
+          → (db : Trees) → recovers conn.store db → LeavesOutbox it db
+      rests conn it stands is_open db allowed = record {
+        db = (file_state conn).now;
+        is = leaves_now honest stays conn is_open (stands.committed is_open) db allowed;
+        outbox = stands.now is_open;
       }
 
       -- After a call that commits one of these changes at most, or inside it, the outbox of before, or that after one of them.
-      outlives_one : (old : OutboxParts (FileStore D g)) (new : Held (FileStore D g)) (entries : List Entry) {I : Type 0} (after : I → Contents) {Commits : Trees → Type 0}
-          → HasEntries over_files old entries → IsTrue (shows over_files old).is_open → Survives (shows over_files old) (file_state new) Commits
+      outlives_one : (old new : Held (FileStore D g)) (it : Contents) {I : Type 0} (after : I → Contents) {Commits : Trees → Type 0}
+          → HasCommitted (IsOutboxOf it) (file_state old) → IsTrue (file_state old).is_open → Survives (file_state old) (file_state new) Commits
           → ((db : Trees) → Commits db → (i : I) × LeavesOutbox (after i) db) → (files : Files D) → EndsIn new files
-          → HoldOutboxWithLog g files (contents old entries) ⊎ ((i : I) × HoldOutboxWithLog g files (after i))
-      outlives_one old new entries {I} after had is_open survives commits files ends =
-          let each : (db : Trees) → recovers new.store db → LeavesOutbox (contents old entries) db ⊎ ((i : I) × LeavesOutbox (after i) db) =
-          λ db allowed. elim (survives.crash (always_clean honest new) db allowed) [ inl was ↦ inl (rests old entries had is_open db was) | inr done ↦ inr (commits db done) ] in
-          let one = ends_with_one honest stays new files ends each (λ db. elim [ inl was ↦ sound_if (contents old entries) db was | inr done ↦ sound_if (after done.0) db done.1 ]) in
-          elim one.1 [ inl was ↦ inl (hold files (contents old entries) one.0 was one.2) | inr done ↦ inr (done.0, hold files (after done.0) one.0 done.1 one.2) ]
+          → HoldOutboxWithLog g files it ⊎ ((i : I) × HoldOutboxWithLog g files (after i))
+      outlives_one old new it {I} after stands is_open survives commits files ends =
+          let each : (db : Trees) → recovers new.store db → LeavesOutbox it db ⊎ ((i : I) × LeavesOutbox (after i) db) =
+          λ db allowed. elim (survives.crash (always_clean honest new) db allowed) [ inl was ↦ inl (rests old it stands is_open db was) | inr done ↦ inr (commits db done) ] in
+          let one = ends_with_one honest stays new files ends each (λ db. elim [ inl was ↦ sound_if it db was | inr done ↦ sound_if (after done.0) db done.1 ]) in
+          elim one.1 [ inl was ↦ inl (hold files it one.0 was one.2) | inr done ↦ inr (done.0, hold files (after done.0) one.0 done.1 one.2) ]
+
+      -- a call that commits nothing
+      pub outlives_reading : (old new : Held (FileStore D g)) (it : Contents) → HasCommitted (IsOutboxOf it) (file_state old) → IsTrue (file_state old).is_open
+          → CommitsNothing (file_state old) (file_state new) → (files : Files D) → EndsIn new files → HoldOutboxWithLog g files it
+      outlives_reading old new it stands is_open survives files ends =
+          leaves_outbox new files it ends (λ db allowed. elim (survives.crash (always_clean honest new) db allowed) [ inl was ↦ rests old it stands is_open db was | inr none ↦ absurd none ])
 
       -- a call that puts an entry in
-      pub outlives_put : (old : OutboxParts (FileStore D g)) (new : Held (FileStore D g)) (entries : List Entry) (after : Contents) {Commits : Trees → Type 0}
-          → HasEntries over_files old entries → IsTrue (shows over_files old).is_open → Survives (shows over_files old) (file_state new) Commits
-          → ((db : Trees) → Commits db → LeavesOutbox after db) → (files : Files D) → EndsIn new files → HoldEitherOutbox g files (contents old entries) after
-      outlives_put old new entries after had is_open survives commits files ends =
-          elim (outlives_one old new entries {I = Unit {0}} (λ i. after) had is_open survives (λ db done. (tt, commits db done)) files ends) [ inl was ↦ inl was | inr done ↦ inr done.1 ]
+      pub outlives_put : (old new : Held (FileStore D g)) (it after : Contents) {Commits : Trees → Type 0}
+          → HasCommitted (IsOutboxOf it) (file_state old) → IsTrue (file_state old).is_open → Survives (file_state old) (file_state new) Commits
+          → ((db : Trees) → Commits db → LeavesOutbox after db) → (files : Files D) → EndsIn new files → HoldEitherOutbox g files it after
+      outlives_put old new it after stands is_open survives commits files ends =
+          elim (outlives_one old new it {I = Unit {0}} (λ i. after) stands is_open survives (λ db done. (tt, commits db done)) files ends) [ inl was ↦ inl was | inr done ↦ inr done.1 ]
 
       -- a call that moves one
-      pub outlives_move : (old : OutboxParts (FileStore D g)) (new : Held (FileStore D g)) (entries : List Entry) (id : ℕ) (reply : ReplyParts) {Commits : Trees → Type 0}
-          → HasEntries over_files old entries → IsTrue (shows over_files old).is_open → Survives (shows over_files old) (file_state new) Commits
-          → ((db : Trees) → Commits db → LeavesMoved (contents old entries) id reply db) → (files : Files D) → EndsIn new files
-          → HoldOutboxWithLog g files (contents old entries) ⊎ HoldMovedOutbox g files (contents old entries) id reply
-      outlives_move old new entries id reply had is_open survives commits files ends =
-          elim (outlives_one old new entries {I = (e : Entry) × (entry_at entries id ≡ Some e)} (λ i. with_state (contents old entries) id (moved i.0.state reply)) had is_open survives
+      pub outlives_move : (old new : Held (FileStore D g)) (it : Contents) (id : ℕ) (reply : ReplyParts) {Commits : Trees → Type 0}
+          → HasCommitted (IsOutboxOf it) (file_state old) → IsTrue (file_state old).is_open → Survives (file_state old) (file_state new) Commits
+          → ((db : Trees) → Commits db → LeavesMoved it id reply db) → (files : Files D) → EndsIn new files
+          → HoldOutboxWithLog g files it ⊎ HoldMovedOutbox g files it id reply
+      outlives_move old new it id reply stands is_open survives commits files ends =
+          elim (outlives_one old new it {I = (e : Entry) × (entry_at it.entries id ≡ Some e)} (λ i. with_state it id (moved i.0.state reply)) stands is_open survives
           (λ db done. let m = commits db done in ((m.0, m.1), m.2)) files ends) [ inl was ↦ inl was | inr done ↦ inr (done.0.0, done.0.1, done.1) ]

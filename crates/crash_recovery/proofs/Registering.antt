@@ -12,10 +12,12 @@ use Rattle.sqlite.specs.Held.{Held}
 use Rattle.sqlite.specs.State.{Survives}
 use Rattle.sqlite.specs.Files.{image_of, over_files, file_state, HoldsDatabase}
 use Rattle.filing_model.specs.Request.{Request}
+use Rattle.table_rows.specs.Standing.{HasCommitted, CommitsNothing}
 use Rattle.table_rows.proofs.CleanLemmas.{always_clean}
 use Rattle.register_opening.specs.declared.fault.OpenFault.{OpenFault}
 use Rattle.register_opening.specs.Registers.{IsRegisterOf, LeavesRegister}
-use Rattle.register_store.specs.Store.{StoreParts, shows, HasRequests}
+use Rattle.register_store.specs.Store.{StoreParts, HasRequests}
+use Rattle.register_store.specs.Files.{HoldRegister}
 use Rattle.register_store.specs.Calls.{OpensOrGivesBack}
 use Rattle.database_places.specs.Opening.{IsFoundIn}
 use Rattle.crash_recovery.specs.Left.{IsHonest, EndsIn}
@@ -29,6 +31,10 @@ sound_if early F trees leaves = (leaves.db.schema, subst (IsSound leaves.db.sche
 module _ {D : Type 0} (g : Ghosts D) where
   hold : (files : Files D) (early : ℕ) (F : List Request) (trees : Trees) → LeavesRegister early F trees → ∥ HoldsDatabase (image_of g files) trees ∥₁ → HoldRegisterWithLog g files early F
   hold files early F trees leaves held = record { db = leaves.db; register = leaves.register; held = subst (λ t. ∥ HoldsDatabase (image_of g files) t ∥₁) leaves.is held }
+
+  -- files that were closed hold it so, since the database file does alone
+  pub closed : (files : Files D) (early : ℕ) (F : List Request) → HoldRegister g files early F → HoldRegisterWithLog g files early F
+  closed files early F it = record { db = it.db; register = it.register; held = it.held.held.both }
 
   module _ (honest : IsHonest g) where
     opened_store : (conn : Held (FileStore D g)) (early : ℕ) (F : List Request) → IsRegisterOf early F (file_state conn).now
@@ -61,19 +67,26 @@ module _ {D : Type 0} (g : Ghosts D) where
           let one = ends_with_one honest stays conn files ends each (λ db. elim [ inl was ↦ sound_if early F db was | inr more ↦ sound_if early G db more ]) in
           elim one.1 [ inl was ↦ inl (hold files early F one.0 was one.2) | inr more ↦ inr (hold files early G one.0 more one.2) ]
 
-      -- while the register is open and between calls, a crash leaves its requests
-      pub rests : (store : StoreParts (FileStore D g)) (F : List Request) → HasRequests over_files store F → IsTrue (shows over_files store).is_open
-          → (db : Trees) → recovers store.conn.store db → LeavesRegister store.early F db
-      rests store F had is_open db allowed = record {
-        db = (shows over_files store).now;
-        is = leaves_now honest stays store.conn is_open (had.stands.committed is_open) db allowed;
-        register = had.stands.now is_open;
+      -- while it is open and between calls, a crash leaves the register that is committed
+      pub rests : (conn : Held (FileStore D g)) (early : ℕ) (F : List Request) → HasCommitted (IsRegisterOf early F) (file_state conn) → IsTrue (file_state conn).is_open
+          → (db : Trees) → recovers conn.store db → LeavesRegister early F db
+      rests conn early F stands is_open db allowed = record {
+        db = (file_state conn).now;
+        is = leaves_now honest stays conn is_open (stands.committed is_open) db allowed;
+        register = stands.now is_open;
       }
 
       -- after a call that commits one change at most, or inside it, the register of before, or that after the change
-      pub outlives_call : (old : StoreParts (FileStore D g)) (new : Held (FileStore D g)) (F G : List Request) {Commits : Trees → Type 0}
-          → HasRequests over_files old F → IsTrue (shows over_files old).is_open → Survives (shows over_files old) (file_state new) Commits
-          → ((db : Trees) → Commits db → LeavesRegister old.early G db) → (files : Files D) → EndsIn new files → HoldEitherRegister g files old.early F G
-      outlives_call old new F G had is_open survives commits files ends =
-          leaves_either new files old.early F G ends
-          (λ db allowed. elim (survives.crash (always_clean honest new) db allowed) [ inl was ↦ inl (rests old F had is_open db was) | inr done ↦ inr (commits db done) ])
+      pub outlives_call : (old new : Held (FileStore D g)) (early : ℕ) (F G : List Request) {Commits : Trees → Type 0}
+          → HasCommitted (IsRegisterOf early F) (file_state old) → IsTrue (file_state old).is_open → Survives (file_state old) (file_state new) Commits
+          → ((db : Trees) → Commits db → LeavesRegister early G db) → (files : Files D) → EndsIn new files → HoldEitherRegister g files early F G
+      outlives_call old new early F G stands is_open survives commits files ends =
+          leaves_either new files early F G ends
+          (λ db allowed. elim (survives.crash (always_clean honest new) db allowed) [ inl was ↦ inl (rests old early F stands is_open db was) | inr done ↦ inr (commits db done) ])
+
+      -- or one that commits nothing
+      pub outlives_reading : (old new : Held (FileStore D g)) (early : ℕ) (F : List Request) → HasCommitted (IsRegisterOf early F) (file_state old) → IsTrue (file_state old).is_open
+          → CommitsNothing (file_state old) (file_state new) → (files : Files D) → EndsIn new files → HoldRegisterWithLog g files early F
+      outlives_reading old new early F stands is_open survives files ends =
+          leaves_register new files early F ends
+          (λ db allowed. elim (survives.crash (always_clean honest new) db allowed) [ inl was ↦ rests old early F stands is_open db was | inr none ↦ absurd none ])

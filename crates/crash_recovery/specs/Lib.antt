@@ -1,3 +1,4 @@
+pub mod Deciding
 pub mod Left
 pub mod Outboxes
 pub mod Registers

@@ -3,11 +3,11 @@
 //!
 //! What is proved, of disks that give back what was written:
 //!
-//! - A register or an outbox that is open, and between two calls, leaves files that hold its requests or entries, no more
-//!   and no fewer: by the log and the database file together, so also if a commit was never copied into the database file.
-//!   The next opening finds them, and fails for memory, for the disk or for a limit of the format alone.
-//! - One that ends inside a call that adds a request, puts an entry in or moves one leaves those of before, or those with
-//!   that one change, and after an answer those with the change.
+//! - A register or an outbox that is open, and between two calls, leaves files that hold its requests or entries, no
+//!   more and no fewer: by the log and the database file together, so also if a commit was never copied into the
+//!   database file. The next opening finds them, and fails for memory, for the disk or for a limit of the format alone.
+//! - One that ends inside a call that adds a request, puts an entry in or moves one leaves those of before, or those
+//!   with that one change, and after an answer those with the change.
 //! - The same holds after a close that failed, if the store that the close gave back is numbered, as that of each
 //!   connection is. The contract of the close does not say it of that store.
 //!
@@ -16,10 +16,13 @@
 //!
 //! What is not proved:
 //!
-//! - The clauses on crashes speak of the state in which a call ends. That a process which is killed inside a call is one
-//!   whose disk refuses each call from then on, so that the call ends in that state, is said here in words.
+//! - The clauses on crashes speak of the state in which a call ends. That a process which is killed inside a call is
+//!   one whose disk refuses each call from then on, so that the call ends in that state, is said here in words.
+//! - That the database of a register is open is asked of it. It is known after an opening and after each call that was
+//!   answered; the contract of serving a whole connection does not say it.
 //! - That a system keeps what a killed process wrote, and that a disk keeps what it synced, is asked of them.
-//! - A register or an outbox that is being made or migrated is not spoken of here, nor are a program's lines and status.
+//! - A register or an outbox that is being made or migrated is not spoken of here, nor are a program's lines and
+//!   status.
 //! - Of disks that gave back anything else nothing is said.
 #![tactic(auto)]
 
@@ -27,38 +30,50 @@ ghost use Rattle.std.specs.Prelude.{◌⊎◌, ◌++◌, ◌∷◌, ℕ, List, [
 ghost use Rattle.sqlite_disk.specs.declared.Files.{Files};
 ghost use Rattle.sqlite_store.specs.declared.store.FileStore.{FileStore as Stored};
 ghost use Rattle.sqlite.specs.Held.{Held};
-ghost use Rattle.sqlite.specs.Files.{over_files, FailsToOpenFiles};
+ghost use Rattle.sqlite.specs.Files.{over_files, file_state, FailsToOpenFiles};
 ghost use Rattle.sqlite.specs.declared.error.Error.{Error};
 ghost use Rattle.sqlite.specs.declared.file.Leftover.{Leftover};
 ghost use Rattle.http_messages.specs.Reply.{ReplyParts};
+ghost use Rattle.filing_model.specs.declared.answer.Answer.{Answer};
 ghost use Rattle.filing_model.specs.declared.state.State.{State};
 ghost use Rattle.filing_model.specs.Outbox.{Entry};
 ghost use Rattle.filing_model.specs.Request.{Request};
 ghost use Rattle.filing_model.specs.Views.{the_request};
 ghost use Rattle.table_rows.specs.declared.fault.StoreFault.{StoreFault};
+ghost use Rattle.table_rows.specs.Standing.{CommitsNothing, HasCommitted};
+ghost use Rattle.register_opening.specs.Registers.{IsRegisterOf};
 ghost use Rattle.register_store.specs.declared.outcome.NewRow.{NewRow};
 ghost use Rattle.register_store.specs.declared.outcome.Outcome.{Outcome};
 ghost use Rattle.register_store.specs.Store.{StoreParts, HasRequests, ForNew};
 ghost use Rattle.register_store.specs.Store as register;
 ghost use Rattle.register_store.specs.Calls.{AddsRequest};
+ghost use Rattle.register_store.specs.Files.{HoldRegister};
+ghost use Rattle.intake_core.specs.declared.intake.Intake.{Intake};
+ghost use Rattle.intake_core.specs.declared.intake.Unavailable.{Unavailable};
+ghost use Rattle.intake_core.specs.Held.{store_of, early_of, HoldsRequests, with_request};
+ghost use Rattle.intake_core.specs.Held as intake;
+ghost use Rattle.intake_core.specs.Calls.{DecidesRequest};
 ghost use Rattle.outbox_opening.specs.Entries.{Contents};
+ghost use Rattle.outbox_opening.specs.Rows.{IsOutboxOf};
 ghost use Rattle.outbox_core.specs.declared.fault.PutFault.{PutFault};
 ghost use Rattle.outbox_core.specs.declared.fault.TakeFault.{TakeFault};
 ghost use Rattle.outbox_core.specs.Entries.{opened};
 ghost use Rattle.outbox_core.specs.OutboxParts.{OutboxParts, contents, HasEntries};
 ghost use Rattle.outbox_core.specs.OutboxParts as outbox;
 ghost use Rattle.outbox_core.specs.Calls.{PutsEntry, MovesEntry};
+ghost use Rattle.outbox_core.specs.Files.{HoldOutbox};
 ghost use Rattle.database_places.specs.Closing.{IsNotClosed};
 ghost use Rattle.database_places.specs.Opening.{IsFoundIn};
-ghost use Rattle.crash_recovery.specs.Left.{AreLeftByKill, AreLeftByStop, EndsIn, FailsForCause, IsHonest, IsLastOf, IsNumbered};
+ghost use Rattle.crash_recovery.specs.Left.{AreLeftByKill, AreLeftByStop, EndsIn, FailsForCause, IsHonest, IsLastOf};
+ghost use Rattle.crash_recovery.specs.Left.{IsNumbered};
 ghost use Rattle.crash_recovery.specs.Outboxes.{HoldEitherOutbox, HoldMovedOutbox, HoldOutboxWithLog, OpensAsOutbox};
 ghost use Rattle.crash_recovery.specs.Registers.{HoldEitherRegister, HoldRegisterWithLog, OpensAsRegister};
 
 use sqlite::{Connection, FileStore};
 use sqlite_disk::Disk;
 
-/// What a killed process leaves is among what a stop of the machine may leave. The files that a failed close left in their
-/// place are those that a kill after it leaves.
+/// What a killed process leaves is among what a stop of the machine may leave. The files that a failed close left in
+/// their place are those that a kill after it leaves.
 pub fn a_kill_is_a_stop<D: Disk + Drop>()
     ensures kill { (it : Stored D D.Disk) (files : Files D) → AreLeftByKill it files → AreLeftByStop it files }
     ensures close { (conn : Held (Stored D D.Disk)) (files : Files D) (error : Error)
@@ -72,8 +87,8 @@ pub fn each_connection_is_numbered<D: Disk + Drop>(conn: Connection<FileStore<D>
     drop(conn.into_store());
 }
 
-/// An opening of files that hold a register by their log and their database file together is to that register, and is not
-/// refused for what they hold.
+/// An opening of files that hold a register by their log and their database file together is to that register, and is
+/// not refused for what they hold. Files that were closed hold it so.
 pub fn a_register_with_its_log_is_found<D: Disk + Drop>()
     ensures found { IsHonest D.Disk → (files : Files D) (early : ℕ) (requests : List Request)
         → HoldRegisterWithLog D.Disk files early requests → (conn : Held (Stored D D.Disk)) → IsFoundIn files conn
@@ -81,6 +96,8 @@ pub fn a_register_with_its_log_is_found<D: Disk + Drop>()
     ensures refused { (files : Files D) (early : ℕ) (requests : List Request)
         → HoldRegisterWithLog D.Disk files early requests → (left : Leftover D D.Disk) (error : Error)
         → FailsToOpenFiles files left error → FailsForCause files left error }
+    ensures closed { (files : Files D) (early : ℕ) (requests : List Request) → HoldRegister D.Disk files early requests
+        → HoldRegisterWithLog D.Disk files early requests }
 {}
 
 /// A register that is open, and between two calls, leaves its requests, and so does one that was just answered.
@@ -93,6 +110,16 @@ pub fn a_register_outlives_its_process<D: Disk + Drop>()
         → EndsIn store.conn files → HoldRegisterWithLog D.Disk files early requests }
 {}
 
+/// A register that was open as a call began which commits nothing leaves its requests, as a process that ends while it
+/// is opened or read.
+pub fn a_register_outlives_a_reading<D: Disk + Drop>()
+    ensures { IsHonest D.Disk → (old new : Held (Stored D D.Disk)) (early : ℕ) (requests : List Request)
+        (files : Files D) → IsTrue (file_state old).is_open
+        → HasCommitted (IsRegisterOf early requests) (file_state old)
+        → CommitsNothing (file_state old) (file_state new) → EndsIn new files
+        → HoldRegisterWithLog D.Disk files early requests }
+{}
+
 /// A register that was open as `Store::add` began leaves the requests of before, or those with the one that was added.
 pub fn a_register_outlives_an_addition<D: Disk + Drop>()
     ensures { IsHonest D.Disk → (row : NewRow) (old new : StoreParts (Stored D D.Disk))
@@ -100,17 +127,29 @@ pub fn a_register_outlives_an_addition<D: Disk + Drop>()
         → AddsRequest over_files row old new result → IsTrue (register.shows over_files old).is_open
         → HasRequests over_files old requests → EndsIn new.conn files
         → ForNew requests (the_request row.filer.now row.key.now row.target row.body.now) row.judged.now (λ r.
-            HoldEitherRegister D.Disk files old.early requests (requests ++ r ∷ [])) }
+        HoldEitherRegister D.Disk files old.early requests (requests ++ r ∷ [])) }
+{}
+
+/// A register that was open as `Intake::submit` began leaves the requests of before, or those with the one that was
+/// decided.
+pub fn a_register_outlives_a_decision<D: Disk + Drop>()
+    ensures { IsHonest D.Disk → (r : Request) (old new : Intake (Stored D D.Disk))
+        (result : Result Answer Unavailable) (requests : List Request) (files : Files D)
+        → DecidesRequest over_files r old new result → IsTrue (intake.shows over_files old).is_open
+        → HoldsRequests over_files old requests → EndsIn (store_of new).conn files
+        → HoldEitherRegister D.Disk files (early_of old) requests (with_request requests r) }
 {}
 
 /// An opening of files that hold an outbox by their log and their database file together is to that outbox, and is not
-/// refused for what they hold.
+/// refused for what they hold. Files that were closed hold it so.
 pub fn an_outbox_with_its_log_is_found<D: Disk + Drop>()
     ensures found { IsHonest D.Disk → (files : Files D) (it : Contents) → HoldOutboxWithLog D.Disk files it
         → (conn : Held (Stored D D.Disk)) → IsFoundIn files conn → OpensAsOutbox conn it }
     ensures refused { (files : Files D) (it : Contents) → HoldOutboxWithLog D.Disk files it
         → (left : Leftover D D.Disk) (error : Error) → FailsToOpenFiles files left error
         → FailsForCause files left error }
+    ensures closed { (files : Files D) (it : Contents) → HoldOutbox D.Disk files it
+        → HoldOutboxWithLog D.Disk files it }
 {}
 
 /// An outbox that is open, and between two calls, leaves its entries, and so does one that was just answered.
@@ -122,6 +161,13 @@ pub fn an_outbox_outlives_its_process<D: Disk + Drop>()
         → outbox.IsDurableAs over_files box it → EndsIn box.conn files → HoldOutboxWithLog D.Disk files it }
 {}
 
+/// An outbox that was open as a call began which commits nothing leaves its entries.
+pub fn an_outbox_outlives_a_reading<D: Disk + Drop>()
+    ensures { IsHonest D.Disk → (old new : Held (Stored D D.Disk)) (it : Contents) (files : Files D)
+        → IsTrue (file_state old).is_open → HasCommitted (IsOutboxOf it) (file_state old)
+        → CommitsNothing (file_state old) (file_state new) → EndsIn new files → HoldOutboxWithLog D.Disk files it }
+{}
+
 /// An outbox that was open as an entry was put in leaves the entries of before, or those with this one.
 pub fn an_outbox_outlives_an_entry<D: Disk + Drop>()
     ensures { IsHonest D.Disk → (old new : OutboxParts (Stored D D.Disk)) (key : List ℕ) (target : Option ℕ)
@@ -129,7 +175,7 @@ pub fn an_outbox_outlives_an_entry<D: Disk + Drop>()
         → PutsEntry over_files old new key target body result → IsTrue (outbox.shows over_files old).is_open
         → HasEntries over_files old entries → EndsIn new.conn files
         → HoldEitherOutbox D.Disk files (contents old entries)
-            (contents old (entries ++ opened key target body ∷ [])) }
+        (contents old (entries ++ opened key target body ∷ [])) }
 {}
 
 /// An outbox that was open as an entry was moved by a reply leaves the entries of before, or those after the move.

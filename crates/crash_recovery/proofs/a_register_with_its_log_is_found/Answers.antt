@@ -1,5 +1,5 @@
 use Rattle.crash_recovery.proofs.Finding.{fails_for_cause}
-use Rattle.crash_recovery.proofs.Registering.{found}
+use Rattle.crash_recovery.proofs.Registering.{closed, found}
 use Rattle.crash_recovery.proofs.a_register_with_its_log_is_found.Goals as goal
 
 pub returns-clause-found : goal.returns-clause-found
@@ -7,3 +7,6 @@ returns-clause-found g c honest = found g.D.Disk honest
 
 pub returns-clause-refused : goal.returns-clause-refused
 returns-clause-refused g c files early requests held = fails_for_cause files held.db.trees held.held
+
+pub returns-clause-closed : goal.returns-clause-closed
+returns-clause-closed g c = closed g.D.Disk
