@@ -86,6 +86,7 @@ module _ {S : Type 0} (g : Ghosts S) where
       → ((result ≡ Ok None) × Appends out out' nothing_open) ⊎ ((fault : TaskFault) × (result ≡ Err fault) × IsNotPrinted fault) → SendsNone g traffic traffic box mid out out' result
   sent_none traffic box mid out out' result looks told = record {
     none = λ clean entries had. (sym (looks.found clean entries had), looks.kept clean entries had);
+    filer = looks.filer;
     traffic = refl;
     told = told;
   }

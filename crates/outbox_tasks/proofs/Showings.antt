@@ -1,5 +1,5 @@
 -- Entries that are shown, one behind another.
-use Rattle.std.proofs.Common.{◌≡◌, ◌∙◌, ℕ, suc, ◌+◌, ◌<◌, ◌≤◌, List, [], ◌∷◌, ◌++◌, take, length, slice_index_or, Option, Some, None, Result, Ok, Err, sym, ap, subst, inl, inr, arith}
+use Rattle.std.proofs.Common.{◌≡◌, ◌∙◌, ℕ, suc, ◌+◌, ◌<◌, ◌≤◌, List, [], ◌∷◌, ◌++◌, take, length, slice_index_or, Option, Some, None, Result, Ok, Err, refl, sym, ap, subst, inl, inr, arith}
 use Rattle.std.specs.Prelude.{flat_map}
 use Rattle.std.specs.Io.KnownBytes.{Appends}
 use Rattle.std.proofs.KnownBytes.{Appends-nil, Appends-trans}
@@ -22,10 +22,11 @@ module _ {S : Type 0} (g : Ghosts S) where
   pub record ShowsFirst (told : List (ℕ × Stored)) (count : ℕ) (box box' : OutboxParts S) (out out' : Option (List ℕ)) : Type 0 where
     pub shown : ForEntries g box box' (λ entries. AreTold told entries → Appends out out' (flat_map long_line (take count (numbered entries))))
     pub kept : ForEntries g box box' (HasEntries g box')
+    pub filer : box'.filer ≡ box.filer
     pub clean : HasCleanDisk (shows g box') → HasCleanDisk (shows g box)
 
   pub none : (told : List (ℕ × Stored)) (box : OutboxParts S) (out : Option (List ℕ)) → ShowsFirst told 0 box box out out
-  none told box out = record { shown = λ clean entries had are. Appends-nil out; kept = λ clean entries had. had; clean = λ clean. clean }
+  none told box out = record { shown = λ clean entries had are. Appends-nil out; kept = λ clean entries had. had; filer = refl; clean = λ clean. clean }
 
   -- the next is shown
   pub more : {X : Type 0} (told : List (ℕ × Stored)) (at : ℕ) (or : ℕ × Stored) (box mid box' : OutboxParts S) (out so_far out' : Option (List ℕ)) (done : X) → at < length told → ShowsFirst told at box mid out so_far
@@ -47,6 +48,7 @@ module _ {S : Type 0} (g : Ghosts S) where
         ∙ ap (λ t. flat_map long_line (take at (numbered entries)) ++ t) (append-nil (long_line (id, here.entry))) in
         subst (Appends out out') (sym whole) (Appends-trans out so_far out' _ _ before line);
     kept = λ clean entries had. b.kept clean entries (a.kept (b.clean clean) entries had);
+    filer = b.filer ∙ a.filer;
     clean = λ clean. a.clean (b.clean clean);
   }
 
@@ -58,6 +60,7 @@ module _ {S : Type 0} (g : Ghosts S) where
         subst (λ es. Appends out out' (flat_map long_line es)) (take_all count (numbered entries) enough) (a.shown clean entries had are);
     fault = λ clean entries had are. tt;
     kept = a.kept;
+    filer = a.filer;
     clean = a.clean;
   }
 
@@ -80,15 +83,17 @@ module _ {S : Type 0} (g : Ghosts S) where
               ]
         ];
     kept = λ clean entries had. b.kept clean entries (a.kept (b.clean clean) entries had);
+    filer = b.filer ∙ a.filer;
     clean = λ clean. a.clean (b.clean clean);
   }
 
   -- by a look at the entries
   pub each : {X : Type 0} (told : List (ℕ × Stored)) (box mid box' : OutboxParts S) (out out' : Option (List ℕ)) (result : Result X TaskFault) → ForEntries g box mid (AreTold told) → ForEntries g box mid (HasEntries g mid)
-      → (HasCleanDisk (shows g mid) → HasCleanDisk (shows g box)) → ShowsEach g (AreTold told) mid box' out out' result → ShowsEach g AreAny box box' out out' result
-  each told box mid box' out out' result are kept clean_before a = record {
+      → mid.filer ≡ box.filer → (HasCleanDisk (shows g mid) → HasCleanDisk (shows g box)) → ShowsEach g (AreTold told) mid box' out out' result → ShowsEach g AreAny box box' out out' result
+  each told box mid box' out out' result are kept named clean_before a = record {
     shown = λ clean entries had any. a.shown clean entries (kept (a.clean clean) entries had) (are (a.clean clean) entries had);
     fault = λ clean entries had any. a.fault clean entries (kept (a.clean clean) entries had) (are (a.clean clean) entries had);
     kept = λ clean entries had. a.kept clean entries (kept (a.clean clean) entries had);
+    filer = a.filer ∙ named;
     clean = λ clean. clean_before (a.clean clean);
   }

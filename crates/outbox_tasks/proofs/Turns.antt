@@ -142,6 +142,7 @@ module _ {S : Type 0} (g : Ghosts S) where
     before = a.told;
     told = b.told;
     ends = ends;
+    filer = b.tries.filer ∙ a.filer;
     clean = λ clean. a.clean (b.tries.clean clean);
   }
 
@@ -253,6 +254,7 @@ module _ {S : Type 0} (g : Ghosts S) where
     pub found_none : (old : Traffic) (fault : TaskFault) → length ids ≡ 0 → IsNotPrinted fault → FindsNone g old old box mid fault
     found_none old fault empty told = record {
       none = λ clean entries had. let found = looked clean entries had in (sym found.0 ∙ empty_list ids empty, found.1);
+      filer = named;
       traffic = refl;
       told = told;
     }
@@ -280,6 +282,7 @@ module _ {S : Type 0} (g : Ghosts S) where
         before = stops.before;
         told = stops.told;
         ends = stops.ends;
+        filer = stops.filer ∙ named;
         clean = λ clean. clean_before (stops.clean clean);
       };
     }

@@ -17,8 +17,9 @@ AreAny entries = Unit {0}
 abbrev pub IsNotFound : {S : Type 0} → Ghosts S → OutboxParts S → OutboxParts S → ℕ → TaskFault → Type 0
 IsNotFound g box box' id fault = IsUnread fault ⊎ ((fault ≡ NoEntry id) × ForEntries g box box' (λ entries. entry_at entries id ≡ None))
 
--- the entries are those of before, no connection was made, and nothing was printed
+-- the entries are those of before, of the same filer, no connection was made, and nothing was printed
 pub record DoesNothing {S : Type 0} (g : Ghosts S) (old new : Traffic) (box box' : OutboxParts S) (out out' : Option (List ℕ)) : Type 0 where
   pub entries : ForEntries g box box' (HasEntries g box')
+  pub filer : box'.filer ≡ box.filer
   pub traffic : new ≡ old
   pub output : out' ≡ out

@@ -86,6 +86,7 @@ pub record StopsAt {S : Type 0} (g : Ghosts S) (Are : List Entry → Type 0) (id
   pub before : Appends out so_far (lines_of turns)
   pub told : IsTold next came so_far out' (Err fault)
   pub ends : EndsRound new fault
+  pub filer : box'.filer ≡ box.filer
   pub clean : HasCleanDisk (shows g box') → HasCleanDisk (shows g box)
 
 -- the entries of these ids are open, and none of them stands twice
@@ -127,6 +128,7 @@ pub record SendsSome {S : Type 0} (g : Ghosts S) (old new : Traffic) (box box' :
 -- None was open, and that could not be printed.
 pub record FindsNone {S : Type 0} (g : Ghosts S) (old new : Traffic) (box box' : OutboxParts S) (fault : TaskFault) : Type 0 where
   pub none : ForEntries g box box' (λ entries. (open_ids entries ≡ []) × HasEntries g box' entries)
+  pub filer : box'.filer ≡ box.filer
   pub traffic : new ≡ old
   pub told : IsNotPrinted fault
 

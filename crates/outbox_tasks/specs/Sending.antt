@@ -102,6 +102,7 @@ pub record SendsFirst {S : Type 0} (g : Ghosts S) (old new : Traffic) (box box' 
 -- no entry is open, and that was printed, or it could not be
 pub record SendsNone {S : Type 0} (g : Ghosts S) (old new : Traffic) (box box' : OutboxParts S) (out out' : Option (List ℕ)) (result : Result (Option State) TaskFault) : Type 0 where
   pub none : ForEntries g box box' (λ entries. (first_open entries ≡ None) × HasEntries g box' entries)
+  pub filer : box'.filer ≡ box.filer
   pub traffic : new ≡ old
   pub told : ((result ≡ Ok None) × Appends out out' nothing_open) ⊎ ((fault : TaskFault) × (result ≡ Err fault) × IsNotPrinted fault)
 

@@ -19,6 +19,7 @@ pub record ShowsStates {S X : Type 0} (g : Ghosts S) (box box' : OutboxParts S) 
   pub shown : ForEntries g box box' (λ entries. OnOk result (Appends out out' (flat_map state_line (numbered entries))))
   pub fault : IfErr result (λ fault. (IsUnread fault × (out' ≡ out)) ⊎ IsNotPrinted fault)
   pub kept : ForEntries g box box' (HasEntries g box')
+  pub filer : box'.filer ≡ box.filer
 
 -- The entry of an id was found, and its line was printed, or could not be; or it was not found, and nothing was printed.
 abbrev pub IsShown : {S X : Type 0} → Ghosts S → ℕ → OutboxParts S → OutboxParts S → Option (List ℕ) → Option (List ℕ) → Result X TaskFault → Type 0
@@ -29,6 +30,7 @@ IsShown g id box box' out out' result =
 pub record ShowsEntry {S X : Type 0} (g : Ghosts S) (id : ℕ) (box box' : OutboxParts S) (out out' : Option (List ℕ)) (result : Result X TaskFault) : Type 0 where
   pub shown : IsShown g id box box' out out' result
   pub kept : ForEntries g box box' (HasEntries g box')
+  pub filer : box'.filer ≡ box.filer
   pub clean : HasCleanDisk (shows g box') → HasCleanDisk (shows g box)
 
 -- these are the ids and the states of the entries
@@ -43,4 +45,5 @@ pub record ShowsEach {S X : Type 0} (g : Ghosts S) (Are : List Entry → Type 0)
       ForEntries g box box' (λ entries. Are entries → IfErr result (λ fault.
       (IsUnread fault × ((count : ℕ) × Appends out out' (flat_map long_line (take count (numbered entries))))) ⊎ IsNotPrinted fault))
   pub kept : ForEntries g box box' (HasEntries g box')
+  pub filer : box'.filer ≡ box.filer
   pub clean : HasCleanDisk (shows g box') → HasCleanDisk (shows g box)

@@ -10,6 +10,7 @@ returns-in_err-print_long g c =
     rw told.1 (record {
       shown = inl ((view_entry c.in_ok-entry.entry).1, (λ clean entries had. (entry_found entries c.args.id c.in_ok-entry.entry (c.in_ok-entry.ensures.found clean entries had)).0), tt, (c.in_err-print_long.field-0.0, told.2));
       kept = c.entry_of.ensures.kept;
+      filer = c.entry_of.ensures.filer;
       clean = c.entry_of.ensures.clean;
     })
 
@@ -17,5 +18,6 @@ pub returns : goal.returns
 returns g c = record {
   shown = inl ((view_entry c.in_ok-entry.entry).1, (λ clean entries had. (entry_found entries c.args.id c.in_ok-entry.entry (c.in_ok-entry.ensures.found clean entries had)).0), c.in_ok-print_long.ensures, tt);
   kept = c.entry_of.ensures.kept;
+  filer = c.entry_of.ensures.filer;
   clean = c.entry_of.ensures.clean;
 }

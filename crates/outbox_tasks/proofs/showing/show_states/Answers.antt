@@ -10,4 +10,5 @@ returns g c = record {
       (rw c.as_slice.ensures.value at c.in_ok-print_states.ensures);
   fault = tt;
   kept = c.states_of.ensures.kept;
+  filer = c.states_of.ensures.filer;
 }
