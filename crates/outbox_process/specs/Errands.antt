@@ -1,0 +1,41 @@
+-- What an errand does with an outbox that is open.
+use Rattle.std.specs.Prelude.{◌≡◌, ℕ, List, Option, Result}
+use Rattle.std.specs.Result.{result_map_both}
+use Rattle.sqlite.specs.Store.{Ghosts}
+use Rattle.outbox_core.specs.OutboxParts.{OutboxParts}
+use Rattle.outbox_tasks.specs.declared.fault.TaskFault.{TaskFault}
+use Rattle.outbox_tasks.specs.Dials.{Traffic}
+use Rattle.outbox_tasks.specs.Looking.{AreAny}
+use Rattle.outbox_tasks.specs.Putting.{PutsAndTells}
+use Rattle.outbox_tasks.specs.Rounds.{SendsAll}
+use Rattle.outbox_tasks.specs.Sending.{SendsEntry, SendsNext}
+use Rattle.outbox_tasks.specs.Showing.{ShowsStates, ShowsEntry, ShowsEach}
+use Rattle.outbox_process.specs.declared.errand.Done.{Done}
+use Rattle.outbox_process.specs.declared.errand.Done.TheVariants as done
+use Rattle.outbox_process.specs.declared.errand.Errand.{Errand}
+use Rattle.outbox_process.specs.declared.errand.Errand.TheVariants.{Put, Send, ShowStates, ShowEntry, ShowEach}
+use Rattle.outbox_process.specs.declared.errand.Which.{Which}
+use Rattle.outbox_process.specs.declared.errand.Which.TheVariants.{Next, Entry, All}
+
+-- the answer to this, of what came
+abbrev pub answer : {A : Type 0} → (A → Done) → Result A TaskFault → Result Done TaskFault
+answer done came = result_map_both done (λ fault. fault) came
+
+-- this came of a call, and is answered so
+abbrev pub Answers : {A : Type 0} → (A → Done) → Result Done TaskFault → (Result A TaskFault → Type 0) → Type 0
+Answers {A} done result Came = (came : Result A TaskFault) × Came came × (result ≡ answer done came)
+
+-- the open entry with the least id, the one of this id, or each that is open
+abbrev pub Sends : {S : Type 0} → Ghosts S → Which → Traffic → Traffic → OutboxParts S → OutboxParts S → Option (List ℕ) → Option (List ℕ) → Result Done TaskFault → Type 0
+Sends g Next net net' box box' out out' result = Answers (λ _. done.Sent) result (SendsNext g net net' box box' out out')
+Sends g (Entry id) net net' box box' out out' result = Answers (λ _. done.Sent) result (SendsEntry g id net net' box box' out out')
+Sends g All net net' box box' out out' result = Answers done.Round result (SendsAll g net net' box box' out out')
+
+-- no connection is made but to send
+abbrev pub DoesErrand : {S : Type 0} → Ghosts S → Errand → Traffic → Traffic → OutboxParts S → OutboxParts S → Option (List ℕ) → Option (List ℕ) → Result Done TaskFault → Type 0
+DoesErrand g (Put key target body) net net' box box' out out' result =
+    Answers done.Put result (PutsAndTells g box box' key target.number body.items out out') × (net' ≡ net)
+DoesErrand g (Send which) net net' box box' out out' result = Sends g which net net' box box' out out' result
+DoesErrand g ShowStates net net' box box' out out' result = Answers {A = Unit {0}} (λ _. done.Shown) result (ShowsStates g box box' out out') × (net' ≡ net)
+DoesErrand g (ShowEntry id) net net' box box' out out' result = Answers {A = Unit {0}} (λ _. done.Shown) result (ShowsEntry g id box box' out out') × (net' ≡ net)
+DoesErrand g ShowEach net net' box box' out out' result = Answers {A = Unit {0}} (λ _. done.Shown) result (ShowsEach g AreAny box box' out out') × (net' ≡ net)

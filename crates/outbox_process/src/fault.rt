@@ -1,0 +1,36 @@
+//! Why an outbox is not opened.
+
+use command_files::Holding;
+use command_line::DatabaseFault;
+use outbox_core::OutboxFault;
+
+/// Why an outbox is not opened.
+#[derive(Clone, Copy, Debug)]
+pub enum OpeningFault {
+    /// The files gave no database. The fault does not go by the bytes of the file.
+    Files(DatabaseFault),
+    /// An outbox was to be made in a database that isn't empty, and this is what it holds.
+    Taken(Holding),
+    /// No outbox was made in a database that is empty.
+    Create(OutboxFault),
+    /// The database gave no outbox, and this is what it holds.
+    Open(OutboxFault, Holding),
+    /// The outbox that was to be migrated has this version.
+    IsCurrent,
+    /// No outbox was migrated, and this is what the database holds.
+    Migrate(OutboxFault, Holding),
+}
+
+impl OpeningFault {
+    /// Whether the database is not one of an outbox that was asked for, so that nothing of this program is to lie beside
+    /// it.
+    pub(crate) fn is_of_others(self) -> bool {
+        matches!(
+            self,
+            OpeningFault::Taken(_)
+                | OpeningFault::IsCurrent
+                | OpeningFault::Open(OutboxFault::NotOurs, _)
+                | OpeningFault::Migrate(OutboxFault::NotOurs, _)
+        )
+    }
+}

@@ -1,0 +1,154 @@
+//! The process that an outbox runs in.
+
+ghost use Rattle.std.specs.Prelude.{◌≡◌, None, true, is_some, IsSome, option_map};
+ghost use Rattle.std.specs.Option.{option_copied_mut};
+ghost use Rattle.std.specs.Borrow.{sem};
+ghost use Rattle.database_places.specs.Opening.{is_found};
+ghost use Rattle.outbox_process.specs.Process.{has_to_be_there};
+
+use crate::begun::{Beginning, begin};
+use crate::errand::{Done, Errand, do_errand};
+use crate::fault::OpeningFault;
+use database_places::{Cache, Opening, Place, close, give_up, open, remove_new_log};
+use outbox_core::Outbox;
+use outbox_tasks::{Dial, TaskFault};
+use sqlite::{Error, FileStore};
+use sqlite_disk::Disk;
+use std::alloc::Global;
+use std::io::Write;
+
+/// How the database of an outbox is opened that begins so.
+fn opening_of(beginning: Beginning<'_>) -> Opening
+    ensures { is_found result ≡ has_to_be_there beginning.entry }
+{
+    match beginning {
+        Beginning::Found | Beginning::Migrated => Opening::Found(Cache::OfTheFile),
+        Beginning::Made { .. } => Opening::Made(Cache::OfTheFile),
+    }
+}
+
+/// The outbox that lies in a place: open, or closed.
+#[derive(Drop)]
+pub struct OutboxProcess<D: Disk + Drop, P: Place<D> + Drop> {
+    place: P,
+    /// None while it is closed.
+    outbox: Option<Outbox<FileStore<D>>>,
+    /// Whether no close and no opening failed. After one that did, what lies in the place may be what a crash leaves.
+    is_certain: bool,
+}
+
+impl<D: Disk + Drop, P: Place<D> + Drop> OutboxProcess<D, P> {
+    ghost use Rattle.outbox_process.specs.Process.{parts, OpensProcess, PerformsErrand, ClosesProcess};
+    ghost use Rattle.outbox_process.specs.Lending.{LendsOutbox};
+
+    /// The outbox that lies in this place, or is to be made there. It is closed.
+    pub fn new(place: P) -> OutboxProcess<D, P>
+        ensures { parts P.lying result ≡ record { outbox = None; lying = P.lying place; is_certain = true } }
+    {
+        OutboxProcess {
+            place,
+            outbox: None,
+            is_certain: true,
+        }
+    }
+
+    /// The place.
+    pub fn place(&self) -> &P
+        ensures { P.lying result.now ≡ P.lying self.now.place }
+    {
+        &self.place
+    }
+
+    pub fn is_open(&self) -> bool
+        ensures { result ≡ is_some self.now.outbox }
+    {
+        self.outbox.is_some()
+    }
+
+    /// Whether no close and no opening failed.
+    pub fn is_certain(&self) -> bool
+        ensures { result ≡ self.now.is_certain }
+    {
+        self.is_certain
+    }
+
+    /// The outbox, if it is open.
+    pub fn outbox(&self) -> Option<&Outbox<FileStore<D>>>
+        ensures { option_map (λ outbox. outbox.now) result ≡ self.now.outbox }
+    {
+        self.outbox.as_ref()
+    }
+
+    /// The outbox, if it is open, to be changed.
+    pub fn outbox_mut(&mut self) -> Option<&mut Outbox<FileStore<D>>>
+        ensures* writes_back { sem 𝓛 (LendsOutbox D.row P.row D.Disk self.entry result) }
+        ensures value { option_copied_mut result ≡ self.old.outbox }
+    {
+        self.outbox.as_mut()
+    }
+
+    /// Opens it, if it is closed. A refusal leaves the files in the place, and leaves a database that is damaged or none
+    /// of ours as it was.
+    pub fn open(&mut self, alloc: Global, beginning: Beginning<'_>) -> Result<(), OpeningFault>
+        ensures { OpensProcess D.Disk beginning.entry (parts P.lying self.old) (parts P.lying self.new) result }
+    {
+        if self.outbox.is_some() {
+            return Ok(());
+        }
+        let had_log = self.place.has_log();
+        let conn = match open(alloc, &mut self.place, opening_of(beginning)) {
+            Ok(conn) => conn,
+            Err(fault) => {
+                self.is_certain = false;
+                return Err(OpeningFault::Files(fault));
+            }
+        };
+        match begin(alloc, conn, beginning) {
+            Ok(outbox) => {
+                self.outbox = Some(outbox);
+                Ok(())
+            }
+            Err((fault, back)) => {
+                self.is_certain = false;
+                give_up(&mut self.place, back);
+                if fault.is_of_others() {
+                    remove_new_log(&mut self.place, had_log);
+                }
+                Err(fault)
+            }
+        }
+    }
+
+    /// Does an errand on it, which is open.
+    pub fn perform<N: Dial, O: Write>(
+        &mut self,
+        alloc: Global,
+        network: &mut N,
+        errand: Errand,
+        output: &mut O,
+    ) -> Result<Done, TaskFault>
+        requires { IsSome self.old.outbox }
+        ensures { PerformsErrand errand (N.traffic network.old) (N.traffic network.new) (O.contents output.old)
+            (O.contents output.new) (parts P.lying self.old) (parts P.lying self.new) result }
+    {
+        match &mut self.outbox {
+            Some(outbox) => do_errand(alloc, network, outbox, errand, output),
+            None => unreachable!(),
+        }
+    }
+
+    /// Closes it, if it is open, and leaves the files in the place in any case. A fault says why what was committed is
+    /// not all in the database file, but in the log still.
+    pub fn close(&mut self) -> Result<(), Error>
+        ensures { ClosesProcess D.Disk (parts P.lying self.old) (parts P.lying self.new) result }
+    {
+        let Some(outbox) = self.outbox.take() else {
+            return Ok(());
+        };
+        let closed = close(&mut self.place, outbox.into_conn());
+        if closed.is_err() {
+            self.is_certain = false;
+        }
+        closed
+    }
+}
