@@ -1,4 +1,4 @@
--- Why a report is not read from its file once that is open.
+-- Why a report is not read from its file once that is open, and the status then.
 use Rattle.std.specs.Prelude.{◌≡◌, ℕ, List, Option}
 use Rattle.command_line.specs.Reading.{IsReadFailure, IsLonger}
 use Rattle.command_files.specs.declared.report_file.ReportFault.{ReportFault}
@@ -10,3 +10,9 @@ abbrev pub IsReportFault : {R : Type 0} → (R → Option (List ℕ)) → (R →
 IsReportFault left failures name before after (Open file error) = ⊥
 IsReportFault left failures name before after (Read file fault) = (file.now ≡ name) × IsReadFailure left failures 1048577 before after fault
 IsReportFault left failures name before after (TooLarge file) = (file.now ≡ name) × IsLonger (left before) (left after) 1048576
+
+-- the status that a program ends with then: 2 for a report that is too large, and else 3
+abbrev pub report_status : ReportFault → ℕ
+report_status (Open file error) = 3
+report_status (Read file fault) = 3
+report_status (TooLarge file) = 2

@@ -1,6 +1,7 @@
 //! Why a database was refused, as the head of its file tells (SQLite's file format, section 1.3).
 
-ghost use Rattle.std.specs.Prelude.{◌≡◌, ◌≢◌};
+ghost use Rattle.std.specs.Prelude.{◌≡◌, true};
+ghost use Rattle.command_files.specs.Verdicts.{IsRefusalOf, goes_by_pages};
 
 use crate::holding::{OF_OUTBOXES, OF_REGISTERS};
 use command_line::DatabaseFault;
@@ -21,7 +22,7 @@ pub fn refusal<D: Disk + Drop, P: Place<D>>(
     place: &P,
     fault: DatabaseFault,
 ) -> DatabaseFault
-    ensures { result ≡ DatabaseFault.Missing → fault ≡ DatabaseFault.Missing }
+    ensures { IsRefusalOf fault result }
 {
     match fault {
         DatabaseFault::NotADatabase => no_database(place.first_page(alloc).as_slice()),
@@ -32,7 +33,7 @@ pub fn refusal<D: Disk + Drop, P: Place<D>>(
 
 /// Why a file with this first page was refused as no database, or as one whose rows do not obey its schema.
 pub(crate) fn no_database(page: &[u8]) -> DatabaseFault
-    ensures { result ≢ DatabaseFault.Missing }
+    ensures { goes_by_pages result ≡ true }
 {
     if page.starts_with(MAGIC) && !has_auto_vacuum(page) && !is_ours(page) {
         DatabaseFault::Foreign
@@ -45,7 +46,7 @@ pub(crate) fn no_database(page: &[u8]) -> DatabaseFault
 
 /// Why a file with this first page was refused since its pages are wrong. If it has none, they are in the log.
 pub(crate) fn wrong_pages(page: &[u8]) -> DatabaseFault
-    ensures { result ≢ DatabaseFault.Missing }
+    ensures { goes_by_pages result ≡ true }
 {
     if page.is_empty() {
         DatabaseFault::Damaged

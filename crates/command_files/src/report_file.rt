@@ -22,8 +22,13 @@ pub enum ReportFault<'a> {
 }
 
 impl ReportFault<'_> {
+    ghost use Rattle.std.specs.Prelude.{◌≡◌};
+    ghost use Rattle.command_files.specs.Reports.{report_status};
+
     /// The status that a program ends with: 2 for a report that is too large, and else 3.
-    pub fn status(&self) -> u8 {
+    pub fn status(&self) -> u8
+        ensures { result ≡ report_status self.now }
+    {
         match self {
             ReportFault::TooLarge { .. } => 2,
             ReportFault::Open { .. } | ReportFault::Read { .. } => 3,

@@ -1,7 +1,12 @@
 //! What is printed of a database that is judged.
 
+ghost use Rattle.std.specs.Prelude.{◌≡◌, ◌⊎◌, IfErr, IfOk, OnOk, string_bytes};
+ghost use Rattle.std.specs.Io.KnownBytes.{Appends};
+ghost use Rattle.command_line.specs.declared.fault.CommandFault.TheVariants.{Output, Memory};
+ghost use Rattle.command_files.specs.Verdicts.{verdict_of, verdict_text};
+
 use command_line::{CommandFault, DatabaseFault, show};
-use std::alloc::Global;
+use std::alloc::{AllocError, Global};
 use std::io::Write;
 
 /// What is wrong with a database that is to be a register or an outbox.
@@ -16,7 +21,9 @@ pub enum Verdict {
 impl Verdict {
     /// What a file is that was not opened for this cause, if the cause says that: a database whose pages are wrong is
     /// damaged before its first row.
-    pub fn of(fault: DatabaseFault) -> Option<Verdict> {
+    pub fn of(fault: DatabaseFault) -> Option<Verdict>
+        ensures { result ≡ verdict_of fault }
+    {
         match fault {
             DatabaseFault::Missing
             | DatabaseFault::Empty
@@ -24,7 +31,17 @@ impl Verdict {
             | DatabaseFault::Foreign
             | DatabaseFault::AutoVacuum => Some(Verdict::NotOurs),
             DatabaseFault::Damaged | DatabaseFault::Unsummed => Some(Verdict::Damaged(0)),
-            _ => None,
+            DatabaseFault::Busy
+            | DatabaseFault::Memory
+            | DatabaseFault::Denied
+            | DatabaseFault::NotAFile
+            | DatabaseFault::Linked
+            | DatabaseFault::Journal
+            | DatabaseFault::NoFolder
+            | DatabaseFault::NoName
+            | DatabaseFault::Descriptors
+            | DatabaseFault::Full
+            | DatabaseFault::Disk => None,
         }
     }
 }
@@ -35,10 +52,22 @@ pub fn show_verdict<'a, O: Write>(
     verdict: Verdict,
     thing: &str,
     output: &mut O,
-) -> Result<(), CommandFault<'a>> {
-    let text = match verdict {
-        Verdict::NotOurs => format!(in alloc; "not {thing}\n")?,
-        Verdict::Damaged(row) => format!(in alloc; "damaged at row {row}\n")?,
-    };
+) -> Result<(), CommandFault<'a>>
+    ensures shown { OnOk result (Appends (O.contents output.old) (O.contents output.new)
+        (verdict_text verdict thing.now)) }
+    ensures quiet { IfErr result (λ fault.
+        (fault ≡ Output) ⊎ ((fault ≡ Memory) × (O.contents output.new ≡ O.contents output.old))) }
+{
+    let text = verdict_text(alloc, verdict, thing)?;
     show(output, text.as_bytes())
+}
+
+/// The line that is printed of a database that is to be such a thing.
+fn verdict_text(alloc: Global, verdict: Verdict, thing: &str) -> Result<String, AllocError>
+    ensures { IfOk result (λ text. string_bytes text ≡ verdict_text verdict thing.now) }
+{
+    match verdict {
+        Verdict::NotOurs => Ok(format!(in alloc; "not {thing}\n")?),
+        Verdict::Damaged(row) => Ok(format!(in alloc; "damaged at row {row}\n")?),
+    }
 }
