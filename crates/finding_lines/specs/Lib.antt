@@ -1,3 +1,5 @@
 pub mod Text
 pub mod Messages
+pub mod Sentences
+pub mod Objects
 pub mod Lines

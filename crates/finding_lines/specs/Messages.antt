@@ -1,5 +1,5 @@
 -- What is said of a finding.
-use Rattle.std.specs.Prelude.{ℕ, ◌==◌, List, [], ◌∷◌, ◌++◌, length, drop, nat_lt, if◌then◌else◌, codes, Option, Some}
+use Rattle.std.specs.Prelude.{ℕ, ◌==◌, List, [], ◌∷◌, ◌++◌, length, drop, nat_lt, if◌then◌else◌, codes, Option, Some, None}
 use Rattle.report_places.specs.Shown.{scalar, value_text}
 use Rattle.report_places.specs.declared.place.Place.{Place}
 use Rattle.xbrl_report.specs.declared.code.Code.{Code}
@@ -52,3 +52,7 @@ subject bytes = subject_of (value_text bytes) (scalar bytes) bytes
 
 abbrev pub message : List ℕ → Place → Code → List ℕ
 message body place code = if place.is_there then subject (drop place.offset body) ++ codes " " ++ phrase code else codes "the member is missing"
+
+-- the string, number or literal at a place, as it is in the body
+abbrev pub value : List ℕ → Place → Option (List ℕ)
+value body place = if place.is_there then scalar (drop place.offset body) else None

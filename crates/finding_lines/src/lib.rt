@@ -1,16 +1,17 @@
 //! How findings are told to people and to programs: a line for each.
 //!
-//! `lines` writes sentences, and `objects` JSON. What may live here: the words for findings. Neither files nor command
-//! lines are known here.
+//! `lines` writes sentences or JSON objects. What may live here: the words for findings. Neither files nor command lines
+//! are known here.
 #![tactic(auto)]
 
+mod form;
 mod message;
-mod people;
-mod programs;
+mod object;
+mod sentence;
 mod stop;
-#[cfg(test)]
-mod tests;
+mod telling;
 mod text;
 
-pub use people::lines;
-pub use programs::objects;
+pub use form::Form;
+pub use telling::lines;
+pub use text::one_line;

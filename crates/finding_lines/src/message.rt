@@ -1,6 +1,6 @@
 //! What is said of a finding.
-ghost use Rattle.std.specs.Prelude.{◌≡◌, drop, IfOk};
-ghost use Rattle.finding_lines.specs.Messages.{phrase, subject, bracket_words, message};
+ghost use Rattle.std.specs.Prelude.{◌≡◌, drop, option_map, IfOk};
+ghost use Rattle.finding_lines.specs.Messages.{phrase, subject, bracket_words, message, value as value_lem};
 
 use crate::text::copied;
 use report_places::{Place, value_text, whole_value};
@@ -23,6 +23,18 @@ pub(crate) fn message(
     message.push(b' ')?;
     message.extend_from_slice(phrase(code).as_bytes())?;
     Ok(message)
+}
+
+/// The string, number or literal at a place, as it is in the body. None is there if the value is an object or an array, or
+/// is missing.
+pub(crate) fn value<'a>(body: &'a [u8], place: &Place) -> Option<&'a [u8]>
+    ensures { option_map (λ value. value.now) result ≡ value_lem body.now place.now }
+{
+    if place.is_there {
+        whole_value(body, place.offset)
+    } else {
+        None
+    }
 }
 
 fn subject(alloc: Global, bytes: &[u8]) -> Result<Vec<u8>, AllocError>

@@ -5,7 +5,7 @@ ghost use Rattle.finding_lines.specs.Text.{one_line, escaped_byte, hexadecimal};
 use std::alloc::{AllocError, Global};
 
 /// The text with its control characters as JSON escapes.
-pub(crate) fn one_line(alloc: Global, text: &str) -> Result<Vec<u8>, AllocError>
+pub fn one_line(alloc: Global, text: &str) -> Result<Vec<u8>, AllocError>
     ensures { IfOk result (λ line. line.items ≡ one_line text.now) }
 {
     let mut line = Vec::new(alloc);

@@ -13,8 +13,6 @@ mod position;
 mod shown;
 mod spot;
 mod tape;
-#[cfg(test)]
-mod tests;
 
 pub use place::{Place, places};
 pub use position::{Position, position_of};

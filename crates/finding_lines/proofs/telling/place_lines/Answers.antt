@@ -4,7 +4,7 @@ use Rattle.std.specs.Global.{Global}
 use Rattle.report_places.specs.Place.{Answers}
 use Rattle.report_places.specs.declared.place.Place.{Place}
 use Rattle.finding_lines.proofs.Zipped.{as_many}
-use Rattle.finding_lines.proofs.people.place_lines.Goals as goal
+use Rattle.finding_lines.proofs.telling.place_lines.Goals as goal
 
 pub lines_at-requires : goal.lines_at-requires
 lines_at-requires c =
