@@ -1,10 +1,11 @@
 -- What is kept while a register is opened and closed.
-use Rattle.std.proofs.Common.{◌≡◌, ℕ, Bool, true, false, true≢false, List, [], length, Option, Some, None, Result, Ok, Err, IsSome, OnOk, refl, sym, ◌∙◌, subst, inl, inr}
-use Rattle.std.specs.Prelude.{◌↔◌, is_err, is_some}
+use Rattle.std.proofs.Common.{◌≡◌, ℕ, Bool, true, false, true≢false, List, [], length, Option, Some, None, Result, Ok, Err, IsSome, OnOk, refl, sym, ◌∙◌, ap, subst, inl, inr}
+use Rattle.std.specs.Prelude.{◌↔◌, is_err, is_some, IfErr, IfSome}
 use Rattle.sqlite_disk.specs.declared.Disk.{Ghosts}
 use Rattle.sqlite_disk.specs.declared.Files.{Files}
 use Rattle.sqlite_store.specs.declared.store.FileStore.{FileStore}
 use Rattle.sqlite.specs.Held.{Held}
+use Rattle.sqlite.specs.declared.error.Error.{Error}
 use Rattle.sqlite.specs.Files.{file_state, over_files}
 use Rattle.filing_model.specs.Request.{Request}
 use Rattle.register_opening.specs.Registers.{IsRegisterOf}
@@ -14,24 +15,28 @@ use Rattle.http_wire.specs.Wire.{Wire}
 use Rattle.table_rows.proofs.CleanLemmas.{always_clean, are_clean}
 use Rattle.table_rows.proofs.FileLemmas.{finds}
 use Rattle.command_line.specs.declared.fault.DatabaseFault.{DatabaseFault}
-use Rattle.database_places.specs.Closing.{IsClosedIn}
+use Rattle.database_places.specs.Closing.{IsClosedIn, IsNotClosed, IsGivenUp}
 use Rattle.database_places.specs.Opening.{ComesFrom, StaysIn}
 use Rattle.database_places.specs.Places.{Lie, KeepsLying}
 use Rattle.database_places.specs.Places as place
 use Rattle.intake_process.specs.declared.begun.Totals.{Totals}
 use Rattle.intake_process.specs.declared.fault.OpeningFault.{OpeningFault}
+use Rattle.intake_process.specs.declared.fault.OpeningFault.TheVariants.{Files as Unopened, Taken, Create, Open}
 use Rattle.intake_process.specs.declared.process.Answered.{Answered}
 use Rattle.intake_process.specs.declared.process.Closed.{Closed}
 use Rattle.intake_process.specs.declared.process.Outcome.{Outcome}
 use Rattle.intake_process.specs.declared.process.Outcome.TheVariants as outcome
-use Rattle.intake_process.specs.Begun.{HoldsAs, AreTotals, FindsIntake, MakesIntake}
-use Rattle.intake_process.specs.Process.{Parts, IsAwake, AnswersBy, IsHonest, KeepsBy, OpensProcess, ClosesProcess}
+use Rattle.intake_process.specs.Begun.{HoldsAs, AreTotals, FindsIntake, MakesIntake, IsNotBegun}
+use Rattle.intake_process.specs.Process.{Parts, IsAwake, IsUp, AnswersBy, IsHonest, KeepsBy, LieGivenUp, IsNotOpened, IsLeftBy, Leaves, OpensProcess, ClosesProcess}
 
 pub none_of : {A : Type 0} (o : Option A) → is_some o ≡ false → o ≡ None
 none_of None is = refl
 none_of (Some x) is = absurd (true≢false is)
 
-not_true : (b : Bool) → (b ≡ true → ⊥) → b ≡ false
+not_some : {A : Type 0} (o : Option A) → o ≡ None → IsSome o → ⊥
+not_some o none some = true≢false (sym (subst (λ i. IsSome i) none some))
+
+pub not_true : (b : Bool) → (b ≡ true → ⊥) → b ≡ false
 not_true true other = absurd (other refl)
 not_true false other = refl
 
@@ -51,25 +56,82 @@ ok_gives (Err e) is x = absurd (true≢false is)
 pub stayed : {D : Type 0} (g : Ghosts D) (old new : Option (Option (Files D))) (fault : DatabaseFault) → StaysIn g old new fault → (there : Files D) → old ≡ Some (Some there) → (files : Files D) × (new ≡ Some (Some files))
 stayed g old new fault stays there lies = elim (subst (λ l. StaysIn g l new fault) lies stays) [ inl same ↦ (there, same) | inr left ↦ (left.0, left.1) ]
 
+-- files that are left alone lie there
+pub keeps_lying : {D : Type 0} (lying : Option (Option (Files D))) → KeepsLying lying lying
+keeps_lying None = tt
+keeps_lying (Some None) = tt
+keeps_lying (Some (Some files)) = refl
+
+module _ {D : Type 0} (g : Ghosts D) where
+  lie_left : (old new : Option (Option (Files D))) (back : Held (FileStore D g)) → LieGivenUp old new back → (there : Files D) → old ≡ Some (Some there) → (files : Files D) × (new ≡ Some (Some files))
+  lie_left old new back left there lies =
+      let at = subst (λ l. LieGivenUp l new back) lies left in
+      (at.0, at.1)
+
+  -- files that lay there lie there
+  back_of : (has : Bool) (old new : Option (Option (Files D))) (fault : OpeningFault) → IsNotOpened g has old new fault → (there : Files D) → old ≡ Some (Some there) → (files : Files D) × (new ≡ Some (Some files))
+  back_of has old new (Unopened why) is there lies = stayed g old new why is.refused there lies
+  back_of has old new (Taken holding) is there lies = lie_left old new is.1 is.4 there lies
+  back_of has old new (Create why) is there lies = lie_left old new is.1 is.4 there lies
+  back_of has old new (Open why holding) is there lies = lie_left old new is.1 is.4 there lies
+
 module _ {D : Type 0} {g : Ghosts D} where
   -- ---- it is opened
 
   -- a refusal leaves it closed, and nothing is certain
-  pub refuses : (has : Bool) (limit : ℕ) (old new : Parts g) (fault : OpeningFault) → new.is_certain ≡ false → new.intake ≡ None → ((there : Files D) → old.lying ≡ Some (Some there) → (files : Files D) × (new.lying ≡ Some (Some files))) → OpensProcess g has limit old new (Err fault)
-  refuses has limit old new fault unsure closed back = record {
+  pub refuses : (has : Bool) (limit : ℕ) (old new : Parts g) (fault : OpeningFault) → new.is_certain ≡ false → old.intake ≡ None → new.intake ≡ None → new.refused_calls ≡ old.refused_calls → IsNotOpened g has old.lying new.lying fault → OpensProcess g has limit old new (Err fault)
+  refuses has limit old new fault unsure none closed calls why = record {
     leaves = λ honest is. record { kept = λ early F keeps certain. absurd (true≢false (sym certain ∙ unsure)); certain = λ certain. absurd (true≢false (sym certain ∙ unsure)) };
     counted = λ honest is certain early F keeps. tt;
     made = λ honest is none known. tt;
     certain = tt;
     is_open = tt;
+    up = λ _. tt;
+    already = λ some. absurd (not_some old.intake none some);
+    calls = calls;
+    why = why;
     refused = closed;
-    back = back;
+    back = back_of g has old.lying new.lying fault why;
   }
 
-  pub given_up : (old mid after : Option (Option (Files D))) (conn : Held (FileStore D g)) (files : Files D) → ComesFrom old mid conn → place.Leaves mid after files → (there : Files D) → old ≡ Some (Some there) → after ≡ Some (Some files)
-  given_up old mid after conn files comes leaves there lies =
-      let came = subst (λ l. ComesFrom l mid conn) lies comes in
-      subst (λ m. place.Leaves m after files) came.0 leaves
+  -- nothing happens to one that is open
+  pub is_open : (has : Bool) (limit : ℕ) (process : Parts g) → IsSome process.intake → OpensProcess g has limit process process (Ok None)
+  is_open has limit process some = record {
+    leaves = λ honest is. record { kept = λ early F keeps. keeps; certain = λ certain. certain };
+    counted = λ honest is certain early F keeps. tt;
+    made = λ honest is none known. absurd (not_some process.intake none some);
+    certain = refl;
+    is_open = some;
+    up = λ none. absurd (not_some process.intake none some);
+    already = λ _. (refl, refl);
+    calls = refl;
+    why = tt;
+    refused = tt;
+    back = tt;
+  }
+
+  -- the connection came from what lay there
+  came_from : (old mid : Option (Option (Files D))) (conn : Held (FileStore D g)) → ComesFrom old mid conn → ComesFrom old (Some None) conn
+  came_from None mid conn comes = comes
+  came_from (Some None) mid conn comes = (refl, comes.1, comes.2, comes.3)
+  came_from (Some (Some files)) mid conn comes = (refl, comes.1)
+
+  -- and its files lie there again
+  lie_again : (old mid after new : Option (Option (Files D))) (conn back : Held (FileStore D g)) (files : Files D) → ComesFrom old mid conn → place.Leaves mid after files → KeepsLying after new → IsGivenUp back files → LieGivenUp old new back
+  lie_again None mid after new conn back files comes leaves keeps given = tt
+  lie_again (Some None) mid after new conn back files comes leaves keeps given =
+      let lies : after ≡ Some (Some files) = subst (λ m. place.Leaves m after files) comes.0 leaves in
+      (files, subst (λ a. KeepsLying a new) lies keeps, given)
+  lie_again (Some (Some was)) mid after new conn back files comes leaves keeps given =
+      let lies : after ≡ Some (Some files) = subst (λ m. place.Leaves m after files) comes.0 leaves in
+      (files, subst (λ a. KeepsLying a new) lies keeps, given)
+
+  -- no intake began over the database of the place, which was given up
+  pub not_begun : (has : Bool) (old mid after new : Option (Option (Files D))) (conn back : Held (FileStore D g)) (files : Files D) (fault : OpeningFault) → ComesFrom old mid conn → IsNotBegun over_files has conn fault back → place.Leaves mid after files → KeepsLying after new → IsGivenUp back files → IsNotOpened g has old new fault
+  not_begun has old mid after new conn back files (Unopened why) comes is leaves keeps given = absurd is
+  not_begun has old mid after new conn back files (Taken holding) comes is leaves keeps given = (conn, back, came_from old mid conn comes, is, lie_again old mid after new conn back files comes leaves keeps given)
+  not_begun has old mid after new conn back files (Create why) comes is leaves keeps given = (conn, back, came_from old mid conn comes, is, lie_again old mid after new conn back files comes leaves keeps given)
+  not_begun has old mid after new conn back files (Open why holding) comes is leaves keeps given = (conn, back, came_from old mid conn comes, is, lie_again old mid after new conn back files comes leaves keeps given)
 
   came_empty : (old mid : Option (Option (Files D))) (conn : Held (FileStore D g)) → IsSome old → ComesFrom old mid conn → mid ≡ Some None
   came_empty None mid conn known comes = absurd (true≢false (sym known))
@@ -87,9 +149,9 @@ module _ {D : Type 0} {g : Ghosts D} where
       (finds_it (always_clean honest intake.store.conn) early F lies.0 (subst (IsRegisterOf early F) (sym is_db) hold.register), came.0)
 
   -- it is open
-  pub opens : (has : Bool) (limit : ℕ) (old new : Parts g) (conn : Held (FileStore D g)) (intake : Intake (FileStore D g)) (totals : Totals) → old.intake ≡ None → new.intake ≡ Some intake → new.is_certain ≡ old.is_certain → ComesFrom old.lying new.lying conn
+  pub opens : (has : Bool) (limit : ℕ) (old new : Parts g) (conn : Held (FileStore D g)) (intake : Intake (FileStore D g)) (totals : Totals) → old.intake ≡ None → new.intake ≡ Some intake → new.is_certain ≡ old.is_certain → new.refused_calls ≡ old.refused_calls → has_stopped intake ≡ false → ComesFrom old.lying new.lying conn
       → (has ≡ true → FindsIntake over_files conn limit intake totals) → (has ≡ false → MakesIntake over_files limit intake totals) → OpensProcess g has limit old new (Ok (Some totals))
-  opens has limit old new conn intake totals none up same comes found made = record {
+  opens has limit old new conn intake totals none up same calls awake comes found made = record {
     leaves = λ honest is. record {
       kept = λ early F keeps certain.
           let held = found_there has limit old new conn intake totals none comes (found is) honest early F (keeps (sym same ∙ certain)) in
@@ -100,6 +162,10 @@ module _ {D : Type 0} {g : Ghosts D} where
     made = λ honest is closed known certain. subst (λ i. KeepsBy i new.lying limit 0 []) (sym up) ((made is (always_clean honest intake.store.conn)).0, came_empty old.lying new.lying conn known comes);
     certain = same;
     is_open = subst (λ i. IsSome i) (sym up) refl;
+    up = λ _. subst (λ i. IsUp i) (sym up) awake;
+    already = λ some. absurd (not_some old.intake none some);
+    calls = calls;
+    why = tt;
     refused = tt;
     back = tt;
   }
@@ -125,9 +191,34 @@ module _ {D : Type 0} {g : Ghosts D} where
   counts : (intake : Intake (FileStore D g)) (old : Parts g) → old.intake ≡ Some intake → (limit early : ℕ) (F : List Request) → KeepsBy old.intake old.lying limit early F → intake.store.kept ≡ length F
   counts intake old up limit early F keeps = (subst (λ i. KeepsBy i old.lying limit early F) up keeps).0.holds.rows.kept_is
 
-  pub closes : (intake : Intake (FileStore D g)) (files : Files D) (old new : Parts g) (closed : Closed) → old.intake ≡ Some intake → new.intake ≡ None → new.is_certain ≡ old.is_certain → closed.kept ≡ intake.store.kept → IsClosedIn g intake.store.conn files → place.Leaves old.lying new.lying files
+  abbrev Left : Intake (FileStore D g) → Parts g → Parts g → Closed → Type 0
+  Left intake old new closed = (files : Files D) × place.Leaves old.lying new.lying files × IsLeftBy g intake.store.conn files closed.outcome
+
+  -- how the files were left
+  pub left_by : (conn : Held (FileStore D g)) (old new : Option (Option (Files D))) (outcome : Result (Unit {0}) Error) → OnOk outcome ((files : Files D) × place.Leaves old new files × IsClosedIn g conn files)
+      → IfErr outcome (λ error. (files : Files D) × place.Leaves old new files × IsNotClosed conn files error)
+      → (files : Files D) × place.Leaves old new files × IsLeftBy g conn files outcome
+  left_by conn old new (Ok done) closed failed = closed
+  left_by conn old new (Err error) closed failed = failed
+
+  -- nothing happens to one that is closed
+  pub closes_none : (old new : Parts g) (closed : Closed) → old.intake ≡ None → new ≡ old → closed.outcome ≡ Ok tt → ClosesProcess g old new closed
+  closes_none old new closed none same is = record {
+    leaves = λ honest limit. subst (λ p. Leaves limit old p) (sym same) (record { kept = λ early F keeps. keeps; certain = λ certain. certain });
+    counted = λ honest some certain limit early F keeps. absurd (not_some old.intake none some);
+    certain = then_ok closed.outcome (ap (λ (p : Parts g). p.is_certain) same);
+    files = subst (λ i. IfSome i (λ intake. Left intake old new closed)) (sym none) tt;
+    is_closed = ap (λ (p : Parts g). p.intake) same ∙ none;
+    already = λ _. (same, is);
+    calls = ap (λ (p : Parts g). p.refused_calls) same;
+  }
+
+  not_both : {X : Type 0} (old : Parts g) (intake : Intake (FileStore D g)) → old.intake ≡ Some intake → old.intake ≡ None → X
+  not_both old intake up none = absurd (let no : None ≡ Some intake = sym none ∙ up in cc)
+
+  pub closes : (intake : Intake (FileStore D g)) (files : Files D) (old new : Parts g) (closed : Closed) → old.intake ≡ Some intake → new.intake ≡ None → new.is_certain ≡ old.is_certain → new.refused_calls ≡ old.refused_calls → closed.kept ≡ intake.store.kept → IsClosedIn g intake.store.conn files → place.Leaves old.lying new.lying files → Left intake old new closed
       → ClosesProcess g old new closed
-  closes intake files old new closed up shut same kept is leaves = record {
+  closes intake files old new closed up shut same calls kept is leaves left = record {
     leaves = λ honest limit. record {
       kept = λ early F keeps certain.
           subst (λ i. KeepsBy {g = g} i new.lying limit early F) (sym shut)
@@ -136,15 +227,21 @@ module _ {D : Type 0} {g : Ghosts D} where
     };
     counted = λ honest some certain limit early F keeps. kept ∙ counts intake old up limit early F (keeps certain);
     certain = then_ok closed.outcome same;
+    files = subst (λ i. IfSome i (λ it. Left it old new closed)) (sym up) left;
     is_closed = shut;
+    already = not_both old intake up;
+    calls = calls;
   }
 
-  pub not_closes : (intake : Intake (FileStore D g)) (old new : Parts g) (closed : Closed) → old.intake ≡ Some intake → new.intake ≡ None → new.is_certain ≡ false → closed.kept ≡ intake.store.kept → is_err closed.outcome ≡ true → ClosesProcess g old new closed
-  not_closes intake old new closed up shut unsure kept failed = record {
+  pub not_closes : (intake : Intake (FileStore D g)) (old new : Parts g) (closed : Closed) → old.intake ≡ Some intake → new.intake ≡ None → new.is_certain ≡ false → new.refused_calls ≡ old.refused_calls → closed.kept ≡ intake.store.kept → is_err closed.outcome ≡ true → Left intake old new closed → ClosesProcess g old new closed
+  not_closes intake old new closed up shut unsure calls kept failed left = record {
     leaves = λ honest limit. record { kept = λ early F keeps certain. absurd (true≢false (sym certain ∙ unsure)); certain = λ certain. absurd (true≢false (sym certain ∙ unsure)) };
     counted = λ honest some certain limit early F keeps. kept ∙ counts intake old up limit early F (keeps certain);
     certain = not_ok _ closed.outcome failed;
+    files = subst (λ i. IfSome i (λ it. Left it old new closed)) (sym up) left;
     is_closed = shut;
+    already = not_both old intake up;
+    calls = calls;
   }
 
   -- ---- its database refused a call, or not

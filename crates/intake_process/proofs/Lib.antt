@@ -1,3 +1,4 @@
 mod Away
 mod Keeping
 mod Turns
+mod Up

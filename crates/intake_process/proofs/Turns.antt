@@ -1,5 +1,5 @@
 -- Connections that are answered, one behind another.
-use Rattle.std.proofs.Common.{◌≡◌, ℕ, ◌+◌, Bool, List, [], ◌∷◌, ◌++◌, map, take, Option, Some, None, refl, sym, ◌∙◌, ap, subst}
+use Rattle.std.proofs.Common.{◌≡◌, ℕ, ◌+◌, Bool, List, [], ◌∷◌, ◌++◌, map, take, Option, Some, None, Ok, arith, refl, sym, ◌∙◌, ap, ap₂, subst}
 use Rattle.std.specs.Prelude.{IfSome, option_map}
 use Rattle.std.proofs.lemmas.Option.{IfSome_then}
 use Rattle.sqlite_disk.specs.declared.Disk.{Ghosts}
@@ -15,10 +15,13 @@ use Rattle.gateway_ports.specs.Ports.{Traffic, Takes, IsUnwritten, Grows, Adds}
 use Rattle.gateway_ports.proofs.Turns.{came_none, grows_none, came_one, counted_one, grows_one, turns_join, came_join, counted_join, grows_join}
 use Rattle.gateway_ports.proofs.Turns as ports
 use Rattle.table_rows.proofs.CleanLemmas.{always_clean}
+use Rattle.intake_process.specs.declared.begun.Totals.{Totals}
 use Rattle.intake_process.specs.declared.process.Answered.{Answered}
+use Rattle.intake_process.specs.declared.process.Closed.{Closed}
 use Rattle.intake_process.specs.Begun.{HoldsAs}
-use Rattle.intake_process.specs.Process.{Parts, IsHonest, KeepsBy, Leaves, AnswersBy, AnswersWire}
+use Rattle.intake_process.specs.Process.{Parts, IsHonest, IsUnrefused, StaysUp, KeepsBy, Leaves, AnswersBy, AnswersWire, IsUp, OpensProcess, ClosesProcess}
 use Rattle.intake_process.specs.Turns.{Turn, Served, TurnedAway, connection_of, connections_of, served_in, AreTurnedAway, AreAnswered, AnswersSome}
+use Rattle.intake_process.proofs.Up as up
 
 -- ---- some, and then more
 
@@ -30,6 +33,9 @@ served_join (TurnedAway c ∷ ts) us = served_join ts us
 connections_join : (ts us : List Turn) → connections_of (ts ++ us) ≡ connections_of ts ++ connections_of us
 connections_join [] us = refl
 connections_join (t ∷ ts) us = ap (λ cs. connection_of t ∷ cs) (connections_join ts us)
+
+none_away_join : (ts us : List Turn) → served_in ts ≡ connections_of ts → served_in us ≡ connections_of us → served_in (ts ++ us) ≡ connections_of (ts ++ us)
+none_away_join ts us first second = served_join ts us ∙ ap₂ (λ cs ds. cs ++ ds) first second ∙ sym (connections_join ts us)
 
 away_join : (ts us : List Turn) → AreTurnedAway ts → AreTurnedAway us → AreTurnedAway (ts ++ us)
 away_join [] us first second = second
@@ -79,8 +85,8 @@ all_served requests port port' cs taken a = record {
 
 module _ {D : Type 0} {g : Ghosts D} (limit : ℕ) where
   -- some, and then more
-  pub join : (first mid last : Traffic) (old between new : Parts g) (m : ℕ) (taken : Option ℕ) → AnswersSome limit first mid old between (Some m) → AnswersSome limit mid last between new taken → AnswersSome limit first last old new (option_map (λ n. m + n) taken)
-  join first mid last old between new m taken a b = record {
+  pub join : (first mid last : Traffic) (old between new : Parts g) (m : ℕ) (taken : Option ℕ) → StaysUp old between → StaysUp between new → AnswersSome limit first mid old between (Some m) → AnswersSome limit mid last between new taken → AnswersSome limit first last old new (option_map (λ n. m + n) taken)
+  join first mid last old between new m taken stays stays' a b = record {
     answers = λ early before keeps certain.
         let one = a.answers early before keeps (b.certain certain) in
         let two = b.answers early one.0 (λ _. one.1) certain in (
@@ -89,6 +95,7 @@ module _ {D : Type 0} {g : Ghosts D} (limit : ℕ) where
           two.2 ∙ one.2,
           one.3 ++ two.3,
           answered_join limit (take early before) before one.0 two.0 first mid last one.3 two.3 m taken one.4 (subst (λ es. AreAnswered (keeping limit es one.0 two.0) mid last two.3 taken) one.2 two.4),
+          λ u. none_away_join one.3 two.3 (one.5 (up.before old between new stays stays' u)) (two.5 (up.after old between new stays stays' u)),
         );
     certain = λ certain. a.certain (b.certain certain);
   }
@@ -98,14 +105,14 @@ module _ {D : Type 0} {g : Ghosts D} (limit : ℕ) where
   untold port port' old new taken a = record {
     answers = λ early before keeps certain.
         let one = a.answers early before keeps certain in
-        (one.0, one.1, one.2, one.3, record { in_turn = one.4.in_turn; away = one.4.away; came = one.4.came; counted = tt; told = tt });
+        (one.0, one.1, one.2, one.3, record { in_turn = one.4.in_turn; away = one.4.away; came = one.4.came; counted = tt; told = tt }, one.5);
     certain = a.certain;
   }
 
   -- no connection was answered
   pub none : (port port' : Traffic) (process : Parts g) (taken : Option ℕ) → port' ≡ port → IfSome taken (AreCounted port.coming []) → AnswersSome limit port port' process process taken
   none port port' process taken same counted = subst (λ p. AnswersSome limit port p process process taken) (sym same) (record {
-    answers = λ early before keeps certain. (before, keeps certain, refl, [], record { in_turn = refl; away = tt; came = came_none port.coming; counted = counted; told = told taken });
+    answers = λ early before keeps certain. (before, keeps certain, refl, [], record { in_turn = refl; away = tt; came = came_none port.coming; counted = counted; told = told taken }, λ u. refl);
     certain = λ certain. certain;
   })
     where
@@ -114,22 +121,22 @@ module _ {D : Type 0} {g : Ghosts D} (limit : ℕ) where
       told (Some n) = grows_none port.over
 
   -- some were answered after a call that answered none, and before one
-  pub between : (port port' : Traffic) (old first last new : Parts g) (taken : Option ℕ) → Leaves limit old first → AnswersSome limit port port' first last taken → Leaves limit last new → AnswersSome limit port port' old new taken
-  between port port' old first last new taken before some after = record {
+  pub between : (port port' : Traffic) (old first last new : Parts g) (taken : Option ℕ) → (IsUnrefused old new → IsUnrefused first last) → Leaves limit old first → AnswersSome limit port port' first last taken → Leaves limit last new → AnswersSome limit port port' old new taken
+  between port port' old first last new taken inside before some after = record {
     answers = λ early requests keeps certain.
         let one = some.answers early requests (before.kept early requests keeps) (after.certain certain) in
-        (one.0, after.kept early one.0 (λ _. one.1) certain, one.2, one.3, one.4);
+        (one.0, after.kept early one.0 (λ _. one.1) certain, one.2, one.3, one.4, λ u. one.5 (inside u));
     certain = λ certain. before.certain (some.certain (after.certain certain));
   }
 
   pub same : (process : Parts g) → Leaves limit process process
   same process = record { kept = λ early requests keeps. keeps; certain = λ certain. certain }
 
-  one_by : IsHonest g → (port mid port' : Traffic) (from to : Wire) (old new : Option (Intake (FileStore D g))) (lying lying' : Option (Option (Files D))) (is was : Bool) (answered : Answered) (taken : Option ℕ)
+  one_by : IsHonest g → (port mid port' : Traffic) (from to : Wire) (old new : Option (Intake (FileStore D g))) (lying lying' : Option (Option (Files D))) (is was : Bool) (calls calls' : ℕ) (answered : Answered) (taken : Option ℕ)
       → (mid.over ≡ port.over) × Takes port.coming mid.coming from.left × IsUnwritten port.over from.written → AnswersBy from to old new answered → lying' ≡ lying → is ≡ was
       → port'.coming ≡ mid.coming → IfSome taken (λ n. (n ≡ 1) × Adds mid.over port'.over answered.served to.written)
-      → AnswersSome limit port port' (record { intake = old; lying = lying; is_certain = was }) (record { intake = new; lying = lying'; is_certain = is }) taken
-  one_by honest port mid port' from to (Some intake) new lying lying' is was answered taken fresh by there sure coming told = record {
+      → AnswersSome limit port port' (record { intake = old; lying = lying; is_certain = was; refused_calls = calls }) (record { intake = new; lying = lying'; is_certain = is; refused_calls = calls' }) taken
+  one_by honest port mid port' from to (Some intake) new lying lying' is was calls calls' answered taken fresh by there sure coming told = record {
     answers = λ early before keeps certain.
         let kept = keeps (sym sure ∙ certain) in
         let some = ports.one over_files port mid port' from to intake by.0 answered.served taken fresh by.2.serves coming told in
@@ -142,10 +149,11 @@ module _ {D : Type 0} {g : Ghosts D} (limit : ℕ) where
           map Served t.3.0,
           all_served (keeping limit (take early before) before t.0) port port' t.3.0 taken
               (subst (λ es. AreServed (keeping limit es before t.0) port port' t.3.0 taken) early_is (subst (λ n. AreServed (keeping n (take intake.store.early before) before t.0) port port' t.3.0 taken) kept.0.limit_is t.3.1)),
+          λ u. served_all t.3.0 ∙ sym (connections_all t.3.0),
         );
     certain = λ certain. sym sure ∙ certain;
   }
-  one_by honest port mid port' from to None new lying lying' is was answered taken fresh by there sure coming told = record {
+  one_by honest port mid port' from to None new lying lying' is was calls calls' answered taken fresh by there sure coming told = record {
     answers = λ early before keeps certain.
         let kept = keeps (sym sure ∙ certain) in
         let away = by.1 in
@@ -162,6 +170,7 @@ module _ {D : Type 0} {g : Ghosts D} (limit : ℕ) where
             counted = IfSome_then taken told (λ n is. subst (λ k. AreCounted port.coming (c ∷ []) k) (sym is.0) (counted_one port.coming c));
             told = IfSome_then taken told (λ n is. grows_one port.over port'.over from.written to.written served away.sent fresh.2 away.wrote (subst (λ over. Adds over port'.over served to.written) fresh.0 is.1));
           },
+          λ u. absurd u.up,
         );
     certain = λ certain. sym sure ∙ certain;
   }
@@ -170,4 +179,18 @@ module _ {D : Type 0} {g : Ghosts D} (limit : ℕ) where
   pub one : IsHonest g → (port mid port' : Traffic) (from to : Wire) (old new : Parts g) (answered : Answered) (taken : Option ℕ) → (mid.over ≡ port.over) × Takes port.coming mid.coming from.left × IsUnwritten port.over from.written → AnswersWire from to old new answered
       → port'.coming ≡ mid.coming → IfSome taken (λ n. (n ≡ 1) × Adds mid.over port'.over answered.served to.written) → AnswersSome limit port port' old new taken
   one honest port mid port' from to old new answered taken fresh by coming told =
-      one_by honest port mid port' from to old.intake new.intake old.lying new.lying new.is_certain old.is_certain answered taken fresh by.0 by.1 by.2 coming told
+      one_by honest port mid port' from to old.intake new.intake old.lying new.lying new.is_certain old.is_certain old.refused_calls new.refused_calls answered taken fresh by.0 by.1 by.2 coming told
+
+  -- ---- a register that is opened, serves, and is closed
+
+  -- it was not opened
+  pub not_opened : (port : Traffic) (old new : Parts g) → new.refused_calls ≡ old.refused_calls → Leaves limit old new → AnswersSome limit port port old new None
+  not_opened port old new calls leaves = between port port old old old new None (λ u. up.until old old new calls u) (same old) (none port port old None refl tt) leaves
+
+  -- if its database refused no call, it refused none while it was open
+  pub while_open : (has : Bool) (old opened last new : Parts g) (totals : Option Totals) (closed : Closed) → OpensProcess g has limit old opened (Ok totals) → ClosesProcess g last new closed → IsUnrefused old new → IsUnrefused opened last
+  while_open has old opened last new totals closed opens closes u = record {
+    up = subst (λ (p : Parts g). IsUp p.intake) (sym (opens.already (up.is_some_up old.intake u.up)).0) u.up;
+    same = sym closes.calls ∙ u.same ∙ sym opens.calls;
+    counts = omega (arith, closes.calls, u.counts);
+  }

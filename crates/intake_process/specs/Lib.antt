@@ -1,4 +1,5 @@
 pub mod Begun
+pub mod Lending
 pub mod Process
 pub mod Turning
 pub mod Turns

@@ -1,35 +1,43 @@
 -- What the process keeps that an intake runs in, and what its calls do.
-use Rattle.std.specs.Prelude.{◌≡◌, ◌↔◌, ℕ, Bool, true, false, List, [], length, Option, Some, None, Result, IsSome, IfOk, IfErr, IfSome, OnOk}
+use Rattle.std.specs.Prelude.{◌≡◌, ◌↔◌, ℕ, ◌+◌, ◌-◌, ◌^◌, ◌<◌, ◌≤◌, ◌⊎◌, Bool, true, false, List, [], length, Option, Some, None, Result, Ok, Err, IsSome, IfOk, IfErr, IfSome, OnOk}
 use Rattle.sqlite_disk.specs.declared.Disk.{Ghosts}
 use Rattle.sqlite_disk.specs.declared.Files.{Files}
 use Rattle.sqlite_store.specs.declared.store.FileStore.{FileStore}
 use Rattle.sqlite.specs.Store as database
+use Rattle.sqlite.specs.Held.{Held}
 use Rattle.sqlite.specs.Files.{over_files}
+use Rattle.sqlite.specs.declared.error.Error.{Error}
 use Rattle.http_wire.specs.Wire.{Wire}
 use Rattle.filing_model.specs.Request.{Request, firsts}
 use Rattle.register_store.specs.Files.{HoldRegister}
 use Rattle.intake_core.specs.declared.intake.Intake.{Intake}
-use Rattle.intake_core.specs.Held.{has_stopped}
+use Rattle.intake_core.specs.Held.{store_of, has_stopped}
 use Rattle.gateway_server.specs.Progress.{ServesToEnd}
+use Rattle.database_places.specs.Closing.{IsGivenUp, IsClosedIn, IsNotClosed}
+use Rattle.database_places.specs.Opening.{ComesFrom, OpensPlace}
 use Rattle.database_places.specs.Places.{Lie}
+use Rattle.database_places.specs.Places as place
 use Rattle.intake_process.specs.declared.begun.Totals.{Totals}
 use Rattle.intake_process.specs.declared.fault.OpeningFault.{OpeningFault}
+use Rattle.intake_process.specs.declared.fault.OpeningFault.TheVariants as fault
 use Rattle.intake_process.specs.declared.process.Answered.{Answered}
 use Rattle.intake_process.specs.declared.process.Closed.{Closed}
 use Rattle.intake_process.specs.declared.process.IntakeProcess.{IntakeProcess}
+use Rattle.intake_process.specs.declared.process.Outcome.{Outcome}
 use Rattle.intake_process.specs.declared.process.Outcome.TheVariants as outcome
-use Rattle.intake_process.specs.Begun.{HoldsAs, AreTotals}
+use Rattle.intake_process.specs.Begun.{HoldsAs, AreTotals, IsNotBegun}
 use Rattle.intake_process.specs.Turning.{TurnsAway}
 
--- What contracts see of it: the intake, if it is open; the files that lie in its place, if there are some, where that is known; and whether
--- no close and no opening failed.
+-- What contracts see of it: the intake, if it is open; the files that lie in its place, if there are some, where that is known; whether no
+-- close and no opening failed; and how many calls its database refused, as far as a u64 counts.
 pub record Parts {D : Type 0} (g : Ghosts D) : Type 0 where
   pub intake : Option (Intake (FileStore D g))
   pub lying : Option (Option (Files D))
   pub is_certain : Bool
+  pub refused_calls : ℕ
 
 abbrev pub parts : {D P : Type 0} {g : Ghosts D} → (P → Option (Option (Files D))) → IntakeProcess D P g → Parts g
-parts lying process = record { intake = process.intake; lying = lying process.place; is_certain = process.is_certain }
+parts lying process = record { intake = process.intake; lying = lying process.place; is_certain = process.is_certain; refused_calls = process.refused_calls }
 
 -- each read of such a disk gave what was written
 abbrev pub IsHonest : {D : Type 0} → Ghosts D → Type 0
@@ -54,6 +62,39 @@ abbrev pub IsAwake : {S : Type 0} → Option (Intake S) → Type 0
 IsAwake (Some intake) = has_stopped intake ≡ false
 IsAwake None = Unit {0}
 
+-- ---- as long as the database refuses no call
+
+-- the intake is open, and its database refused no call
+abbrev pub IsUp : {S : Type 0} → Option (Intake S) → Type 0
+IsUp (Some intake) = has_stopped intake ≡ false
+IsUp None = ⊥
+
+-- The intake was up, and no call that its database refused was counted since.
+pub record IsUnrefused {D : Type 0} {g : Ghosts D} (old new : Parts g) : Type 0 where
+  pub up : IsUp old.intake
+  pub same : new.refused_calls ≡ old.refused_calls
+  pub counts : new.refused_calls < 2 ^ 64 - 1
+
+-- As long as its database refuses no call, an intake that is up stays up, and what is kept is as certain as it was.
+pub record StaysUp {D : Type 0} {g : Ghosts D} (old new : Parts g) : Type 0 where
+  pub grows : old.refused_calls ≤ new.refused_calls
+  pub up : IsUnrefused old new → IsUp new.intake
+  pub certain : IsUnrefused old new → new.is_certain ≡ old.is_certain
+
+-- ---- it is opened
+
+-- the files lie in the place, where that is known, as the connection left them that was given up
+abbrev pub LieGivenUp : {D : Type 0} {g : Ghosts D} → Option (Option (Files D)) → Option (Option (Files D)) → Held (FileStore D g) → Type 0
+LieGivenUp None new conn = Unit {0}
+LieGivenUp (Some there) new conn = (files : Files _) × (new ≡ Some (Some files)) × IsGivenUp conn files
+
+-- Why it was not opened: the place gave no database; or the one that lay there, or was made, came with this connection, over which no intake
+-- began, and was given up.
+abbrev pub IsNotOpened : {D : Type 0} → Ghosts D → Bool → Option (Option (Files D)) → Option (Option (Files D)) → OpeningFault → Type 0
+IsNotOpened g has_to_be_there old new (fault.Files why) = OpensPlace g has_to_be_there old new (Err why)
+IsNotOpened {D} g has_to_be_there old new why =
+    (conn : Held (FileStore D g)) × (back : Held (FileStore D g)) × ComesFrom old (Some None) conn × IsNotBegun over_files has_to_be_there conn why back × LieGivenUp old new back
+
 -- What opening it does, if its register has to be there, or is to be made.
 pub record OpensProcess {D : Type 0} (g : Ghosts D) (has_to_be_there : Bool) (limit : ℕ) (old new : Parts g) (result : Result (Option Totals) OpeningFault) : Type 0 where
   -- the requests of before are kept, and counted
@@ -64,9 +105,15 @@ pub record OpensProcess {D : Type 0} (g : Ghosts D) (has_to_be_there : Bool) (li
   pub made : IsHonest g → has_to_be_there ≡ false → old.intake ≡ None → IsSome old.lying → OnOk result (Keeps new limit 0 [])
   pub certain : OnOk result (new.is_certain ≡ old.is_certain)
   pub is_open : OnOk result (IsSome new.intake)
-  -- after a refusal it is closed, and files that lay in the place lie there still, or what an opening left of them
+  pub up : old.intake ≡ None → OnOk result (IsUp new.intake)
+  pub already : IsSome old.intake → (new ≡ old) × (result ≡ Ok None)
+  pub calls : new.refused_calls ≡ old.refused_calls
+  -- a refusal says why, and after it it is closed, and files that lay in the place lie there still, or what an opening left of them
+  pub why : IfErr result (IsNotOpened g has_to_be_there old.lying new.lying)
   pub refused : IfErr result (λ _. new.intake ≡ None)
   pub back : IfErr result (λ _. (there : Files D) → old.lying ≡ Some (Some there) → (files : Files D) × (new.lying ≡ Some (Some files)))
+
+-- ---- it answers a connection
 
 -- What answering a connection by an intake does, and whether the database refused a call.
 pub record ServesBy {S : Type 0} (g : database.Ghosts S) (from to : Wire) (old new : Intake S) (answered : Answered) : Type 0 where
@@ -78,13 +125,30 @@ abbrev pub AnswersBy : {D : Type 0} {g : Ghosts D} → Wire → Wire → Option 
 AnswersBy from to (Some old) new answered = (intake : Intake _) × (new ≡ Some intake) × ServesBy over_files from to old intake answered
 AnswersBy from to None new answered = (new ≡ None) × TurnsAway from to answered.served × (answered.outcome ≡ outcome.TurnedAway)
 
--- the same, and nothing else changes
+-- a call that the database refused is counted, as far as a u64 counts
+abbrev pub CountsRefusal : Outcome → ℕ → ℕ → Type 0
+CountsRefusal outcome.Failed old new = (new ≡ old + 1) ⊎ ((new ≡ old) × (2 ^ 64 - 1 ≤ old))
+CountsRefusal outcome.Served old new = new ≡ old
+CountsRefusal outcome.TurnedAway old new = new ≡ old
+
+-- the same, a refusal is counted, and nothing else changes
 abbrev pub AnswersWire : {D : Type 0} {g : Ghosts D} → Wire → Wire → Parts g → Parts g → Answered → Type 0
-AnswersWire from to old new answered = AnswersBy from to old.intake new.intake answered × (new.lying ≡ old.lying) × (new.is_certain ≡ old.is_certain)
+AnswersWire from to old new answered =
+    AnswersBy from to old.intake new.intake answered × (new.lying ≡ old.lying) × (new.is_certain ≡ old.is_certain) × CountsRefusal answered.outcome old.refused_calls new.refused_calls
+
+-- ---- it is closed
+
+-- closing the connection left these files, with all that was committed in the database file, unless this error came
+abbrev pub IsLeftBy : {D : Type 0} (g : Ghosts D) → Held (FileStore D g) → Files D → Result (Unit {0}) Error → Type 0
+IsLeftBy g conn files (Ok done) = IsClosedIn g conn files
+IsLeftBy g conn files (Err error) = IsNotClosed conn files error
 
 -- What closing it does: the requests of before are kept, and, if it was open, counted.
 pub record ClosesProcess {D : Type 0} (g : Ghosts D) (old new : Parts g) (closed : Closed) : Type 0 where
   pub leaves : IsHonest g → (limit : ℕ) → Leaves limit old new
   pub counted : IsHonest g → IsSome old.intake → old.is_certain ≡ true → (limit early : ℕ) (requests : List Request) → Keeps old limit early requests → closed.kept ≡ length requests
   pub certain : OnOk closed.outcome (new.is_certain ≡ old.is_certain)
+  pub files : IfSome old.intake (λ intake. (files : Files D) × place.Leaves old.lying new.lying files × IsLeftBy g (store_of intake).conn files closed.outcome)
   pub is_closed : new.intake ≡ None
+  pub already : old.intake ≡ None → (new ≡ old) × (closed.outcome ≡ Ok tt)
+  pub calls : new.refused_calls ≡ old.refused_calls

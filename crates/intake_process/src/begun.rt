@@ -1,12 +1,12 @@
 //! An intake begins over a database: its register is made there, or is there. This is written over any store, since
 //! each function that names a store in files, where it calls such code, costs much to prove.
 
-ghost use Rattle.std.specs.Prelude.{◌≡◌, ◌≤◌, ◌^◌, ◌↔◌, true, false, IsTrue, IfOk};
+ghost use Rattle.std.specs.Prelude.{◌≡◌, ◌≤◌, ◌^◌, ◌↔◌, true, false, IsTrue, IfOk, IfErr};
 ghost use Rattle.table_rows.specs.Standing.{IsAtRest};
 ghost use Rattle.table_rows.specs.Tables.{no_schema};
 ghost use Rattle.database_places.specs.Opening.{is_found};
-ghost use Rattle.intake_core.specs.Held.{store_of};
-ghost use Rattle.intake_process.specs.Begun.{FindsIntake, MakesIntake};
+ghost use Rattle.intake_core.specs.Held.{store_of, has_stopped};
+ghost use Rattle.intake_process.specs.Begun.{FindsIntake, MakesIntake, IsNotBegun};
 
 use crate::fault::OpeningFault;
 use command_files::held_in;
@@ -50,7 +50,9 @@ fn find_intake<S: Alter + Drop>(
 ) -> Result<(Intake<S>, Totals), (OpeningFault, Connection<S>)>
     requires limit { limit ≤ 2 ^ 62 }
     requires rest { IsAtRest conn }
-    ensures { IfOk result (λ begun. FindsIntake S.Store conn limit begun.0 begun.1) }
+    ensures found { IfOk result (λ begun. FindsIntake S.Store conn limit begun.0 begun.1) }
+    ensures up { IfOk result (λ begun. has_stopped begun.0 ≡ false) }
+    ensures refused { IfErr result (λ refusal. IsNotBegun S.Store true conn refusal.0 refusal.1) }
 {
     match Store::open_or_back(alloc, conn) {
         Ok(register) => {
@@ -72,7 +74,9 @@ fn make_intake<S: Alter + Drop>(
 ) -> Result<(Intake<S>, Totals), (OpeningFault, Connection<S>)>
     requires limit { limit ≤ 2 ^ 62 }
     requires rest { IsAtRest conn }
-    ensures { IfOk result (λ begun. MakesIntake S.Store limit begun.0 begun.1) }
+    ensures made { IfOk result (λ begun. MakesIntake S.Store limit begun.0 begun.1) }
+    ensures up { IfOk result (λ begun. has_stopped begun.0 ≡ false) }
+    ensures refused { IfErr result (λ refusal. IsNotBegun S.Store false conn refusal.0 refusal.1) }
 {
     if !is_empty(conn.schema()) {
         let holding = held_in(&conn);
@@ -100,6 +104,8 @@ pub(crate) fn begin<S: Alter + Drop>(
     ensures found { is_found opening ≡ true
         → IfOk result (λ begun. FindsIntake S.Store conn limit begun.0 begun.1) }
     ensures made { is_found opening ≡ false → IfOk result (λ begun. MakesIntake S.Store limit begun.0 begun.1) }
+    ensures up { IfOk result (λ begun. has_stopped begun.0 ≡ false) }
+    ensures refused { IfErr result (λ refusal. IsNotBegun S.Store (is_found opening) conn refusal.0 refusal.1) }
 {
     match opening {
         Opening::Found(_) => find_intake(alloc, conn, limit),

@@ -1,9 +1,11 @@
 //! The process that an intake runs in.
 
-ghost use Rattle.std.specs.Prelude.{◌≡◌, ◌≤◌, ◌^◌, None, true, is_some};
+ghost use Rattle.std.specs.Prelude.{◌≡◌, ◌≤◌, ◌^◌, None, true, is_some, option_map};
+ghost use Rattle.std.specs.Borrow.{sem};
+ghost use Rattle.std.specs.Option.{option_copied_mut};
 ghost use Rattle.http_wire.specs.Wire.{wire};
 ghost use Rattle.database_places.specs.Opening.{is_found};
-ghost use Rattle.intake_process.specs.Process.{ServesBy};
+ghost use Rattle.intake_process.specs.Process.{ServesBy, CountsRefusal};
 
 use crate::begun::{Totals, begin, parted};
 use crate::fault::OpeningFault;
@@ -62,6 +64,17 @@ fn serve_by<R: Source, W: Sink, S: Alter>(
     Answered { served, outcome }
 }
 
+/// How many calls were refused, with one more if this came of a connection.
+fn refused_with(outcome: Outcome, refused_calls: u64) -> u64
+    ensures { CountsRefusal outcome refused_calls result }
+{
+    match outcome {
+        Outcome::Failed => refused_calls.saturating_add(1),
+        Outcome::Served => refused_calls,
+        Outcome::TurnedAway => refused_calls,
+    }
+}
+
 /// The intake of a register that lies in a place: open, or closed.
 #[derive(Drop)]
 pub struct IntakeProcess<D: Disk + Drop, P: Place<D> + Drop> {
@@ -70,19 +83,23 @@ pub struct IntakeProcess<D: Disk + Drop, P: Place<D> + Drop> {
     intake: Option<Intake<FileStore<D>>>,
     /// Whether no close and no opening failed. After one that did, what lies in the place may be what a crash leaves.
     is_certain: bool,
+    /// How many calls its database refused, as far as this counts.
+    refused_calls: u64,
 }
 
 impl<D: Disk + Drop, P: Place<D> + Drop> IntakeProcess<D, P> {
     ghost use Rattle.intake_process.specs.Process.{parts, OpensProcess, AnswersWire, ClosesProcess};
+    ghost use Rattle.intake_process.specs.Lending.{LendsIntake};
 
     /// The intake of the register that lies in this place, or is to be made there. It is closed.
     pub fn new(place: P) -> IntakeProcess<D, P>
-        ensures { parts P.lying result ≡ record { intake = None; lying = P.lying place; is_certain = true } }
+        ensures { parts P.lying result ≡ record { intake = None; lying = P.lying place; is_certain = true; refused_calls = 0 } }
     {
         IntakeProcess {
             place,
             intake: None,
             is_certain: true,
+            refused_calls: 0,
         }
     }
 
@@ -97,6 +114,24 @@ impl<D: Disk + Drop, P: Place<D> + Drop> IntakeProcess<D, P> {
         ensures { result ≡ is_some self.now.intake }
     {
         self.intake.is_some()
+    }
+
+    /// The intake, if it is open.
+    pub fn intake(&self) -> Option<&Intake<FileStore<D>>>
+        ensures { option_map (λ intake. intake.now) result ≡ self.now.intake }
+    {
+        match &self.intake {
+            Some(intake) => Some(intake),
+            None => None,
+        }
+    }
+
+    /// The intake, if it is open, to be called.
+    pub fn intake_mut(&mut self) -> Option<&mut Intake<FileStore<D>>>
+        ensures* writes_back { sem 𝓛 (LendsIntake D.row P.row D.Disk self.entry result) }
+        ensures value { option_copied_mut result ≡ self.old.intake }
+    {
+        self.intake.as_mut()
     }
 
     /// Whether no close and no opening failed.
@@ -156,7 +191,11 @@ impl<D: Disk + Drop, P: Place<D> + Drop> IntakeProcess<D, P> {
             (wire R.Source W.Sink reader.new writer.new) (parts P.lying self.old) (parts P.lying self.new) result }
     {
         match &mut self.intake {
-            Some(intake) => serve_by(alloc, reader, writer, intake),
+            Some(intake) => {
+                let answered = serve_by(alloc, reader, writer, intake);
+                self.refused_calls = refused_with(answered.outcome, self.refused_calls);
+                answered
+            }
             None => Answered {
                 served: turn_away(alloc, reader, writer),
                 outcome: Outcome::TurnedAway,

@@ -2,7 +2,7 @@
 
 ghost use Rattle.std.specs.Prelude.{◌≡◌, ◌≢◌, ◌≤◌, ◌^◌, ℕ, None, OnOk, option_map};
 ghost use Rattle.std.specs.Result.{result_ok};
-ghost use Rattle.intake_process.specs.Process.{parts, IsAwake, IsHonest, Leaves};
+ghost use Rattle.intake_process.specs.Process.{parts, IsAwake, IsHonest, Leaves, StaysUp};
 ghost use Rattle.intake_process.specs.Turns.{AnswersSome, ServesRegister};
 ghost use Rattle.database_places.specs.Opening.{is_found};
 
@@ -61,8 +61,9 @@ fn listen_and_serve<D: Disk + Drop, P: Place<D> + Drop, L: Port, O: Observer<L>>
     most: u32,
 ) -> Result<(), PortFault>
     requires { limit ≤ 2 ^ 62 }
-    ensures { IsHonest D.Disk → AnswersSome limit (L.traffic port.old) (L.traffic port.new)
+    ensures answers { IsHonest D.Disk → AnswersSome limit (L.traffic port.old) (L.traffic port.new)
         (parts P.lying process.old) (parts P.lying process.new) (option_map (λ _. most) (result_ok result)) }
+    ensures stays { StaysUp (parts P.lying process.old) (parts P.lying process.new) }
 {
     if let Err(error) = port.listen() {
         return Err(PortFault::Network(error));
@@ -88,6 +89,7 @@ pub fn serve_port<D: Disk + Drop, P: Place<D> + Drop, L: Port, O: Observer<L>>(
     ensures answers { IsHonest D.Disk → AnswersSome limit (L.traffic port.old) (L.traffic port.new)
         (parts P.lying process.old) (parts P.lying process.new) (option_map (λ _. most) (result_ok result)) }
     ensures closed { IsAwake process.old.intake → OnOk result (IsAwake process.new.intake) }
+    ensures stays { StaysUp (parts P.lying process.old) (parts P.lying process.new) }
 {
     for taken in 0..most {
         serve_next(alloc, port, process, observer, limit, most - taken - 1)?;
@@ -108,6 +110,7 @@ fn serve_next<D: Disk + Drop, P: Place<D> + Drop, L: Port, O: Observer<L>>(
     ensures answers { IsHonest D.Disk → AnswersSome limit (L.traffic port.old) (L.traffic port.new)
         (parts P.lying process.old) (parts P.lying process.new) (option_map (λ _. 1) (result_ok result)) }
     ensures closed { IsAwake process.old.intake → OnOk result (IsAwake process.new.intake) }
+    ensures stays { StaysUp (parts P.lying process.old) (parts P.lying process.new) }
 {
     let came = port.accept()?;
     observer.accepted(port);
@@ -130,7 +133,8 @@ fn open_again<D: Disk + Drop, P: Place<D> + Drop, L, O: Observer<L>>(
     limit: u64,
 ) -> Option<OpeningFault>
     requires { limit ≤ 2 ^ 62 }
-    ensures { IsHonest D.Disk → Leaves limit (parts P.lying process.old) (parts P.lying process.new) }
+    ensures leaves { IsHonest D.Disk → Leaves limit (parts P.lying process.old) (parts P.lying process.new) }
+    ensures stays { StaysUp (parts P.lying process.old) (parts P.lying process.new) }
 {
     if process.is_open() || !observer.may_open() {
         return None;
@@ -155,6 +159,7 @@ fn went<D: Disk + Drop, P: Place<D> + Drop>(
         → Leaves limit (parts P.lying process.old) (parts P.lying process.new) }
     ensures failed { outcome ≡ Outcome.Failed → process.new.intake ≡ None }
     ensures others { outcome ≢ Outcome.Failed → process.new ≡ process.old }
+    ensures calls { process.new.refused_calls ≡ process.old.refused_calls }
 {
     match (outcome, refusal) {
         (Outcome::Served, _) => Went::Served,

@@ -5,9 +5,9 @@ use Rattle.filing_model.specs.Request.{firsts}
 use Rattle.register_store.specs.Store.{shows}
 use Rattle.intake_process.proofs.begun.make_intake.Goals as goal
 
-pub returns-in-Ok : goal.returns-in-Ok
+pub returns-in-Ok-clause-made : goal.returns-in-Ok-clause-made
 unfolding firsts
-returns-in-Ok g c = λ clean.
+returns-in-Ok-clause-made g c = λ clean.
     let opened = subst (λ s. HasCleanDisk (shows g.S.Store s)) c.new.ensures.store clean in
     let empty : c.args.conn.schema ≡ no_schema = sym c.schema.ensures.value ∙ c.if-not-is_empty.ensures.0 refl in
     let made = c.in-Ok.ensures.outcome.made opened empty in (

@@ -7,6 +7,7 @@ use Rattle.intake_process.specs.Process.{parts}
 use Rattle.intake_process.specs.Turns.{AnswersSome}
 use Rattle.intake_process.proofs.Keeping.{awake}
 use Rattle.intake_process.proofs.Turns.{none, one, between, same}
+use Rattle.intake_process.proofs.Up as up
 use Rattle.intake_process.proofs.serving.serve_next.Goals as goal
 
 pub returns-in_err-came-clause-answers : goal.returns-in_err-came-clause-answers
@@ -21,7 +22,7 @@ returns-in_err-end-clause-answers g c = λ honest.
     let first = parts g.P.Place.lying c.open_again-refusal.new.process in
     let last = parts g.P.Place.lying c.answer-answered.new.self in
     subst (λ taken. AnswersSome c.args.limit (g.L.Port.traffic c.args.port.now) (g.L.Port.traffic c.end.new.self) old last taken) (sym (ap (option_map (λ _. 1)) (none_told c.from_residual-in_err-end.result c.from_residual-in_err-end.ensures.0)))
-    (between c.args.limit (g.L.Port.traffic c.args.port.now) (g.L.Port.traffic c.end.new.self) old first last last None (c.open_again-refusal.ensures honest)
+    (between c.args.limit (g.L.Port.traffic c.args.port.now) (g.L.Port.traffic c.end.new.self) old first last last None (up.after old first last c.open_again-refusal.ensures.stays (up.answered (wire g.L.Reader.Source g.L.Writer.Sink c.in-Some.reader c.in-Some.writer) (wire g.L.Reader.Source g.L.Writer.Sink c.answer-answered.new.reader c.answer-answered.new.writer) first last c.answer-answered.result c.answer-answered.ensures)) (c.open_again-refusal.ensures.leaves honest)
     (one c.args.limit honest (g.L.Port.traffic c.args.port.now) (g.L.Port.traffic c.accept.new.self) (g.L.Port.traffic c.end.new.self) (wire g.L.Reader.Source g.L.Writer.Sink c.in-Some.reader c.in-Some.writer)
     (wire g.L.Reader.Source g.L.Writer.Sink c.answer-answered.new.reader c.answer-answered.new.writer) first last c.answer-answered.result None (rw c.in-Some.is at c.in_ok-came.ensures) c.answer-answered.ensures c.end.ensures.coming tt)
     (same c.args.limit last))
@@ -31,7 +32,9 @@ returns-in_ok-end-clause-answers g c = λ honest.
     let old = parts g.P.Place.lying c.args.process.now in
     let first = parts g.P.Place.lying c.open_again-refusal.new.process in
     let last = parts g.P.Place.lying c.answer-answered.new.self in
-    between c.args.limit (g.L.Port.traffic c.args.port.now) (g.L.Port.traffic c.end.new.self) old first last (parts g.P.Place.lying c.went.new.process) (Some 1) (c.open_again-refusal.ensures honest)
+    let new = parts g.P.Place.lying c.went.new.process in
+    let stays = up.went (wire g.L.Reader.Source g.L.Writer.Sink c.in-Some.reader c.in-Some.writer) (wire g.L.Reader.Source g.L.Writer.Sink c.answer-answered.new.reader c.answer-answered.new.writer) first last new c.answer-answered.result c.answer-answered.ensures (λ other. ap (parts g.P.Place.lying) (c.went.ensures.others other)) c.went.ensures.calls in
+    between c.args.limit (g.L.Port.traffic c.args.port.now) (g.L.Port.traffic c.end.new.self) old first last new (Some 1) (λ u. up.until first last new c.went.ensures.calls (up.after old first new c.open_again-refusal.ensures.stays stays u)) (c.open_again-refusal.ensures.leaves honest)
     (one c.args.limit honest (g.L.Port.traffic c.args.port.now) (g.L.Port.traffic c.accept.new.self) (g.L.Port.traffic c.end.new.self) (wire g.L.Reader.Source g.L.Writer.Sink c.in-Some.reader c.in-Some.writer)
     (wire g.L.Reader.Source g.L.Writer.Sink c.answer-answered.new.reader c.answer-answered.new.writer) first last c.answer-answered.result (Some 1) (rw c.in-Some.is at c.in_ok-came.ensures) c.answer-answered.ensures c.end.ensures.coming (refl, c.in_ok-end.ensures.over))
     (c.went.ensures.leaves honest c.args.limit)
@@ -45,3 +48,25 @@ pub returns-in_ok-end-clause-closed : goal.returns-in_ok-end-clause-closed
 returns-in_ok-end-clause-closed g c = λ _.
     awake (wire g.L.Reader.Source g.L.Writer.Sink c.in-Some.reader c.in-Some.writer) (wire g.L.Reader.Source g.L.Writer.Sink c.answer-answered.new.reader c.answer-answered.new.writer) c.open_again-refusal.new.process.intake c.answer-answered.new.self.intake c.went.new.process.intake
     c.answer-answered.result c.answer-answered.ensures.0 c.went.ensures.failed (λ other. ap (λ process. process.intake) (c.went.ensures.others other))
+
+pub returns-in_err-end-clause-stays : goal.returns-in_err-end-clause-stays
+returns-in_err-end-clause-stays g c =
+    let first = parts g.P.Place.lying c.open_again-refusal.new.process in
+    let last = parts g.P.Place.lying c.answer-answered.new.self in
+    up.join (parts g.P.Place.lying c.args.process.now) first last c.open_again-refusal.ensures.stays
+    (up.answered (wire g.L.Reader.Source g.L.Writer.Sink c.in-Some.reader c.in-Some.writer) (wire g.L.Reader.Source g.L.Writer.Sink c.answer-answered.new.reader c.answer-answered.new.writer) first last c.answer-answered.result c.answer-answered.ensures)
+
+pub returns-in_ok-end-clause-stays : goal.returns-in_ok-end-clause-stays
+returns-in_ok-end-clause-stays g c =
+    let first = parts g.P.Place.lying c.open_again-refusal.new.process in
+    let last = parts g.P.Place.lying c.answer-answered.new.self in
+    let new = parts g.P.Place.lying c.went.new.process in
+    up.join (parts g.P.Place.lying c.args.process.now) first new c.open_again-refusal.ensures.stays
+    (up.went (wire g.L.Reader.Source g.L.Writer.Sink c.in-Some.reader c.in-Some.writer) (wire g.L.Reader.Source g.L.Writer.Sink c.answer-answered.new.reader c.answer-answered.new.writer) first last new c.answer-answered.result c.answer-answered.ensures
+    (λ other. ap (parts g.P.Place.lying) (c.went.ensures.others other)) c.went.ensures.calls)
+
+pub returns-in_err-came-clause-stays : goal.returns-in_err-came-clause-stays
+returns-in_err-came-clause-stays g c = up.same (parts g.P.Place.lying c.args.process.now)
+
+pub returns-in_default-clause-stays : goal.returns-in_default-clause-stays
+returns-in_default-clause-stays g c = up.same (parts g.P.Place.lying c.args.process.now)

@@ -1,10 +1,24 @@
-use Rattle.std.proofs.Common.{None, Some}
+use Rattle.std.proofs.Common.{None, Some, refl}
+use Rattle.database_places.specs.Opening.{is_found}
 use Rattle.intake_process.specs.Process.{parts}
-use Rattle.intake_process.proofs.Turns.{between, same}
+use Rattle.intake_process.proofs.Turns.{between, same, not_opened, while_open}
+use Rattle.intake_process.proofs.Up.{until}
 use Rattle.intake_process.proofs.serving.serve_register.Goals as goal
+
+pub returns-in-Err : goal.returns-in-Err
+returns-in-Err g c =
+    let old = parts g.P.Place.lying c.args.process.now in
+    let new = parts g.P.Place.lying c.open.new.self in
+    record {
+      found = λ honest is. not_opened c.args.limit (g.L.Port.traffic c.args.port.now) old new c.in-Err.ensures.calls (c.in-Err.ensures.leaves honest is);
+      made = λ honest is closed known. tt;
+      closed = c.in-Err.ensures.refused;
+      steps = (c.in-Err.ensures, refl);
+    }
 
 pub returns-in-Ok-served : goal.returns-in-Ok-served
 returns-in-Ok-served g c =
+    let has = is_found c.args.opening in
     let port = g.L.Port.traffic c.args.port.now in
     let port' = g.L.Port.traffic c.listen_and_serve-served.new.port in
     let old = parts g.P.Place.lying c.args.process.now in
@@ -12,17 +26,28 @@ returns-in-Ok-served g c =
     let served = parts g.P.Place.lying c.listen_and_serve-served.new.process in
     let new = parts g.P.Place.lying c.close.new.self in
     record {
-      found = λ honest is. between c.args.limit port port' old opened served new (Some c.args.most) (c.in-Ok.ensures.leaves honest is) (c.in-Ok-served.ensures honest) (c.close.ensures.leaves honest c.args.limit);
+      found = λ honest is. between c.args.limit port port' old opened served new (Some c.args.most) (while_open c.args.limit has old opened served new c.in-Ok.totals c.close.result c.in-Ok.ensures c.close.ensures) (c.in-Ok.ensures.leaves honest is) (c.in-Ok-served.ensures.answers honest) (c.close.ensures.leaves honest c.args.limit);
       made = λ honest is closed known. (
         opened,
         c.in-Ok.ensures.made honest is closed known,
-        between c.args.limit port port' opened opened served new (Some c.args.most) (same c.args.limit opened) (c.in-Ok-served.ensures honest) (c.close.ensures.leaves honest c.args.limit),
+        between c.args.limit port port' opened opened served new (Some c.args.most) (until opened served new c.close.ensures.calls) (same c.args.limit opened) (c.in-Ok-served.ensures.answers honest) (c.close.ensures.leaves honest c.args.limit),
       );
       closed = c.close.ensures.is_closed;
+      steps = record {
+        totals = c.in-Ok.totals;
+        opened = opened;
+        last = served;
+        closed = c.close.result;
+        opens = c.in-Ok.ensures;
+        answers = c.in-Ok-served.ensures.answers;
+        stays = c.listen_and_serve-served.ensures.stays;
+        closes = c.close.ensures;
+      };
     }
 
 pub returns-in-Err-served : goal.returns-in-Err-served
 returns-in-Err-served g c =
+    let has = is_found c.args.opening in
     let port = g.L.Port.traffic c.args.port.now in
     let port' = g.L.Port.traffic c.listen_and_serve-served.new.port in
     let old = parts g.P.Place.lying c.args.process.now in
@@ -30,7 +55,17 @@ returns-in-Err-served g c =
     let served = parts g.P.Place.lying c.listen_and_serve-served.new.process in
     let new = parts g.P.Place.lying c.close.new.self in
     record {
-      found = λ honest is. between c.args.limit port port' old opened served new None (c.in-Ok.ensures.leaves honest is) (c.in-Err-served.ensures honest) (c.close.ensures.leaves honest c.args.limit);
+      found = λ honest is. between c.args.limit port port' old opened served new None (while_open c.args.limit has old opened served new c.in-Ok.totals c.close.result c.in-Ok.ensures c.close.ensures) (c.in-Ok.ensures.leaves honest is) (c.in-Err-served.ensures.answers honest) (c.close.ensures.leaves honest c.args.limit);
       made = λ honest is closed known. tt;
       closed = c.close.ensures.is_closed;
+      steps = record {
+        totals = c.in-Ok.totals;
+        opened = opened;
+        last = served;
+        closed = c.close.result;
+        opens = c.in-Ok.ensures;
+        answers = c.in-Err-served.ensures.answers;
+        stays = c.listen_and_serve-served.ensures.stays;
+        closes = c.close.ensures;
+      };
     }
