@@ -1,8 +1,9 @@
 -- What is printed of reports; own rules. `out` and `out'` are what the output has before and after, where that is known.
-use Rattle.std.specs.Prelude.{◌≡◌, ◌⊎◌, ◌||◌, ℕ, Bool, true, false, List, [], ◌∷◌, ◌++◌, map, Option, Result, Ok, Err, IfOk, IfErr, OnOk}
+use Rattle.std.specs.Prelude.{◌≡◌, ◌⊎◌, ◌||◌, ℕ, Bool, true, false, List, [], ◌∷◌, ◌++◌, map, Option, Result, Ok, Err, IfOk, IfErr, OnOk, if◌then◌else◌}
 use Rattle.std.specs.Io.KnownBytes.{Appends}
+use Rattle.key_string.specs.Filer.{is_filer}
 use Rattle.command_line.specs.declared.fault.CommandFault.{CommandFault}
-use Rattle.command_line.specs.declared.fault.CommandFault.TheVariants.{Output}
+use Rattle.command_line.specs.declared.fault.CommandFault.TheVariants.{Filer, Output}
 use Rattle.finding_lines.specs.Lines.{TellsOf}
 use Rattle.finding_lines.specs.declared.form.Form.{Form}
 use Rattle.xbrl_report.specs.Findings.{findings}
@@ -64,3 +65,13 @@ LintsFiles form filer names out out' (Err fault) =
     (fault ≡ Command Output)
     ⊎ ((reports : List Read) × (next : List ℕ) × (rest : List (List ℕ)) × (names ≡ names_of reports ++ next ∷ rest)
     × PrintsEach form filer reports out out')
+
+-- ---- the status
+
+-- The code is no filer's, and nothing is done; or the files are looked at, and the status is 1 exactly if one has a finding.
+abbrev pub LintsReports : Form → List ℕ → List (List ℕ) → Option (List ℕ) → Option (List ℕ) → Result ℕ LintFault → Type 0
+LintsReports form filer names out out' (Ok status) =
+    (is_filer filer ≡ true) × (found : Bool) × LintsFiles form filer names out out' (Ok found) × (status ≡ (if found then 1 else 0))
+LintsReports form filer names out out' (Err fault) =
+    ((is_filer filer ≡ false) × (fault ≡ Command Filer) × (out' ≡ out))
+    ⊎ ((is_filer filer ≡ true) × LintsFiles form filer names out out' (Err fault))

@@ -7,4 +7,4 @@ mod linting;
 
 pub use fault::LintFault;
 pub use finding_lines::Form;
-pub use linting::{lint, lint_files};
+pub use linting::lint_reports;

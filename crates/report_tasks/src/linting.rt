@@ -1,15 +1,19 @@
 //! What is wrong with reports is printed.
 
 ghost use Rattle.std.specs.Prelude.{map};
-ghost use Rattle.report_tasks.specs.Linting.{FindsIn, LintsFile, LintsFiles};
+ghost use Rattle.report_tasks.specs.Linting.{FindsIn, LintsFile, LintsFiles, LintsReports};
 
 use crate::fault::LintFault;
 use command_files::report;
-use command_line::{CommandFault, show};
+use command_line::{CommandFault, DONE, show};
 use finding_lines::{Form, lines};
+use key_string::is_filer;
 use std::alloc::Global;
 use std::io::Write;
 use xbrl_report::{Judged, judge};
+
+/// The status if something is found in a report.
+const FOUND: u8 = 1;
 
 /// Prints a line for each finding of the report of this filer in the file of this name, and answers whether there is one.
 pub fn lint<'a, O: Write>(
@@ -47,9 +51,9 @@ fn lint_file<'a, O: Write>(
     Ok(is_found)
 }
 
-/// Prints a line for each finding of the reports of this filer in the files of these names, and answers whether there is
-/// one. It ends at the first file that cannot be read.
-pub fn lint_files<'a, O: Write>(
+/// Does so with the reports in the files of these names, and answers whether one has a finding. It ends at the first file
+/// that cannot be read.
+fn lint_files<'a, O: Write>(
     rt: &HostRuntime,
     form: Form,
     filer: &str,
@@ -65,4 +69,26 @@ pub fn lint_files<'a, O: Write>(
         is_found = is_found || found;
     }
     Ok(is_found)
+}
+
+/// Prints a line for each finding of the reports of the filer with this code in the files of these names, and answers the
+/// status of the program: 1 if there is one, and else 0. It ends at the first file that cannot be read.
+pub fn lint_reports<'a, O: Write>(
+    rt: &HostRuntime,
+    form: Form,
+    filer: &str,
+    files: &[&'a str],
+    output: &mut O,
+) -> Result<u8, LintFault<'a>>
+    ensures { LintsReports form filer.now (map (λ file. file.now) files.now) (O.contents output.old)
+        (O.contents output.new) result }
+{
+    if !is_filer(filer) {
+        return Err(LintFault::Command(CommandFault::Filer));
+    }
+    match lint_files(rt, form, filer, files, output) {
+        Ok(true) => Ok(FOUND),
+        Ok(false) => Ok(DONE),
+        Err(fault) => Err(fault),
+    }
 }
