@@ -1,19 +1,23 @@
 -- A connection that is stopped before the request that is being decided, or after it was.
-use Rattle.std.proofs.Common.{◌≡◌, ◌⊎◌, inl, inr, ℕ, suc, ◌+◌, ◌<◌, true, List, [], ◌∷◌, ◌++◌, length, take, refl, sym, ap, ◌∙◌, subst, arith}
+use Rattle.std.proofs.Common.{◌≡◌, ◌⊎◌, inl, inr, ℕ, suc, ◌+◌, ◌<◌, true, List, [], ◌∷◌, ◌++◌, length, take, refl, sym, ap, ◌∙◌, arith}
 use Rattle.std.proofs.lemmas.Bool.Decides.{nat_tests}
 use Rattle.std.proofs.lemmas.Grind.{common_steps}
 use Rattle.std.proofs.lemmas.List.{length-append}
+use Rattle.sqlite_disk.specs.declared.Disk.{Ghosts}
+use Rattle.sqlite_disk.specs.declared.Files.{Files}
 use Rattle.http_messages.specs.Message.{Arrival, Read, Ending}
 use Rattle.filing_model.specs.declared.served.Mark.{Mark}
 use Rattle.filing_model.specs.declared.served.Mark.TheVariants.{Done}
 use Rattle.filing_model.specs.Request.{Request, has_key, firsts}
 use Rattle.filing_model.specs.Serving.{Keeping, kept_by}
-use Rattle.filing_model.specs.Stopping.{Before, After, IsStopAt, IsStopped, marked, answered}
-use Rattle.filing_model.specs.Text.{Route, FileReport, route, RouteFits, MarkFits, MarksFit, requests_of_route, completed, completed_at, text_with}
+use Rattle.filing_model.specs.Stopping.{Before, After, IsStopped, marked, answered}
+use Rattle.filing_model.specs.Text.{Route, FileReport, route, RouteFits, MarksFit, requests_of_route, completed, completed_at, text_with}
 use Rattle.filing_model.proofs.Appending.{completed-append, AreMarked-append, firsts-kept_by, kept_by-append}
 use Rattle.filing_model.proofs.Firsts.{has_key-firsts}
 use Rattle.filing_model.proofs.Lists.{append_nil}
-use Rattle.crash_recovery.specs.Deciding.{IsDeciding, HasRoom}
+use Rattle.intake_core.specs.Held.{with_request}
+use Rattle.crash_recovery.specs.Deciding.{IsDeciding, HasRoom, StopsAtRequest}
+use Rattle.crash_recovery.specs.Registers.{HoldEitherRegister}
 
 -- marks fit the first of more arrivals
 fit-more : (limit : ℕ) (requests : List Request) (arrivals more : List Arrival) (marks : List Mark) → MarksFit limit requests arrivals marks → MarksFit limit requests (arrivals ++ more) marks
@@ -62,8 +66,11 @@ module _ (requests : Keeping) (bytes : List ℕ) (marks : List Mark) (out : List
       let same : completed up_to (marks ++ []) ≡ completed is.arrivals marks ++ [] = completed-append is.arrivals marks (last ∷ []) [] is.marked.all in
       is.kept ∙ ap (kept_by requests.before) (sym (append_nil (completed is.arrivals marks)) ∙ sym same ∙ ap (completed up_to) (append_nil marks))
 
+  next : suc (length marks) ≡ length marks + 1
+  next = omega arith
+
   -- the request was not decided
-  pub stopped_before : IsStopped requests bytes (Before (suc (length marks))) marks out
+  stopped_before : IsStopped requests bytes (Before (suc (length marks))) marks out
   stopped_before = record {
     arrivals = up_to;
     begins = is.begins;
@@ -103,7 +110,7 @@ module _ (requests : Keeping) (bytes : List ℕ) (marks : List Mark) (out : List
         ap (λ rs. kept_by rs (r ∷ [])) is.kept ∙ kept_by-append requests.before (completed is.arrivals marks) (r ∷ [])
         ∙ ap (kept_by requests.before) (sym (completed-append is.arrivals marks (last ∷ []) (Done ∷ []) is.marked.all ∙ ap (λ rs. completed is.arrivals marks ++ rs) completed-last))
 
-    pub stopped_after : IsStopped (record requests { after = firsts (requests.after ++ r ∷ []) }) bytes (After (suc (length marks))) (marks ++ Done ∷ []) out
+    stopped_after : IsStopped (record requests { after = firsts (requests.after ++ r ∷ []) }) bytes (After (suc (length marks))) (marks ++ Done ∷ []) out
     unfolding all_completed
     stopped_after = record {
       arrivals = up_to;
@@ -114,3 +121,8 @@ module _ (requests : Keeping) (bytes : List ℕ) (marks : List Mark) (out : List
       written = written-up (Done ∷ []) (answered (After (suc (length marks))) (length up_to)) (ap (answered (After (suc (length marks)))) up_to-length ∙ answered-after (length marks));
       kept = kept-after;
     }
+
+    -- whichever of both registers the files hold
+    pub stops_at_request : {D : Type 0} (g : Ghosts D) (files : Files D) (early : ℕ) → HoldEitherRegister g files early requests.after (with_request requests.after r) → StopsAtRequest g files early requests bytes marks out r
+    stops_at_request g files early (inl held) = inl (record { stopped = rw (sym next) stopped_before; held = held })
+    stops_at_request g files early (inr held) = inr (record { stopped = rw (sym next) stopped_after; held = held })

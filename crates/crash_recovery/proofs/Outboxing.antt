@@ -1,5 +1,5 @@
 -- What an outbox leaves in its files, and what an opening finds there.
-use Rattle.std.proofs.Common.{◌≡◌, ◌⊎◌, inl, inr, ℕ, List, Some, Result, Ok, Err, IsTrue, IfOk, sym, subst}
+use Rattle.std.proofs.Common.{◌≡◌, ◌⊎◌, inl, inr, ℕ, Some, Result, Ok, Err, IsTrue, IfOk, sym, subst}
 use Rattle.sqlite_disk.specs.declared.Disk.{Ghosts}
 use Rattle.sqlite_disk.specs.declared.Files.{Files}
 use Rattle.sqlite_wal.proofs.LogLemmas.{SeenMayStay}

@@ -50,4 +50,5 @@ module _ {D : Type 0} {g : Ghosts D} where
 
   -- An opening failed for memory, for the disk or for a limit of the format, and not for what the files hold.
   abbrev pub FailsForCause : Files D → Leftover D g → Error → Type 0
-  FailsForCause files left error = (error ≡ SqliteFailure OutOfMemory) ⊎ (MoreFaults (faults_of g files) (faults_left left) ⊎ IsFullLeft left)
+  FailsForCause files left error =
+      (error ≡ SqliteFailure OutOfMemory) ⊎ (MoreFaults (faults_of g files) (faults_left left) ⊎ IsFullLeft left)

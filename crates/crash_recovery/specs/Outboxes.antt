@@ -33,5 +33,6 @@ HoldMovedOutbox g files before id reply =
 -- The connection is to the outbox of these contents, and an outbox that is opened over it has these entries and no others.
 pub record OpensAsOutbox {D : Type 0} {g : Ghosts D} (conn : Held (FileStore D g)) (it : Contents) : Type 0 where
   pub rows : IsOutboxOf it (file_state conn).now
-  pub outbox : (result : Result (OutboxParts (FileStore D g)) (OutboxFault × Held (FileStore D g))) → FindsOrGivesBack over_files conn result
+  pub outbox : (result : Result (OutboxParts (FileStore D g)) (OutboxFault × Held (FileStore D g)))
+      → FindsOrGivesBack over_files conn result
       → IfOk result (λ outbox. (outbox.filer ≡ it.filer) × HasEntries over_files outbox it.entries)

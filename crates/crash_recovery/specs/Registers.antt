@@ -6,7 +6,7 @@ use Rattle.sqlite_store.specs.declared.store.FileStore.{FileStore}
 use Rattle.sqlite.specs.Effect.{Database}
 use Rattle.sqlite.specs.Held.{Held}
 use Rattle.sqlite.specs.Files.{image_of, over_files, file_state, HoldsDatabase}
-use Rattle.filing_model.specs.Request.{Request, firsts}
+use Rattle.filing_model.specs.Request.{Request}
 use Rattle.register_opening.specs.declared.fault.OpenFault.{OpenFault}
 use Rattle.register_opening.specs.Registers.{IsRegisterOf}
 use Rattle.register_store.specs.Store.{StoreParts, HasRequests}

@@ -8,6 +8,8 @@
 //!   database file. The next opening finds them, and fails for memory, for the disk or for a limit of the format alone.
 //! - One that ends inside a call that adds a request, puts an entry in or moves one leaves those of before, or those
 //!   with that one change, and after an answer those with the change.
+//! - A request that was being decided on a connection leaves, by the bytes that came, the marks and what was written,
+//!   what the model of serving has that is stopped before this request or after it.
 //! - The same holds after a close that failed, if the store that the close gave back is numbered, as that of each
 //!   connection is. The contract of the close does not say it of that store.
 //!
@@ -26,7 +28,7 @@
 //! - Of disks that gave back anything else nothing is said.
 #![tactic(auto)]
 
-ghost use Rattle.std.specs.Prelude.{◌⊎◌, ◌++◌, ◌∷◌, ℕ, List, [], Option, Result, IsTrue};
+ghost use Rattle.std.specs.Prelude.{◌≡◌, ◌⊎◌, ◌++◌, ◌∷◌, ℕ, List, [], Option, Result, IsTrue};
 ghost use Rattle.sqlite_disk.specs.declared.Files.{Files};
 ghost use Rattle.sqlite_store.specs.declared.store.FileStore.{FileStore as Stored};
 ghost use Rattle.sqlite.specs.Held.{Held};
@@ -35,9 +37,11 @@ ghost use Rattle.sqlite.specs.declared.error.Error.{Error};
 ghost use Rattle.sqlite.specs.declared.file.Leftover.{Leftover};
 ghost use Rattle.http_messages.specs.Reply.{ReplyParts};
 ghost use Rattle.filing_model.specs.declared.answer.Answer.{Answer};
+ghost use Rattle.filing_model.specs.declared.served.Mark.{Mark};
 ghost use Rattle.filing_model.specs.declared.state.State.{State};
 ghost use Rattle.filing_model.specs.Outbox.{Entry};
-ghost use Rattle.filing_model.specs.Request.{Request};
+ghost use Rattle.filing_model.specs.Request.{Request, firsts};
+ghost use Rattle.filing_model.specs.Serving.{Keeping};
 ghost use Rattle.filing_model.specs.Views.{the_request};
 ghost use Rattle.table_rows.specs.declared.fault.StoreFault.{StoreFault};
 ghost use Rattle.table_rows.specs.Standing.{CommitsNothing, HasCommitted};
@@ -64,6 +68,7 @@ ghost use Rattle.outbox_core.specs.Calls.{PutsEntry, MovesEntry};
 ghost use Rattle.outbox_core.specs.Files.{HoldOutbox};
 ghost use Rattle.database_places.specs.Closing.{IsNotClosed};
 ghost use Rattle.database_places.specs.Opening.{IsFoundIn};
+ghost use Rattle.crash_recovery.specs.Deciding.{HasRoom, IsDeciding, StopsAtRequest};
 ghost use Rattle.crash_recovery.specs.Left.{AreLeftByKill, AreLeftByStop, EndsIn, FailsForCause, IsHonest, IsLastOf};
 ghost use Rattle.crash_recovery.specs.Left.{IsNumbered};
 ghost use Rattle.crash_recovery.specs.Outboxes.{HoldEitherOutbox, HoldMovedOutbox, HoldOutboxWithLog, OpensAsOutbox};
@@ -138,6 +143,16 @@ pub fn a_register_outlives_a_decision<D: Disk + Drop>()
         → DecidesRequest over_files r old new result → IsTrue (intake.shows over_files old).is_open
         → HoldsRequests over_files old requests → EndsIn (store_of new).conn files
         → HoldEitherRegister D.Disk files (early_of old) requests (with_request requests r) }
+{}
+
+/// A register that ends as a request that came on a connection is decided, and for which there is room, holds what the
+/// model has that is stopped at this request, before it is decided or after it.
+pub fn a_decision_that_ends_is_a_stop<D: Disk + Drop>()
+    ensures { (requests : Keeping) (bytes : List ℕ) (marks : List Mark) (out : List ℕ) (r : Request) (files : Files D)
+        (early : ℕ) → IsDeciding requests bytes marks out r → firsts requests.after ≡ requests.after
+        → HasRoom requests.limit requests.after r
+        → HoldEitherRegister D.Disk files early requests.after (with_request requests.after r)
+        → StopsAtRequest D.Disk files early requests bytes marks out r }
 {}
 
 /// An opening of files that hold an outbox by their log and their database file together is to that outbox, and is not
