@@ -5,6 +5,7 @@ use clap::{Arg, ArgAction, ArgMatches, Command, Error, value_parser};
 use command_line::{
     ToArg, VERSION, Word, database_option, filer_option, option, port_option, tasks,
 };
+use intake_tasks::Errand;
 use std::alloc::{AllocError, Global};
 
 /// How many keys are kept at most, if the command line does not say.
@@ -30,19 +31,6 @@ pub struct Serving<'a> {
     pub new: bool,
     /// A line for each connection is printed.
     pub log: bool,
-}
-
-/// What is done with a register that is there.
-#[derive(Clone, Copy)]
-pub enum Errand<'a> {
-    /// Show the filings of a filer.
-    List { filer: &'a str },
-    /// Show the facts of a filing.
-    Show { number: u64 },
-    /// Say whether the register is sound.
-    Check,
-    /// Make a register of an earlier version one of this version.
-    Migrate,
 }
 
 /// What the command line asks for.

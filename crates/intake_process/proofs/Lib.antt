@@ -1,4 +1,6 @@
 mod Away
+mod Errands
 mod Keeping
 mod Turns
 mod Up
+mod Visits

@@ -5,15 +5,19 @@
 #![tactic(auto)]
 
 mod begun;
+mod errand;
 mod fault;
 mod observer;
 mod process;
 mod serving;
 mod turning;
+mod visiting;
 
 pub use begun::Totals;
+pub use errand::ErrandFault;
 pub use fault::OpeningFault;
 pub use observer::{Observer, Went};
 pub use process::{Answered, Closed, IntakeProcess, Outcome};
 pub use serving::{ServingFault, serve_port, serve_register};
 pub use turning::turn_away;
+pub use visiting::Visited;

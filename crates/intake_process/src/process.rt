@@ -78,11 +78,11 @@ fn refused_with(outcome: Outcome, refused_calls: u64) -> u64
 /// The intake of a register that lies in a place: open, or closed.
 #[derive(Drop)]
 pub struct IntakeProcess<D: Disk + Drop, P: Place<D> + Drop> {
-    place: P,
+    pub(crate) place: P,
     /// None while it is closed.
     intake: Option<Intake<FileStore<D>>>,
     /// Whether no close and no opening failed. After one that did, what lies in the place may be what a crash leaves.
-    is_certain: bool,
+    pub(crate) is_certain: bool,
     /// How many calls its database refused, as far as this counts.
     refused_calls: u64,
 }

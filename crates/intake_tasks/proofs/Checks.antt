@@ -2,11 +2,16 @@
 use Rattle.std.proofs.Common.{◌≡◌, Option, List, ℕ, Ok, Err, inr, subst, length}
 use Rattle.std.specs.Io.KnownBytes.{Appends}
 use Rattle.sqlite.specs.Store.{Ghosts}
-use Rattle.sqlite.specs.Held.{Held}
+use Rattle.sqlite.specs.Held.{Held, state}
+use Rattle.sqlite.specs.State.{HasCleanDisk}
+use Rattle.filing_model.specs.Request.{Request}
 use Rattle.filing_model.specs.Register.{register}
+use Rattle.table_rows.specs.Standing.{HasCommitted}
+use Rattle.register_rows.specs.Schema.{IsDeclared}
 use Rattle.register_opening.specs.declared.fault.OpenFault.{OpenFault}
 use Rattle.register_opening.specs.declared.opening.Counts.{Counts}
 use Rattle.register_opening.specs.Opening.{ReadsRegister}
+use Rattle.register_opening.specs.Registers.{ForRows, IsRegisterOf}
 use Rattle.intake_tasks.specs.declared.checking.CheckFault.TheVariants as checking
 use Rattle.intake_tasks.specs.Lines.{sound_line}
 use Rattle.intake_tasks.specs.Tasks.{ChecksRegister}
@@ -16,12 +21,22 @@ named : (out out' : Option (List ℕ)) (kept filings m n : ℕ) → kept ≡ m �
 named out out' kept filings m n kept_is filings_is printed =
     subst (λ k. Appends out out' (sound_line m k)) filings_is (subst (λ k. Appends out out' (sound_line k filings)) kept_is printed)
 
+module _ {S : Type 0} (g : Ghosts S) (old new : Held S) where
+  -- what is counted is a register, and is committed still
+  found_in : (counts : Counts) → ReadsRegister g old new (Ok counts) → HasCleanDisk (state g new) → IsDeclared (state g old).now.schema → (early : ℕ) × (requests : List Request) × IsRegisterOf early requests (state g old).now
+  found_in counts read clean declared = let f = read.found clean declared in (counts.early, f.0, f.1)
+
+  kept_in : (counts : Counts) → ReadsRegister g old new (Ok counts) → HasCleanDisk (state g new) → ForRows g old (λ early requests. HasCommitted (IsRegisterOf early requests) (state g new))
+  kept_in counts read clean early requests stands = (read.only clean early requests stands).1
+
 module _ {S X : Type 0} (g : Ghosts S) (out out' : Option (List ℕ)) (old new : Held S) where
   -- it is refused, and nothing is printed
   pub refusal : (why : OpenFault) → out' ≡ out → ReadsRegister g old new (Err why) → ChecksRegister {S = S} {X = X} g out out' old new (Err (checking.Open why))
   refusal why none read = record {
     sound = λ _ _. tt;
     only = λ _. tt;
+    found = λ _ _. tt;
+    kept = λ _. tt;
     refused = read.refused;
     failed = read.sound;
     quiet = inr none;
@@ -39,6 +54,8 @@ module _ {S X : Type 0} (g : Ghosts S) (out out' : Option (List ℕ)) (old new :
     only = λ clean early requests stands.
         let f = read.only clean early requests stands in
         named out out' counts.kept counts.filings (length requests) (length (register requests)) f.2 f.3 printed;
+    found = found_in g old new counts read;
+    kept = kept_in g old new counts read;
     refused = λ _. tt;
     failed = λ _. tt;
     quiet = tt;

@@ -1,11 +1,11 @@
 -- What the tasks do, and what they print. `out` and `out'` are what the output has before and after a task, where that is known.
-use Rattle.std.specs.Prelude.{◌≡◌, ◌≢◌, ◌⊎◌, ◌↔◌, ℕ, Bool, true, false, List, [], length, Option, Some, None, Result, Err, IfOk, IfErr, OnOk, OnErr}
+use Rattle.std.specs.Prelude.{◌≡◌, ◌≢◌, ◌⊎◌, ◌↔◌, ℕ, Bool, true, false, List, [], length, Option, Some, None, Result, Ok, Err, IfOk, IfErr, OnOk, OnErr}
 use Rattle.std.specs.Io.KnownBytes.{Appends}
 use Rattle.std.specs.Result.{result_map_both}
 use Rattle.sqlite.specs.Store.{Ghosts}
 use Rattle.sqlite.specs.Held.{Held, state}
 use Rattle.sqlite.specs.State.{HasCleanDisk}
-use Rattle.table_rows.specs.Standing.{CommitsNothing, StaysOnOk}
+use Rattle.table_rows.specs.Standing.{HasCommitted, CommitsNothing, StaysOnOk}
 use Rattle.table_rows.specs.declared.fault.StoreFault.{StoreFault}
 use Rattle.http_wire.specs.Wire.{Wire}
 use Rattle.xbrl_report.specs.FactRecord.{FactRecord}
@@ -68,6 +68,12 @@ abbrev pub IfOpen : (OpenFault → Type 0) → CheckFault → Type 0
 IfOpen Holds (checking.Open why) = Holds why
 IfOpen Holds (checking.Text why) = Unit {0}
 
+-- this holds, unless the register is refused: it is sound, and that may not be printed
+abbrev pub UnlessRefused : {X : Type 0} → Result X CheckFault → Type 0 → Type 0
+UnlessRefused (Ok done) Holds = Holds
+UnlessRefused (Err (checking.Text why)) Holds = Holds
+UnlessRefused (Err (checking.Open why)) Holds = Unit {0}
+
 -- What `check` prints: how many requests the rows stand for, and how many of them are filings. Nothing is written to the database.
 pub record ChecksRegister {S X : Type 0} (g : Ghosts S) (out out' : Option (List ℕ)) (old new : Held S) (result : Result X CheckFault) : Type 0 where
   -- There is one such list of requests at most.
@@ -76,6 +82,10 @@ pub record ChecksRegister {S X : Type 0} (g : Ghosts S) (out out' : Option (List
       × Appends out out' (sound_line (length requests) (length (register requests))))
   pub only : HasCleanDisk (state g new)
       → OnOk result (ForRows g old (λ _ requests. Appends out out' (sound_line (length requests) (length (register requests)))))
+  -- Unless it is refused, the tables of a register are a register, and what its rows stand for is committed still.
+  pub found : HasCleanDisk (state g new) → IsDeclared (state g old).now.schema
+      → UnlessRefused result ((early : ℕ) × (requests : List Request) × IsRegisterOf early requests (state g old).now)
+  pub kept : HasCleanDisk (state g new) → UnlessRefused result (ForRows g old (λ early requests. HasCommitted (IsRegisterOf early requests) (state g new)))
   -- A refusal says why. Where the rows stand for requests, it is by memory or disk.
   pub refused : HasCleanDisk (state g new) → IfErr result (IfOpen (λ why. IsRefused g why old new))
   pub failed : HasCleanDisk (state g new) → IfErr result (IfOpen (λ why. ForRows g old (λ _ _. IsFailure why)))

@@ -4,6 +4,7 @@
 #![tactic(auto)]
 
 mod checking;
+mod errand;
 mod linting;
 mod listing;
 mod migrating;
@@ -12,6 +13,7 @@ mod showing;
 mod text;
 
 pub use checking::{CheckFault, Progress, check};
+pub use errand::Errand;
 pub use linting::lint;
 pub use listing::{ListFault, list};
 pub use migrating::{Migrated, migrate};

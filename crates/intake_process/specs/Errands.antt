@@ -1,0 +1,107 @@
+-- Errands to a register: what they print of it, and what becomes of it. `out` and `out'` are what the output has before and after, where that is known.
+use Rattle.std.specs.Prelude.{◌≡◌, ℕ, Bool, true, false, List, length, Option, Some, None, option_map, Result, Ok, Err, IsSome, IfErr}
+use Rattle.std.specs.Io.KnownBytes.{Appends}
+use Rattle.sqlite.specs.Store.{Ghosts}
+use Rattle.sqlite.specs.Held.{Held, state}
+use Rattle.sqlite.specs.Effect.{Database}
+use Rattle.sqlite.specs.Schema.{Schema}
+use Rattle.sqlite.specs.State.{HasCleanDisk, Survives}
+use Rattle.table_rows.specs.Standing.{HasCommitted, CommitsNothing}
+use Rattle.filing_model.specs.Request.{Request, firsts}
+use Rattle.filing_model.specs.Register.{register}
+use Rattle.register_rows.specs.Schema.{IsDeclared}
+use Rattle.register_opening.specs.declared.migrate.earlier.Earlier.{Earlier}
+use Rattle.register_opening.specs.Earlier.{IsAlone, IsEarlierOf}
+use Rattle.register_opening.specs.Faults.{IsFailure}
+use Rattle.register_opening.specs.Migrating.{IsNotMigrated, MigratesTo}
+use Rattle.register_opening.specs.Opening.{IsRefused}
+use Rattle.register_opening.specs.Registers.{IsRegisterOf}
+use Rattle.register_store.specs.Numbered.{facts_numbered}
+use Rattle.intake_tasks.specs.declared.errand.Errand.{Errand}
+use Rattle.intake_tasks.specs.declared.errand.Errand.TheVariants as asked
+use Rattle.intake_tasks.specs.declared.text.TextFault.TheVariants.{Output}
+use Rattle.intake_tasks.specs.Lines.{list_line, fact_lines, sound_line, migrated_line}
+use Rattle.intake_tasks.specs.Tasks.{PrintsNothing}
+use Rattle.intake_process.specs.declared.errand.ErrandFault.{ErrandFault}
+use Rattle.intake_process.specs.declared.errand.ErrandFault.TheVariants as fault
+
+-- ---- an errand to a register
+
+-- what is printed of a register that keeps these requests; none, if no filing has the number that is to be shown
+abbrev pub text_of : Errand → List Request → Option (List ℕ)
+text_of (asked.List filer) requests = Some (list_line filer.now (register requests))
+text_of (asked.Show number) requests = option_map fact_lines (facts_numbered number (register requests))
+text_of asked.Check requests = Some (sound_line (length requests) (length (register requests)))
+text_of asked.Migrate requests = Some migrated_line
+
+-- the database is a register of these requests in the version that the errand is for: an earlier one to be migrated, and else this one
+abbrev pub IsRegisterFor : Errand → ℕ → List Request → Database → Type 0
+IsRegisterFor (asked.List filer) early requests db = IsRegisterOf early requests db
+IsRegisterFor (asked.Show number) early requests db = IsRegisterOf early requests db
+IsRegisterFor asked.Check early requests db = IsRegisterOf early requests db
+IsRegisterFor asked.Migrate early requests db = (form : Earlier) × IsAlone form db.schema × IsEarlierOf form early requests db
+
+-- it has the tables of such a register
+abbrev pub HasTablesFor : Errand → Schema → Type 0
+HasTablesFor (asked.List filer) schema = IsDeclared schema
+HasTablesFor (asked.Show number) schema = IsDeclared schema
+HasTablesFor asked.Check schema = IsDeclared schema
+HasTablesFor asked.Migrate schema = (form : Earlier) × IsAlone form schema
+
+-- Why an errand to such a register is not done: no filing has the number, or memory, the disk or the output failed. What the files say that
+-- gave no database is said of their place.
+abbrev pub MayFail : Errand → List Request → ErrandFault → Type 0
+MayFail asked.Migrate requests (fault.Open why holding) = ⊥
+MayFail asked.Migrate requests (fault.Migrate why holding) = IsFailure why
+MayFail errand requests (fault.Open why holding) = IsFailure why
+MayFail (asked.List filer) requests (fault.List why) = Unit {0}
+MayFail (asked.Show number) requests (fault.Store why) = Unit {0}
+MayFail (asked.Show number) requests (fault.NoFiling missing) = (missing ≡ number) × (text_of (asked.Show number) requests ≡ None)
+MayFail errand requests (fault.Text why) = IsSome (text_of errand requests)
+MayFail errand requests (fault.Files why) = Unit {0}
+MayFail errand requests other = ⊥
+
+-- what comes of it: its text is printed, or nothing, unless the output failed
+abbrev pub Tells : {X : Type 0} → Errand → List Request → Option (List ℕ) → Option (List ℕ) → Result X ErrandFault → Type 0
+Tells errand requests out out' (Ok done) = (text : List ℕ) × (text_of errand requests ≡ Some text) × Appends out out' text
+Tells errand requests out out' (Err why) = MayFail errand requests why × PrintsNothing (fault.Text Output) out out' why
+
+-- ---- an errand to any database
+
+-- the files gave no database, or the database no register
+abbrev pub is_refusal : ErrandFault → Bool
+is_refusal (fault.Files why) = true
+is_refusal (fault.Open why holding) = true
+is_refusal (fault.Migrate why holding) = true
+is_refusal other = false
+
+abbrev pub is_refused : {X : Type 0} → Result X ErrandFault → Bool
+is_refused (Ok done) = false
+is_refused (Err why) = is_refusal why
+
+-- What a fault says of a database. A refusal says why it gave no register, and that nothing was written to it; a crash in a migration leaves
+-- all of it or nothing.
+abbrev pub Says : {S : Type 0} → Ghosts S → Errand → Held S → Held S → ErrandFault → Type 0
+Says g asked.Migrate old new (fault.Open why holding) = ⊥
+Says g asked.Migrate old new (fault.Migrate why holding) =
+    (HasCleanDisk (state g new) → IsNotMigrated g why old new) × Survives (state g old) (state g new) (MigratesTo g old)
+Says g errand old new (fault.Open why holding) = (HasCleanDisk (state g new) → IsRefused g why old new) × CommitsNothing (state g old) (state g new)
+Says g (asked.List filer) old new (fault.List why) = Unit {0}
+Says g (asked.Show number) old new (fault.Store why) = Unit {0}
+Says g (asked.Show number) old new (fault.NoFiling missing) = missing ≡ number
+Says g errand old new (fault.Text why) = Unit {0}
+Says g errand old new other = ⊥
+
+-- What an errand does with a connection to a database. What is said of rows holds where the disk is clean at the end.
+pub record RunsErrand {S X : Type 0} (g : Ghosts S) (errand : Errand) (out out' : Option (List ℕ)) (old new : Held S) (result : Result X ErrandFault) : Type 0 where
+  -- Of a register of these requests its text is printed, and they are committed afterwards as a register of this version.
+  pub told : HasCleanDisk (state g new) → (early : ℕ) (requests : List Request) → firsts requests ≡ requests → IsRegisterFor errand early requests (state g old).now
+      → Tells errand requests out out' result
+  pub kept : HasCleanDisk (state g new) → is_refused result ≡ false
+      → (early : ℕ) (requests : List Request) → firsts requests ≡ requests → IsRegisterFor errand early requests (state g old).now
+      → HasCommitted (IsRegisterOf early requests) (state g new)
+  -- Unless it is refused, a database with the tables of a register is one.
+  pub found : HasCleanDisk (state g new) → is_refused result ≡ false → HasTablesFor errand (state g old).now.schema
+      → (early : ℕ) × (requests : List Request) × IsRegisterFor errand early requests (state g old).now
+  pub refused : IfErr result (Says g errand old new)
+  pub quiet : IfErr result (PrintsNothing (fault.Text Output) out out')

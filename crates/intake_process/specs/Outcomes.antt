@@ -1,0 +1,24 @@
+-- What comes of an errand whose task came out so.
+use Rattle.std.specs.Prelude.{ℕ, Result, Ok, Err}
+use Rattle.intake_tasks.specs.declared.listing.ListFault.{ListFault}
+use Rattle.intake_tasks.specs.declared.listing.ListFault.TheVariants as listing
+use Rattle.intake_tasks.specs.declared.showing.ShowFault.{ShowFault}
+use Rattle.intake_tasks.specs.declared.showing.ShowFault.TheVariants as showing
+use Rattle.intake_tasks.specs.declared.text.TextFault.{TextFault}
+use Rattle.intake_process.specs.declared.errand.ErrandFault.{ErrandFault}
+use Rattle.intake_process.specs.declared.errand.ErrandFault.TheVariants as fault
+
+abbrev pub listed_as : {X : Type 0} → Result X ListFault → Result X ErrandFault
+listed_as (Ok done) = Ok done
+listed_as (Err (listing.Intake why)) = Err (fault.List why)
+listed_as (Err (listing.Text why)) = Err (fault.Text why)
+
+abbrev pub shown_as : {X : Type 0} → ℕ → Result X ShowFault → Result X ErrandFault
+shown_as number (Ok done) = Ok done
+shown_as number (Err showing.NoFiling) = Err (fault.NoFiling number)
+shown_as number (Err (showing.Store why)) = Err (fault.Store why)
+shown_as number (Err (showing.Text why)) = Err (fault.Text why)
+
+abbrev pub printed_as : {X : Type 0} → Result X TextFault → Result X ErrandFault
+printed_as (Ok done) = Ok done
+printed_as (Err why) = Err (fault.Text why)

@@ -1,0 +1,203 @@
+//! An errand to the register that a database is. This is written over any store, since each function that names a store
+//! in files, where it calls such code, costs much to prove.
+
+ghost use Rattle.std.specs.Prelude.{◌≡◌};
+ghost use Rattle.table_rows.specs.Standing.{IsAtRest};
+ghost use Rattle.intake_process.specs.Errands.{RunsErrand, is_refusal};
+ghost use Rattle.intake_process.specs.Outcomes.{listed_as, shown_as, printed_as};
+
+use command_files::{Holding, held_in};
+use command_line::DatabaseFault;
+use intake_core::{Intake, Unavailable};
+use intake_tasks::{
+    CheckFault, Errand, ListFault, Migrated, Progress, ShowFault, TextFault, check, list, migrate,
+    show,
+};
+use register_store::{OpenFault, Store, StoreFault};
+use sqlite::{Alter, Connection};
+use std::alloc::Global;
+use std::io::Write;
+
+/// The limit of an intake that keeps no request more.
+const NO_MORE: u64 = 0;
+
+/// Why an errand to a register is not done.
+#[derive(Clone, Copy, Debug)]
+pub enum ErrandFault {
+    /// The files gave no database. The fault does not go by the bytes of the file.
+    Files(DatabaseFault),
+    /// The database gave no register, and this is what it holds.
+    Open(OpenFault, Holding),
+    /// The database gave no register of an earlier version, and this is what it holds.
+    Migrate(OpenFault, Holding),
+    /// The filings are not told.
+    List(Unavailable),
+    /// The register was not read.
+    Store(StoreFault),
+    /// There is no filing of this number.
+    NoFiling { number: u64 },
+    /// The text is not printed.
+    Text(TextFault),
+}
+
+impl ErrandFault {
+    /// Whether the files gave no database, or the database no register.
+    pub(crate) fn is_refusal(self) -> bool
+        ensures { result ≡ is_refusal self }
+    {
+        match self {
+            ErrandFault::Files(_) => true,
+            ErrandFault::Open(_, _) => true,
+            ErrandFault::Migrate(_, _) => true,
+            _ => false,
+        }
+    }
+
+    /// Whether the database is none of ours.
+    pub(crate) fn is_of_others(self) -> bool {
+        matches!(
+            self,
+            ErrandFault::Open(OpenFault::NotOurs, _) | ErrandFault::Migrate(OpenFault::NotOurs, _)
+        )
+    }
+}
+
+/// What comes of an errand whose list came out so.
+fn listed_as(listed: Result<(), ListFault>) -> Result<(), ErrandFault>
+    ensures { result ≡ listed_as listed }
+{
+    match listed {
+        Ok(()) => Ok(()),
+        Err(ListFault::Intake(fault)) => Err(ErrandFault::List(fault)),
+        Err(ListFault::Text(fault)) => Err(ErrandFault::Text(fault)),
+    }
+}
+
+/// What comes of an errand to show the filing of this number that came out so.
+fn shown_as(number: u64, shown: Result<(), ShowFault>) -> Result<(), ErrandFault>
+    ensures { result ≡ shown_as number shown }
+{
+    match shown {
+        Ok(()) => Ok(()),
+        Err(ShowFault::NoFiling) => Err(ErrandFault::NoFiling { number }),
+        Err(ShowFault::Store(fault)) => Err(ErrandFault::Store(fault)),
+        Err(ShowFault::Text(fault)) => Err(ErrandFault::Text(fault)),
+    }
+}
+
+/// What comes of an errand whose text was printed so.
+fn printed_as(printed: Result<(), TextFault>) -> Result<(), ErrandFault>
+    ensures { result ≡ printed_as printed }
+{
+    match printed {
+        Ok(()) => Ok(()),
+        Err(fault) => Err(ErrandFault::Text(fault)),
+    }
+}
+
+/// Does an errand to the register that this database is, and gives the connection back. Progress is told how far a check
+/// is.
+pub(crate) fn run_errand<S: Alter + Drop, P: Progress, O: Write>(
+    alloc: Global,
+    conn: Connection<S>,
+    errand: Errand<'_>,
+    progress: &mut P,
+    output: &mut O,
+) -> (Connection<S>, Result<(), ErrandFault>)
+    requires { IsAtRest conn }
+    ensures { RunsErrand S.Store errand.entry (O.contents output.old) (O.contents output.new) conn result.0 result.1 }
+{
+    match errand {
+        Errand::List { filer } => list_filings(alloc, conn, filer, output),
+        Errand::Show { number } => show_filing(alloc, conn, number, output),
+        Errand::Check => check_register(alloc, conn, progress, output),
+        Errand::Migrate => migrate_register(alloc, conn, output),
+    }
+}
+
+/// Prints the filings of a filer.
+fn list_filings<S: Alter + Drop, O: Write>(
+    alloc: Global,
+    conn: Connection<S>,
+    filer: &str,
+    output: &mut O,
+) -> (Connection<S>, Result<(), ErrandFault>)
+    requires { IsAtRest conn }
+    ensures { RunsErrand S.Store (Errand.List filer.entry) (O.contents output.old) (O.contents output.new) conn
+        result.0 result.1 }
+{
+    match Store::open_or_back(alloc, conn) {
+        Ok(register) => {
+            let mut intake = Intake::new(alloc, register, NO_MORE);
+            let listed = list(alloc, &mut intake, filer, output);
+            (intake.into_store().into_conn(), listed_as(listed))
+        }
+        Err((fault, back)) => {
+            let holding = held_in(&back);
+            (back, Err(ErrandFault::Open(fault, holding)))
+        }
+    }
+}
+
+/// Prints the facts of a filing.
+fn show_filing<S: Alter + Drop, O: Write>(
+    alloc: Global,
+    conn: Connection<S>,
+    number: u64,
+    output: &mut O,
+) -> (Connection<S>, Result<(), ErrandFault>)
+    requires { IsAtRest conn }
+    ensures { RunsErrand S.Store (Errand.Show number) (O.contents output.old) (O.contents output.new) conn
+        result.0 result.1 }
+{
+    match Store::open_or_back(alloc, conn) {
+        Ok(mut register) => {
+            let shown = show(alloc, &mut register, number, output);
+            (register.into_conn(), shown_as(number, shown))
+        }
+        Err((fault, back)) => {
+            let holding = held_in(&back);
+            (back, Err(ErrandFault::Open(fault, holding)))
+        }
+    }
+}
+
+/// Checks the register, and prints how much it holds, if it is sound.
+fn check_register<S: Alter + Drop, P: Progress, O: Write>(
+    alloc: Global,
+    mut conn: Connection<S>,
+    progress: &mut P,
+    output: &mut O,
+) -> (Connection<S>, Result<(), ErrandFault>)
+    requires { IsAtRest conn }
+    ensures { RunsErrand S.Store Errand.Check (O.contents output.old) (O.contents output.new) conn
+        result.0 result.1 }
+{
+    match check(alloc, &mut conn, progress, output) {
+        Ok(()) => (conn, Ok(())),
+        Err(CheckFault::Text(fault)) => (conn, Err(ErrandFault::Text(fault))),
+        Err(CheckFault::Open(fault)) => {
+            let holding = held_in(&conn);
+            (conn, Err(ErrandFault::Open(fault, holding)))
+        }
+    }
+}
+
+/// Makes a register of an earlier version one of this version, and prints that it is.
+fn migrate_register<S: Alter + Drop, O: Write>(
+    alloc: Global,
+    conn: Connection<S>,
+    output: &mut O,
+) -> (Connection<S>, Result<(), ErrandFault>)
+    requires { IsAtRest conn }
+    ensures { RunsErrand S.Store Errand.Migrate (O.contents output.old) (O.contents output.new) conn
+        result.0 result.1 }
+{
+    match migrate(alloc, conn, output) {
+        Ok(Migrated { register, printed }) => (register.into_conn(), printed_as(printed)),
+        Err((fault, back)) => {
+            let holding = held_in(&back);
+            (back, Err(ErrandFault::Migrate(fault, holding)))
+        }
+    }
+}

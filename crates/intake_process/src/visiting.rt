@@ -1,0 +1,121 @@
+//! A visit to the register that lies in a place: it is opened, an errand to it is done, and it is closed.
+
+ghost use Rattle.std.specs.Prelude.{◌≡◌, None};
+ghost use Rattle.sqlite_disk.specs.declared.Files.{Files as Pair};
+ghost use Rattle.database_places.specs.Places.{Leaves};
+ghost use Rattle.intake_process.specs.Errands.{is_refused};
+ghost use Rattle.intake_process.specs.Process.{parts};
+ghost use Rattle.intake_process.specs.Visits.{IsLeftIn, VisitsPlace, VisitsRegister, is_doubtful};
+
+use crate::errand::{ErrandFault, run_errand};
+use crate::process::IntakeProcess;
+use database_places::{Cache, Opening, Place, close, give_up, open, remove_new_log};
+use intake_tasks::{Errand, Progress};
+use sqlite::{Connection, Error, FileStore};
+use sqlite_disk::Disk;
+use std::alloc::Global;
+use std::io::Write;
+
+/// What a visit to a register came to.
+#[derive(Drop)]
+pub struct Visited {
+    /// What came of the errand.
+    pub done: Result<(), ErrandFault>,
+    /// Why what was committed is not all in the database file, but in the log still, if it isn't.
+    pub closed: Result<(), Error>,
+}
+
+impl Visited {
+    /// Whether no register was opened, or it was not closed.
+    fn is_doubtful(&self) -> bool
+        ensures { result ≡ is_doubtful self.now }
+    {
+        is_refused(&self.done) || self.closed.is_err()
+    }
+}
+
+/// Whether an errand came out so for which no register was opened.
+fn is_refused(done: &Result<(), ErrandFault>) -> bool
+    ensures { result ≡ is_refused done.now }
+{
+    match done {
+        Ok(()) => false,
+        Err(fault) => fault.is_refusal(),
+    }
+}
+
+/// Whether an errand came out so since the database is none of ours.
+fn is_of_others(done: &Result<(), ErrandFault>) -> bool {
+    match done {
+        Ok(()) => false,
+        Err(fault) => fault.is_of_others(),
+    }
+}
+
+/// Leaves the files of a connection with which an errand came out so in a place: closed, or given up, if it was refused.
+/// Beside a file that is none of ours no log is left that was not there before.
+fn leave<D: Disk + Drop, P: Place<D>>(
+    place: &mut P,
+    conn: Connection<FileStore<D>>,
+    done: &Result<(), ErrandFault>,
+    had_log: bool,
+) -> Result<(), Error>
+    ensures { (files : Pair D) × Leaves (P.lying place.old) (P.lying place.new) files
+        × IsLeftIn (is_refused done.now) conn files result }
+{
+    if !is_refused(done) {
+        return close(place, conn);
+    }
+    give_up(place, conn);
+    if is_of_others(done) {
+        remove_new_log(place, had_log);
+    }
+    Ok(())
+}
+
+/// Opens the database that lies in a place, does an errand to the register that it is, and closes it.
+fn visit_place<D: Disk + Drop, P: Place<D>, G: Progress, O: Write>(
+    alloc: Global,
+    place: &mut P,
+    errand: Errand<'_>,
+    progress: &mut G,
+    output: &mut O,
+) -> Visited
+    ensures { VisitsPlace D.Disk errand.entry (O.contents output.old) (O.contents output.new)
+        (P.lying place.old) (P.lying place.new) result }
+{
+    let had_log = place.has_log();
+    match open(alloc, place, Opening::Found(Cache::OfTheFile)) {
+        Ok(conn) => {
+            let (left, done) = run_errand(alloc, conn, errand, progress, output);
+            let closed = leave(place, left, &done, had_log);
+            Visited { done, closed }
+        }
+        Err(fault) => Visited {
+            done: Err(ErrandFault::Files(fault)),
+            closed: Ok(()),
+        },
+    }
+}
+
+impl<D: Disk + Drop, P: Place<D> + Drop> IntakeProcess<D, P> {
+    /// Opens the register, which is closed, does an errand to it, and closes it. A refusal leaves the files in the place,
+    /// and leaves a database that is damaged or none of ours as it was. Progress is told how far a check is.
+    pub fn visit<G: Progress, O: Write>(
+        &mut self,
+        alloc: Global,
+        errand: Errand<'_>,
+        progress: &mut G,
+        output: &mut O,
+    ) -> Visited
+        requires { self.old.intake ≡ None }
+        ensures { VisitsRegister errand.entry (O.contents output.old) (O.contents output.new)
+            (parts P.lying self.old) (parts P.lying self.new) result }
+    {
+        let visited = visit_place(alloc, &mut self.place, errand, progress, output);
+        if visited.is_doubtful() {
+            self.is_certain = false;
+        }
+        visited
+    }
+}

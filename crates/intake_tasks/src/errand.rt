@@ -1,0 +1,14 @@
+//! What is asked of a register that is there.
+
+/// What is done with a register that is there.
+#[derive(Clone, Copy)]
+pub enum Errand<'a> {
+    /// Show the filings of a filer.
+    List { filer: &'a str },
+    /// Show the facts of a filing.
+    Show { number: u64 },
+    /// Say whether the register is sound.
+    Check,
+    /// Make a register of an earlier version one of this version.
+    Migrate,
+}
