@@ -1,5 +1,6 @@
 //! What is certain of a program that ends before it closes its files: it is killed, or the machine stops. What may live
-//! here: what files hold that were not closed, and laws on what the next opening finds in them. There is no code.
+//! here: what files hold that were not closed, and laws on what the next opening finds in them. There is no code but
+//! one call, whose contract tells what each connection keeps.
 //!
 //! What is proved, of disks that give back what was written:
 //!
