@@ -1,5 +1,6 @@
 mod Deciding
 mod Finding
+mod Killing
 mod Leaving
 mod Outboxing
 mod Registering

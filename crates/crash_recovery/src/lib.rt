@@ -11,6 +11,8 @@
 //!   with that one change, and after an answer those with the change.
 //! - A request that was being decided on a connection leaves, by the bytes that came, the marks and what was written,
 //!   what the model of serving has that is stopped before this request or after it.
+//! - So a run of `intake serve` that is killed is among what programs do, of which the headline holds, and what the
+//!   files hold is what is kept then.
 //! - The same holds after a close that failed, if the store that the close gave back is numbered, as that of each
 //!   connection is. The contract of the close does not say it of that store.
 //!
@@ -42,7 +44,8 @@ ghost use Rattle.filing_model.specs.declared.served.Mark.{Mark};
 ghost use Rattle.filing_model.specs.declared.state.State.{State};
 ghost use Rattle.filing_model.specs.Outbox.{Entry};
 ghost use Rattle.filing_model.specs.Request.{Request, firsts};
-ghost use Rattle.filing_model.specs.Serving.{Keeping};
+ghost use Rattle.filing_model.specs.Serving.{IsCutShort, Keeping, keeping};
+ghost use Rattle.filing_model.specs.Stopping.{Crash};
 ghost use Rattle.filing_model.specs.Views.{the_request};
 ghost use Rattle.table_rows.specs.declared.fault.StoreFault.{StoreFault};
 ghost use Rattle.table_rows.specs.Standing.{CommitsNothing, HasCommitted};
@@ -69,7 +72,12 @@ ghost use Rattle.outbox_core.specs.Calls.{PutsEntry, MovesEntry};
 ghost use Rattle.outbox_core.specs.Files.{HoldOutbox};
 ghost use Rattle.database_places.specs.Closing.{IsNotClosed};
 ghost use Rattle.database_places.specs.Opening.{IsFoundIn};
-ghost use Rattle.crash_recovery.specs.Deciding.{HasRoom, IsDeciding, StopsAtRequest};
+ghost use Rattle.world_ports.specs.Deliveries.{Delivery};
+ghost use Rattle.intake_process.specs.declared.begun.Totals.{Totals};
+ghost use Rattle.intake_process.specs.Begun.{AreTotals, FindsIntake, HoldsAs};
+ghost use Rattle.programs.specs.Happenings.{Killing, Serving, Situation};
+ghost use Rattle.crash_recovery.specs.Deciding.{HasRoom, IsDeciding, StopsAtRequest, StopsIn};
+ghost use Rattle.crash_recovery.specs.Killed.{ComesOn, HappenedIn, cut_off, read_on};
 ghost use Rattle.crash_recovery.specs.Left.{AreLeftByKill, AreLeftByStop, EndsIn, FailsForCause, IsHonest, IsLastOf};
 ghost use Rattle.crash_recovery.specs.Left.{IsNumbered};
 ghost use Rattle.crash_recovery.specs.Outboxes.{HoldEitherOutbox, HoldMovedOutbox, HoldOutboxWithLog, OpensAsOutbox};
@@ -154,6 +162,32 @@ pub fn a_decision_that_ends_is_a_stop<D: Disk + Drop>()
         → HasRoom requests.limit requests.after r
         → HoldEitherRegister D.Disk files early requests.after (with_request requests.after r)
         → StopsAtRequest D.Disk files early requests bytes marks out r }
+{}
+
+/// An intake that begins over a connection to a register holds its requests.
+pub fn an_intake_begins_with_them<D: Disk + Drop>()
+    ensures { IsHonest D.Disk → (conn : Held (Stored D D.Disk)) (limit early : ℕ) (requests : List Request)
+        (intake : Intake (Stored D D.Disk)) (totals : Totals) → OpensAsRegister conn early requests
+        → firsts requests ≡ requests → FindsIntake over_files conn limit intake totals
+        → HoldsAs over_files limit early requests intake × AreTotals requests totals }
+{}
+
+/// A run of `intake serve` that is killed as it decides a request is among what programs do, and leaves what is kept
+/// after that.
+pub fn a_killed_run_happens<D: Disk + Drop>()
+    ensures { (limit : ℕ) (old : Situation) (delivery : Delivery) (on : ComesOn limit old delivery)
+        (after : List Request) (crash : Crash) (marks : List Mark) (written : List ℕ) (files : Files D)
+        → StopsIn D.Disk files 0 (keeping on.keys [] old.requests after) (read_on on) crash marks written
+        → HappenedIn D.Disk files limit old (Killing delivery crash marks written) }
+{}
+
+/// One that is killed as it reads or writes is told as a connection that was served up to a fault.
+pub fn a_connection_that_is_cut_off_happens<D: Disk + Drop>()
+    ensures { (limit : ℕ) (old : Situation) (delivery : Delivery) (on : ComesOn limit old delivery)
+        (after : List Request) (marks : List Mark) (written : List ℕ) (files : Files D)
+        → IsCutShort (keeping on.keys [] old.requests after) (read_on on) marks written
+        → HoldRegisterWithLog D.Disk files 0 after
+        → HappenedIn D.Disk files limit old (Serving delivery (cut_off (read_on on) marks written)) }
 {}
 
 /// An opening of files that hold an outbox by their log and their database file together is to that outbox, and is not

@@ -1,16 +1,18 @@
 -- Whatever programs do is a run of the world.
-use Rattle.std.proofs.Common.{◌≡◌, ◌∙◌, ℕ, zero, suc, ◌^◌, ◌≤◌, List, [], ◌∷◌, ◌++◌, map, take, Option, Some, None, refl, sym, ap, subst, ⊎_elim}
+use Rattle.std.proofs.Common.{◌≡◌, ◌∙◌, ℕ, zero, suc, ◌^◌, ◌≤◌, true, List, [], ◌∷◌, ◌++◌, length, map, take, Option, Some, None, refl, sym, ap, subst, ⊎_elim}
 use Rattle.filing_model.specs.declared.served.Ended.{Ended}
 use Rattle.filing_model.specs.declared.served.Mark.{Mark}
 use Rattle.filing_model.specs.Outbox.{State, Open, request_of, bytes_of}
 use Rattle.filing_model.specs.Register.{register, numbers_of}
 use Rattle.filing_model.specs.Request.{Request, firsts}
-use Rattle.filing_model.specs.Stopping.{No}
+use Rattle.filing_model.specs.Stopping.{Crash, No, IsStopped, ServesUntil}
+use Rattle.filing_model.specs.Text.{completed}
 use Rattle.filing_model.specs.Serving.{keeping, Serves}
 use Rattle.filing_model.proofs.Answers.{register-firsts}
+use Rattle.filing_model.proofs.Serving.{carried_until}
 use Rattle.filing_model.proofs.Lists.{append_nil, take_prefix, prefix_refl}
-use Rattle.filing_world.specs.World.{Outbox, Sent, Output, World, Event, Put, Send, Hand, numbered, renewed, new_outbox, Stranger as StrangerSends}
-use Rattle.filing_world.specs.Step.{with_entry, Puts, Run}
+use Rattle.filing_world.specs.World.{Outbox, Sent, Output, World, Event, Put, Send, Hand, Deliver, RestartServer, numbered, renewed, new_outbox, Stranger as StrangerSends}
+use Rattle.filing_world.specs.Step.{is_no, with_entry, Puts, Delivers, Run}
 use Rattle.filing_world.specs.Headline.{AreFilers, start, IsOwn}
 use Rattle.filing_world.specs.Invariant.{Keeps, AllOwn}
 use Rattle.filing_world.proofs.Keeping.{holds_after, keeps_run, keeps_start}
@@ -24,10 +26,10 @@ use Rattle.intake_process.specs.Turns.{Turn, Served, TurnedAway, connections_of,
 use Rattle.world_ports.specs.Deliveries.{Delivery, IsOf, AreOf, events_of, AreOutputsOf}
 use Rattle.world_ports.proofs.Delivering.{delivered}
 use Rattle.programs.specs.Exchanged.{IsBox, ComesOf}
-use Rattle.programs.specs.Happenings.{Answer, Situation, at_first, Happening, Serving, TurningAway, Putting, Writing, Hearing, HearingRefusal, Stranger, IsServing, IsTurningAway, box_of, IsPutting, IsWriting, IsHearing, Makes, Happen, AreWrittenOf, AreAnswersOf, IsKept, IsReached, AreRegistered, TurnsHappen}
+use Rattle.programs.specs.Happenings.{Answer, Situation, at_first, Happening, Serving, Killing, TurningAway, Putting, Writing, Hearing, HearingRefusal, Stranger, IsServing, IsKilling, IsTurningAway, box_of, IsPutting, IsWriting, IsHearing, Makes, Happen, AreWrittenOf, AreAnswersOf, IsKept, IsReached, AreRegistered, TurnsHappen}
 use Rattle.programs.proofs.Away.{moves_nothing}
 use Rattle.programs.proofs.Exchanging.{sent, handed}
-use Rattle.programs.proofs.Limits.{serves_more}
+use Rattle.programs.proofs.Limits.{serves_more, stopped_more}
 use Rattle.programs.proofs.Situations.{numbered_map, renewed_map, written_numbered, written_one_more, answered_numbered, answered_one_more}
 
 -- what was written on a connection that was turned away, by the bytes that came on it
@@ -105,6 +107,48 @@ module _ (limit : ℕ) where
             answers = subst (AreAnswersOf (old.answers ++ record { item = delivery.item; bytes = connection.output.bytes } ∷ [])) (sym (on.1.outputs ∙ ap (λ outputs. world.outputs ++ outputs) one.only))
                 (answered_one_more old.answers world.outputs (record { item = delivery.item; bytes = connection.output.bytes }) one.output kept.answers one.item one.bytes);
             up = ap (λ w. w.up) same ∙ kept.up;
+          };
+          refused = stands.refused;
+        });
+      }
+
+  -- ---- a run that is killed
+
+  killing : (old new : Situation) (world : World) (delivery : Delivery) (crash : Crash) (marks : List Mark) (written : List ℕ) → Stands old world → IsKilling limit old delivery crash marks written new → GoesOn world new
+  killing old new world delivery crash marks written stands is =
+      let kept = stands.kept in
+      let item = written_numbered old.sent world.sent delivery.item is.from kept.sent is.here in
+      let part = take_prefix delivery.given is.from.bytes item.item.bytes item.part in
+      let read = take delivery.given is.from.bytes in
+      let more = stopped_more is.keys limit is.within old.requests new.requests read crash marks written is.stopped in
+      let stopped : IsStopped (keeping world.limit [] (firsts world.done) new.requests) read crash marks written = rw (kept.limit_is, sym kept.requests) more in
+      let until = carried_until world.limit world.done (firsts world.done) new.requests refl read [] crash marks None written tt stopped in
+      let output : Output = record { item = delivery.item; given = length (take part.0 item.item.bytes); before = length world.done; marks = marks; ended = None; bytes = written } in
+      let down = record world { done = world.done ++ completed until.0 marks; outputs = world.outputs ++ output ∷ []; up = is_no crash } in
+      let step : Delivers world delivery.item part.0 crash down = record {
+        up = kept.up;
+        from = item.item;
+        here = item.here;
+        arrivals = until.0;
+        marks = marks;
+        ended = None;
+        out = written;
+        serves = subst (λ bs. ServesUntil world.limit world.done bs crash until.0 marks None written) (append_nil read ∙ part.1) until.1;
+        becomes = refl;
+      } in
+      let next = record down { up = true } in
+      record {
+        world = next;
+        events = Deliver delivery.item part.0 crash ∷ RestartServer ∷ [];
+        run = (down, step, (next, refl, refl));
+        stands = subst (λ n. Stands n next) (sym is.becomes) (record {
+          kept = record {
+            limit_is = kept.limit_is;
+            requests = until.2;
+            outboxes = kept.outboxes;
+            sent = kept.sent;
+            answers = answered_one_more old.answers world.outputs (record { item = delivery.item; bytes = written }) output kept.answers refl refl;
+            up = refl;
           };
           refused = stands.refused;
         });
@@ -284,6 +328,7 @@ module _ (limit : ℕ) where
 
   made : (old new : Situation) (world : World) (happening : Happening) → Keeps world → Stands old world → Makes limit old happening new → GoesOn world new
   made old new world (Serving delivery connection) keeps stands is = serving old new world delivery connection stands is
+  made old new world (Killing delivery crash marks written) keeps stands is = killing old new world delivery crash marks written stands is
   made old new world (TurningAway delivery connection) keeps stands is = turning_away old new world delivery connection stands is
   made old new world (Putting outbox key target body) keeps stands is = putting old new world outbox key target body stands is
   made old new world (Writing outbox id written) keeps stands is = writing old new world outbox id written stands is

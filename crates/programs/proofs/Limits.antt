@@ -7,6 +7,7 @@ use Rattle.filing_model.specs.declared.served.Mark.{Mark}
 use Rattle.filing_model.specs.declared.served.Mark.TheVariants.{Done, Unavailable, NotFiled}
 use Rattle.filing_model.specs.Request.{Request, has_key, firsts}
 use Rattle.filing_model.specs.Serving.{keeping, AreMarked, IsServed, Serves}
+use Rattle.filing_model.specs.Stopping.{Crash, IsStopped}
 use Rattle.filing_model.specs.Text.{Route, Reject, ListFilings, FileReport, route, RouteFits, MarkFits, MarksFit, completed_at}
 
 module _ (keys limit : ℕ) (few : keys ≤ limit) where
@@ -48,6 +49,17 @@ module _ (keys limit : ℕ) (few : keys ≤ limit) where
     written = is.written;
     kept = is.kept;
     end = is.end;
+  }
+
+  pub stopped_more : (before after : List Request) (read : List ℕ) (crash : Crash) (marks : List Mark) (out : List ℕ) → IsStopped (keeping keys [] before after) read crash marks out → IsStopped (keeping limit [] before after) read crash marks out
+  stopped_more before after read crash marks out is = record {
+    arrivals = is.arrivals;
+    begins = is.begins;
+    here = is.here;
+    all = is.all;
+    fit = marks_fit before is.arrivals marks is.fit;
+    written = is.written;
+    kept = is.kept;
   }
 
   pub serves_more : (before after : List Request) (read : List ℕ) (marks : List Mark) (ended : Ended) (out : List ℕ) → Serves (keeping keys [] before after) read marks ended out → Serves (keeping limit [] before after) read marks ended out

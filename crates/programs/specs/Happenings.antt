@@ -10,6 +10,8 @@ use Rattle.filing_model.specs.Prefix.{IsPrefixOf}
 use Rattle.filing_model.specs.Request.{Request, firsts}
 use Rattle.filing_model.specs.Register.{register, numbers_of}
 use Rattle.filing_model.specs.Serving.{keeping, Serves}
+use Rattle.filing_model.specs.Stopping.{Crash, IsStopped}
+use Rattle.filing_model.specs.declared.served.Mark.{Mark}
 use Rattle.filing_world.specs.World.{Outbox, Sent, Output, World, Event, numbered, renewed}
 use Rattle.filing_world.specs.Step.{takes, Run}
 use Rattle.filing_world.specs.Headline.{start, Holds}
@@ -47,6 +49,8 @@ at_first filers = record { requests = []; outboxes = map empty filers; sent = []
 pub data Happening : Type 0 where
   -- `intake serve` served a connection, on which first bytes of an item came
   Serving : Delivery → Connection → Happening
+  -- it was killed as it served such a connection, before a request was decided or after that, and is started again
+  Killing : Delivery → Crash → (marks : List Mark) → (written : List ℕ) → Happening
   -- its register was closed, and it turned such a connection away
   TurningAway : Delivery → Connection → Happening
   -- `outbox put` put an entry in
@@ -67,6 +71,16 @@ pub record IsServing (limit : ℕ) (old : Situation) (delivery : Delivery) (conn
   pub few : keys ≤ limit
   pub serves : Serves (keeping keys [] old.requests new.requests) connection.read connection.output.marks connection.output.ended connection.output.bytes
   pub becomes : new ≡ record old { requests = new.requests; answers = old.answers ++ record { item = delivery.item; bytes = connection.output.bytes } ∷ [] }
+
+-- The intake was killed at a request that was read on the connection, after the requests that the register kept. Those before it were
+-- decided and answered, and it was decided too or not.
+pub record IsKilling (limit : ℕ) (old : Situation) (delivery : Delivery) (crash : Crash) (marks : List Mark) (written : List ℕ) (new : Situation) : Type 0 where
+  pub from : Sent
+  pub here : numbered old.sent delivery.item ≡ Some from
+  pub keys : ℕ
+  pub within : keys ≤ limit
+  pub stopped : IsStopped (keeping keys [] old.requests new.requests) (take delivery.given from.bytes) crash marks written
+  pub becomes : new ≡ record old { requests = new.requests; answers = old.answers ++ record { item = delivery.item; bytes = written } ∷ [] }
 
 -- The connection was turned away, and nothing is kept of it.
 pub record IsTurningAway (old : Situation) (delivery : Delivery) (connection : Connection) (new : Situation) : Type 0 where
@@ -115,6 +129,7 @@ pub record IsHearing (old : Situation) (answers : List Answer) (outbox id answer
 -- what one of them makes of what is kept
 abbrev pub Makes : ℕ → Situation → Happening → Situation → Type 0
 Makes limit old (Serving delivery connection) new = IsServing limit old delivery connection new
+Makes limit old (Killing delivery crash marks written) new = IsKilling limit old delivery crash marks written new
 Makes limit old (TurningAway delivery connection) new = IsTurningAway old delivery connection new
 Makes limit old (Putting outbox key target body) new = IsPutting old outbox (opened key target body) new
 Makes limit old (Writing outbox id written) new = IsWriting old outbox id written new
