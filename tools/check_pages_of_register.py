@@ -92,7 +92,7 @@ def check_texts(folder):
     hold("the filers", [row for row in read["index.html"].rows[1:]], [["ACME", "2", "1", "0"], ["BETA", "1", "1", "2"], ["a.b_c-", "1", "1", "0"]])
     hold("the refused", [row[:3] for row in read["refused.html"].rows[1:]], [["BETA", "b-2", ""], ["BETA", "b-3", "1"]])
     found = {row[0]: int(row[1]) for row in read["findings.html"].rows[1:]}
-    hold("the codes", found, {"value": 1, "name": 1, "unbound-prefix": 1, "not-the-filer": 1, "number": 1, "not-replaceable": 1})
+    hold("the codes", found, {"value": 1, "name": 1, "not-the-filer": 1, "number": 1, "not-replaceable": 1})
 
 
 def check_folder(folder):

@@ -2,7 +2,6 @@
 
 ghost use Rattle.std.specs.Prelude.{◌≡◌, codes, option_map, None, IfOk};
 ghost use Rattle.json_tree.specs.View.{view};
-ghost use Rattle.serde_json.specs.Data.{Data};
 ghost use Rattle.fact_records.specs.Fields.{dimension, field_or_absent, member_text, text_field};
 
 use crate::field::text_or_absent;

@@ -1,7 +1,6 @@
 //! How one field of a record is written.
 
-ghost use Rattle.std.specs.Prelude.{◌≡◌, ◌++◌, option_map, string_bytes, IfOk, OnOk};
-ghost use Rattle.std.specs.List.{flat_map};
+ghost use Rattle.std.specs.Prelude.{◌≡◌, ◌++◌, option_map, IfOk, OnOk};
 ghost use Rattle.std.specs.Fmt.{decimal, signed_decimal};
 ghost use Rattle.serde_json.specs.Data.{string};
 ghost use Rattle.serde_json.specs.Written.{compact_text};

@@ -1,6 +1,6 @@
 //! The record of a fact.
 
-ghost use Rattle.std.specs.Prelude.{◌≡◌, ◌++◌, string_bytes, IfOk, OnOk};
+ghost use Rattle.std.specs.Prelude.{◌≡◌, ◌++◌, IfOk, OnOk};
 ghost use Rattle.fact_records.specs.Fields.{csv_record, fields, first_line, json_line, record_text, view_fields, view_head};
 
 use crate::aspects::read_aspects;

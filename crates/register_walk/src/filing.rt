@@ -1,7 +1,6 @@
 //! A filing with its facts.
 
-ghost use Rattle.std.specs.Prelude.{◌≡◌, List, option_map, IfOk};
-ghost use Rattle.filing_model.specs.Request.{Request};
+ghost use Rattle.std.specs.Prelude.{◌≡◌, option_map, IfOk};
 ghost use Rattle.filing_model.specs.Register.{register};
 ghost use Rattle.table_rows.specs.Leaving.{MayRead};
 ghost use Rattle.register_rows.specs.Catalogue.{catalogue_of, view_lines};

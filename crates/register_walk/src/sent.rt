@@ -1,6 +1,6 @@
 //! A kept request: who sent it, under which key, and its report.
 
-ghost use Rattle.std.specs.Prelude.{◌≡◌, ◌<◌, ◌^◌, ◌∷◌, [], ℕ, pos, List, IfOk};
+ghost use Rattle.std.specs.Prelude.{◌≡◌, ◌<◌, ◌^◌, ◌∷◌, [], ℕ, pos, IfOk};
 ghost use Rattle.sqlite.specs.Order.{Row};
 ghost use Rattle.filing_model.specs.Register.{Kept, kept};
 ghost use Rattle.table_rows.specs.Leaving.{OnlyReads};
