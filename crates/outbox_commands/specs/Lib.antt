@@ -1,2 +1,5 @@
+pub mod Looking
 pub mod Networks
-pub mod Targets
+pub mod Status
+pub mod Tasks
+pub mod Visits

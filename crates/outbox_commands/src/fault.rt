@@ -1,5 +1,9 @@
 //! Why a task is not done, in words and as a status.
 
+ghost use Rattle.std.specs.Prelude.{◌≡◌};
+ghost use Rattle.outbox_commands.specs.Status.{outbox_status, opening_status, exchange_status, send_status, task_status, visit_status, status_of};
+ghost use Rattle.outbox_commands.specs.Visits.{outbox_verdict, opening_verdict};
+
 use crate::held::{taken, unfit};
 use command_files::{Holding, ReportFault, Verdict};
 use command_line::CommandFault;
@@ -7,6 +11,7 @@ use filer_client::ExchangeFault;
 use http_wire::ReplyFault;
 use key_string::KeyFault;
 use outbox_core::{OutboxFault, PutFault, StoreFault, TakeFault};
+use outbox_process::OpeningFault;
 use outbox_tasks::{LineFault, SendFault, TaskFault};
 use std::alloc::AllocError;
 use std::io::Write;
@@ -50,6 +55,11 @@ pub enum VisitFault {
 }
 
 impl From<PutFault> for VisitFault {
+    ghost use Rattle.std.specs.Prelude.{◌≡◌};
+    ghost use Rattle.outbox_commands.specs.Status.{put_status, visit_status};
+
+    ghost from_gives = { λ fault own. visit_status own ≡ put_status fault };
+
     fn from(fault: PutFault) -> VisitFault {
         match fault {
             PutFault::TooLarge => VisitFault::TooLarge,
@@ -61,6 +71,11 @@ impl From<PutFault> for VisitFault {
 }
 
 impl From<StoreFault> for VisitFault {
+    ghost use Rattle.std.specs.Prelude.{◌≡◌};
+    ghost use Rattle.outbox_commands.specs.Status.{visit_status};
+
+    ghost from_gives = { λ _ own. visit_status own ≡ 3 };
+
     fn from(fault: StoreFault) -> VisitFault {
         match fault {
             StoreFault::Memory => VisitFault::Memory,
@@ -71,7 +86,9 @@ impl From<StoreFault> for VisitFault {
 
 impl VisitFault {
     /// Why a database that holds this was not opened or made an outbox.
-    pub fn of_opening(fault: OutboxFault, held: Holding) -> VisitFault {
+    fn of_outbox(fault: OutboxFault, held: Holding) -> VisitFault
+        ensures { visit_status result ≡ outbox_status fault }
+    {
         match fault {
             OutboxFault::BadFiler => VisitFault::BadFiler,
             OutboxFault::Taken => VisitFault::Taken(held),
@@ -83,17 +100,21 @@ impl VisitFault {
     }
 
     /// Why a database that holds this was not migrated.
-    pub fn of_migrating(fault: OutboxFault, held: Holding) -> VisitFault {
+    fn of_migrating(fault: OutboxFault, held: Holding) -> VisitFault
+        ensures { visit_status result ≡ outbox_status fault }
+    {
         match (fault, held) {
             (OutboxFault::NotOurs, Holding::Outbox | Holding::EarlierOutbox) => {
                 VisitFault::NotEarlier
             }
-            _ => VisitFault::of_opening(fault, held),
+            _ => VisitFault::of_outbox(fault, held),
         }
     }
 
     /// Why the reply for the entry of this id was not taken.
-    pub fn of_taking(fault: TakeFault, id: u64) -> VisitFault {
+    fn of_taking(fault: TakeFault, id: u64) -> VisitFault
+        ensures { visit_status result ≡ exchange_status (ExchangeFault.Take fault) }
+    {
         match fault {
             TakeFault::NoEntry => VisitFault::NoEntry { id },
             TakeFault::Memory => VisitFault::Memory,
@@ -102,37 +123,28 @@ impl VisitFault {
     }
 
     /// Why a task was not done that visited the outbox of the file with this name.
-    pub fn at(self, name: &str) -> Fault<'_> {
+    pub fn at(self, name: &str) -> Fault<'_>
+        ensures { status_of result ≡ visit_status self }
+    {
         Fault::Outbox { name, fault: self }
     }
 
     /// The status that the program ends with: 1 for a database that is no outbox or cannot become
     /// one, 2 for a filer, a key or a body that it does not take, 3 for a fault of memory or the
     /// disk, 4 if an entry is missing.
-    pub fn status(self) -> u8 {
+    pub fn status(self) -> u8
+        ensures { result ≡ visit_status self }
+    {
         match self {
-            VisitFault::Taken(_)
-            | VisitFault::NotOurs(_)
-            | VisitFault::IsCurrent
-            | VisitFault::NotEarlier
-            | VisitFault::Damaged { .. } => 1,
-            VisitFault::BadFiler | VisitFault::TooLarge | VisitFault::KeyUsed { .. } => 2,
-            VisitFault::NotTold { .. }
-            | VisitFault::NotClosed
-            | VisitFault::Memory
-            | VisitFault::Database => 3,
+            VisitFault::Taken(_) => 1,
+            VisitFault::NotOurs(_) => 1,
+            VisitFault::IsCurrent | VisitFault::NotEarlier => 1,
+            VisitFault::Damaged { .. } => 1,
+            VisitFault::BadFiler | VisitFault::TooLarge => 2,
+            VisitFault::KeyUsed { .. } => 2,
+            VisitFault::NotTold { .. } => 3,
+            VisitFault::NotClosed | VisitFault::Memory | VisitFault::Database => 3,
             VisitFault::NoEntry { .. } => 4,
-        }
-    }
-
-    /// What it says of the outbox, if it says something.
-    pub fn verdict(self) -> Option<Verdict> {
-        match self {
-            VisitFault::NotOurs(_) | VisitFault::IsCurrent | VisitFault::NotEarlier => {
-                Some(Verdict::NotOurs)
-            }
-            VisitFault::Damaged { row } => Some(Verdict::Damaged(row)),
-            _ => None,
         }
     }
 }
@@ -179,12 +191,23 @@ pub enum Fault<'a> {
 }
 
 impl From<AllocError> for Fault<'_> {
+    ghost use Rattle.std.specs.Prelude.{◌≡◌};
+    ghost use Rattle.command_line.specs.declared.fault.CommandFault.TheVariants as command;
+    ghost use Rattle.outbox_commands.specs.declared.fault.Fault.TheVariants.{Command};
+
+    ghost from_gives = { λ _ fault. fault ≡ Command command.Memory };
+
     fn from(_error: AllocError) -> Self {
         Fault::Command(CommandFault::Memory)
     }
 }
 
 impl From<LineFault> for Fault<'_> {
+    ghost use Rattle.std.specs.Prelude.{◌≡◌};
+    ghost use Rattle.outbox_commands.specs.Status.{status_of};
+
+    ghost from_gives = { λ _ fault. status_of fault ≡ 3 };
+
     fn from(fault: LineFault) -> Self {
         Fault::Command(match fault {
             LineFault::Output => CommandFault::Output,
@@ -193,10 +216,54 @@ impl From<LineFault> for Fault<'_> {
     }
 }
 
+/// What a fault says of a database that is to be migrated, if it says something.
+pub fn verdict_on(fault: OpeningFault) -> Option<Verdict>
+    ensures { result ≡ opening_verdict fault }
+{
+    match fault {
+        OpeningFault::Files(fault) => Verdict::of(fault),
+        OpeningFault::Taken(_) => None,
+        OpeningFault::IsCurrent => Some(Verdict::NotOurs),
+        OpeningFault::Create(fault) => verdict_on_outbox(fault),
+        OpeningFault::Open(fault, _) => verdict_on_outbox(fault),
+        OpeningFault::Migrate(fault, _) => verdict_on_outbox(fault),
+    }
+}
+
+fn verdict_on_outbox(fault: OutboxFault) -> Option<Verdict>
+    ensures { result ≡ outbox_verdict fault }
+{
+    match fault {
+        OutboxFault::NotOurs => Some(Verdict::NotOurs),
+        OutboxFault::Damaged { row } => Some(Verdict::Damaged(row)),
+        OutboxFault::BadFiler | OutboxFault::Taken | OutboxFault::Memory | OutboxFault::Disk => {
+            None
+        }
+    }
+}
+
 impl<'a> Fault<'a> {
+    /// Why the outbox of the file with this name was not opened.
+    pub fn of_opening(fault: OpeningFault, name: &'a str) -> Fault<'a>
+        ensures { status_of result ≡ opening_status fault }
+    {
+        match fault {
+            OpeningFault::Files(fault) => Fault::Command(CommandFault::Database { name, fault }),
+            OpeningFault::Taken(held) => VisitFault::Taken(held).at(name),
+            OpeningFault::Create(fault) => {
+                VisitFault::of_outbox(fault, Holding::Nothing).at(name)
+            }
+            OpeningFault::Open(fault, held) => VisitFault::of_outbox(fault, held).at(name),
+            OpeningFault::IsCurrent => VisitFault::IsCurrent.at(name),
+            OpeningFault::Migrate(fault, held) => VisitFault::of_migrating(fault, held).at(name),
+        }
+    }
+
     /// Why a task was not done on the outbox of the file with this name, which has a peer at this port, if it has one.
     /// So many seconds of patience with it are over, if its last exchange failed by that.
-    pub fn of_task(fault: TaskFault, name: &'a str, port: u16, late: Option<u64>) -> Fault<'a> {
+    pub fn of_task(fault: TaskFault, name: &'a str, port: u16, late: Option<u64>) -> Fault<'a>
+        ensures { status_of result ≡ task_status fault }
+    {
         match fault {
             TaskFault::Read(fault) => VisitFault::from(fault).at(name),
             TaskFault::NoEntry { id } => VisitFault::NoEntry { id }.at(name),
@@ -218,7 +285,9 @@ impl<'a> Fault<'a> {
         id: u64,
         port: u16,
         late: Option<u64>,
-    ) -> Fault<'a> {
+    ) -> Fault<'a>
+        ensures { status_of result ≡ send_status fault }
+    {
         match (fault, late) {
             (SendFault::Connect(error), _) => Fault::Connect { port, error },
             (SendFault::Exchange(ExchangeFault::Take(fault)), _) => {
@@ -234,32 +303,27 @@ impl Fault<'_> {
     /// The status that the program ends with: 1 for a database that is no outbox or cannot become
     /// one, 2 for the command line, 3 for a fault of memory, the disk or the network, 4 where an
     /// entry is missing.
-    pub fn status(&self) -> u8 {
+    pub fn status(&self) -> u8
+        ensures { result ≡ status_of self.now }
+    {
         match self {
             Fault::Command(fault) => fault.status(),
             Fault::Report(fault) => fault.status(),
             Fault::Outbox { fault, .. } => fault.status(),
             Fault::Key(KeyFault::Memory) => 3,
             Fault::Key(_) => 2,
-            Fault::Connect { .. }
-            | Fault::Exchange { .. }
-            | Fault::Patience { .. }
-            | Fault::Round { .. }
-            | Fault::Random(_) => 3,
-        }
-    }
-
-    /// What the fault says of the outbox, if it says something.
-    pub fn verdict(&self) -> Option<Verdict> {
-        match self {
-            Fault::Outbox { fault, .. } => fault.verdict(),
-            Fault::Command(CommandFault::Database { fault, .. }) => Verdict::of(*fault),
-            _ => None,
+            Fault::Connect { .. } => 3,
+            Fault::Exchange { .. } => 3,
+            Fault::Patience { .. } => 3,
+            Fault::Round { .. } => 3,
+            Fault::Random(_) => 3,
         }
     }
 
     /// Writes the text as a line, and answers the status.
-    pub fn tell<E: Write>(&self, errors: &mut E) -> u8 {
+    pub fn tell<E: Write>(&self, errors: &mut E) -> u8
+        ensures { result ≡ status_of self.now }
+    {
         // Nothing is left to be done where this text can't be written either.
         let _ = writeln!(errors, "outbox: {self}");
         self.status()

@@ -1,6 +1,6 @@
-//! The commands of `outbox`: it keeps the reports that a filer is to send, and sends them. What may live here: how
-//! the file and the port of a task are opened and closed, which call of `outbox_tasks` does the task, and how a fault is
-//! reported. What the bytes and the rows mean is not known here.
+//! The commands of `outbox`: it keeps the reports that a filer is to send, and sends them. What may live here: how the
+//! outbox and the network of a task are made, which errand the task is, what is printed beside its own lines, and how a
+//! fault is reported. What the bytes and the rows mean is not known here, nor how files are opened.
 #![tactic(auto)]
 
 mod answer;
@@ -9,7 +9,6 @@ mod fault;
 mod held;
 mod network;
 mod options;
-mod sending;
 mod tasks;
 
 pub use tasks::{main, perform};

@@ -15,6 +15,9 @@ use std::io::{self, Write};
 use std::net::TcpStream;
 use std::time::Duration;
 
+/// What stands for the code of a filer that is not known.
+const ANY_FILER: &str = "CODE";
+
 /// What came of an exchange: the state of its entry or a fault, and the first bytes of the reply.
 #[derive(Drop)]
 struct Exchanged {
@@ -23,59 +26,52 @@ struct Exchanged {
     noted: Vec<u8>,
 }
 
+/// A network on which one peer is called, and which reports why an entry is not confirmed.
+pub trait Network: Dial {
+    /// Takes note of the code of the filer for whom exchanges are made from here on.
+    fn name_filer(&mut self, filer: &str)
+        ensures { Self.Dial.traffic self.new ≡ Self.Dial.traffic self.old };
+
+    /// Reports why the last entry is not confirmed, if it isn't, and what to do. Its line is printed.
+    fn tell(&mut self)
+        ensures { Self.Dial.traffic self.new ≡ Self.Dial.traffic self.old };
+
+    /// The port of the peer.
+    fn port(&self) -> u16;
+
+    /// The patience with the peer in seconds, if the last exchange failed since its time was over.
+    fn lost_patience(&self) -> Option<u64>;
+}
+
 /// A port of this machine, to which a connection takes no longer than the patience with the peer. Once the line of an
 /// entry is printed, it reports on the standard error why the entry is not confirmed.
 #[derive(Drop)]
-pub struct PeerDial<'r, 'e, E> {
+pub struct PeerDial<'r, E> {
     rt: &'r HostRuntime,
     port: u16,
     patience: Option<u64>,
-    filer: String,
+    /// None if it is not known, or memory was short for it.
+    filer: Option<String>,
     deadline: Option<Deadline<'r, HostRuntime>>,
     /// Whether the time of the last exchange was over, and so it failed.
     is_late: bool,
     /// What is to be reported of the last exchange, once the line of its entry is printed.
     untold: Option<Exchanged>,
-    errors: &'e mut E,
+    errors: E,
 }
 
-impl<'r, 'e, E: Write> PeerDial<'r, 'e, E> {
-    /// The port of this peer, to which a filer of this code sends.
-    pub fn new(
-        rt: &'r HostRuntime,
-        peer: Peer,
-        filer: String,
-        errors: &'e mut E,
-    ) -> PeerDial<'r, 'e, E> {
+impl<'r, E: Write + Drop> PeerDial<'r, E> {
+    /// The port of this peer.
+    pub fn new(rt: &'r HostRuntime, peer: Peer, errors: E) -> PeerDial<'r, E> {
         PeerDial {
             rt,
             port: peer.port,
             patience: peer.patience,
-            filer,
+            filer: None,
             deadline: None,
             is_late: false,
             untold: None,
             errors,
-        }
-    }
-
-    /// The patience with the peer in seconds, if the last exchange failed since its time was over.
-    pub fn lost_patience(&self) -> Option<u64> {
-        if self.is_late { self.patience } else { None }
-    }
-
-    /// Reports on the standard error why the last entry is not confirmed, and what to do. Its line is printed.
-    pub fn tell(&mut self)
-        ensures { self.new.is_late ≡ self.old.is_late }
-    {
-        if let Some(exchanged) = self.untold.take() {
-            // Nothing is left to be done if these texts can't be written either.
-            let _ = explain(
-                self.rt.alloc(),
-                self.filer.as_str(),
-                &exchanged,
-                self.errors,
-            );
         }
     }
 
@@ -112,7 +108,7 @@ fn explain<E: Write>(
     }
 }
 
-impl<'r, E: Write> Dial for PeerDial<'r, '_, E> {
+impl<'r, E: Write + Drop> Dial for PeerDial<'r, E> {
     type Reader = Noted<Device<Patient<'r, TcpStream, HostRuntime>>>;
 
     type Writer = Device<Patient<'r, TcpStream, HostRuntime>>;
@@ -148,5 +144,30 @@ impl<'r, E: Write> Dial for PeerDial<'r, '_, E> {
 
     fn gives_up(&self) -> bool {
         self.is_late
+    }
+}
+
+impl<E: Write + Drop> Network for PeerDial<'_, E> {
+    fn name_filer(&mut self, filer: &str) {
+        self.filer = String::from_str(self.rt.alloc(), filer).ok();
+    }
+
+    fn tell(&mut self) {
+        if let Some(exchanged) = self.untold.take() {
+            let filer = match &self.filer {
+                Some(filer) => filer.as_str(),
+                None => ANY_FILER,
+            };
+            // Nothing is left to be done if these texts can't be written either.
+            let _ = explain(self.rt.alloc(), filer, &exchanged, &mut self.errors);
+        }
+    }
+
+    fn port(&self) -> u16 {
+        self.port
+    }
+
+    fn lost_patience(&self) -> Option<u64> {
+        if self.is_late { self.patience } else { None }
     }
 }

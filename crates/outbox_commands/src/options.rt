@@ -1,13 +1,11 @@
 //! The tasks of `outbox` and their values, as `clap` reads them.
 
-ghost use Rattle.http_messages.specs.Posting.{IsTarget};
-ghost use Rattle.outbox_commands.specs.Targets.{IsTarget-prop};
-
 use clap::builder::ValueParser;
 use clap::{Arg, ArgAction, ArgMatches, Command, Error, value_parser};
 use command_line::{
     ToArg, VERSION, Word, database_option, filer_option, option, port_option, tasks,
 };
+use outbox_process::{Target, Which};
 use std::alloc::{AllocError, Global};
 
 /// The greatest number that a filing may have.
@@ -61,13 +59,17 @@ impl<'a> Task<'a> {
             | Task::Show { database, .. } => database,
         }
     }
-}
 
-/// The filing that a report replaces, if it replaces one.
-#[derive(Clone, Copy)]
-pub struct Target {
-    pub number: Option<u64>,
-    ghost fits: { IsTarget number } by { IsTarget-prop number },
+    /// The intake to which it sends; one that is never called, if it sends nothing.
+    pub fn peer(&self) -> Peer {
+        match *self {
+            Task::Send { peer, .. } => peer,
+            _ => Peer {
+                port: 0,
+                patience: None,
+            },
+        }
+    }
 }
 
 /// The intake to which entries are sent.
@@ -77,17 +79,6 @@ pub struct Peer {
     pub port: u16,
     /// How many seconds an exchange with it may take, if there is a limit.
     pub patience: Option<u64>,
-}
-
-/// Which entries are sent.
-#[derive(Clone, Copy)]
-pub enum Which {
-    /// The open entry with the least id.
-    Next,
-    /// This entry.
-    Entry(u64),
-    /// Each open entry.
-    All,
 }
 
 /// An option that may be missing, whose value is one of these numbers.

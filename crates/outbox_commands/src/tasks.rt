@@ -1,14 +1,22 @@
 //! Performs a task, and says how the program ends.
 
-use crate::errand::{Errand, run_errand};
-use crate::fault::Fault;
+ghost use Rattle.std.specs.Prelude.{◌≡◌, None, IfOk, IfErr};
+ghost use Rattle.outbox_process.specs.Process.{parts};
+ghost use Rattle.outbox_commands.specs.Status.{opening_status, status_of, status_by};
+ghost use Rattle.outbox_commands.specs.Tasks.{IsKeyFor, IsNoKeyFor, MakesOutbox, PutsReport, IsJudged, IsPrinted, MigratesOutbox, Does, migrated_line};
+ghost use Rattle.outbox_commands.specs.Visits.{opening_verdict};
+
+use crate::errand::{close, open, run_errand};
+use crate::fault::{Fault, verdict_on};
+use crate::network::{Network, PeerDial};
 use crate::options;
-use crate::options::{Target, Task};
+use crate::options::Task;
 use command_files::{report, show_verdict};
-use command_line::{CommandFault, DONE, show_refusal, words};
+use command_line::{CommandFault, DONE, show, show_refusal, words};
 use database_places::{Place, SystemPlace};
 use key_string::{KeyText, is_filer};
 use outbox_core::key_of;
+use outbox_process::{Beginning, Errand, OpeningFault, OutboxProcess, Target};
 use rand::make_rng;
 use rand::rngs::StdRng;
 use sqlite_disk::Disk;
@@ -17,15 +25,24 @@ use std::io::Write;
 use uuid::Uuid;
 
 /// A version 4 UUID from the system's random bytes.
-fn random_key<'a>(rt: &HostRuntime) -> Result<KeyText, Fault<'a>> {
+fn random_key<'a>(rt: &HostRuntime) -> Result<KeyText, Fault<'a>>
+    ensures { IfErr result (IsNoKeyFor None) }
+{
     let mut generator: StdRng = match make_rng(rt) {
         Ok(generator) => generator,
         Err(error) => return Err(Fault::Random(error)),
     };
-    Ok(key_of(rt.alloc(), Uuid::new_v4(&mut generator))?)
+    match key_of(rt.alloc(), Uuid::new_v4(&mut generator)) {
+        Ok(key) => Ok(key),
+        Err(_) => Err(Fault::Command(CommandFault::Memory)),
+    }
 }
 
-fn key<'a>(rt: &HostRuntime, text: Option<&str>) -> Result<KeyText, Fault<'a>> {
+/// The key that was given, or one at random.
+fn key<'a>(rt: &HostRuntime, text: Option<&str>) -> Result<KeyText, Fault<'a>>
+    ensures given { IfOk result (IsKeyFor text.entry) }
+    ensures refused { IfErr result (IsNoKeyFor text.entry) }
+{
     let Some(text) = text else {
         return random_key(rt);
     };
@@ -36,108 +53,154 @@ fn key<'a>(rt: &HostRuntime, text: Option<&str>) -> Result<KeyText, Fault<'a>> {
 }
 
 /// Makes an outbox of this filer.
-fn init<'a, D: Disk + Drop, P: Place<D>, O: Write, E: Write>(
-    rt: &HostRuntime,
-    place: &mut P,
+fn init<'a, D: Disk + Drop, P: Place<D> + Drop, E: Write>(
+    alloc: Global,
+    process: &mut OutboxProcess<D, P>,
     name: &'a str,
-    filer: &'a str,
-    output: &mut O,
+    filer: &str,
     errors: &mut E,
-) -> Result<(), Fault<'a>> {
-    if is_filer(filer) {
-        run_errand(rt, place, name, Errand::Init { filer }, output, errors)
-    } else {
-        Err(CommandFault::Filer.into())
+) -> Result<(), Fault<'a>>
+    requires { process.old.outbox ≡ None }
+    ensures { MakesOutbox D.Disk filer.entry (parts P.lying process.old) (parts P.lying process.new) (status_by result) }
+{
+    if !is_filer(filer) {
+        return Err(Fault::Command(CommandFault::Filer));
     }
+    if let Err(fault) = open(alloc, process, Beginning::Made { filer }) {
+        return Err(Fault::of_opening(fault, name));
+    }
+    close(process, name, errors);
+    Ok(())
 }
 
 /// Puts a report in. The key and the report are looked at before the outbox is.
-fn put<'a, D: Disk + Drop, P: Place<D>, O: Write, E: Write>(
+fn put<'a, D: Disk + Drop, P: Place<D> + Drop, N: Network, O: Write, E: Write>(
     rt: &HostRuntime,
-    place: &mut P,
+    process: &mut OutboxProcess<D, P>,
+    network: &mut N,
     name: &'a str,
     body_name: &'a str,
     key_text: Option<&str>,
     target: Target,
     output: &mut O,
     errors: &mut E,
-) -> Result<(), Fault<'a>> {
+) -> Result<(), Fault<'a>>
+    requires { process.old.outbox ≡ None }
+    ensures { PutsReport D.Disk key_text.entry target (N.traffic network.old) (N.traffic network.new)
+        (O.contents output.old) (O.contents output.new) (parts P.lying process.old) (parts P.lying process.new) result }
+{
     let key = key(rt, key_text)?;
-    let body = report(rt, body_name)?;
-    let errand = Errand::Put {
-        key,
-        is_random: key_text.is_none(),
-        target,
-        body,
+    let body = match report(rt, body_name) {
+        Ok(body) => body,
+        Err(fault) => return Err(Fault::Report(fault)),
     };
-    run_errand(rt, place, name, errand, output, errors)
+    let errand = Errand::Put { key, target, body };
+    let is_random = key_text.is_none();
+    run_errand(
+        rt.alloc(),
+        process,
+        network,
+        name,
+        errand,
+        is_random,
+        output,
+        errors,
+    )
 }
 
-/// Prints what the fault says of the outbox, where it says something, and gives it back.
-fn show_fault<'a, O: Write>(
+/// Prints what a refusal says of the outbox, if it says something, and answers why the task is not done.
+fn show_refused<'a, O: Write>(
     alloc: Global,
-    fault: Fault<'a>,
+    fault: OpeningFault,
+    name: &'a str,
     output: &mut O,
-) -> Result<(), Fault<'a>> {
-    if let Some(verdict) = fault.verdict() {
-        show_verdict(alloc, verdict, "an outbox", output)?;
+) -> Fault<'a>
+    ensures { IsJudged (opening_verdict fault) (O.contents output.old) (O.contents output.new) (opening_status fault)
+        (status_of result) }
+{
+    let Some(verdict) = verdict_on(fault) else {
+        return Fault::of_opening(fault, name);
+    };
+    match show_verdict(alloc, verdict, "an outbox", output) {
+        Ok(()) => Fault::of_opening(fault, name),
+        Err(unshown) => Fault::Command(unshown),
     }
-    Err(fault)
 }
 
 /// Makes an outbox of an earlier version one of this version, and prints that it is; or why it is none.
-fn migrate<'a, D: Disk + Drop, P: Place<D>, O: Write, E: Write>(
-    rt: &HostRuntime,
-    place: &mut P,
+fn migrate<'a, D: Disk + Drop, P: Place<D> + Drop, O: Write, E: Write>(
+    alloc: Global,
+    process: &mut OutboxProcess<D, P>,
     name: &'a str,
     output: &mut O,
     errors: &mut E,
-) -> Result<(), Fault<'a>> {
-    match run_errand(rt, place, name, Errand::Migrate, output, errors) {
+) -> Result<(), Fault<'a>>
+    requires { process.old.outbox ≡ None }
+    ensures { MigratesOutbox D.Disk (O.contents output.old) (O.contents output.new) (parts P.lying process.old)
+        (parts P.lying process.new) (status_by result) }
+{
+    if let Err(fault) = open(alloc, process, Beginning::Migrated) {
+        return Err(show_refused(alloc, fault, name, output));
+    }
+    let shown = show_migrated(output);
+    close(process, name, errors);
+    shown
+}
+
+/// Prints that an outbox is migrated.
+fn show_migrated<'a, O: Write>(output: &mut O) -> Result<(), Fault<'a>>
+    ensures { IsPrinted (O.contents output.old) (O.contents output.new) migrated_line 0 (status_by result) }
+{
+    match show(output, b"migrated\n") {
         Ok(()) => Ok(()),
-        Err(fault) => show_fault(rt.alloc(), fault, output),
+        Err(fault) => Err(Fault::Command(fault)),
     }
 }
 
-/// Performs a task on the outbox that lies in this place.
-fn perform_task<'a, D: Disk + Drop, P: Place<D>, O: Write, E: Write>(
+/// Performs a task on the outbox of this process, which is closed. A network makes the connections that it needs.
+pub fn perform_task<'a, D: Disk + Drop, P: Place<D> + Drop, N: Network, O: Write, E: Write>(
     rt: &HostRuntime,
-    place: &mut P,
+    process: &mut OutboxProcess<D, P>,
+    network: &mut N,
     task: Task<'a>,
     output: &mut O,
     errors: &mut E,
-) -> Result<(), Fault<'a>> {
+) -> Result<(), Fault<'a>>
+    requires { process.old.outbox ≡ None }
+    ensures { Does D.Disk task.entry (N.traffic network.old) (N.traffic network.new) (O.contents output.old)
+        (O.contents output.new) (parts P.lying process.old) (parts P.lying process.new) result }
+{
+    let alloc = rt.alloc();
+    let name = task.database();
     match task {
-        Task::Init { database, filer } => init(rt, place, database, filer, output, errors),
+        Task::Init { filer, .. } => init(alloc, process, name, filer, errors),
         Task::Put {
-            database,
             body,
             key,
             target,
-        } => put(rt, place, database, body, key, target, output, errors),
-        Task::Migrate { database } => migrate(rt, place, database, output, errors),
-        Task::Send {
-            database,
-            peer,
-            which,
-        } => run_errand(
-            rt,
-            place,
-            database,
-            Errand::Send { peer, which },
-            output,
-            errors,
+            ..
+        } => put(
+            rt, process, network, name, body, key, target, output, errors,
         ),
-        Task::Status { database } => run_errand(
-            rt,
-            place,
-            database,
-            Errand::Status,
-            output,
-            errors,
-        ),
-        Task::Show { database, entry } => {
-            run_errand(rt, place, database, Errand::Show { entry }, output, errors)
+        Task::Migrate { .. } => migrate(alloc, process, name, output, errors),
+        Task::Send { which, .. } => {
+            let errand = Errand::Send(which);
+            run_errand(alloc, process, network, name, errand, false, output, errors)
+        }
+        Task::Status { .. } => {
+            let errand = Errand::ShowStates;
+            run_errand(alloc, process, network, name, errand, false, output, errors)
+        }
+        Task::Show {
+            entry: Some(id),
+            ..
+        } => {
+            let errand = Errand::ShowEntry(id);
+            run_errand(alloc, process, network, name, errand, false, output, errors)
+        }
+        Task::Show { entry: None, .. } => {
+            let errand = Errand::ShowEach;
+            run_errand(alloc, process, network, name, errand, false, output, errors)
         }
     }
 }
@@ -151,11 +214,12 @@ fn perform_words<'a, O: Write, E: Write>(
 ) -> Result<u8, Fault<'a>> {
     match options::read(rt.alloc(), words) {
         Ok(Some(task)) => {
-            let mut place = SystemPlace::new(rt, task.database());
-            perform_task(rt, &mut place, task, output, errors)?;
+            let mut process = OutboxProcess::new(SystemPlace::new(rt, task.database()));
+            let mut network = PeerDial::new(rt, task.peer(), rt.stderr());
+            perform_task(rt, &mut process, &mut network, task, output, errors)?;
             Ok(DONE)
         }
-        Ok(None) => Err(CommandFault::NoTask.into()),
+        Ok(None) => Err(Fault::Command(CommandFault::NoTask)),
         Err(error) => Ok(show_refusal(&error, output, errors)?),
     }
 }

@@ -1,0 +1,50 @@
+-- A refusal has the status that it is told with.
+use Rattle.std.proofs.Common.{◌≡◌, Bool, true, false, true≢false, refl, sym, ◌∙◌, ap}
+use Rattle.command_line.specs.declared.fault.DatabaseFault.{DatabaseFault}
+use Rattle.command_line.specs.declared.fault.DatabaseFault.TheVariants.{Missing, Empty, NotADatabase, Foreign, AutoVacuum, Damaged, Unsummed, Busy, Memory, Denied, NotAFile, Linked, Journal, NoFolder, NoName, Descriptors, Full, Disk}
+use Rattle.command_line.specs.Status.{database_status}
+use Rattle.command_files.specs.Verdicts.{goes_by_pages, IsRefusalOf}
+use Rattle.outbox_process.specs.declared.fault.OpeningFault.{OpeningFault}
+use Rattle.outbox_process.specs.declared.fault.OpeningFault.TheVariants.{Files, Taken, Create, Open, IsCurrent, Migrate}
+use Rattle.outbox_commands.specs.Status.{opening_status}
+use Rattle.outbox_commands.specs.Visits.{IsToldAs}
+
+paged_status : (fault : DatabaseFault) → goes_by_pages fault ≡ true → database_status fault ≡ 1
+paged_status NotADatabase is = refl
+paged_status Foreign is = refl
+paged_status AutoVacuum is = refl
+paged_status Damaged is = refl
+paged_status Unsummed is = refl
+paged_status Missing is = refl
+paged_status Empty is = refl
+paged_status Busy is = absurd (true≢false (sym is))
+paged_status Memory is = absurd (true≢false (sym is))
+paged_status Denied is = absurd (true≢false (sym is))
+paged_status NotAFile is = absurd (true≢false (sym is))
+paged_status Linked is = absurd (true≢false (sym is))
+paged_status Journal is = absurd (true≢false (sym is))
+paged_status NoFolder is = absurd (true≢false (sym is))
+paged_status NoName is = absurd (true≢false (sym is))
+paged_status Descriptors is = absurd (true≢false (sym is))
+paged_status Full is = absurd (true≢false (sym is))
+paged_status Disk is = absurd (true≢false (sym is))
+
+database_told : (fault told : DatabaseFault) → IsRefusalOf fault told → database_status told ≡ database_status fault
+database_told fault told is = go (goes_by_pages fault) refl
+  where
+    go : (b : Bool) → goes_by_pages fault ≡ b → database_status told ≡ database_status fault
+    go true paged = paged_status told (is.pages ∙ paged) ∙ sym (paged_status fault paged)
+    go false other = ap database_status (is.others other)
+
+pub told_status : (why told : OpeningFault) → IsToldAs why told → opening_status told ≡ opening_status why
+told_status (Files why) (Files told) is = database_told why told is
+told_status (Files why) (Taken holding) is = absurd is
+told_status (Files why) (Create other) is = absurd is
+told_status (Files why) (Open other holding) is = absurd is
+told_status (Files why) IsCurrent is = absurd is
+told_status (Files why) (Migrate other holding) is = absurd is
+told_status (Taken holding) told is = ap opening_status is
+told_status (Create why) told is = ap opening_status is
+told_status (Open why holding) told is = ap opening_status is
+told_status IsCurrent told is = ap opening_status is
+told_status (Migrate why holding) told is = ap opening_status is

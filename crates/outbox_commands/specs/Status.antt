@@ -1,0 +1,124 @@
+-- The status that `outbox` ends with.
+use Rattle.std.specs.Prelude.{ℕ, zero, suc, Result, Ok, Err}
+use Rattle.key_string.specs.declared.fault.KeyFault.{KeyFault}
+use Rattle.key_string.specs.declared.fault.KeyFault.TheVariants as key
+use Rattle.table_rows.specs.declared.fault.StoreFault.{StoreFault}
+use Rattle.outbox_opening.specs.declared.fault.OutboxFault.{OutboxFault}
+use Rattle.outbox_opening.specs.declared.fault.OutboxFault.TheVariants as made
+use Rattle.outbox_core.specs.declared.fault.PutFault.{PutFault}
+use Rattle.outbox_core.specs.declared.fault.PutFault.TheVariants as put
+use Rattle.outbox_core.specs.declared.fault.TakeFault.TheVariants as take
+use Rattle.filer_client.specs.declared.fault.ExchangeFault.{ExchangeFault}
+use Rattle.filer_client.specs.declared.fault.ExchangeFault.TheVariants as exchange
+use Rattle.command_line.specs.Status.{database_status}
+use Rattle.command_line.specs.Status as command
+use Rattle.command_files.specs.Reports.{report_status}
+use Rattle.outbox_tasks.specs.declared.fault.SendFault.{SendFault}
+use Rattle.outbox_tasks.specs.declared.fault.SendFault.TheVariants as send
+use Rattle.outbox_tasks.specs.declared.fault.TaskFault.{TaskFault}
+use Rattle.outbox_tasks.specs.declared.fault.TaskFault.TheVariants as task
+use Rattle.outbox_process.specs.declared.errand.Done.{Done}
+use Rattle.outbox_process.specs.declared.errand.Done.TheVariants as done
+use Rattle.outbox_process.specs.declared.fault.OpeningFault.{OpeningFault}
+use Rattle.outbox_process.specs.declared.fault.OpeningFault.TheVariants as opening
+use Rattle.outbox_commands.specs.declared.fault.VisitFault.{VisitFault}
+use Rattle.outbox_commands.specs.declared.fault.VisitFault.TheVariants as visit
+use Rattle.outbox_commands.specs.declared.fault.Fault.{Fault}
+use Rattle.outbox_commands.specs.declared.fault.Fault.TheVariants as fault
+
+-- ---- of what went wrong in the libraries
+
+-- 1 if the database is no outbox of this version or cannot become one, 2 if the filer is none, and 3 if memory or the disk failed
+abbrev pub outbox_status : OutboxFault → ℕ
+outbox_status made.BadFiler = 2
+outbox_status made.Taken = 1
+outbox_status made.NotOurs = 1
+outbox_status (made.Damaged row) = 1
+outbox_status made.Memory = 3
+outbox_status made.Disk = 3
+
+abbrev pub opening_status : OpeningFault → ℕ
+opening_status (opening.Files why) = database_status why
+opening_status (opening.Taken holding) = 1
+opening_status (opening.Create why) = outbox_status why
+opening_status (opening.Open why holding) = outbox_status why
+opening_status opening.IsCurrent = 1
+opening_status (opening.Migrate why holding) = outbox_status why
+
+-- 2 if the body is too large or the key is used
+abbrev pub put_status : PutFault → ℕ
+put_status put.TooLarge = 2
+put_status (put.KeyUsed id) = 2
+put_status put.Memory = 3
+put_status put.Store = 3
+
+-- 4 if no entry has the id
+abbrev pub exchange_status : ExchangeFault → ℕ
+exchange_status (exchange.Write sent) = 3
+exchange_status (exchange.Reply why) = 3
+exchange_status (exchange.Take take.NoEntry) = 4
+exchange_status (exchange.Take take.Memory) = 3
+exchange_status (exchange.Take take.Store) = 3
+
+abbrev pub send_status : SendFault → ℕ
+send_status (send.Connect error) = 3
+send_status (send.Exchange why) = exchange_status why
+
+abbrev pub task_status : TaskFault → ℕ
+task_status (task.Read why) = 3
+task_status (task.NoEntry id) = 4
+task_status (task.Put why) = put_status why
+task_status (task.NotTold id why) = 3
+task_status (task.Send id why) = send_status why
+task_status (task.Line why) = 3
+
+-- 3 if an exchange of a round failed
+abbrev pub failed_status : ℕ → ℕ
+failed_status zero = 0
+failed_status (suc failed) = 3
+
+-- 0 exactly if all was done
+abbrev pub done_status : Result Done TaskFault → ℕ
+done_status (Ok (done.Put id)) = 0
+done_status (Ok done.Sent) = 0
+done_status (Ok (done.Round round)) = failed_status round.failed
+done_status (Ok done.Shown) = 0
+done_status (Err why) = task_status why
+
+-- ---- of what is reported
+
+abbrev pub visit_status : VisitFault → ℕ
+visit_status (visit.Taken holding) = 1
+visit_status (visit.NotOurs holding) = 1
+visit_status visit.IsCurrent = 1
+visit_status visit.NotEarlier = 1
+visit_status (visit.Damaged row) = 1
+visit_status visit.BadFiler = 2
+visit_status visit.TooLarge = 2
+visit_status (visit.KeyUsed id) = 2
+visit_status (visit.NoEntry id) = 4
+visit_status (visit.NotTold id) = 3
+visit_status visit.NotClosed = 3
+visit_status visit.Memory = 3
+visit_status visit.Database = 3
+
+-- 3 if memory is short, and 2 if the text is no key
+abbrev pub key_status : KeyFault → ℕ
+key_status key.Memory = 3
+key_status _ = 2
+
+abbrev pub status_of : Fault → ℕ
+status_of (fault.Command why) = command.status_of why
+status_of (fault.Key why) = key_status why
+status_of (fault.Report why) = report_status why
+status_of (fault.Outbox name why) = visit_status why
+status_of (fault.Connect port error) = 3
+status_of (fault.Exchange port why) = 3
+status_of (fault.Patience port seconds) = 3
+status_of (fault.Round port sent failed) = 3
+status_of (fault.Random error) = 3
+
+-- 0 if the task is done
+abbrev pub status_by : {X : Type 0} → Result X Fault → ℕ
+status_by (Ok done) = 0
+status_by (Err why) = status_of why

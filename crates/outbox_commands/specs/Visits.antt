@@ -1,0 +1,81 @@
+-- An outbox is opened, an errand is done on it, and it is closed.
+use Rattle.std.specs.Prelude.{◌≡◌, ◌⊎◌, ℕ, List, Option, Some, None, Result, Ok, Err}
+use Rattle.sqlite_disk.specs.declared.Disk.{Ghosts}
+use Rattle.sqlite.specs.declared.error.Error.{Error}
+use Rattle.command_files.specs.declared.verdict.Verdict.{Verdict}
+use Rattle.command_files.specs.declared.verdict.Verdict.TheVariants as verdict
+use Rattle.command_files.specs.Verdicts.{verdict_of, IsRefusalOf}
+use Rattle.outbox_opening.specs.declared.fault.OutboxFault.{OutboxFault}
+use Rattle.outbox_opening.specs.declared.fault.OutboxFault.TheVariants as made
+use Rattle.outbox_tasks.specs.Dials.{Traffic}
+use Rattle.outbox_tasks.specs.declared.fault.TaskFault.{TaskFault}
+use Rattle.outbox_process.specs.declared.begun.Beginning.{Beginning}
+use Rattle.outbox_process.specs.declared.begun.Beginning.TheVariants.{Found}
+use Rattle.outbox_process.specs.declared.errand.Done.{Done}
+use Rattle.outbox_process.specs.declared.errand.Errand.{Errand}
+use Rattle.outbox_process.specs.declared.fault.OpeningFault.{OpeningFault}
+use Rattle.outbox_process.specs.declared.fault.OpeningFault.TheVariants as fault
+use Rattle.outbox_process.specs.Process.{Parts, IsHonest, Leaves, OpensProcess, PerformsErrand, ClosesProcess}
+use Rattle.outbox_commands.specs.Status.{opening_status, done_status}
+
+-- ---- it is opened
+
+-- a refusal is told as it is, or, if it goes by the pages of the file, as the first of them says
+abbrev pub IsToldAs : OpeningFault → OpeningFault → Type 0
+IsToldAs (fault.Files why) (fault.Files told) = IsRefusalOf why told
+IsToldAs (fault.Files why) _ = ⊥
+IsToldAs why told = told ≡ why
+
+abbrev pub IsTold : Result (Unit {0}) OpeningFault → Result (Unit {0}) OpeningFault → Type 0
+IsTold (Ok done) result = result ≡ Ok tt
+IsTold (Err why) result = (told : OpeningFault) × (result ≡ Err told) × IsToldAs why told
+
+-- it was opened so, or was refused, and that is told
+abbrev pub OpensTold : {D : Type 0} (g : Ghosts D) → Beginning → Parts g → Parts g → Result (Unit {0}) OpeningFault → Type 0
+OpensTold g beginning old new result = (came : Result (Unit {0}) OpeningFault) × OpensProcess g beginning old new came × IsTold came result
+
+-- ---- an errand
+
+-- The outbox that lay there was opened, the errand was done on it, perhaps its entries were looked at again, and it was closed. The status
+-- says whether all was done.
+pub record DoesOn {D : Type 0} (g : Ghosts D) (errand : Errand) (net net' : Traffic) (out out' : Option (List ℕ)) (old new : Parts g) (status : ℕ) : Type 0 where
+  pub opened : Parts g
+  pub opens : OpensProcess g Found old opened (Ok tt)
+  pub done : Parts g
+  pub came : Result Done TaskFault
+  pub performs : PerformsErrand errand net net' out out' opened done came
+  pub looked : Parts g
+  pub looks : IsHonest g → Leaves done looked
+  pub closed : Result (Unit {0}) Error
+  pub closes : ClosesProcess g looked new closed
+  pub says : status ≡ done_status came
+
+-- It was not opened, the status says why, and nothing was done.
+pub record IsRefused {D : Type 0} (g : Ghosts D) (beginning : Beginning) (old new : Parts g) (status : ℕ) : Type 0 where
+  pub why : OpeningFault
+  pub opens : OpensProcess g beginning old new (Err why)
+  pub says : status ≡ opening_status why
+
+-- one of the two
+abbrev pub VisitsOutbox : {D : Type 0} (g : Ghosts D) → Errand → Traffic → Traffic → Option (List ℕ) → Option (List ℕ) → Parts g → Parts g → ℕ → Type 0
+VisitsOutbox g errand net net' out out' old new status =
+    DoesOn g errand net net' out out' old new status ⊎ (IsRefused g Found old new status × (net' ≡ net) × (out' ≡ out))
+
+-- ---- what is said of a database that is not migrated
+
+abbrev pub outbox_verdict : OutboxFault → Option Verdict
+outbox_verdict made.BadFiler = None
+outbox_verdict made.Taken = None
+outbox_verdict made.NotOurs = Some verdict.NotOurs
+outbox_verdict (made.Damaged row) = Some (verdict.Damaged row)
+outbox_verdict made.Memory = None
+outbox_verdict made.Disk = None
+
+-- whether it is no outbox that can be migrated, or a damaged one
+abbrev pub opening_verdict : OpeningFault → Option Verdict
+opening_verdict (fault.Files why) = verdict_of why
+opening_verdict (fault.Taken holding) = None
+opening_verdict (fault.Create why) = outbox_verdict why
+opening_verdict (fault.Open why holding) = outbox_verdict why
+opening_verdict fault.IsCurrent = Some verdict.NotOurs
+opening_verdict (fault.Migrate why holding) = outbox_verdict why
