@@ -1,8 +1,10 @@
 -- Entries that are looked at are kept.
-use Rattle.std.proofs.Common.{◌≡◌, ℕ, List, Result, Option, Some, refl, sym, ◌∙◌, subst}
+use Rattle.std.proofs.Common.{◌≡◌, ℕ, ◌+◌, ◌<◌, List, Result, Option, Some, refl, sym, ◌∙◌, subst, arith}
 use Rattle.sqlite_disk.specs.declared.Disk.{Ghosts}
 use Rattle.sqlite_store.specs.declared.store.FileStore.{FileStore}
+use Rattle.sqlite.specs.State.{State, HasCleanDisk, Survives}
 use Rattle.sqlite.specs.Store as store
+use Rattle.sqlite.specs.Tree.{Trees}
 use Rattle.sqlite.specs.Files.{over_files}
 use Rattle.table_rows.proofs.CleanLemmas.{always_clean}
 use Rattle.table_rows.specs.declared.fault.StoreFault.{StoreFault}
@@ -10,9 +12,12 @@ use Rattle.filing_model.specs.Outbox.{Entry}
 use Rattle.outbox_core.specs.Calls.{LooksUp}
 use Rattle.outbox_core.specs.OutboxParts.{OutboxParts, shows}
 use Rattle.outbox_core.specs.declared.entry.Entry.{Entry as Read}
-use Rattle.outbox_tasks.proofs.Looks.{was_clean}
 use Rattle.outbox_process.specs.Process.{Parts, IsHonest, KeepsBy, Leaves}
 use Rattle.outbox_commands.specs.Looking.{KeepsEntries}
+
+-- a disk that is clean after a call was clean before
+was_clean : (old new : State) (Commits : Trees → Type 0) → Survives old new Commits → HasCleanDisk new → HasCleanDisk old
+was_clean old new Commits survives clean = omega (arith, survives.clean, clean)
 
 module _ {S : Type 0} (g : store.Ghosts S) where
   pub none : (box : OutboxParts S) → KeepsEntries g box box

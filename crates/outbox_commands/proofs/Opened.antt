@@ -9,8 +9,8 @@ use Rattle.outbox_commands.specs.Visits.{IsTold, OpensTold, IsRefused}
 use Rattle.outbox_commands.proofs.Telling.{told_status}
 
 pub is_none : {A : Type 0} (o : Option A) → ((x : A) → o ≢ Some x) → o ≡ None
-is_none None no = refl
-is_none (Some x) no = absurd (no x refl)
+is_none None never = refl
+is_none (Some x) never = absurd (never x refl)
 
 module _ {D : Type 0} (g : Ghosts D) (beginning : Beginning) (old new : Parts g) where
   refused_by : (came : Result (Unit {0}) OpeningFault) (fault : OpeningFault) → OpensProcess g beginning old new came → IsTold came (Err fault) → IsRefused g beginning old new (opening_status fault)
@@ -25,9 +25,9 @@ module _ {D : Type 0} (g : Ghosts D) (beginning : Beginning) (old new : Parts g)
 
   opened_by : (came : Result (Unit {0}) OpeningFault) (done : Unit {0}) → OpensProcess g beginning old new came → IsTold came (Ok done) → OpensProcess g beginning old new (Ok tt)
   opened_by (Ok other) done opens told = opens
-  opened_by (Err why) done opens told = absurd (let no : Ok done ≡ Err told.0 = told.1 in cc)
+  opened_by (Err why) done opens told = absurd (let unlike : Ok done ≡ Err told.0 = told.1 in cc)
 
   -- it is open
   pub opened : (result : Result (Unit {0}) OpeningFault) → ((fault : OpeningFault) → result ≢ Err fault) → OpensTold g beginning old new result → OpensProcess g beginning old new (Ok tt)
-  opened (Ok done) no opens = opened_by opens.0 done opens.1 opens.2
-  opened (Err fault) no opens = absurd (no fault refl)
+  opened (Ok done) never opens = opened_by opens.0 done opens.1 opens.2
+  opened (Err fault) never opens = absurd (never fault refl)
