@@ -1,10 +1,11 @@
 //! Why a task is not done, in words and as a status.
 
+ghost use Rattle.std.specs.Prelude.{◌≡◌};
+
 use command_files::{Holding, ReportFault, Verdict};
 use command_line::CommandFault;
 use http_wire::ConnFault;
 use intake_core::Unavailable;
-use intake_tasks::TextFault;
 use register_store::{CreateFault, OpenFault, StoreFault};
 use sqlite::{Error as DatabaseError, ErrorCode};
 use std::alloc::AllocError;
@@ -20,8 +21,12 @@ pub struct Refusal {
 }
 
 impl Refusal {
+    ghost use Rattle.intake_commands.specs.Status.{opening_status, opening_verdict};
+
     /// What this says of a register.
-    fn verdict(self) -> Option<Verdict> {
+    fn verdict(self) -> Option<Verdict>
+        ensures { result ≡ opening_verdict self.fault }
+    {
         match self.fault {
             OpenFault::NotOurs => Some(Verdict::NotOurs),
             OpenFault::Damaged { row } => Some(Verdict::Damaged(row)),
@@ -30,9 +35,12 @@ impl Refusal {
     }
 
     /// The status that the program ends with: 1 if the database is no sound register, and else 3.
-    fn status(self) -> u8 {
+    fn status(self) -> u8
+        ensures { result ≡ opening_status self.fault }
+    {
         match self.fault {
-            OpenFault::NotOurs | OpenFault::Damaged { .. } => 1,
+            OpenFault::NotOurs => 1,
+            OpenFault::Damaged { row: _ } => 1,
             OpenFault::Memory | OpenFault::Disk => 3,
         }
     }
@@ -135,41 +143,48 @@ pub enum VisitFault {
 }
 
 impl VisitFault {
-    /// Why a task was not done that visited the register of the file with this name.
-    pub fn at(self, name: &str) -> Fault<'_> {
+    ghost use Rattle.intake_commands.specs.Status.{visit_status, visit_verdict};
+
+    /// Why a task was not done with the register of the file with this name.
+    pub fn at(self, name: &str) -> Fault<'_>
+        ensures { result ≡ Fault.Register name.entry self }
+    {
         Fault::Register { name, fault: self }
     }
 
     /// The status that the program ends with: 1 for a database that is no sound register or cannot
     /// become one, 3 for a fault of memory or the disk, 4 if a filing is missing.
-    pub fn status(self) -> u8 {
+    fn status(self) -> u8
+        ensures { result ≡ visit_status self }
+    {
         match self {
-            VisitFault::Taken(_)
-            | VisitFault::Create(CreateFault::Taken)
-            | VisitFault::NotMigrated(_) => 1,
-            VisitFault::Open(refusal) | VisitFault::Migrate(refusal) => refusal.status(),
-            VisitFault::NoFiling { .. } => 4,
-            VisitFault::Create(_)
-            | VisitFault::Store(_)
-            | VisitFault::NotClosed(_)
-            | VisitFault::List(_) => 3,
+            VisitFault::Taken(_) => 1,
+            VisitFault::Create(CreateFault::Taken) => 1,
+            VisitFault::Create(CreateFault::Memory | CreateFault::Disk) => 3,
+            VisitFault::Open(refusal) => refusal.status(),
+            VisitFault::Migrate(refusal) => refusal.status(),
+            VisitFault::NotMigrated(_) => 1,
+            VisitFault::Store(_) => 3,
+            VisitFault::NotClosed(_) => 3,
+            VisitFault::List(_) => 3,
+            VisitFault::NoFiling { number: _ } => 4,
         }
     }
 
     /// What it says of the register, if it says something.
-    pub fn verdict(self) -> Option<Verdict> {
+    fn verdict(self) -> Option<Verdict>
+        ensures { result ≡ visit_verdict self }
+    {
         match self {
-            VisitFault::Open(refusal) | VisitFault::Migrate(refusal) => refusal.verdict(),
+            VisitFault::Open(refusal) => refusal.verdict(),
+            VisitFault::Migrate(refusal) => refusal.verdict(),
             VisitFault::NotMigrated(_) => Some(Verdict::NotOurs),
-            _ => None,
-        }
-    }
-
-    /// Whether the database is not the register that was looked for.
-    pub fn is_of_others(self) -> bool {
-        match self {
-            VisitFault::Taken(_) => true,
-            _ => matches!(self.verdict(), Some(Verdict::NotOurs)),
+            VisitFault::Taken(_) => None,
+            VisitFault::Create(_) => None,
+            VisitFault::Store(_) => None,
+            VisitFault::NotClosed(_) => None,
+            VisitFault::List(_) => None,
+            VisitFault::NoFiling { number: _ } => None,
         }
     }
 }
@@ -178,7 +193,7 @@ impl VisitFault {
 #[derive(Debug, Drop, Error)]
 pub enum Fault<'a> {
     #[error("{0}")]
-    Command(#[from] CommandFault<'a>),
+    Command(CommandFault<'a>),
     #[error("there is no init: intake serve --new makes a register")]
     NoInit,
     #[error("--limit: it is 4611686018427387904 at most")]
@@ -188,53 +203,65 @@ pub enum Fault<'a> {
     #[error("{name}: {fault}")]
     Register { name: &'a str, fault: VisitFault },
     #[error("{0}")]
-    Report(#[from] ReportFault<'a>),
+    Report(ReportFault<'a>),
     #[error("{0}")]
     Connection(ConnFault),
     #[error("127.0.0.1:{port}: {error}")]
     Network { port: u16, error: io::Error },
 }
 
-impl From<AllocError> for Fault<'_> {
-    fn from(_error: AllocError) -> Self {
-        Fault::Command(CommandFault::Memory)
-    }
-}
+impl<'a> From<CommandFault<'a>> for Fault<'a> {
+    ghost use Rattle.intake_commands.specs.declared.fault.Fault.TheVariants as fault;
 
-impl From<TextFault> for Fault<'_> {
-    fn from(fault: TextFault) -> Self {
-        Fault::Command(match fault {
-            TextFault::Memory => CommandFault::Memory,
-            TextFault::Output => CommandFault::Output,
-        })
+    ghost from_gives = { λ why given. given ≡ fault.Command why };
+
+    fn from(fault: CommandFault<'a>) -> Self {
+        Fault::Command(fault)
     }
 }
 
 impl Fault<'_> {
+    ghost use Rattle.intake_commands.specs.Status.{fault_status, fault_verdict};
+
     /// The status that the program ends with: 1 for a database that is no sound register or cannot
     /// become one, 2 for the command line, 3 for a fault of memory, the disk or the network, 4 if
     /// a filing is missing.
-    pub fn status(&self) -> u8 {
+    fn status(&self) -> u8
+        ensures { result ≡ fault_status self.now }
+    {
         match self {
             Fault::Command(fault) => fault.status(),
             Fault::Report(fault) => fault.status(),
-            Fault::Register { fault, .. } => fault.status(),
+            Fault::Register { name: _, fault } => fault.status(),
             Fault::Limit | Fault::NoInit => 2,
-            Fault::InMemory(_) | Fault::Connection(_) | Fault::Network { .. } => 3,
+            Fault::InMemory(_) => 3,
+            Fault::Connection(_) => 3,
+            Fault::Network { port: _, error: _ } => 3,
         }
     }
 
     /// What the fault says of the register, if it says something.
-    pub fn verdict(&self) -> Option<Verdict> {
+    pub fn verdict(&self) -> Option<Verdict>
+        ensures { result ≡ fault_verdict self.now }
+    {
         match self {
-            Fault::Register { fault, .. } => fault.verdict(),
-            Fault::Command(CommandFault::Database { fault, .. }) => Verdict::of(*fault),
-            _ => None,
+            Fault::Register { name: _, fault } => fault.verdict(),
+            Fault::Command(CommandFault::Database { name: _, fault }) => Verdict::of(*fault),
+            Fault::Command(CommandFault::NotText | CommandFault::NoTask | CommandFault::Filer) =>
+                None,
+            Fault::Command(CommandFault::Output | CommandFault::Memory) => None,
+            Fault::Report(_) => None,
+            Fault::Limit | Fault::NoInit => None,
+            Fault::InMemory(_) => None,
+            Fault::Connection(_) => None,
+            Fault::Network { port: _, error: _ } => None,
         }
     }
 
     /// Writes the text as a line, and answers the status.
-    pub fn tell<E: Write>(&self, errors: &mut E) -> u8 {
+    pub fn tell<E: Write>(&self, errors: &mut E) -> u8
+        ensures { result ≡ fault_status self.now }
+    {
         // Nothing is left to be done if this text can't be written either.
         let _ = writeln!(errors, "intake: {self}");
         self.status()

@@ -7,15 +7,19 @@
 mod fault;
 mod limit;
 mod line;
+mod linting;
 mod log;
 mod note;
 mod pause;
 mod port;
+mod program;
 mod progress;
-mod register;
 mod reporter;
 mod room;
+mod running;
 mod serving;
 mod tasks;
+mod told;
+mod visiting;
 
-pub use tasks::{main, perform};
+pub use program::main;

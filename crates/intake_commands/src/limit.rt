@@ -1,8 +1,6 @@
 //! How many keys a register keeps at most.
 
-ghost use Rattle.std.specs.Prelude.{◌≡◌, ◌≤◌, ◌^◌, IfOk};
-
-use crate::fault::Fault;
+ghost use Rattle.std.specs.Prelude.{◌≡◌, ◌≤◌, ◌<◌, ◌^◌, MatchOption};
 
 /// The greatest limit.
 const MOST_KEPT: u64 = 1 << 62;
@@ -15,14 +13,14 @@ pub struct Limit {
 }
 
 impl Limit {
-    /// The limit, where it is no greater than the greatest.
-    pub fn new<'a>(keys: u64) -> Result<Limit, Fault<'a>>
-        ensures { IfOk result (λ limit. limit.keys ≡ keys) }
+    /// The limit, if it is no greater than the greatest.
+    pub fn new(keys: u64) -> Option<Limit>
+        ensures { MatchOption result (2 ^ 62 < keys) (λ limit. limit.keys ≡ keys) }
     {
         if keys <= MOST_KEPT {
-            Ok(Limit { keys })
+            Some(Limit { keys })
         } else {
-            Err(Fault::Limit)
+            None
         }
     }
 }

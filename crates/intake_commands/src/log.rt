@@ -111,17 +111,17 @@ impl<W: Sink> Sink for Statuses<W> {
 
 /// A port whose connections have each a line on the output once they are over.
 #[derive(Drop)]
-pub struct Logged<'o, P, O> {
+pub struct Logged<P, O> {
     alloc: Global,
     port: P,
-    output: &'o mut O,
+    output: O,
     /// Why the line of the connection that was over last was not printed.
     failure: Option<ConnectionFault>,
 }
 
-impl<'o, P, O> Logged<'o, P, O> {
+impl<P, O> Logged<P, O> {
     /// The port with its log on this output, in which nothing is written yet.
-    pub fn new(alloc: Global, port: P, output: &'o mut O) -> Logged<'o, P, O> {
+    pub fn new(alloc: Global, port: P, output: O) -> Logged<P, O> {
         Logged {
             alloc,
             port,
@@ -154,7 +154,7 @@ fn show_line<O: Write>(
     }
 }
 
-impl<P: StreamPort, O: Write> Port for Logged<'_, P, O> {
+impl<P: StreamPort, O: Write> Port for Logged<P, O> {
     type Reader = Noted<P::Reader>;
 
     type Writer = Statuses<P::Writer>;
@@ -183,7 +183,7 @@ impl<P: StreamPort, O: Write> Port for Logged<'_, P, O> {
     ) -> Result<(), AllocError> {
         self.failure = show_line(
             self.alloc,
-            self.output,
+            &mut self.output,
             self.port.taken(),
             &served,
             reader.bytes.as_slice(),
@@ -194,7 +194,7 @@ impl<P: StreamPort, O: Write> Port for Logged<'_, P, O> {
     }
 }
 
-impl<P: StreamPort, O: Write> StreamPort for Logged<'_, P, O> {
+impl<P: StreamPort, O: Write> StreamPort for Logged<P, O> {
     fn taken(&self) -> u32 {
         self.port.taken()
     }

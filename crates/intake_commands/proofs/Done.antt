@@ -1,0 +1,29 @@
+-- What a task does follows from what its call did.
+use Rattle.std.proofs.Common.{◌≡◌, ◌≤◌, ◌^◌, ℕ, Bool, true, false, true≢false, Result, subst, sym, inr, MatchBool}
+use Rattle.std.specs.Prelude.{not}
+use Rattle.sqlite_disk.specs.declared.Disk.{Ghosts}
+use Rattle.gateway_ports.specs.Ports.{Traffic}
+use Rattle.intake_options.specs.declared.options.Serving.{Serving}
+use Rattle.intake_process.specs.Process.{Parts}
+use Rattle.intake_process.specs.Turns.{ServesRegister}
+use Rattle.intake_process.specs.declared.serving.ServingFault.{ServingFault}
+use Rattle.intake_commands.specs.declared.fault.Fault.{Fault}
+use Rattle.intake_commands.specs.Tasks.{IsServingTold, Serves}
+
+-- ---- what is wanted, and what is not
+
+pub wanted : (b : Bool) (P Q : Type 0) → true ≡ b → P → MatchBool b P Q
+wanted true P Q is p = p
+wanted false P Q is p = absurd (true≢false is)
+
+pub unwanted : (b : Bool) (P Q : Type 0) → false ≡ b → Q → MatchBool b P Q
+unwanted true P Q is q = absurd (true≢false (sym is))
+unwanted false P Q is q = q
+
+-- ---- a port is served
+
+pub served_as : {D : Type 0} {g : Ghosts D} (task : Serving) (found : Bool) (keys : ℕ) (port port' : Traffic) (old new : Parts g) (served : Result (Unit {0}) ServingFault) (result : Result ℕ Fault) → found ≡ not task.new → keys ≡ task.limit → keys ≤ 2 ^ 62
+    → ServesRegister found keys task.connections port port' old new served → IsServingTold task served result → Serves task port port' old new result
+served_as task found keys port port' old new served result found_is keys_is few serves told =
+    let limited = subst (λ k. ServesRegister found k task.connections port port' old new served) keys_is serves in
+    inr (subst (λ k. k ≤ 2 ^ 62) keys_is few, served, subst (λ f. ServesRegister f task.limit task.connections port port' old new served) found_is limited, told)

@@ -1,0 +1,4 @@
+pub mod Lints
+pub mod Status
+pub mod Tasks
+pub mod Told

@@ -1,0 +1,120 @@
+-- What `intake` does with a task. This says of each word of the command line what is printed, what is kept, and the status.
+use Rattle.std.specs.Prelude.{◌≡◌, ◌⊎◌, ◌≤◌, ◌<◌, ◌^◌, ℕ, Bool, true, false, not, List, map, codes, Option, Some, None, Result, Ok, Err, MatchBool}
+use Rattle.std.specs.Borrow.{Bor}
+use Rattle.std.specs.Io.KnownBytes.{Appends}
+use Rattle.sqlite_disk.specs.declared.Disk.{Ghosts}
+use Rattle.key_string.specs.Filer.{is_filer}
+use Rattle.http_wire.specs.Wire.{Wire}
+use Rattle.filing_model.specs.declared.served.Ended.{Ended}
+use Rattle.filing_model.specs.declared.served.Ended.TheVariants as ended
+use Rattle.gateway_ports.specs.Ports.{Traffic}
+use Rattle.gateway_ports.specs.declared.serving.PortFault.TheVariants as network
+use Rattle.command_line.specs.declared.fault.CommandFault.TheVariants as command
+use Rattle.command_files.specs.Verdicts.{verdict_text}
+use Rattle.command_files.specs.declared.verdict.Verdict.{Verdict}
+use Rattle.intake_tasks.specs.Tasks.{ServesAlone}
+use Rattle.intake_tasks.specs.declared.errand.Errand.{Errand}
+use Rattle.intake_tasks.specs.declared.errand.Errand.TheVariants as asked
+use Rattle.intake_options.specs.declared.options.Serving.{Serving}
+use Rattle.intake_options.specs.declared.options.Task.{Task}
+use Rattle.intake_options.specs.declared.options.Task.TheVariants as task
+use Rattle.intake_process.specs.Process.{Parts}
+use Rattle.intake_process.specs.Turns.{ServesRegister}
+use Rattle.intake_process.specs.Visits.{VisitsRegister}
+use Rattle.intake_process.specs.declared.errand.ErrandFault.{ErrandFault}
+use Rattle.intake_process.specs.declared.serving.ServingFault.{ServingFault}
+use Rattle.intake_process.specs.declared.serving.ServingFault.TheVariants as refused
+use Rattle.intake_process.specs.declared.visiting.Visited.{Visited}
+use Rattle.intake_commands.specs.declared.fault.Fault.{Fault}
+use Rattle.intake_commands.specs.declared.fault.Fault.TheVariants as fault
+use Rattle.intake_commands.specs.Lints.{Lints}
+use Rattle.intake_commands.specs.Status.{status_of, fault_verdict}
+use Rattle.intake_commands.specs.Told.{IsErrandTold, IsOpeningTold}
+
+-- What contracts see of what a task works with, where it is known: the connection on standard input and output, what else the output has, the
+-- port, and the process of the register.
+pub record Means {D : Type 0} (g : Ghosts D) : Type 0 where
+  pub wire : Wire
+  pub out : Option (List ℕ)
+  pub port : Traffic
+  pub process : Parts g
+
+-- ---- run: one connection is served on a register in memory
+
+-- it did not end by a fault
+abbrev pub IsOver : Ended → Type 0
+IsOver ended.Closed = Unit {0}
+IsOver ended.InputEnded = Unit {0}
+IsOver (ended.Fault why) = ⊥
+
+abbrev pub Runs : ℕ → Wire → Wire → Result ℕ Fault → Type 0
+Runs limit from to (Ok status) = (status ≡ 0) × (ended : Ended) × IsOver ended × ServesAlone limit from to ended
+Runs limit from to (Err (fault.Connection why)) = ServesAlone limit from to (ended.Fault why)
+Runs limit from to (Err (fault.InMemory why)) = to ≡ from
+Runs limit from to (Err fault.Limit) = (2 ^ 62 < limit) × (to ≡ from)
+Runs limit from to (Err other) = ⊥
+
+-- ---- serve: connections of a port are served on the register of a file
+
+-- how it came out is the status, or the fault that is told of it
+abbrev pub IsServingTold : Serving → Result (Unit {0}) ServingFault → Result ℕ Fault → Type 0
+IsServingTold task (Ok done) result = result ≡ Ok 0
+IsServingTold task (Err (refused.Register why)) result = (told : Fault) × IsOpeningTold task.database why told × (result ≡ Err told)
+IsServingTold task (Err (refused.Port (network.Network error))) result = result ≡ Err (fault.Network task.port error)
+IsServingTold task (Err (refused.Port network.Memory)) result = result ≡ Err (fault.Command command.Memory)
+
+-- with the task's limit, its number of connections, and a register that is new or not
+abbrev pub Serves : {D : Type 0} {g : Ghosts D} → Serving → Traffic → Traffic → Parts g → Parts g → Result ℕ Fault → Type 0
+Serves task port port' old new result =
+    ((2 ^ 62 < task.limit) × (port' ≡ port) × (new ≡ old) × (result ≡ Err fault.Limit))
+    ⊎ ((task.limit ≤ 2 ^ 62) × (served : Result (Unit {0}) ServingFault)
+    × ServesRegister (not task.new) task.limit task.connections port port' old new served × IsServingTold task served result)
+
+-- ---- list, show, check and migrate: the register of a file is visited
+
+-- a filer's code is one
+abbrev pub is_wanted : Errand → Bool
+is_wanted (asked.List filer) = is_filer filer.now
+is_wanted other = true
+
+-- what is printed of a fault beside the text on standard error: of a check and a migration the verdict on the register
+abbrev pub shown_verdict : Errand → Fault → Option Verdict
+shown_verdict asked.Check why = fault_verdict why
+shown_verdict asked.Migrate why = fault_verdict why
+shown_verdict other why = None
+
+-- the fault is the result, unless there is a verdict that cannot be printed
+abbrev pub EndsWith : Option Verdict → Fault → Option (List ℕ) → Option (List ℕ) → Result ℕ Fault → Type 0
+EndsWith None told out out' result = (result ≡ Err told) × (out' ≡ out)
+EndsWith (Some verdict) told out out' result =
+    ((result ≡ Err told) × Appends out out' (verdict_text verdict (codes "a register")))
+    ⊎ ((result ≡ Err (fault.Command command.Output)) ⊎ ((result ≡ Err (fault.Command command.Memory)) × (out' ≡ out)))
+
+-- the status is 0 if the errand is done, and else that of the fault that is told
+abbrev pub IsVisitTold : Bor (List ℕ) → Errand → Result (Unit {0}) ErrandFault → Option (List ℕ) → Option (List ℕ) → Result ℕ Fault → Type 0
+IsVisitTold name errand (Ok done) out out' result = (result ≡ Ok 0) × (out' ≡ out)
+IsVisitTold name errand (Err why) out out' result = (told : Fault) × IsErrandTold name why told × EndsWith (shown_verdict errand told) told out out' result
+
+abbrev pub Visits : {D : Type 0} {g : Ghosts D} → Bor (List ℕ) → Errand → Option (List ℕ) → Option (List ℕ) → Parts g → Parts g → Result ℕ Fault → Type 0
+Visits name errand out out' old new result =
+    (between : Option (List ℕ)) × (visited : Visited) × VisitsRegister errand out between old new visited × IsVisitTold name errand visited.done between out' result
+
+-- ---- a task
+
+-- that a filer's code is none is told, and nothing is done
+abbrev pub IsNoFiler : {D : Type 0} {g : Ghosts D} → Means g → Means g → Result ℕ Fault → Type 0
+IsNoFiler old new result = (new ≡ old) × (result ≡ Err (fault.Command command.Filer))
+
+-- nothing but what is named changes
+abbrev pub Does : {D : Type 0} {g : Ghosts D} → Task → Means g → Means g → Result ℕ Fault → Type 0
+Does (task.Run limit) old new result = (new ≡ record old { wire = new.wire }) × Runs limit old.wire new.wire result
+Does (task.Serve serving) old new result =
+    (new ≡ record old { port = new.port; process = new.process }) × Serves serving old.port new.port old.process new.process result
+Does (task.Visit name errand) old new result =
+    MatchBool (is_wanted errand) ((new ≡ record old { out = new.out; process = new.process }) × Visits name errand old.out new.out old.process new.process result) (IsNoFiler old new result)
+Does (task.Lint filer files) old new result =
+    MatchBool (is_filer filer.now) ((new ≡ record old { out = new.out }) × Lints result) (IsNoFiler old new result)
+
+-- What performing a task does, and the status.
+abbrev pub Performs : {D : Type 0} {g : Ghosts D} → Task → Means g → Means g → ℕ → Type 0
+Performs task old new status = (result : Result ℕ Fault) × Does task old new result × (status ≡ status_of result)

@@ -1,0 +1,93 @@
+//! The program: what a task works with is made, and the task is performed.
+
+use crate::fault::Fault;
+use crate::log::Logged;
+use crate::port::{StreamPort, TimedPort};
+use crate::tasks::perform_task;
+use command_line::{CommandFault, show_refusal, words};
+use database_places::SystemPlace;
+use http_wire::Device;
+use intake_options::{Serving, Task};
+use intake_process::IntakeProcess;
+use std::io::{IsTerminal, Write};
+
+/// The name of the file of the register that a task is for, or none.
+fn database_of<'a>(task: &Task<'a>) -> &'a str {
+    match task {
+        Task::Serve(serving) => serving.database,
+        Task::Visit { database, .. } => database,
+        Task::Run { .. } | Task::Lint { .. } => "",
+    }
+}
+
+/// The port that is served.
+fn port_of<'r>(rt: &'r HostRuntime, serving: &Serving<'_>) -> TimedPort<'r> {
+    TimedPort::new(rt, serving.port, serving.patience)
+}
+
+/// Performs a task over this port, the file of its register and the standard streams, and answers the status.
+fn perform_over<L: StreamPort>(rt: &HostRuntime, task: &Task<'_>, port: &mut L) -> u8 {
+    perform_task(
+        rt,
+        task,
+        &mut IntakeProcess::new(SystemPlace::new(rt, database_of(task))),
+        port,
+        &mut Device::new(rt.reader()),
+        &mut Device::new(rt.stdout()),
+        &mut rt.stdout(),
+        &mut rt.stderr(),
+    )
+}
+
+/// Performs a task, and answers the status.
+fn perform(rt: &HostRuntime, task: &Task<'_>) -> u8 {
+    match task {
+        Task::Serve(serving) if serving.log => {
+            let mut logged = Logged::new(rt.alloc(), port_of(rt, serving), rt.stdout());
+            perform_over(rt, task, &mut logged)
+        }
+        Task::Serve(serving) => perform_over(rt, task, &mut port_of(rt, serving)),
+        _ => perform_over(rt, task, &mut TimedPort::new(rt, 0, None)),
+    }
+}
+
+/// Whether these words ask for what makes an outbox. A register is made where it is served.
+fn asks_for_init(words: &[String]) -> bool {
+    words.get(1).is_some_and(|word| word.as_str() == "init")
+}
+
+/// Performs what these words ask for, and answers the status.
+fn perform_words<'a>(rt: &HostRuntime, words: &'a [String]) -> Result<u8, Fault<'a>> {
+    if asks_for_init(words) {
+        return Err(Fault::NoInit);
+    }
+    match intake_options::read(rt.alloc(), words) {
+        Ok(Some(task)) => Ok(perform(rt, &task)),
+        Ok(None) => Err(CommandFault::NoTask.into()),
+        Err(error) => Ok(show_refusal(&error, &mut rt.stdout(), &mut rt.stderr())?),
+    }
+}
+
+/// Says what is waited for, if no word was given and the input is a terminal.
+fn tell_terminal(rt: &HostRuntime, words: &[String]) {
+    if words.len() <= 1 && rt.stdin().is_terminal() {
+        // Nothing is left to be done if this text can't be written.
+        let _ = writeln!(
+            rt.stderr(),
+            "intake: reading HTTP requests from this terminal, for a register in memory; Ctrl-D ends it, and intake --help says what else there is"
+        );
+    }
+}
+
+/// The program: performs the words that it was started with, over the standard streams, and answers the status.
+pub fn main(rt: &HostRuntime) -> u8 {
+    let words = match words(rt) {
+        Ok(words) => words,
+        Err(fault) => return Fault::Command(fault).tell(&mut rt.stderr()),
+    };
+    tell_terminal(rt, words.as_slice());
+    match perform_words(rt, words.as_slice()) {
+        Ok(status) => status,
+        Err(fault) => fault.tell(&mut rt.stderr()),
+    }
+}

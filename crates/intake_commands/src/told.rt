@@ -1,0 +1,76 @@
+//! Which fault is told of what went wrong with the register of a file.
+
+ghost use Rattle.std.specs.Prelude.{◌≡◌};
+ghost use Rattle.intake_commands.specs.Told.{IsDatabaseTold, IsErrandTold, IsOpeningTold, not_migrated};
+
+use crate::fault::{Fault, Refusal, VisitFault};
+use command_files::{Holding, refusal};
+use command_line::{CommandFault, DatabaseFault};
+use database_places::Place;
+use intake_process::{ErrandFault, OpeningFault};
+use intake_tasks::TextFault;
+use register_store::OpenFault;
+use sqlite_disk::Disk;
+use std::alloc::Global;
+
+/// Why the files in this place, with this name, gave no database.
+fn database_fault<'a, D: Disk + Drop, P: Place<D>>(
+    alloc: Global,
+    place: &P,
+    name: &'a str,
+    fault: DatabaseFault,
+) -> Fault<'a>
+    ensures { IsDatabaseTold name.entry fault result }
+{
+    let fault = refusal(alloc, place, fault);
+    Fault::Command(CommandFault::Database { name, fault })
+}
+
+/// Why a database that holds this is not migrated.
+fn not_migrated(fault: OpenFault, holding: Holding) -> VisitFault
+    ensures { result ≡ not_migrated fault holding }
+{
+    match fault {
+        OpenFault::NotOurs => VisitFault::NotMigrated(holding),
+        OpenFault::Damaged { row: _ } => VisitFault::Migrate(Refusal { fault, holding }),
+        OpenFault::Memory | OpenFault::Disk => VisitFault::Migrate(Refusal { fault, holding }),
+    }
+}
+
+/// Why an errand to the register that lies in this place, in the file with this name, is not done.
+pub fn errand_fault<'a, D: Disk + Drop, P: Place<D>>(
+    alloc: Global,
+    place: &P,
+    name: &'a str,
+    fault: ErrandFault,
+) -> Fault<'a>
+    ensures { IsErrandTold name.entry fault result }
+{
+    match fault {
+        ErrandFault::Files(fault) => database_fault(alloc, place, name, fault),
+        ErrandFault::Open(fault, holding) => VisitFault::Open(Refusal { fault, holding }).at(name),
+        ErrandFault::Migrate(fault, holding) => not_migrated(fault, holding).at(name),
+        ErrandFault::List(fault) => VisitFault::List(fault).at(name),
+        ErrandFault::Store(fault) => VisitFault::Store(fault).at(name),
+        ErrandFault::NoFiling { number } => VisitFault::NoFiling { number }.at(name),
+        ErrandFault::Text(TextFault::Memory) => Fault::Command(CommandFault::Memory),
+        ErrandFault::Text(TextFault::Output) => Fault::Command(CommandFault::Output),
+    }
+}
+
+/// Why the register that lies in this place, in the file with this name, was not opened.
+pub fn opening_fault<'a, D: Disk + Drop, P: Place<D>>(
+    alloc: Global,
+    place: &P,
+    name: &'a str,
+    fault: OpeningFault,
+) -> Fault<'a>
+    ensures { IsOpeningTold name.entry fault result }
+{
+    match fault {
+        OpeningFault::Files(fault) => database_fault(alloc, place, name, fault),
+        OpeningFault::Taken(holding) => VisitFault::Taken(holding).at(name),
+        OpeningFault::Create(fault) => VisitFault::Create(fault).at(name),
+        OpeningFault::Open(fault, holding) => VisitFault::Open(Refusal { fault, holding }).at(name),
+    }
+}
