@@ -1,3 +1,4 @@
+pub mod Lints
 pub mod Looking
 pub mod Networks
 pub mod Status

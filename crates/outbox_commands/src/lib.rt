@@ -7,6 +7,7 @@ mod answer;
 mod errand;
 mod fault;
 mod held;
+mod linting;
 mod network;
 mod options;
 mod tasks;

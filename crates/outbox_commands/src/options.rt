@@ -6,12 +6,26 @@ use command_line::{
     ToArg, VERSION, Word, database_option, filer_option, option, port_option, tasks,
 };
 use outbox_process::{Target, Which};
+use report_tasks::Form;
 use std::alloc::{AllocError, Global};
 
 /// The greatest number that a filing may have.
 const MAX_TARGET: u64 = i64::MAX as u64;
 
 /// What the command line asks for.
+#[derive(Drop)]
+pub enum Asked<'a> {
+    /// A task on the outbox of a file.
+    Outbox(Task<'a>),
+    /// Print what is wrong with the reports of a filer in these files.
+    Lint {
+        filer: &'a str,
+        form: Form,
+        files: Vec<&'a str>,
+    },
+}
+
+/// What is done with an outbox.
 #[derive(Clone, Copy)]
 pub enum Task<'a> {
     /// Make an outbox of this filer.
@@ -156,6 +170,20 @@ fn all<'a>(alloc: Global) -> Result<Arg<'a>, AllocError> {
         .conflicts_with("entry")
 }
 
+fn json<'a>(alloc: Global) -> Arg<'a> {
+    Arg::new(alloc, "json")
+        .long("json")
+        .help("Prints each finding as a JSON object on a line of its own [default: as a sentence]")
+        .action(ArgAction::SetTrue)
+}
+
+fn files<'a>(alloc: Global) -> Arg<'a> {
+    Arg::new(alloc, "FILE")
+        .help("The reports' files, each of at most 1048576 bytes")
+        .required(true)
+        .num_args(1..)
+}
+
 /// What a task is given on the command line.
 #[derive(Clone, Copy)]
 enum Argument {
@@ -169,6 +197,8 @@ enum Argument {
     /// The id of an entry, with this help.
     Entry(&'static str),
     All,
+    Json,
+    Files,
 }
 
 impl ToArg for Argument {
@@ -183,12 +213,14 @@ impl ToArg for Argument {
             Argument::Patience => patience(alloc),
             Argument::Entry(help) => entry(alloc, help),
             Argument::All => all(alloc)?,
+            Argument::Json => json(alloc),
+            Argument::Files => files(alloc),
         })
     }
 }
 
 /// The words that ask for tasks, as the help has them.
-static WORDS: [Word<Argument>; 6] = [
+static WORDS: [Word<Argument>; 7] = [
     Word {
         name: "init",
         about: "Makes an outbox without entries; creates the file if there is none",
@@ -244,6 +276,12 @@ static WORDS: [Word<Argument>; 6] = [
         example: "Example: outbox migrate --db outbox.db",
         arguments: &[Argument::Database],
     },
+    Word {
+        name: "lint",
+        about: "Checks reports as a register would, and prints a line for each finding; status 1 if there are findings",
+        example: "Example: outbox lint --filer ACME report.json",
+        arguments: &[Argument::Filer, Argument::Json, Argument::Files],
+    },
 ];
 
 fn command<'a>(alloc: Global) -> Result<Command<'a>, AllocError> {
@@ -252,7 +290,7 @@ fn command<'a>(alloc: Global) -> Result<Command<'a>, AllocError> {
         .version(VERSION)
         .about("Keeps the reports that a filer is to send, and sends them")
         .after_help(
-            "Exit status: 0 done; 1 not an outbox, a damaged one, or one that is there already;\n2 the command line, a key that is used or a report that is too large;\n3 memory, a file, the disk or the network failed; 4 no such entry",
+            "Exit status: 0 done; 1 not an outbox, a damaged one, one that is there already, or a report with findings;\n2 the command line, a key that is used or a report that is too large;\n3 memory, a file, the disk or the network failed; 4 no such entry",
         )
         .subcommand_required(true)
         .subcommands(tasks)
@@ -307,14 +345,36 @@ fn task_of<'a>(name: &str, values: &ArgMatches<'a>) -> Option<Task<'a>> {
     }
 }
 
-fn asked<'a>(matches: &ArgMatches<'a>) -> Option<Task<'a>> {
-    let (name, values) = matches.subcommand()?;
-    task_of(name, values)
+/// How findings are written.
+fn form_of(values: &ArgMatches<'_>) -> Form {
+    if values.get_flag("json") {
+        Form::Objects
+    } else {
+        Form::Sentences
+    }
+}
+
+fn lint_of<'a>(alloc: Global, values: &ArgMatches<'a>) -> Result<Option<Asked<'a>>, AllocError> {
+    let (Some(filer), Some(names)) = (values.get_str("filer"), values.get_strs("FILE")) else {
+        return Ok(None);
+    };
+    let mut files = Vec::new(alloc);
+    files.extend_from_slice(names)?;
+    let form = form_of(values);
+    Ok(Some(Asked::Lint { filer, form, files }))
+}
+
+fn asked_by<'a>(alloc: Global, matches: &ArgMatches<'a>) -> Result<Option<Asked<'a>>, AllocError> {
+    match matches.subcommand() {
+        Some(("lint", values)) => lint_of(alloc, values),
+        Some((name, values)) => Ok(task_of(name, values).map(Asked::Outbox)),
+        None => Ok(None),
+    }
 }
 
 /// The task that these words spell, the program's name first. `None` is for a command that asks for
 /// nothing.
-pub fn read<'a>(alloc: Global, words: &'a [String]) -> Result<Option<Task<'a>>, Error> {
+pub fn read<'a>(alloc: Global, words: &'a [String]) -> Result<Option<Asked<'a>>, Error> {
     let matches = command(alloc)?.try_get_matches_from(words)?;
-    Ok(asked(&matches))
+    Ok(asked_by(alloc, &matches)?)
 }

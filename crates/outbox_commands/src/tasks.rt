@@ -8,9 +8,10 @@ ghost use Rattle.outbox_commands.specs.Visits.{opening_verdict};
 
 use crate::errand::{close, open, run_errand};
 use crate::fault::{Fault, verdict_on};
+use crate::linting::lint;
 use crate::network::{Network, PeerDial};
 use crate::options;
-use crate::options::Task;
+use crate::options::{Asked, Task};
 use command_files::{report, show_verdict};
 use command_line::{CommandFault, DONE, show, show_refusal, words};
 use database_places::{Place, SystemPlace};
@@ -213,7 +214,10 @@ fn perform_words<'a, O: Write, E: Write>(
     errors: &mut E,
 ) -> Result<u8, Fault<'a>> {
     match options::read(rt.alloc(), words) {
-        Ok(Some(task)) => {
+        Ok(Some(Asked::Lint { filer, form, files })) => {
+            lint(rt, form, filer, files.as_slice(), output)
+        }
+        Ok(Some(Asked::Outbox(task))) => {
             let mut process = OutboxProcess::new(SystemPlace::new(rt, task.database()));
             let mut network = PeerDial::new(rt, task.peer(), rt.stderr());
             perform_task(rt, &mut process, &mut network, task, output, errors)?;
