@@ -112,8 +112,7 @@ Does (task.Serve serving) old new result =
     (new ≡ record old { port = new.port; process = new.process }) × Serves serving old.port new.port old.process new.process result
 Does (task.Visit name errand) old new result =
     MatchBool (is_wanted errand) ((new ≡ record old { out = new.out; process = new.process }) × Visits name errand old.out new.out old.process new.process result) (IsNoFiler old new result)
-Does (task.Lint filer files) old new result =
-    MatchBool (is_filer filer.now) ((new ≡ record old { out = new.out }) × Lints result) (IsNoFiler old new result)
+Does (task.Lint filer form files) old new result = (new ≡ record old { out = new.out }) × Lints form filer.now files.items old.out new.out result
 
 -- What performing a task does, and the status.
 abbrev pub Performs : {D : Type 0} {g : Ghosts D} → Task → Means g → Means g → ℕ → Type 0

@@ -6,7 +6,7 @@ ghost use Rattle.intake_process.specs.Process.{parts};
 ghost use Rattle.intake_commands.specs.Tasks.{Does, Performs, is_wanted};
 
 use crate::fault::Fault;
-use crate::linting::lint_files;
+use crate::linting::lint;
 use crate::port::StreamPort;
 use crate::running::run_once;
 use crate::serving::serve;
@@ -109,12 +109,7 @@ fn do_task<
             }
             visit(rt, database, *errand, process, output, errors)
         }
-        Task::Lint { filer, files } => {
-            if !is_filer(filer) {
-                return Err(Fault::Command(CommandFault::Filer));
-            }
-            lint_files(rt, filer, files, output)
-        }
+        Task::Lint { filer, form, files } => lint(rt, *form, filer, files, output),
     }
 }
 

@@ -6,6 +6,7 @@ use command_line::{
     ToArg, VERSION, Word, database_option, filer_option, option, port_option, tasks,
 };
 use intake_tasks::Errand;
+use report_tasks::Form;
 use std::alloc::{AllocError, Global};
 
 /// How many keys are kept at most, if the command line does not say.
@@ -50,6 +51,7 @@ pub enum Task<'a> {
     /// Show the findings of a filer's reports.
     Lint {
         filer: &'a str,
+        form: Form,
         files: Vec<&'a str>,
     },
 }
@@ -115,6 +117,13 @@ fn number<'a>(alloc: Global) -> Arg<'a> {
     )
 }
 
+fn json<'a>(alloc: Global) -> Arg<'a> {
+    Arg::new(alloc, "json")
+        .long("json")
+        .help("Prints each finding as a JSON object on a line of its own [default: as a sentence]")
+        .action(ArgAction::SetTrue)
+}
+
 fn files<'a>(alloc: Global) -> Arg<'a> {
     Arg::new(alloc, "FILE")
         .help("The reports' files, each of at most 1048576 bytes")
@@ -134,6 +143,7 @@ enum Argument {
     Log,
     Filer,
     Number,
+    Json,
     Files,
 }
 
@@ -157,6 +167,7 @@ impl ToArg for Argument {
             ),
             Argument::Filer => filer_option(alloc),
             Argument::Number => number(alloc),
+            Argument::Json => json(alloc),
             Argument::Files => files(alloc),
         })
     }
@@ -212,7 +223,7 @@ static WORDS: [Word<Argument>; 7] = [
         name: "lint",
         about: "Checks reports as the register would, and prints a line for each finding; status 1 if there are findings",
         example: "Example: intake lint --filer ACME report.json",
-        arguments: &[Argument::Filer, Argument::Files],
+        arguments: &[Argument::Filer, Argument::Json, Argument::Files],
     },
 ];
 
@@ -231,13 +242,23 @@ fn limit_of(values: &ArgMatches<'_>) -> u64 {
     values.get_one("limit").unwrap_or(DEFAULT_LIMIT)
 }
 
+/// How findings are written.
+fn form_of(values: &ArgMatches<'_>) -> Form {
+    if values.get_flag("json") {
+        Form::Objects
+    } else {
+        Form::Sentences
+    }
+}
+
 fn lint_of<'a>(alloc: Global, values: &ArgMatches<'a>) -> Result<Option<Task<'a>>, AllocError> {
     let (Some(filer), Some(names)) = (values.get_str("filer"), values.get_strs("FILE")) else {
         return Ok(None);
     };
     let mut files = Vec::new(alloc);
     files.extend_from_slice(names)?;
-    Ok(Some(Task::Lint { filer, files }))
+    let form = form_of(values);
+    Ok(Some(Task::Lint { filer, form, files }))
 }
 
 fn errand_of<'a>(name: &str, values: &ArgMatches<'a>) -> Option<Errand<'a>> {

@@ -1,11 +1,7 @@
 -- What is printed, byte for byte; own rules.
 use Rattle.std.specs.Prelude.{ℕ, List, ◌++◌, flat_map, codes, None}
 use Rattle.std.specs.Fmt.{decimal}
-use Rattle.serde_json.specs.Data.{string}
-use Rattle.serde_json.specs.Written.{compact_text}
-use Rattle.xbrl_report.specs.CodeNumber.{text_of}
 use Rattle.xbrl_report.specs.FactRecord.{FactRecord}
-use Rattle.xbrl_report.specs.Pair.{Pair}
 use Rattle.filing_model.specs.Listing.{listings}
 use Rattle.filing_model.specs.Register.{Filing}
 use Rattle.filing_model.specs.Reply.{list_reply}
@@ -30,11 +26,3 @@ sound_line kept filings = codes "sound: " ++ decimal kept ++ codes " kept, " ++ 
 -- that a register was migrated
 abbrev pub migrated_line : List ℕ
 migrated_line = codes "migrated\n"
-
--- a finding of the report in the file of this name: the word of its code, and its place as JSON
-abbrev pub finding_line : List ℕ → Pair → List ℕ
-finding_line name finding = name ++ codes ": " ++ text_of finding.code ++ codes " " ++ compact_text (string finding.place) ++ codes "\n"
-
--- a line for each of these findings
-abbrev pub finding_lines : List ℕ → List Pair → List ℕ
-finding_lines name findings = flat_map (finding_line name) findings

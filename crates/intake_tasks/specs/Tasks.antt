@@ -1,5 +1,5 @@
 -- What the tasks do, and what they print. `out` and `out'` are what the output has before and after a task, where that is known.
-use Rattle.std.specs.Prelude.{◌≡◌, ◌≢◌, ◌⊎◌, ◌↔◌, ℕ, Bool, true, false, List, [], length, Option, Some, None, Result, Ok, Err, IfOk, IfErr, OnOk, OnErr}
+use Rattle.std.specs.Prelude.{◌≡◌, ◌⊎◌, ◌↔◌, ℕ, true, false, List, [], length, Option, Some, None, Result, Ok, Err, IfOk, IfErr, OnOk, OnErr}
 use Rattle.std.specs.Io.KnownBytes.{Appends}
 use Rattle.std.specs.Result.{result_map_both}
 use Rattle.sqlite.specs.Store.{Ghosts}
@@ -9,7 +9,6 @@ use Rattle.table_rows.specs.Standing.{HasCommitted, CommitsNothing, StaysOnOk}
 use Rattle.table_rows.specs.declared.fault.StoreFault.{StoreFault}
 use Rattle.http_wire.specs.Wire.{Wire}
 use Rattle.xbrl_report.specs.FactRecord.{FactRecord}
-use Rattle.xbrl_report.specs.Findings.{findings}
 use Rattle.filing_model.specs.declared.served.Ended.{Ended}
 use Rattle.filing_model.specs.declared.served.Mark.{Mark}
 use Rattle.filing_model.specs.Request.{Request}
@@ -28,7 +27,6 @@ use Rattle.intake_core.specs.declared.intake.Unavailable.TheVariants.{Down, Stor
 use Rattle.intake_core.specs.Held.{has_stopped, HoldsRequests, ForRequests, KeepsSetting}
 use Rattle.gateway_server.specs.Progress.{IsEndedBy, ServesConnection}
 use Rattle.gateway_server.specs.Written.{WritesTexts}
-use Rattle.intake_tasks.specs.declared.text.TextFault.{TextFault}
 use Rattle.intake_tasks.specs.declared.text.TextFault.TheVariants.{Output}
 use Rattle.intake_tasks.specs.declared.listing.ListFault.{ListFault}
 use Rattle.intake_tasks.specs.declared.listing.ListFault.TheVariants as listing
@@ -37,7 +35,7 @@ use Rattle.intake_tasks.specs.declared.showing.ShowFault.TheVariants as showing
 use Rattle.intake_tasks.specs.declared.checking.CheckFault.{CheckFault}
 use Rattle.intake_tasks.specs.declared.checking.CheckFault.TheVariants as checking
 use Rattle.intake_tasks.specs.declared.migrating.Migrated.{Migrated}
-use Rattle.intake_tasks.specs.Lines.{list_line, fact_lines, sound_line, migrated_line, finding_lines}
+use Rattle.intake_tasks.specs.Lines.{list_line, fact_lines, sound_line, migrated_line}
 
 -- where it isn't the output that failed, nothing was printed
 abbrev pub PrintsNothing : {E : Type 0} → E → Option (List ℕ) → Option (List ℕ) → E → Type 0
@@ -114,9 +112,3 @@ pub record ServesAlone (limit : ℕ) (from to : Wire) (ended : Ended) : Type 0 w
   -- why it ended, and what went out
   pub fault : IsEndedBy from to ended
   pub texts : WritesTexts from.written to.written (Some ended)
-
--- What `lint` prints of a report: a line for each of its findings. It answers whether there is one.
-pub record FindsIn (filer name body : List ℕ) (out out' : Option (List ℕ)) (result : Result Bool TextFault) : Type 0 where
-  pub printed : OnOk result (Appends out out' (finding_lines name (findings filer body)))
-  pub found : IfOk result (λ is_found. (is_found ≡ true) ↔ (findings filer body ≢ []))
-  pub quiet : IfErr result (PrintsNothing Output out out')

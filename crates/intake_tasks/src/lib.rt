@@ -1,11 +1,9 @@
-//! What `intake` does with a register and prints of it, and what it finds in a report. What may live here: a task as
-//! one call of a library, and the text that is printed of it. No file, no port and no words of a command line are known
-//! here.
+//! What `intake` does with a register and prints of it. What may live here: a task as one call of a library, and the text
+//! that is printed of it. No file, no port and no words of a command line are known here.
 #![tactic(auto)]
 
 mod checking;
 mod errand;
-mod linting;
 mod listing;
 mod migrating;
 mod running;
@@ -14,7 +12,6 @@ mod text;
 
 pub use checking::{CheckFault, Progress, check};
 pub use errand::Errand;
-pub use linting::lint;
 pub use listing::{ListFault, list};
 pub use migrating::{Migrated, migrate};
 pub use running::run;
