@@ -53,6 +53,7 @@ OTHERS = [
     ("check --db @bare.db", 1, "not a register\n", f"bare.db: {NO_TABLES}"),
     ("check --db @auto.db", 1, "not a register\n", f"auto.db: {AUTO_VACUUM}"),
 ]
+NOT_JSON = '{"code":"not-json","column":3,"file":"words","line":2,"message":"the body is no JSON text","place":"","value":null}\n'
 AFTER = [
     ("migrate --db @r.db", 1, "not a register\n", "r.db: it has this version already"),
     ("check --db @r.db", 0, "sound: 1 kept, 1 filings\n", ""),
@@ -61,7 +62,8 @@ AFTER = [
     ("show --db @r.db --number 1", 0, FACT, ""),
     ("show --db @r.db --number 2", 4, "", "r.db: there is no filing 2"),
     ("serve --db @r.db --port 1 --connections 1 --new", 1, "", "r.db: it is a register already: leave out --new"),
-    ("lint --filer ACME @r.db", 1, 'r.db: not-json ""\n', ""),
+    ("lint --filer ACME @words", 1, "words:2:3: not-json: the body is no JSON text ()\n", ""),
+    ("lint --filer ACME --json @words", 1, NOT_JSON, ""),
 ]
 DAMAGED = [
     ("check --db @r.db", 1, "damaged at row 1\n", "r.db: damaged at row 1"),
@@ -75,11 +77,16 @@ MIGRATED = [
     ("check --db @old.db", 0, "sound: 1 kept, 0 filings\n", ""),
     ("migrate --db @old.db", 1, "not a register\n", "old.db: it has this version already"),
 ]
+NO_INFO = '{"code":"document-info","column":1,"file":"small","line":1,"message":"the member is missing","place":"/documentInfo","value":null}\n'
 ENTRIES = [
     ("init --db @box.db --filer a/b", 2, "", f"--filer: {FILER_CODE}"),
     ("status --db @box.db", 1, "", "box.db: there is no such file"),
     ("init --db @box.db --filer -x", 0, "", ""),
     ("init --db @box.db --filer -x", 1, "", "box.db: it is an outbox already"),
+    ("lint --filer a/b @small", 2, "", f"--filer: {FILER_CODE}"),
+    ("lint --filer ACME @large", 2, "", "large: the report has more than 1048576 bytes"),
+    ("lint --filer ACME @small", 1, "small:1:1: document-info: the member is missing (/documentInfo)\n", ""),
+    ("lint --filer ACME --json @small", 1, NO_INFO, ""),
     ("put --db @none.db --body @none --key ", 2, "", "--key: the key is empty"),
     ("put --db @box.db --body @large --key k-1", 2, "", "large: the report has more than 1048576 bytes"),
     ("put --db @box.db --body @small --key k-1", 0, "entry 1\n", ""),
@@ -186,6 +193,7 @@ def check_intake(folder):
     database = folder / "r.db"
     hold_each(INTAKE, BEFORE, folder)
     make_example(database)
+    (folder / "words").write_text('{"a":1,\n  b}')
     hold_each(INTAKE, AFTER, folder)
     damage(database)
     hold_each(INTAKE, DAMAGED, folder)

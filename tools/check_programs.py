@@ -389,9 +389,13 @@ def check_lint(folder):
     status, output, errors = said(run(INTAKE, "lint", "--filer", "ACME", good, bad), folder)
     judged = run(INTAKE, given=request("k-1", bad.read_bytes())).stdout
     findings = json.loads(judged.partition(b"\r\n\r\n")[2])["findings"]
-    lines = "".join(f"bad.json: {it['code']} {json.dumps(it['place'])}\n" for it in findings)
-    hold("lint finds what a filing is refused for", (status, output, errors), (1, lines, ""))
-    tell("and that is something", None if findings else "no finding")
+    hold("a filing is refused for that", findings, [{"code": "document-info", "place": "/documentInfo"}])
+    line = "bad.json:1:17: document-info: 1 is no object (/documentInfo)\n"
+    hold("lint finds what a filing is refused for", (status, output, errors), (1, line, ""))
+    hold("and so does the outbox", said(run(OUTBOX, "lint", "--filer", "ACME", good, bad), folder), (1, line, ""))
+    told = [json.loads(it) for it in said(run(OUTBOX, "lint", "--filer", "ACME", "--json", bad), folder)[1].splitlines()]
+    wanted = {"file": "bad.json", "line": 1, "column": 17, "code": "document-info", "place": "/documentInfo", "value": "1"}
+    hold("as an object too", told, [{**wanted, "message": "1 is no object"}])
     hold("lint of no file", said(run(INTAKE, "lint", "--filer", "ACME", folder / "none"), folder)[0], 3)
     hold("lint for no filer", run(INTAKE, "lint", "--filer", "a/b", good).returncode, 2)
 
@@ -509,7 +513,7 @@ def check_answers(folder):
     hold("and in a round", said(every, folder), (0, "entry 1 open\nentry 2 open\n", errors))
     peer = Peer(answers(REFUSED), answers(CLASHED))
     every = run(OUTBOX, "send", "--db", outbox, "--port", peer.port, "--all")
-    errors = "outbox: entry 1: refused; the report has findings: intake lint --filer ACME FILE lists them\n"
+    errors = "outbox: entry 1: refused; the report has findings: outbox lint --filer ACME FILE lists them\n"
     errors += "outbox: entry 2: clashed; the register has another report under its key: put it in under a new one\n"
     hold("what to do with what is refused", said(every, folder), (0, "entry 1 refused\nentry 2 clashed\n", errors))
 

@@ -204,7 +204,7 @@ pub fn tell_refused<E: Write>(
     } else {
         writeln!(
             errors,
-            "outbox: entry {id}: refused; the report has findings: intake lint --filer {filer} FILE lists them"
+            "outbox: entry {id}: refused; the report has findings: outbox lint --filer {filer} FILE lists them"
         )
     }
 }
