@@ -1,16 +1,15 @@
-//! The files of a command: the database in which it works, and the report that it reads; and how long a connection may
-//! take. What may live here: how both programs open a database and close it again, and what they print of one that is
-//! not theirs. Of the tables only the names are known by which a register and an outbox are told apart.
+//! What both programs do with files beside opening databases: the report that a command reads, what is printed of a
+//! database that is not its own, and how long a connection may take. What may live here: why a database is refused, as
+//! the first page of its file says, and the texts of that. Of the tables only the names are known by which a register and
+//! an outbox are told apart.
 #![tactic(auto)]
 
-mod database;
 mod head;
 mod holding;
 mod patience;
 mod report_file;
 mod verdict;
 
-pub use database::{Left, Visited, Work, on_database};
 pub use head::refusal;
 pub use holding::{Holding, held_in};
 pub use patience::{Deadline, Patient, Waits};
