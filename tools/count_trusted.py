@@ -5,8 +5,8 @@
     tools/count_trusted.py --names    the same, with the name of each definition
     tools/count_trusted.py --check    whether docs/TRUST.md has these tables; status 1 where it has others
 
-It reads the contracts of `run`, of the calls that show its world, and of the law `any_programs`, and follows each name in them through `ghost use`, `use` and `pub use` to the
-definition that it stands for, and so on, down to the kit's own definitions, which it names and doesn't enter. Every line of a
+It reads the contracts of `run`, of the calls that show its world, of the law `any_programs`, and of `perform_task` of both programs. It follows each name in
+them through `ghost use`, `use` and `pub use` to the definition that it means, and so on, down to the kit's own definitions, which it names and doesn't enter. Every line of a
 definition counts that is neither blank nor a comment. A file comes after those that cite it.
 
 Of a Rust type that a contract or a definition names, what contracts see of it counts: its model where it has one, and its
@@ -28,6 +28,8 @@ HEADLINE = [(RUN, "run")] + [(WORLD, name) for name in ("register", "states", "c
 ENDS = [(WORLD, "intake"), (WORLD, "outbox")]
 # The law that the headline holds of what any programs keep.
 PROGRAMS = [("crates/programs/src/lib.rt", "any_programs")]
+# What each task of the programs does.
+TASKS = [(f"crates/{program}_commands/src/tasks.rt", "perform_task") for program in ("intake", "outbox")]
 
 IMPORT = re.compile(r"\s*(?:ghost |pub )*use (Rattle\.[\w.]+?)(?:\.\{(.*)\}|(?: as (\w+))?);?\s*$")
 RUST_IMPORT = re.compile(r"^use (\w+(?:::\w+)*?)::(?:\{([^}]*)\}|(\w+));", re.MULTILINE)
@@ -260,15 +262,20 @@ class Reached:
         return order
 
 
-def table(found, known, with_names):
-    """The definitions beyond those known, a row for each file."""
-    rows = []
+def crate_of(file):
+    return file.split("/")[1]
+
+
+def table(found, known, with_names, by_crate=False):
+    """The definitions beyond those known, a row for each file, or for each crate."""
+    new_of = {}
     for file in found.in_order():
         new = [d for key, d in found.definitions.items() if d.file == file and key not in known]
         if new:
-            rows.append((f"`{file.removeprefix('crates/')}`", new))
+            new_of.setdefault(crate_of(file) if by_crate else file.removeprefix("crates/"), []).extend(new)
+    rows = [(f"`{title}`", new) for title, new in new_of.items()]
     rows.append(("together", [d for _, new in rows for d in new]))
-    lines = ["| file | definitions | lines |", "|---|---|---|"]
+    lines = [f"| {'crate' if by_crate else 'file'} | definitions | lines |", "|---|---|---|"]
     for title, new in rows:
         line = f"| {title} | {len(new):,} | {sum(len(d.lines) for d in new):,} |"
         names = ", ".join(d.name for d in new) if with_names and title != "together" else ""
@@ -289,6 +296,7 @@ def kit_table(found):
 
 def report(with_names):
     first, second, third = Reached(HEADLINE), Reached(HEADLINE + ENDS), Reached(HEADLINE + PROGRAMS)
+    fourth = Reached(HEADLINE + ENDS + PROGRAMS + TASKS)
     parts = [
         ["The contract of `run`, the calls that show its world, and what they rest on:"],
         table(first, {}, with_names),
@@ -296,8 +304,10 @@ def report(with_names):
         table(second, first.definitions, with_names),
         ["The law `any_programs`, and what it rests on beyond the first list:"],
         table(third, first.definitions, with_names),
+        ["The contracts `perform_task` of `intake` and `outbox`, and what they rest on beyond these three lists:"],
+        table(fourth, second.definitions | third.definitions, with_names, by_crate=True),
         ["What they name of the kit:"],
-        kit_table(Reached(HEADLINE + ENDS + PROGRAMS)),
+        kit_table(fourth),
     ]
     return "\n\n".join("\n".join(part) for part in parts)
 
