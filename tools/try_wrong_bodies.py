@@ -1,12 +1,12 @@
 #!/usr/bin/env python3
-"""Has the prover try the wrong bodies that the gate has no time for: those of `tools/wrong_bodies/CRATE`. Each has to be refused.
+"""Has the prover try the wrong bodies that the gate has no time for: `crates/CRATE/wrong_bodies/*.edit`. Each has to be refused.
 
     tools/try_wrong_bodies.py            all of them
     tools/try_wrong_bodies.py schedule   those of one crate
     tools/try_wrong_bodies.py --reads    proves nothing, and says whether each can be read: whether its old texts stand where it says
 
 It copies what git has of the repository, puts them in the place of those under `crates/CRATE/must-fail` there, and runs
-`rt must-fail CRATE`, which proves the crate from nothing first. The last line is that of `rt`; the status is 0 where all are refused.
+`rt must-fail CRATE`, which proves the crate from nothing first. The last line is that of `rt`; the status is 0 if all are refused.
 """
 import pathlib
 import shutil
@@ -15,7 +15,7 @@ import sys
 import tempfile
 
 TOP = pathlib.Path(__file__).resolve().parent.parent
-WRONG_BODIES = TOP / "tools" / "wrong_bodies"
+CRATES = TOP / "crates"
 
 
 def copy(folder):
@@ -51,10 +51,9 @@ def fault_of(edit, crate):
 def read_all():
     """Says of each wrong body that cannot be read why, in the gate or outside."""
     failed = 0
-    edits = sorted(WRONG_BODIES.glob("*/*.edit")) + sorted(TOP.glob("crates/*/must-fail/*.edit"))
+    edits = sorted(CRATES.glob("*/wrong_bodies/*.edit")) + sorted(CRATES.glob("*/must-fail/*.edit"))
     for edit in edits:
-        crate = edit.parent.name if edit.is_relative_to(WRONG_BODIES) else edit.parent.parent.name
-        fault = fault_of(edit, crate)
+        fault = fault_of(edit, edit.parent.parent.name)
         if fault:
             print(f"{edit.relative_to(TOP)}: {fault}")
             failed += 1
@@ -65,12 +64,12 @@ def read_all():
 def main():
     if sys.argv[1:] == ["--reads"]:
         sys.exit(read_all())
-    crates = sys.argv[1:] or sorted(folder.name for folder in WRONG_BODIES.iterdir())
+    crates = sys.argv[1:] or sorted(folder.parent.name for folder in CRATES.glob("*/wrong_bodies"))
     with tempfile.TemporaryDirectory() as name:
         folder = pathlib.Path(name)
         copy(folder)
         for crate in crates:
-            edits = sorted((WRONG_BODIES / crate).glob("*.edit"))
+            edits = sorted((CRATES / crate / "wrong_bodies").glob("*.edit"))
             if not edits:
                 sys.exit(f"no wrong bodies of {crate}")
             target = folder / "crates" / crate / "must-fail"
