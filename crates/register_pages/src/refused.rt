@@ -1,7 +1,7 @@
 //! The refused reports.
 
 use crate::frame::{begin, begin_table, end, end_table, filer_link, filing_cell, text_cell};
-use finding_lines::lines;
+use finding_lines::{Form, lines};
 use markup::Markup;
 use register_walk::Sent;
 use std::alloc::{AllocError, Global};
@@ -46,7 +46,7 @@ impl Refused {
         for finding in findings {
             count_code(&mut self.found, finding.code.number() as usize);
         }
-        let written = lines(alloc, "report", &sent.body, findings)?;
+        let written = lines(alloc, Form::Sentences, "report", &sent.body, findings)?;
         let written = String::from_utf8_lossy(alloc, &written)?;
         self.rows.constant("<tr><th scope=\"row\">")?;
         filer_link(&mut self.rows, sent.filer.as_str())?;
