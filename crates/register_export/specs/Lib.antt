@@ -1,2 +1,0 @@
-pub mod Exports
-pub mod Records
