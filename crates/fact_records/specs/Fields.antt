@@ -1,0 +1,128 @@
+-- Records of facts: CSV (RFC 4180, section 2), and JSON (RFC 8259) on lines. Which fields there are is an own rule.
+use Rattle.std.specs.Prelude.{ℕ, ◌==◌, List, [], ◌∷◌, ◌++◌, codes, Option, Some, None, option_and_then, if◌then◌else◌}
+use Rattle.std.specs.List.{flat_map}
+use Rattle.std.specs.Fmt.{decimal, signed_decimal}
+use Rattle.serde_json.specs.Data.{Data, string}
+use Rattle.serde_json.specs.Find.{as_str, get}
+use Rattle.serde_json.specs.Read.{read}
+use Rattle.serde_json.specs.Written.{compact_text}
+use Rattle.xbrl_report.specs.FactRecord.{FactRecord}
+use Rattle.fact_records.specs.declared.record.Form.{Form}
+use Rattle.fact_records.specs.declared.record.Form.TheVariants.{Csv, JsonLines}
+use Rattle.fact_records.specs.declared.record.Fields.{Fields as Held}
+use Rattle.fact_records.specs.declared.record.Head.{Head as Given}
+
+-- ---- what a record says
+
+-- of the filing of a fact: its number, who filed it, under which key, and which filing replaces it
+pub record Head : Type 0 where
+  pub number : ℕ
+  pub filer : List ℕ
+  pub key : List ℕ
+  pub replaced_by : Option ℕ
+
+-- the text of the member of this name
+abbrev pub member_text : Data → List ℕ → Option (List ℕ)
+member_text tree name = option_and_then as_str (get name tree)
+
+-- the same of dimensions, which are a JSON text
+abbrev pub dimension : List ℕ → List ℕ → Option (List ℕ)
+dimension dimensions name = option_and_then (λ tree. member_text tree name) (read dimensions)
+
+-- ---- how a field is written
+
+-- a quote within quotes is written twice
+abbrev pub doubled : ℕ → List ℕ
+doubled b = if b == 34 then 34 ∷ 34 ∷ [] else b ∷ []
+
+-- a text in quotes
+abbrev pub quoted : List ℕ → List ℕ
+quoted text = codes "\"" ++ flat_map doubled text ++ codes "\""
+
+-- In CSV a text is in quotes, so that an empty text is another field than no value, which is empty without quotes.
+abbrev pub text_field : Form → List ℕ → List ℕ
+text_field Csv text = quoted text
+text_field JsonLines text = compact_text (string text)
+
+abbrev pub absent : Form → List ℕ
+absent Csv = []
+absent JsonLines = codes "null"
+
+-- a value, written so, if there is one
+abbrev pub field_or_absent : {X : Type 0} → Form → (X → List ℕ) → Option X → List ℕ
+field_or_absent form written None = absent form
+field_or_absent form written (Some x) = written x
+
+-- the fields, as they are written
+pub record Fields : Type 0 where
+  pub number : List ℕ
+  pub filer : List ℕ
+  pub key : List ℕ
+  pub concept : List ℕ
+  pub period : List ℕ
+  pub unit : List ℕ
+  pub entity : List ℕ
+  pub value : List ℕ
+  pub decimals : List ℕ
+  pub replaced_by : List ℕ
+
+abbrev pub fields : Form → Head → FactRecord → Fields
+fields form head fact = record {
+  number = decimal head.number;
+  filer = text_field form head.filer;
+  key = text_field form head.key;
+  concept = text_field form fact.concept;
+  period = field_or_absent form (text_field form) (dimension fact.dimensions (codes "period"));
+  unit = field_or_absent form (text_field form) (dimension fact.dimensions (codes "unit"));
+  entity = field_or_absent form (text_field form) (dimension fact.dimensions (codes "entity"));
+  value = field_or_absent form (text_field form) fact.value;
+  decimals = field_or_absent form signed_decimal fact.decimals;
+  replaced_by = field_or_absent form decimal head.replaced_by;
+}
+
+-- ---- the lines
+
+-- fields with commas between them, and CR LF at the end
+unfoldable pub csv_record : Fields → List ℕ
+csv_record f =
+    f.number ++ codes "," ++ f.filer ++ codes "," ++ f.key ++ codes "," ++ f.concept ++ codes "," ++ f.period ++ codes "," ++ f.unit ++ codes "," ++ f.entity ++ codes "," ++ f.value
+    ++ codes "," ++ f.decimals ++ codes "," ++ f.replaced_by ++ codes "\r\n"
+
+-- an object with members of these names, in this order, and LF at the end
+unfoldable pub json_line : Fields → List ℕ
+json_line f =
+    codes "{\"number\":" ++ f.number ++ codes ",\"filer\":" ++ f.filer ++ codes ",\"key\":" ++ f.key ++ codes ",\"concept\":" ++ f.concept
+    ++ codes ",\"period\":" ++ f.period ++ codes ",\"unit\":" ++ f.unit ++ codes ",\"entity\":" ++ f.entity ++ codes ",\"value\":" ++ f.value
+    ++ codes ",\"decimals\":" ++ f.decimals ++ codes ",\"replaced_by\":" ++ f.replaced_by ++ codes "}\n"
+
+abbrev pub record_of : Form → Fields → List ℕ
+record_of Csv f = csv_record f
+record_of JsonLines f = json_line f
+
+-- the record of a fact
+abbrev pub record_text : Form → Head → FactRecord → List ℕ
+record_text form head fact = record_of form (fields form head fact)
+
+-- CSV has the names of the fields first
+abbrev pub first_line : Form → List ℕ
+first_line Csv = codes "number,filer,key,concept,period,unit,entity,value,decimals,replaced_by\r\n"
+first_line JsonLines = []
+
+-- ---- as code holds it
+
+abbrev pub view_head : Given → Head
+view_head h = record { number = h.number; filer = h.filer.now; key = h.key.now; replaced_by = h.replaced_by }
+
+abbrev pub view_fields : Held → Fields
+view_fields f = record {
+  number = f.number.items;
+  filer = f.filer.items;
+  key = f.key.items;
+  concept = f.concept.items;
+  period = f.period.items;
+  unit = f.unit.items;
+  entity = f.entity.items;
+  value = f.value.items;
+  decimals = f.decimals.items;
+  replaced_by = f.replaced_by.items;
+}

@@ -1,0 +1,37 @@
+-- What an export of a register does. `out` and `out'` are what the output has before and after it, where that is known.
+use Rattle.std.specs.Prelude.{◌≡◌, ℕ, false, List, Option, Result, IfErr, OnOk}
+use Rattle.std.specs.Io.KnownBytes.{Appends}
+use Rattle.sqlite.specs.Store.{Ghosts}
+use Rattle.sqlite.specs.Held.{Held, state}
+use Rattle.sqlite.specs.State.{HasCleanDisk}
+use Rattle.table_rows.specs.Standing.{CommitsNothing, StaysOnOk}
+use Rattle.fact_records.specs.declared.record.Form.{Form}
+use Rattle.filing_model.specs.Request.{Request}
+use Rattle.filing_model.specs.Register.{register}
+use Rattle.register_rows.specs.Schema.{IsDeclared}
+use Rattle.register_opening.specs.declared.fault.OpenFault.{OpenFault}
+use Rattle.register_opening.specs.Faults.{IsFailure}
+use Rattle.register_opening.specs.Opening.{IsRefused}
+use Rattle.register_opening.specs.Registers.{ForRows, IsRegisterOf}
+use Rattle.register_export.specs.declared.fault.ExportFault.{ExportFault}
+use Rattle.register_export.specs.declared.fault.ExportFault.TheVariants as fault
+use Rattle.register_export.specs.Records.{export_text}
+
+-- this holds of the fault of an opening; nothing is said where the register is sound
+abbrev pub IfOpen : (OpenFault → Type 0) → ExportFault → Type 0
+IfOpen Holds (fault.Open why) = Holds why
+IfOpen Holds (fault.Records why) = Unit {0}
+
+-- What `export` writes out of the register that a database is: all facts, or those of one filer, byte for byte.
+pub record ExportsFacts {S X : Type 0} (g : Ghosts S) (form : Form) (filer : Option (List ℕ)) (out out' : Option (List ℕ)) (old new : Held S) (result : Result X ExportFault) : Type 0 where
+  -- The rows stand for requests, and there is one such list at most.
+  pub exported : HasCleanDisk (state g new) → OnOk result (ForRows g old (λ _ requests. Appends out out' (export_text form filer (register requests))))
+  pub sound : HasCleanDisk (state g new) → IsDeclared (state g old).now.schema → OnOk result ((early : ℕ) × (requests : List Request) × IsRegisterOf early requests (state g old).now)
+  -- A refusal of the opening says why, and nothing was written out. Where the rows stand for requests, it is by memory or disk.
+  pub refused : HasCleanDisk (state g new) → IfErr result (IfOpen (λ why. IsRefused g why old new))
+  pub failed : HasCleanDisk (state g new) → IfErr result (IfOpen (λ why. ForRows g old (λ _ _. IsFailure why)))
+  pub quiet : IfErr result (IfOpen (λ _. out' ≡ out))
+  -- The connection is as it was. A crash leaves what it could leave before.
+  pub same : StaysOnOk (state g old) (state g new) result
+  pub mode : new.in_transaction ≡ false
+  pub survives : CommitsNothing (state g old) (state g new)

@@ -1,0 +1,32 @@
+-- The records of a register.
+use Rattle.std.specs.Prelude.{ℕ, List, [], ◌++◌, Bool, true, bytes_eq, Option, Some, None, if◌then◌else◌}
+use Rattle.std.specs.List.{flat_map}
+use Rattle.fact_records.specs.declared.record.Form.{Form}
+use Rattle.fact_records.specs.Fields.{Head, first_line, record_text}
+use Rattle.filing_model.specs.Register.{Filing}
+use Rattle.register_walk.specs.Filings.{FilingParts, whole}
+
+-- what the records of a filing's facts say of it
+abbrev pub head_of : FilingParts → Head
+head_of f = record { number = f.number; filer = f.filer; key = f.key; replaced_by = f.replaced_by }
+
+-- a record for each of its facts
+abbrev pub records : Form → FilingParts → List ℕ
+records form f = flat_map (record_text form (head_of f)) f.facts
+
+-- every filer's filings are written, or those of one
+abbrev pub is_wanted : Option (List ℕ) → List ℕ → Bool
+is_wanted None own = true
+is_wanted (Some filer) own = bytes_eq own filer
+
+-- so the filing's are, or none
+abbrev pub wanted_records : Form → Option (List ℕ) → FilingParts → List ℕ
+wanted_records form filer f = if is_wanted filer f.filer then records form f else []
+
+-- those of a filing as it stands among these
+abbrev pub filing_records : Form → Option (List ℕ) → List Filing → Filing → List ℕ
+filing_records form filer filings f = wanted_records form filer (whole filings f)
+
+-- what stands before the records, and then those of each filing, in order
+abbrev pub export_text : Form → Option (List ℕ) → List Filing → List ℕ
+export_text form filer filings = first_line form ++ flat_map (filing_records form filer filings) filings

@@ -1,0 +1,90 @@
+//! The records of one filing.
+
+ghost use Rattle.std.specs.Prelude.{◌≡◌, option_map, IfOk, OnOk};
+ghost use Rattle.std.specs.List.{flat_map};
+ghost use Rattle.std.specs.Io.KnownBytes.{Appends};
+ghost use Rattle.fact_records.specs.Fields.{record_text, view_head};
+ghost use Rattle.register_export.specs.Records.{head_of, is_wanted, records, wanted_records};
+
+use crate::fault::RecordsFault;
+use command_line::show;
+use fact_records::{Form, Head, record_text};
+use register_walk::WholeFiling;
+use std::alloc::{AllocError, Global};
+use std::io::Write;
+use xbrl_report::Fact;
+
+/// Writes a text whole.
+pub(crate) fn print<O: Write>(output: &mut O, text: &[u8]) -> Result<(), RecordsFault>
+    ensures { OnOk result (Appends (O.contents output.old) (O.contents output.new) text.now) }
+{
+    match show(output, text) {
+        Ok(()) => Ok(()),
+        Err(_) => Err(RecordsFault::Output),
+    }
+}
+
+/// Whether the filings of this filer are written, where one is asked for or all are.
+fn is_wanted(filer: Option<&str>, own: &str) -> bool
+    ensures { result ≡ is_wanted (option_map (λ s. s.now) filer.entry) own.now }
+{
+    match filer {
+        Some(filer) => own.as_bytes() == filer.as_bytes(),
+        None => true,
+    }
+}
+
+/// What the records say of the filing.
+fn head_of(filing: &WholeFiling) -> Head<'_>
+    ensures { view_head result ≡ head_of filing.now }
+{
+    Head {
+        number: filing.number,
+        filer: filing.filer.as_str(),
+        key: filing.key.as_str(),
+        replaced_by: filing.replaced_by,
+    }
+}
+
+/// A record for each of these facts.
+fn records_of(
+    alloc: Global,
+    form: Form,
+    head: &Head<'_>,
+    facts: &[Fact],
+) -> Result<Vec<u8>, AllocError>
+    ensures { IfOk result (λ text. text.items ≡ flat_map (record_text form (view_head head.now)) facts.now) }
+{
+    let mut text = Vec::new(alloc);
+    for fact in facts {
+        let line = record_text(alloc, form, head, fact)?;
+        text.extend_from_slice(&line)?;
+    }
+    Ok(text)
+}
+
+/// A record for each fact of the filing.
+fn records(alloc: Global, form: Form, filing: &WholeFiling) -> Result<Vec<u8>, AllocError>
+    ensures { IfOk result (λ text. text.items ≡ records form filing.now) }
+{
+    let head = head_of(filing);
+    records_of(alloc, form, &head, filing.facts())
+}
+
+/// Writes the records of the filing, if its filer's are written.
+pub(crate) fn write_filing<O: Write>(
+    alloc: Global,
+    form: Form,
+    filer: Option<&str>,
+    filing: &WholeFiling,
+    output: &mut O,
+) -> Result<(), RecordsFault>
+    ensures { OnOk result (Appends (O.contents output.old) (O.contents output.new)
+        (wanted_records form (option_map (λ s. s.now) filer.entry) filing.now)) }
+{
+    if !is_wanted(filer, filing.filer.as_str()) {
+        return Ok(());
+    }
+    let text = records(alloc, form, filing)?;
+    print(output, &text)
+}

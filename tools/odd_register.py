@@ -1,0 +1,89 @@
+"""A register with odd texts, which the checks of exports and of pages share."""
+import json
+
+from trials import Serving, exchange, request
+
+ODD = [
+    '<script>alert("1")</script>',
+    "it's & <b>\"x\"</b>",
+    'a,b\r\nc\n"d"',
+    "\u202eright to left\u202c \u0645",
+    "",
+    "&lt;&#39;&amp;lt;",
+    "x" * 5000,
+    "a tab\tand a bell\u0007",
+    "</textarea></style></script>-->]]>",
+]
+DOCUMENT = {
+    "documentType": "https://xbrl.org/2021/xbrl-json",
+    "namespaces": {"eg": "http://example.com/eg", "lei": "http://standards.iso.org/iso/17442", "iso4217": "http://www.xbrl.org/2003/iso4217"},
+    "taxonomy": ["http://example.com/eg.xsd"],
+}
+
+
+def fact(filer, value, unit=None, decimals=None, **more):
+    dimensions = {"concept": "eg:A<b>&'", "entity": f"lei:{filer}", "period": "2024-12-31T00:00:00", **more}
+    if unit is not None:
+        dimensions["unit"] = unit
+    found = {"value": value, "dimensions": dimensions}
+    if decimals is not None:
+        found["decimals"] = decimals
+    return found
+
+
+def report(facts):
+    return json.dumps({"documentInfo": DOCUMENT, "facts": facts}, ensure_ascii=False).encode()
+
+
+# Each is a filer, a key, the number of the filing that is to be replaced, if any, and the facts. The last two reports are refused.
+SENT = [
+    ("ACME", "k<1>'&", None, {f"f{at}<{text[:9]}": fact("ACME", text) for at, text in enumerate(ODD)}),
+    ("BETA", "b-1", None, {"f1": fact("BETA", "100", "iso4217:EUR", -2), "f2": fact("BETA", None), "f3": fact("BETA", "x", language="de", noteId="n<1>")}),
+    ("ACME", "k-2", 1, {"f1": fact("ACME", "1.5", "iso4217:EUR", 0)}),
+    ("a.b_c-", "c-1", None, {"f1": fact("a.b_c-", "1")}),
+    ("BETA", "b-2", None, {"f<i>'": {"value": 7, "dimensions": {"concept": "<b>", "entity": "lei:X"}}}),
+    ("BETA", "b-3", 1, {"f1": fact("BETA", "1,5", "iso4217:EUR")}),
+]
+REFUSED = 2
+
+
+def make_odd_register(database, more=()):
+    """Makes a register of these reports, and of more after them."""
+    sent = [*SENT, *more]
+    serving = Serving(database, 1, "--new")
+    given = b""
+    for at, (filer, key, target, facts) in enumerate(sent):
+        whose = filer if target is None else f"{filer}/{target}"
+        given += request(key, report(facts), whose, close=at + 1 == len(sent))
+    exchange(serving.port, given)
+    serving.end()
+
+
+def many(count):
+    """So many reports of ten facts each, of 500 filers."""
+    for at in range(count):
+        filer = f"F{at % 500}"
+        yield filer, f"n-{at}", None, {f"f{of}": fact(filer, str(of * 1000), "iso4217:EUR", 0) for of in range(10)}
+
+
+def records(sent, filer=None):
+    """What an export has to say of the facts of valid reports, worked out from what was sent."""
+    valid = sent[: len(sent) - REFUSED]
+    for number, (own, key, _, facts) in enumerate(valid, 1):
+        if filer not in (None, own):
+            continue
+        replaced_by = next((other for other, row in enumerate(valid, 1) if row[2] == number), None)
+        for name in sorted(facts, key=lambda it: it.encode()):
+            dimensions = facts[name]["dimensions"]
+            yield {
+                "number": number,
+                "filer": own,
+                "key": key,
+                "concept": dimensions["concept"],
+                "period": dimensions.get("period"),
+                "unit": dimensions.get("unit"),
+                "entity": dimensions.get("entity"),
+                "value": facts[name]["value"],
+                "decimals": facts[name].get("decimals"),
+                "replaced_by": replaced_by,
+            }
