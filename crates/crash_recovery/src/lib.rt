@@ -181,7 +181,7 @@ pub fn a_killed_run_happens<D: Disk + Drop>()
         → HappenedIn D.Disk files limit old (Killing delivery crash marks written) }
 {}
 
-/// One that is killed as it reads or writes is told as a connection that was served up to a fault.
+/// If it is killed as it reads or writes, the connection counts as served up to a fault.
 pub fn a_connection_that_is_cut_off_happens<D: Disk + Drop>()
     ensures { (limit : ℕ) (old : Situation) (delivery : Delivery) (on : ComesOn limit old delivery)
         (after : List Request) (marks : List Mark) (written : List ℕ) (files : Files D)

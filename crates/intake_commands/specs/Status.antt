@@ -4,7 +4,6 @@ use Rattle.command_files.specs.Reports.{report_status}
 use Rattle.command_files.specs.Verdicts.{verdict_of}
 use Rattle.command_files.specs.declared.verdict.Verdict.{Verdict}
 use Rattle.command_files.specs.declared.verdict.Verdict.TheVariants as verdict
-use Rattle.command_line.specs.declared.fault.CommandFault.{CommandFault}
 use Rattle.command_line.specs.declared.fault.CommandFault.TheVariants as command
 use Rattle.command_line.specs.Status as command_line
 use Rattle.register_opening.specs.declared.fault.CreateFault.TheVariants as create

@@ -1,5 +1,5 @@
 -- What `intake` does with a task. This says of each word of the command line what is printed, what is kept, and the status.
-use Rattle.std.specs.Prelude.{◌≡◌, ◌⊎◌, ◌≤◌, ◌<◌, ◌^◌, ℕ, Bool, true, false, not, List, map, codes, Option, Some, None, Result, Ok, Err, MatchBool}
+use Rattle.std.specs.Prelude.{◌≡◌, ◌⊎◌, ◌≤◌, ◌<◌, ◌^◌, ℕ, Bool, true, not, List, codes, Option, Some, None, Result, Ok, Err, MatchBool}
 use Rattle.std.specs.Borrow.{Bor}
 use Rattle.std.specs.Io.KnownBytes.{Appends}
 use Rattle.sqlite_disk.specs.declared.Disk.{Ghosts}
@@ -38,6 +38,10 @@ pub record Means {D : Type 0} (g : Ghosts D) : Type 0 where
   pub out : Option (List ℕ)
   pub port : Traffic
   pub process : Parts g
+
+-- these
+abbrev pub means : {D : Type 0} {g : Ghosts D} → Wire → Option (List ℕ) → Traffic → Parts g → Means g
+means wire out port process = record { wire = wire; out = out; port = port; process = process }
 
 -- ---- run: one connection is served on a register in memory
 

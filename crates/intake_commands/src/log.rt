@@ -14,7 +14,7 @@ use std::alloc::{AllocError, Global};
 use std::io::{self, Write};
 
 /// How many bytes of a connection are noted: those of the longest request. The filers of requests that come after them
-/// are not told.
+/// are not reported.
 const MOST_NOTED: usize = 1_064_962;
 
 /// A reader whose first bytes are noted.

@@ -1,9 +1,9 @@
-//! What is told while a register is served.
+//! What `intake serve` reports.
 
 use std::fmt;
 use std::io::Write;
 
-/// What is told of a register that is served, each as a line.
+/// What is reported of a register that is served, each as a line.
 #[derive(Clone, Copy)]
 pub enum Note {
     /// Connections are taken.

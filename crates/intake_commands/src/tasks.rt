@@ -3,7 +3,7 @@
 ghost use Rattle.std.specs.Prelude.{◌≡◌, None};
 ghost use Rattle.http_wire.specs.Wire.{wire};
 ghost use Rattle.intake_process.specs.Process.{parts};
-ghost use Rattle.intake_commands.specs.Tasks.{Does, Performs, is_wanted};
+ghost use Rattle.intake_commands.specs.Tasks.{Does, Performs, is_wanted, means};
 
 use crate::fault::Fault;
 use crate::linting::lint;
@@ -44,18 +44,10 @@ pub fn perform_task<
 ) -> u8
     requires { (parts P.lying process.old).intake ≡ None }
     ensures { Performs {g = D.Disk} task.now
-        (record {
-          wire = wire R.Source W.Sink reader.old writer.old;
-          out = O.contents output.old;
-          port = L.Port.traffic port.old;
-          process = parts P.lying process.old;
-        })
-        (record {
-          wire = wire R.Source W.Sink reader.new writer.new;
-          out = O.contents output.new;
-          port = L.Port.traffic port.new;
-          process = parts P.lying process.new;
-        })
+        (means (wire R.Source W.Sink reader.old writer.old) (O.contents output.old) (L.Port.traffic port.old)
+        (parts P.lying process.old))
+        (means (wire R.Source W.Sink reader.new writer.new) (O.contents output.new) (L.Port.traffic port.new)
+        (parts P.lying process.new))
         result }
 {
     match do_task(rt, task, process, port, reader, writer, output, errors) {
@@ -86,18 +78,10 @@ fn do_task<
 ) -> Result<u8, Fault<'a>>
     requires { (parts P.lying process.old).intake ≡ None }
     ensures { Does {g = D.Disk} task.now
-        (record {
-          wire = wire R.Source W.Sink reader.old writer.old;
-          out = O.contents output.old;
-          port = L.Port.traffic port.old;
-          process = parts P.lying process.old;
-        })
-        (record {
-          wire = wire R.Source W.Sink reader.new writer.new;
-          out = O.contents output.new;
-          port = L.Port.traffic port.new;
-          process = parts P.lying process.new;
-        })
+        (means (wire R.Source W.Sink reader.old writer.old) (O.contents output.old) (L.Port.traffic port.old)
+        (parts P.lying process.old))
+        (means (wire R.Source W.Sink reader.new writer.new) (O.contents output.new) (L.Port.traffic port.new)
+        (parts P.lying process.new))
         result }
 {
     match task {

@@ -1,4 +1,4 @@
-//! Which fault is told of what went wrong with the register of a file.
+//! Which fault is reported if something went wrong with the register of a file.
 
 ghost use Rattle.std.specs.Prelude.{◌≡◌};
 ghost use Rattle.intake_commands.specs.Told.{IsDatabaseTold, IsErrandTold, IsOpeningTold, not_migrated};

@@ -18,7 +18,7 @@ use std::alloc::Global;
 use std::io::Write;
 
 /// Does an errand to the register of this process, which lies in the file with this name. What came of it stays whether
-/// or not the files are then closed: if they are not, this is told. If the errand is to judge the register, what is wrong
+/// or not the files are then closed: if they are not, that is reported. If the errand is to judge the register, what is wrong
 /// with it goes to the output too.
 pub fn visit<'a, D: Disk + Drop, P: Place<D> + Drop, O: Write, E: Write>(
     rt: &HostRuntime,

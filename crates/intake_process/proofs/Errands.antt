@@ -1,5 +1,5 @@
 -- What an errand does follows from what its task did.
-use Rattle.std.proofs.Common.{◌≡◌, ◌⊎◌, ℕ, ◌≤◌, Bool, true, false, true≢false, List, length, Option, Some, None, Result, Ok, Err, IsSome, IfErr, OnOk, refl, sym, ◌∙◌, ap, subst, inl, inr, arith}
+use Rattle.std.proofs.Common.{◌≡◌, ◌⊎◌, ℕ, true, false, true≢false, List, length, Option, Some, None, Result, Ok, Err, IsSome, IfErr, OnOk, refl, sym, ◌∙◌, ap, subst, inl, inr, arith}
 use Rattle.std.specs.Prelude.{option_map}
 use Rattle.std.specs.Borrow.{Bor}
 use Rattle.std.specs.Io.KnownBytes.{Appends}
@@ -8,7 +8,6 @@ use Rattle.sqlite.specs.Held.{Held, state}
 use Rattle.sqlite.specs.State.{State, HasCleanDisk, Survives}
 use Rattle.sqlite.specs.Schema.{Schema}
 use Rattle.sqlite_schema.specs.Names.{same_name}
-use Rattle.sqlite_trees.specs.View.{doubt}
 use Rattle.sqlite_trees.specs.Tree.{Trees}
 use Rattle.table_rows.specs.Standing.{HasCommitted}
 use Rattle.table_rows.specs.declared.fault.StoreFault.{StoreFault}
@@ -19,10 +18,8 @@ use Rattle.register_opening.specs.declared.migrate.earlier.Earlier.{Earlier}
 use Rattle.register_opening.specs.declared.migrate.earlier.Earlier.TheVariants.{Second, Third}
 use Rattle.register_opening.specs.declared.fault.OpenFault.{OpenFault}
 use Rattle.register_opening.specs.Earlier.{IsAlone, is_blocked}
-use Rattle.register_opening.specs.Faults.{IsFailure}
-use Rattle.register_opening.specs.Opening.{IsRefused}
-use Rattle.register_opening.specs.Refusals.{GivesBackMigrating, GivesBackOpening}
-use Rattle.register_opening.specs.Registers.{ForRows, IsRegisterOf}
+use Rattle.register_opening.specs.Refusals.{GivesBackOpening}
+use Rattle.register_opening.specs.Registers.{IsRegisterOf}
 use Rattle.register_store.specs.Calls.{OpensOrGivesBack}
 use Rattle.register_store.specs.Numbered.{facts_numbered}
 use Rattle.register_store.specs.Store.{StoreParts, HasRequests, shows}
@@ -43,7 +40,7 @@ use Rattle.intake_tasks.specs.Lines.{list_line, fact_lines, sound_line, migrated
 use Rattle.intake_tasks.specs.Tasks.{PrintsNothing, ListsFilings, ShowsFiling, ChecksRegister, MigratesRegister}
 use Rattle.intake_process.specs.declared.errand.ErrandFault.{ErrandFault}
 use Rattle.intake_process.specs.declared.errand.ErrandFault.TheVariants as fault
-use Rattle.intake_process.specs.Errands.{text_of, IsRegisterFor, HasTablesFor, MayFail, Tells, Says, RunsErrand, is_refusal}
+use Rattle.intake_process.specs.Errands.{text_of, IsRegisterFor, MayFail, Tells, Says, RunsErrand, is_refusal}
 use Rattle.intake_process.specs.Outcomes.{listed_as, shown_as, printed_as}
 
 -- a disk that is clean after a call was clean before it

@@ -17,7 +17,7 @@ use Rattle.table_rows.proofs.FileLemmas.{finds}
 use Rattle.command_line.specs.declared.fault.DatabaseFault.{DatabaseFault}
 use Rattle.database_places.specs.Closing.{IsClosedIn, IsNotClosed, IsGivenUp}
 use Rattle.database_places.specs.Opening.{ComesFrom, StaysIn}
-use Rattle.database_places.specs.Places.{Lie, KeepsLying}
+use Rattle.database_places.specs.Places.{KeepsLying}
 use Rattle.database_places.specs.Places as place
 use Rattle.intake_process.specs.declared.begun.Totals.{Totals}
 use Rattle.intake_process.specs.declared.fault.OpeningFault.{OpeningFault}

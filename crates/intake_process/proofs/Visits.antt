@@ -24,7 +24,7 @@ use Rattle.intake_process.specs.declared.errand.ErrandFault.TheVariants as fault
 use Rattle.intake_process.specs.declared.visiting.Visited.{Visited}
 use Rattle.intake_process.specs.Errands.{IsRegisterFor, MayFail, Tells, is_refused}
 use Rattle.intake_process.specs.Process.{Parts, IsHonest, KeepsBy}
-use Rattle.intake_process.specs.Visits.{HoldFor, LiesFor, is_doubtful, IsLeftIn, GoesOn, VisitsPlace, VisitsRegister}
+use Rattle.intake_process.specs.Visits.{LiesFor, is_doubtful, IsLeftIn, GoesOn, VisitsPlace, VisitsRegister}
 
 or_first : (a b : Bool) → (a || b) ≡ false → a ≡ false
 or_first true b not = not

@@ -1,5 +1,5 @@
 //! An errand to the register that a database is. This is written over any store, since each function that names a store
-//! in files, where it calls such code, costs much to prove.
+//! in files, if it calls such code, costs much to prove.
 
 ghost use Rattle.std.specs.Prelude.{◌≡◌};
 ghost use Rattle.table_rows.specs.Standing.{IsAtRest};
@@ -18,7 +18,7 @@ use sqlite::{Alter, Connection};
 use std::alloc::Global;
 use std::io::Write;
 
-/// The limit of an intake that keeps no request more.
+/// The limit of an intake that takes no more requests.
 const NO_MORE: u64 = 0;
 
 /// Why an errand to a register is not done.
@@ -30,7 +30,7 @@ pub enum ErrandFault {
     Open(OpenFault, Holding),
     /// The database gave no register of an earlier version, and this is what it holds.
     Migrate(OpenFault, Holding),
-    /// The filings are not told.
+    /// The filings are not listed.
     List(Unavailable),
     /// The register was not read.
     Store(StoreFault),
@@ -95,8 +95,8 @@ fn printed_as(printed: Result<(), TextFault>) -> Result<(), ErrandFault>
     }
 }
 
-/// Does an errand to the register that this database is, and gives the connection back. Progress is told how far a check
-/// is.
+/// Does an errand to the register that this database is, and gives the connection back. Progress learns how far a
+/// check is.
 pub(crate) fn run_errand<S: Alter + Drop, P: Progress, O: Write>(
     alloc: Global,
     conn: Connection<S>,

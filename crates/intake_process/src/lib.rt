@@ -1,7 +1,7 @@
 //! The intake of a register that lies in a place: it is opened, serves connections, and is closed, and if the database
 //! refuses a call it is opened again before the next connection. What may live here: what meets a store in files, and
-//! in which order a port's connections are served or turned away. What is told of that, and how long is waited before
-//! an opening, is the caller's.
+//! in which order a port's connections are served or turned away. What a program reports of that, and how long it waits
+//! before an opening, is the caller's.
 #![tactic(auto)]
 
 mod begun;

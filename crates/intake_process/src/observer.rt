@@ -32,7 +32,7 @@ pub trait Observer<L> {
     /// The register is open again, and holds so much.
     fn opened(&mut self, totals: Totals);
 
-    /// What a connection came to, which is told to the port after this.
+    /// What a connection came to. The port learns it after this.
     fn served(&mut self, served: &Served);
 
     /// A connection of the port is over, and so many more may come.

@@ -100,7 +100,7 @@ fn visit_place<D: Disk + Drop, P: Place<D>, G: Progress, O: Write>(
 
 impl<D: Disk + Drop, P: Place<D> + Drop> IntakeProcess<D, P> {
     /// Opens the register, which is closed, does an errand to it, and closes it. A refusal leaves the files in the place,
-    /// and leaves a database that is damaged or none of ours as it was. Progress is told how far a check is.
+    /// and leaves a database that is damaged or none of ours as it was. Progress learns how far a check is.
     pub fn visit<G: Progress, O: Write>(
         &mut self,
         alloc: Global,

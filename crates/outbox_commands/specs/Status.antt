@@ -2,7 +2,6 @@
 use Rattle.std.specs.Prelude.{ℕ, zero, suc, Result, Ok, Err}
 use Rattle.key_string.specs.declared.fault.KeyFault.{KeyFault}
 use Rattle.key_string.specs.declared.fault.KeyFault.TheVariants as key
-use Rattle.table_rows.specs.declared.fault.StoreFault.{StoreFault}
 use Rattle.outbox_opening.specs.declared.fault.OutboxFault.{OutboxFault}
 use Rattle.outbox_opening.specs.declared.fault.OutboxFault.TheVariants as made
 use Rattle.outbox_core.specs.declared.fault.PutFault.{PutFault}

@@ -1,4 +1,4 @@
-use Rattle.std.proofs.Common.{ℕ, Ok, Err, refl, inl}
+use Rattle.std.proofs.Common.{Ok, Err, refl}
 use Rattle.database_places.specs.Opening.{is_found}
 use Rattle.intake_process.specs.Process.{parts}
 use Rattle.intake_commands.proofs.Done.{served_as}

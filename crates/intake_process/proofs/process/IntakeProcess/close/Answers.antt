@@ -2,7 +2,7 @@ use Rattle.std.proofs.Common.{sym, subst, ◌∙◌, refl, ap}
 use Rattle.database_places.specs.Closing.{IsClosedIn}
 use Rattle.database_places.specs.Places.{Leaves}
 use Rattle.sqlite_disk.specs.declared.Files.{Files}
-use Rattle.intake_process.specs.Process.{Parts, parts, IsLeftBy}
+use Rattle.intake_process.specs.Process.{parts, IsLeftBy}
 use Rattle.intake_process.proofs.Keeping.{closes, not_closes, closes_none, left_by, ok_gives}
 use Rattle.intake_process.proofs.process.IntakeProcess.close.Goals as goal
 
