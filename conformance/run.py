@@ -33,7 +33,7 @@ import time
 
 HERE = pathlib.Path(__file__).resolve().parent
 DEFAULT_LIMIT = 1_000_000
-# How long nothing has to come where a case says that nothing comes.
+# How long nothing has to come if a case says that nothing comes.
 QUIET = 0.25
 
 
@@ -49,7 +49,7 @@ class Unusable(Exception):
 
 
 def shown(value):
-    """The value, cut where it is long."""
+    """The value, cut if it is long."""
     if isinstance(value, (bytes, bytearray)):
         text = repr(bytes(value))[1:]
         return text if len(text) <= 700 else f"{text[:450]} .. {text[-200:]} ({len(value)} bytes)"
@@ -105,7 +105,7 @@ class Numbers:
         return to_bytes(it, self.offset)
 
     def match(self, it, came):
-        """Whether the bytes are those of the case. Finds the offset where it is not known yet."""
+        """Whether the bytes are those of the case. Finds the offset if it is not known yet."""
         parts = parts_of(it)
         if self.offset is None and any(isinstance(part, int) for part in parts):
             pattern = b"".join(b"([1-9][0-9]*)" if isinstance(part, int) else re.escape(part) for part in parts)
@@ -249,7 +249,7 @@ class Connection:
         return found
 
     def reply(self, wanted):
-        """Reads one reply, interim or final, and holds it to what is wanted of it."""
+        """Reads one reply, interim or final, and compares it with what is wanted."""
         what = f"a reply with status {wanted['status']}"
         head = self.take(what, lambda came: came.find(b"\r\n\r\n") + 4 if b"\r\n\r\n" in came else None)
         status, fields = read_head(head)
@@ -314,7 +314,7 @@ def content_length(what, head, fields):
 
 
 class Command:
-    """A program that is started afresh on a port of its own for a case, and again on the same register where the case says so."""
+    """A program that is started afresh on a port of its own for a case, and again on the same register if the case says so."""
 
     reads_lists = True
 

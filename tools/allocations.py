@@ -1,4 +1,4 @@
-"""Refuses one allocation of a program: a small library, built by `cc`, stands before the C library's allocator and counts its calls."""
+"""Refuses one allocation of a program: a small library, built by `cc`, takes the calls before the C library's allocator and counts them."""
 
 import os
 import re
@@ -51,12 +51,12 @@ def library(folder):
 
 
 def run(words, counts, refused, given=b""):
-    """Runs a program on this input with this allocation refused, or none where it is 0."""
+    """Runs a program on this input with this allocation refused, or none if it is 0."""
     settings = {**os.environ, "LD_PRELOAD": counts, "REFUSED": str(refused)}
     return subprocess.run(words, input=given, env=settings, capture_output=True, timeout=600, check=False)
 
 
 def count(whole):
-    """How many allocations a run made in which none was refused; nothing where it did not say."""
+    """How many allocations a run made in which none was refused; nothing if it did not say."""
     found = re.search(rb"allocations: (\d+)", whole.stderr)
     return int(found[1]) if found else None

@@ -1,9 +1,9 @@
 #!/usr/bin/env python3
-"""Holds the command lines of the built programs to what they have to print: the status, the output and the errors, word for word.
+"""Compares what the built programs print for a command line with what they have to print: the status, the output and the errors.
 
     tools/check_commands.py
 
-It takes the programs that `rt run` builds in their folders, as crates/intake/out/intake. Status 1 where a line prints another thing.
+It takes the programs that `rt run` builds in their folders, as crates/intake/out/intake. Status 1 if a line prints something else.
 """
 import sqlite3
 import subprocess
@@ -17,7 +17,7 @@ FACT = (
 )
 FILER_CODE = "not a filer code, which is 1 to 64 ASCII letters, digits, '.', '_' and '-'"
 
-# Each has the words of a line, in which `@` stands for the folder, the status, the output and the errors.
+# Each is a command line, with `@` for the folder, and its status, output and errors.
 BEFORE = [
     ("run --limit 4611686018427387905", 2, "", "--limit: it is 4611686018427387904 at most"),
     ("list --db @r.db --filer a/b", 2, "", f"--filer: {FILER_CODE}"),
@@ -176,7 +176,7 @@ def make_example(database):
 
 
 def damage(database):
-    """Puts a file with another body in the place of the register's: a file without sums, since the sums would tell the change first."""
+    """Replaces the register by a file with another body, and without sums, since the sums would show the change first."""
     copy = database.with_name("copy.db")
     with sqlite3.connect(database) as old, sqlite3.connect(copy) as new:
         new.executescript("\n".join(old.iterdump()))

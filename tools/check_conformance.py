@@ -115,7 +115,7 @@ def ends_with_this():
 
 
 def start_real(words):
-    """Starts the real intake; again for a while if the one of before still has its register open."""
+    """Starts the real intake; again for a while if the earlier one still has its register open."""
     for _ in range(50):
         process = subprocess.Popen(words, stderr=subprocess.PIPE, preexec_fn=ends_with_this)
         if b": serving " in process.stderr.readline():

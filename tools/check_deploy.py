@@ -5,7 +5,7 @@
 
 Scripts are parsed, held to shellcheck and run with stand-ins for `intake` and `outbox`; units are verified by systemd; the views are
 asked over the tables that docs/PROTOCOL.md declares; nginx tests its files, and then serves requests with and without certificates
-in front of a stand-in for the intake. Status 1 where a trial fails. What could not be tried is no failure.
+in front of a stand-in for the intake. Status 1 if a trial fails. What could not be tried is no failure.
 """
 import contextlib
 import gzip
@@ -33,7 +33,7 @@ SECOND_HOST = "2025.example"
 
 
 def find(program):
-    """Where a program is, also in the folders of the administrator; says so where it is not."""
+    """Where a program is, also in the folders of the administrator; says so if it is not there."""
     path = shutil.which(program, path=os.environ.get("PATH", "") + ":/usr/sbin:/sbin")
     if path is None:
         print(f"not tried: {program} is not installed")
@@ -112,7 +112,7 @@ def try_snapshot(folder):
     done = run(*words, cwd=folder, env=paths)
     copy = folder / "copy.db"
     copied = copy.read_text() if copy.exists() else ""
-    hold("register-snapshot copies again where the log began again", (done.returncode, copied), (0, "new"))
+    hold("register-snapshot copies again if the log began again", (done.returncode, copied), (0, "new"))
     hold("register-snapshot leaves a copy that is there", run(*words, cwd=folder, env=paths).returncode, 1)
 
 
@@ -480,7 +480,7 @@ def odd_requests():
 
 
 def try_second_register(folder, intake, second, port):
-    """Two registers behind one nginx, whose lines in the log can be told apart."""
+    """Two registers behind one nginx, whose lines in the log differ."""
     before = len(intake.requests)
     status, _ = ask(folder, port, "acme", "ACME", host=SECOND_HOST, **{"Idempotency-Key": '"second"'})
     hold("a report for the second register", (status, len(second.requests), len(intake.requests) - before), (201, 1, 0))

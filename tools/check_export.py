@@ -3,7 +3,7 @@
 
     tools/check_export.py
 
-It takes the program that `rt run` builds in its folder, as crates/intake/out/intake. Status 1 where a trial fails.
+It takes the program that `rt run` builds in its folder, as crates/intake/out/intake. Status 1 if a trial fails.
 """
 import csv
 import io

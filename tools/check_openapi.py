@@ -4,7 +4,7 @@
     tools/check_openapi.py                                  the file by itself, and against the tables of docs/PROTOCOL.md
     tools/check_openapi.py crates/intake/out/intake         that, and the replies of this program over a register of its own
 
-Values are held to schemas by jsonschema where python3 has it, and else by the few rules that the file uses. Status 1 where something
+Values are held to schemas by jsonschema where python3 has it, and else by the few rules that the file uses. Status 1 if something
 does not agree; what could not be tried is said, and is no failure.
 """
 import json
@@ -107,7 +107,7 @@ def fault_of_members(document, schema, value):
 
 
 def fault_of(document, schema, value):
-    """Why the value is not of the schema, or None: by jsonschema where it is there, and by the rules above."""
+    """Why the value is not of the schema, or None: by jsonschema if it is there, and by the rules above."""
     own = fault_by_own_rules(document, schema, value)
     if jsonschema is None:
         return own
@@ -135,7 +135,7 @@ def responses(document):
 
 
 def words_of(document, schema):
-    """The words that a content of the schema may have as its `reason`, or as its `status` where nothing is refused."""
+    """The words that a content of the schema may have as its `reason`, or as its `status` if nothing is refused."""
     schema = resolved(document, schema)
     if "oneOf" in schema:
         return {word for one in schema["oneOf"] for word in words_of(document, one)}
@@ -226,7 +226,7 @@ def split_reply(data):
 
 
 def path_of(data):
-    """The path of the file that the request's line is of: that of one filing only where the line names one."""
+    """The path of the file that the request's line is of: that of one filing only if the line names one."""
     return NUMBERED if re.match(rb"[A-Z]+ /filings/[^/ ]+/[1-9][0-9]* ", data) else PATH
 
 

@@ -604,7 +604,7 @@ def check_numbers(folder):
     hold("the file is as it was", (file.read_text() == text, names(file.parent)), (True, ["berruzpil.prom"]))
     hold("numbers of a log alone", script("register-metrics", "--into", file, logs[1])[0], 0)
     counts = [f'berruzpil_requests_total{{host="intake.example",status="{status}"}} {2 if status == 201 else 0}' for status in (201, 403, 422, 503)]
-    hold("replace those of before", [line for line in file.read_text().splitlines() if line[0] != "#"][:-1],
+    hold("replace the earlier ones", [line for line in file.read_text().splitlines() if line[0] != "#"][:-1],
          [*counts, "berruzpil_unread_lines_total 0"])
 
 

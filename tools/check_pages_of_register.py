@@ -5,7 +5,7 @@ Chromium, it opens them, and looks for errors and for what the search box shows.
     tools/check_pages_of_register.py [SCREENSHOT]
 
 It takes the program that `rt run` builds in its folder, as crates/intake/out/intake. With a name it keeps a screenshot of a page there, outside
-of the repository. Status 1 where a trial fails.
+of the repository. Status 1 if a trial fails.
 """
 import html.parser
 import pathlib

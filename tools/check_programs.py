@@ -4,7 +4,7 @@
     tools/check_programs.py
 
 It takes the programs that `rt run` builds in their folders, as crates/intake/out/intake. A full disk is a small file system in
-memory, which it mounts where it may; where it may not, it says so, and a limit on the size of files stands in for it. Status 1 where a
+memory, which it mounts if it may; otherwise it says so, and a limit on the size of files stands in for it. Status 1 if a
 trial fails.
 """
 import json
@@ -76,7 +76,7 @@ def check_limit(folder):
     serving = Serving(folder / "register.db", 4, "--new", "--limit", "1")
     for key, status in (("k-1", 201), ("k-2", 503), ("k-3", 503), ("k-1", 201)):
         hold(f"a report with the key {key}, in a register of one", statuses(exchange(serving.port, request(key, SMALLEST))), [status])
-    wanted = "intake: the register is full: --limit is 1, and a report with another key gets 503\nintake: ended after 4 connections\n"
+    wanted = "intake: the register is full: --limit is 1, and a report with a new key gets 503\nintake: ended after 4 connections\n"
     hold("serve says once that the register is full", serving.end()[2], wanted)
 
 
@@ -152,7 +152,7 @@ def check_sent_amendments(folder):
 
 
 class SmallDisk:
-    """A file system in memory with so many bytes, or none where it may not be mounted."""
+    """A file system in memory with so many bytes, or none if it may not be mounted."""
 
     def __init__(self, folder, size):
         self.folder = folder
@@ -417,7 +417,7 @@ def check_entries(folder):
     hold("send --all sends what is open", said(every, folder), (0, "entry 1 confirmed 2\nentry 3 confirmed 3\n", ""))
     exchange(serving.port, b"GET / HTTP/1.1\r\nHost: h\r\n\r\n")
     serving.end()
-    hold("send --all where nothing is open", said(run(OUTBOX, "send", "--db", database, "--port", 1, "--all"), folder), (0, "nothing open\n", ""))
+    hold("send --all if nothing is open", said(run(OUTBOX, "send", "--db", database, "--port", 1, "--all"), folder), (0, "nothing open\n", ""))
     hold("show of one entry", said(run(OUTBOX, "show", "--db", database, "--entry", 3), folder), (0, "entry 3 confirmed 3, 84 bytes, key k-3\n", ""))
     hold("show of no entry", run(OUTBOX, "show", "--db", database, "--entry", 4).returncode, 4)
 

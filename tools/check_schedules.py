@@ -3,7 +3,7 @@
 
     tools/check_schedules.py
 
-What is to come of each is written out by hand. It takes the program that `rt run` builds, crates/drill/out/drill. Status 1 where another
+What is to come of each is written out by hand. It takes the program that `rt run` builds, crates/drill/out/drill. Status 1 if another
 thing comes of a schedule.
 """
 from trials import DRILL, SMALLEST, hold, run, try_all

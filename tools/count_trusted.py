@@ -3,14 +3,14 @@
 
     tools/count_trusted.py            the tables of docs/TRUST.md
     tools/count_trusted.py --names    the same, with the name of each definition
-    tools/count_trusted.py --check    whether docs/TRUST.md has these tables; status 1 where it has others
+    tools/count_trusted.py --check    whether docs/TRUST.md has these tables; status 1 if it has others
 
 It reads the contracts of `run`, of the calls that show its world, of the law `any_programs`, and of `perform_task` of both programs. It follows each name in
 them through `ghost use`, `use` and `pub use` to the definition that it means, and so on, down to the kit's own definitions, which it names and doesn't enter. Every line of a
 definition counts that is neither blank nor a comment. A file comes after those that cite it.
 
-Of a Rust type that a contract or a definition names, what contracts see of it counts: its model where it has one, and its
-declaration where it has none or has public fields. The invariant of a type does not count: it is proved, and promises nothing to
+Of a Rust type that a contract or a definition names, what contracts see of it counts: its model if it has one, and its
+declaration if it has none or has public fields. The invariant of a type does not count: it is proved, and promises nothing to
 a caller.
 """
 import pathlib
@@ -52,7 +52,7 @@ class Definition:
 
 
 def read_import(line, imports):
-    """Adds the names of a `use` line of definitions; false where it is none."""
+    """Adds the names of a `use` line of definitions; false if it is none."""
     match = IMPORT.match(line)
     if not match:
         return False
@@ -177,7 +177,7 @@ class Reached:
         return self.files[path]
 
     def in_module(self, module, name):
-        """The definition of this name in a module, or nothing where the module is the kit's."""
+        """The definition of this name in a module, or nothing if the module is the kit's."""
         _, crate, _, *inner = [part for part in module.split(".") if part != VARIANTS]
         if not is_ours(crate):
             if name is not None:

@@ -68,9 +68,25 @@ def commands_of(whole):
     return [(word, text) for word, text in entries(whole.get("Commands", [])) if word != "help"]
 
 
+def is_example(note):
+    """Whether a note is a command line. One below another may be indented."""
+    return re.match(r"Examples?:|\s", note)
+
+
 def examples_in(notes):
-    """Command lines, each by itself."""
-    return [re.sub(r"^(Examples?:)?\s*", "", note) for note in notes]
+    """The command lines among the notes, each by itself."""
+    return [re.sub(r"^(Examples?:)?\s*", "", note) for note in notes if is_example(note)]
+
+
+def remarks_in(notes):
+    """The other notes."""
+    return [note for note in notes if not is_example(note)]
+
+
+def paragraphs_of(notes):
+    """The notes as roff: the examples first, and then what else is said."""
+    examples = [line for example in examples_in(notes) for line in (".PP", "Example:", ".B " + escape(example))]
+    return examples + [line for remark in remarks_in(notes) for line in (".PP", escape(remark))]
 
 
 def page(name, program):
@@ -84,18 +100,21 @@ def page(name, program):
     if commands:
         out.append(".SH COMMANDS")
     for word, text in commands:
-        part, examples = sections(help_of(program, word))
+        part, remarks = sections(help_of(program, word))
         out += [f".SS {escape(word)}", escape(text), ".PP", escape(" ".join(part["Usage"]))]
         for option, meaning in entries(part.get("Arguments", []) + part.get("Options", [])):
             if not option.startswith("-h"):
                 out += [".TP", escape(option), escape(meaning)]
-        out += [line for example in examples_in(examples) for line in (".PP", "Example:", ".B " + escape(example))]
+        out += paragraphs_of(remarks)
     out += [".SH OPTIONS"]
     for option, meaning in entries(whole.get("Options", [])):
         out += [".TP", escape(option), escape(meaning)]
-    if notes:
+    if remarks_in(notes):
         out.append(".SH EXIT STATUS")
-        out += [escape(line.removeprefix("Exit status: ")) for line in notes]
+        out += [escape(line.removeprefix("Exit status: ")) for line in remarks_in(notes)]
+    if examples_in(notes):
+        out.append(".SH EXAMPLES")
+        out += [line for example in examples_in(notes) for line in (".PP", ".B " + escape(example))]
     out += [".SH SEE ALSO", f".BR {SEE_ALSO[name]} (1)"]
     return "\n".join(out) + "\n"
 

@@ -1,6 +1,6 @@
 #!/usr/bin/env python3
 """Refuses each allocation of a test in turn: runs the test once to count them, and then once for each, with that one
-refused. The test is to pass in every run. Status 1 where one run does not.
+refused. The test has to pass in every run. Status 1 if one run does not.
 
     tools/refuse_memory.py crates/gateway_tests/out/gateway_tests_tests client::refused_memory_changes_nothing
 

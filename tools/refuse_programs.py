@@ -1,7 +1,7 @@
 #!/usr/bin/env python3
 """Refuses each allocation of the built programs in turn: each command is run once to count them, and then once for each, with that one
 refused. It has to do what it does otherwise, or to say that memory failed; what it did not say must not have happened, and the same
-command afterwards, with nothing refused, has to give what it gives otherwise. Status 1 where that is not so.
+command afterwards, with nothing refused, has to give what it gives otherwise. Status 1 if that is not so.
 
     tools/refuse_programs.py [WORD]      all trials, or those whose names have the word
 
@@ -123,7 +123,7 @@ def try_script(counts, _):
     script, wanted = (ROOT / "crates/drill/stdin").read_bytes(), (ROOT / "crates/drill/stdout").read_bytes()
 
     # A delivery that memory refuses is answered 503 and completes nothing: the first, and the second files the report; or the second, and
-    # the entry stays open. It stays open too where the second is completed, and memory is refused to its reply: the filer hears nothing.
+    # the entry stays open. It stays open too if the second is completed, and memory is refused to its reply: the filer hears nothing.
     filing = b'filing 1 ACME "k-1"\n'
     ends = (b"entry 1 1 confirmed 1\ndone 1\n", b"entry 1 1 open\ndone 1\n", b"entry 1 1 open\ndone 2\n")
     allowed = (wanted, *(filing + end for end in ends))

@@ -8,15 +8,18 @@ fn command<'a>(alloc: Global) -> Command<'a> {
     Command::new(alloc, "drill")
         .version(VERSION)
         .about(
-            "Plays the script of standard input on an intake and outboxes in memory, and prints the filings and entries",
+            "Plays the script of standard input on an intake and outboxes in memory; prints the filings and entries",
         )
-        .after_help(
-            "Exit status: 0 done; 1 an event names nothing; 2 the command line or a line of the script;\n3 memory, the input, the output or a database failed",
-        )
+        .after_help(concat!(
+            "Example: printf 'outbox ACME\\nput 1 \"k-1\" {}\\nsend 1 1\\ndeliver 1 all\\nhand 1 all\\n' | drill\n\n",
+            "Exit status: 0 done; 1 an event names what is not there;\n",
+            "2 a wrong command line, or a wrong line of the script;\n",
+            "3 memory, the input, the output or a database failed",
+        ))
 }
 
-/// Reads these words, the program's name first. No other word may be there but what asks for help or
-/// the version, which is told as an error.
+/// Reads these words, of which the first is the program's name. No other word is allowed, except one that asks for help
+/// or the version, which is answered as an error.
 pub fn read(alloc: Global, words: &[String]) -> Result<(), Error> {
     command(alloc).try_get_matches_from(words)?;
     Ok(())

@@ -1,4 +1,4 @@
-//! What `intake serve` reports.
+//! What standard error says while a register is served.
 
 use std::fmt;
 use std::io::Write;
@@ -53,7 +53,7 @@ impl fmt::Display for Note {
             ),
             Note::Full { limit } => write!(
                 f,
-                "the register is full: --limit is {limit}, and a report with another key gets 503"
+                "the register is full: --limit is {limit}, and a report with a new key gets 503"
             ),
             Note::OpenAgain => f.write_str("the database is open again"),
             Note::Served { connections } => write!(f, "ended after {connections} connections"),
@@ -64,7 +64,7 @@ impl fmt::Display for Note {
 impl Note {
     /// Writes the text as a line.
     pub fn tell<E: Write>(&self, errors: &mut E) {
-        // Nothing is left to be done where this text can't be written.
+        // Nothing is left to be done if this text can't be written.
         let _ = writeln!(errors, "intake: {self}");
     }
 }

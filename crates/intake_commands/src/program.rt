@@ -74,7 +74,7 @@ fn tell_terminal(rt: &HostRuntime, words: &[String]) {
         // Nothing is left to be done if this text can't be written.
         let _ = writeln!(
             rt.stderr(),
-            "intake: reading HTTP requests from this terminal, for a register in memory; Ctrl-D ends it, and intake --help says what else there is"
+            "intake: reading HTTP requests from this terminal, for a register in memory; Ctrl-D ends it, and intake --help lists the other commands"
         );
     }
 }

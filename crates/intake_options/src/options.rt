@@ -26,11 +26,11 @@ pub struct Serving<'a> {
     pub connections: u32,
     /// How many keys are kept at most.
     pub limit: u64,
-    /// How many seconds each connection may take. Any time if none is given.
+    /// How many seconds each connection may take; no limit if none is given.
     pub patience: Option<u32>,
-    /// The register is made, and not opened.
+    /// Whether the register is made, and not opened.
     pub new: bool,
-    /// A line for each connection is printed.
+    /// Whether a line is printed for each connection.
     pub log: bool,
 }
 
@@ -41,9 +41,9 @@ pub enum Task<'a> {
     Run {
         limit: u64,
     },
-    /// Serve so many connections of a port on the register of a file, which is made if it is new.
+    /// Serve a number of connections of a port on the register of a file.
     Serve(Serving<'a>),
-    /// Do this with the register of a file.
+    /// Do this errand with the register of a file.
     Visit {
         database: &'a str,
         errand: Errand<'a>,
@@ -80,7 +80,7 @@ fn limit<'a>(alloc: Global) -> Arg<'a> {
         alloc,
         "limit",
         "N",
-        "How many keys are kept at most, 0 to 4611686018427387904 [default: 1000000]",
+        "The most keys that the register keeps, 0 to 4611686018427387904 [default: 1000000]",
         value_parser!(u64),
     )
     .required(false)
@@ -91,7 +91,7 @@ fn connections<'a>(alloc: Global) -> Arg<'a> {
         alloc,
         "connections",
         "COUNT",
-        "How many connections are served, one after the other, 1 to 4294967295",
+        "How many connections to serve, one after the other, before it ends, 1 to 4294967295",
         value_parser!(u32).range(1..=MOST_CONNECTIONS),
     )
 }
@@ -101,7 +101,7 @@ fn patience<'a>(alloc: Global) -> Arg<'a> {
         alloc,
         "patience",
         "SECONDS",
-        "How long each connection may take, 1 to 86400 seconds; without it, as long as the peer takes",
+        "The most seconds that a connection may take, 1 to 86400 [default: no limit]",
         value_parser!(u32).range(1..=MOST_PATIENCE),
     )
     .required(false)
@@ -112,7 +112,7 @@ fn number<'a>(alloc: Global) -> Arg<'a> {
         alloc,
         "number",
         "N",
-        "The number of the filing",
+        "The number of the filing, as list prints it",
         value_parser!(u64).range(0..=i64::MAX),
     )
 }
@@ -126,7 +126,7 @@ fn json<'a>(alloc: Global) -> Arg<'a> {
 
 fn files<'a>(alloc: Global) -> Arg<'a> {
     Arg::new(alloc, "FILE")
-        .help("The reports' files, each of at most 1048576 bytes")
+        .help("The files of the reports, each of at most 1048576 bytes")
         .required(true)
         .num_args(1..)
 }
@@ -158,12 +158,12 @@ impl ToArg for Argument {
             Argument::New => flag(
                 alloc,
                 "new",
-                "Makes the register; creates the file if there is none",
+                "Makes a new register, and the file if there is none [default: opens the register that is there]",
             ),
             Argument::Log => flag(
                 alloc,
                 "log",
-                "Prints a line of JSON for each connection: its number, how it ended, filers, places, statuses",
+                "Prints a line of JSON for each connection: its number, how it ended, filers, requests, statuses",
             ),
             Argument::Filer => filer_option(alloc),
             Argument::Number => number(alloc),
@@ -177,14 +177,18 @@ impl ToArg for Argument {
 static WORDS: [Word<Argument>; 7] = [
     Word {
         name: "run",
-        about: "Serves standard input as one connection, on a register in memory [the default]",
-        example: "Example: intake run < requests",
+        about: "Serves standard input as one connection, on a register in memory [the default command]",
+        example: "Example: printf 'GET /filings/ACME HTTP/1.1\\r\\nHost: localhost\\r\\n\\r\\n' | intake run",
         arguments: &[Argument::Limit],
     },
     Word {
         name: "serve",
-        about: "Serves a register on a port of 127.0.0.1, and ends after so many connections",
-        example: "Examples: intake serve --db register.db --port 8080 --connections 4294967295 --new\n          intake serve --db register.db --port 8080 --connections 4294967295 --patience 60",
+        about: "Serves a register on a port of 127.0.0.1",
+        example: concat!(
+            "Example: intake serve --db register.db --port 8080 --connections 4294967295 --patience 60 --new\n",
+            "Example: intake serve --db register.db --port 8080 --connections 4294967295 --patience 60\n\n",
+            "The first makes the register, and is refused if it is there; the second opens it.",
+        ),
         arguments: &[
             Argument::Database,
             Argument::Port,
@@ -197,7 +201,7 @@ static WORDS: [Word<Argument>; 7] = [
     },
     Word {
         name: "list",
-        about: "Prints the filings of a filer, as GET /filings/CODE answers",
+        about: "Prints the filings of a filer, as the reply to GET /filings/CODE has them",
         example: "Example: intake list --db register.db --filer ACME",
         arguments: &[Argument::Database, Argument::Filer],
     },
@@ -209,7 +213,7 @@ static WORDS: [Word<Argument>; 7] = [
     },
     Word {
         name: "check",
-        about: "Checks every row against the stored reports, and says what it found",
+        about: "Checks every row against the stored reports, and prints what it found",
         example: "Example: intake check --db register.db",
         arguments: &[Argument::Database],
     },
@@ -221,7 +225,7 @@ static WORDS: [Word<Argument>; 7] = [
     },
     Word {
         name: "lint",
-        about: "Checks reports as the register would, and prints a line for each finding; status 1 if there are findings",
+        about: "Checks reports as the register would, and prints a line for each finding; status 1 if there is one",
         example: "Example: intake lint --filer ACME report.json",
         arguments: &[Argument::Filer, Argument::Json, Argument::Files],
     },
@@ -232,9 +236,12 @@ fn command<'a>(alloc: Global) -> Result<Command<'a>, AllocError> {
     Command::new(alloc, "intake")
         .version(VERSION)
         .about("Answers filers' requests, and registers each valid report once")
-        .after_help(
-            "Exit status: 0 done; 1 not a register, a damaged one, one that is there already, or a report with findings;\n2 the command line; 3 memory, a file, the disk or the network failed; 4 no such filing",
-        )
+        .after_help(concat!(
+            "Exit status: 0 done;\n",
+            "1 not a register, a damaged one, one that is there already, or a report with findings;\n",
+            "2 a wrong command line, or a report that is too large;\n",
+            "3 memory, a file, the disk or the network failed; 4 no such filing",
+        ))
         .subcommands(tasks)
 }
 
@@ -318,8 +325,8 @@ fn asked<'a>(alloc: Global, matches: &ArgMatches<'a>) -> Result<Option<Task<'a>>
     }
 }
 
-/// The task that these words spell, the program's name first; no other word stands for `run`. `None`
-/// is for a command that asks for nothing.
+/// The task that these words ask for. The first word is the program's name; if it is the only one, the task is `run`.
+/// `None` if the words ask for nothing.
 pub fn read<'a>(alloc: Global, words: &'a [String]) -> Result<Option<Task<'a>>, Error> {
     let matches = command(alloc)?.try_get_matches_from(words)?;
     Ok(asked(alloc, &matches)?)

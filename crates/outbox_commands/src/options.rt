@@ -33,7 +33,7 @@ pub enum Task<'a> {
         database: &'a str,
         filer: &'a str,
     },
-    /// Put a report in, under this key or one at random, to replace the filing of this number, if there is one.
+    /// Put a report in, under this key or a random one, to replace this filing or none.
     Put {
         database: &'a str,
         body: &'a str,
@@ -113,7 +113,7 @@ fn body<'a>(alloc: Global) -> Arg<'a> {
         alloc,
         "body",
         "FILE",
-        "The report's file, of at most 1048576 bytes",
+        "The file of the report, of at most 1048576 bytes",
     )
 }
 
@@ -132,7 +132,7 @@ fn amend<'a>(alloc: Global) -> Arg<'a> {
         alloc,
         "amend",
         "N",
-        "The number of the filing that the report replaces [default: it replaces none]",
+        "The number of the filing that the report replaces, 1 to 9223372036854775807 [default: replaces none]",
         value_parser!(u64).range(1..=i64::MAX),
     )
 }
@@ -149,7 +149,7 @@ fn patience<'a>(alloc: Global) -> Arg<'a> {
         alloc,
         "patience",
         "SECONDS",
-        "How long an exchange may take, 1 to 86400 [default: no limit]",
+        "The most seconds that an exchange may take, 1 to 86400 [default: no limit]",
         value_parser!(u64).range(1..=86_400),
     )
 }
@@ -164,7 +164,7 @@ fn all<'a>(alloc: Global) -> Result<Arg<'a>, AllocError> {
         .long("all")
         .help(concat!(
             "Sends each open entry once, by id, and goes on after an exchange that failed; ",
-            "ends at once if nobody listens or patience runs out",
+            "ends at once if nobody listens or patience runs out [default: sends one entry]",
         ))
         .action(ArgAction::SetTrue)
         .conflicts_with("entry")
@@ -179,7 +179,7 @@ fn json<'a>(alloc: Global) -> Arg<'a> {
 
 fn files<'a>(alloc: Global) -> Arg<'a> {
     Arg::new(alloc, "FILE")
-        .help("The reports' files, each of at most 1048576 bytes")
+        .help("The files of the reports, each of at most 1048576 bytes")
         .required(true)
         .num_args(1..)
 }
@@ -229,8 +229,8 @@ static WORDS: [Word<Argument>; 7] = [
     },
     Word {
         name: "put",
-        about: "Puts a report in as an open entry, and prints the entry's id",
-        example: "Example: outbox put --db outbox.db --body report.json",
+        about: "Puts a report into the outbox as an open entry, and prints the entry's id",
+        example: "Example: outbox put --db outbox.db --body report.json --key 2024-annual-1",
         arguments: &[
             Argument::Database,
             Argument::Body,
@@ -243,9 +243,9 @@ static WORDS: [Word<Argument>; 7] = [
         about: "Sends an open entry once, and prints its state after the reply",
         example: concat!(
             "Example: outbox send --db outbox.db --port 8080 --all\n\n",
-            "An answer that settles nothing, as 403 or 503, leaves its entry open: standard error shows it.\n",
-            "Exit status: 0 each reply was read; 1 not an outbox, or a damaged one; 3 an exchange failed, nobody listens, ",
-            "or memory or the disk failed; 4 no such entry",
+            "A reply that settles nothing, such as 403 or 503, leaves its entry open: standard error shows it.\n",
+            "Exit status: 0 each reply was read; 1 not an outbox, or a damaged one;\n",
+            "3 an exchange failed, nobody listens, or memory or the disk failed; 4 no such entry",
         ),
         arguments: &[
             Argument::Database,
@@ -263,7 +263,7 @@ static WORDS: [Word<Argument>; 7] = [
     },
     Word {
         name: "show",
-        about: "Prints a line for each entry, or for one: its state, the length of its report, which filing it is to replace, and its key",
+        about: "Prints a line for each entry, or for one: its state, its length, the filing that it replaces, and its key",
         example: "Example: outbox show --db outbox.db --entry 1",
         arguments: &[
             Argument::Database,
@@ -278,7 +278,7 @@ static WORDS: [Word<Argument>; 7] = [
     },
     Word {
         name: "lint",
-        about: "Checks reports as a register would, and prints a line for each finding; status 1 if there are findings",
+        about: "Checks reports as a register would, and prints a line for each finding; status 1 if there is one",
         example: "Example: outbox lint --filer ACME report.json",
         arguments: &[Argument::Filer, Argument::Json, Argument::Files],
     },
@@ -289,9 +289,12 @@ fn command<'a>(alloc: Global) -> Result<Command<'a>, AllocError> {
     Command::new(alloc, "outbox")
         .version(VERSION)
         .about("Keeps the reports that a filer is to send, and sends them")
-        .after_help(
-            "Exit status: 0 done; 1 not an outbox, a damaged one, one that is there already, or a report with findings;\n2 the command line, a key that is used or a report that is too large;\n3 memory, a file, the disk or the network failed; 4 no such entry",
-        )
+        .after_help(concat!(
+            "Exit status: 0 done;\n",
+            "1 not an outbox, a damaged one, one that is there already, or a report with findings;\n",
+            "2 a wrong command line, a key that is in use or a report that is too large;\n",
+            "3 memory, a file, the disk or the network failed; 4 no such entry",
+        ))
         .subcommand_required(true)
         .subcommands(tasks)
 }
@@ -372,8 +375,7 @@ fn asked_by<'a>(alloc: Global, matches: &ArgMatches<'a>) -> Result<Option<Asked<
     }
 }
 
-/// The task that these words spell, the program's name first. `None` is for a command that asks for
-/// nothing.
+/// What these words ask for. The first word is the program's name. `None` if they ask for nothing.
 pub fn read<'a>(alloc: Global, words: &'a [String]) -> Result<Option<Asked<'a>>, Error> {
     let matches = command(alloc)?.try_get_matches_from(words)?;
     Ok(asked_by(alloc, &matches)?)
