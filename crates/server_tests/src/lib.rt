@@ -12,3 +12,5 @@ mod server;
 mod stores;
 #[cfg(test)]
 mod streams;
+#[cfg(test)]
+mod taken;
