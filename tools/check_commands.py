@@ -7,9 +7,11 @@ It takes the programs that `rt run` builds in their folders, as crates/intake/ou
 """
 import sqlite3
 import subprocess
+import threading
+import time
 
-from trials import INTAKE, NOT_A_REGISTER, NO_OUTBOX, OUTBOX, REPORT, Serving, exchange, hold, make_by_sql, make_earlier
-from trials import make_earlier_outbox, make_register, run, said, try_all
+from trials import INTAKE, NOT_A_REGISTER, NO_OUTBOX, OUTBOX, REPORT, Peer, Serving, exchange, hold, is_silent, make_by_sql
+from trials import make_earlier, make_earlier_outbox, make_register, run, said, try_all
 
 FACT = (
     '{"concept":"eg:Assets","decimals":0,"dimensions":{"concept":"eg:Assets","entity":"lei:ACME",'
@@ -135,7 +137,7 @@ OTHER_OUTBOXES = [
     ("migrate --db @changed.db", 1, "damaged at row 0\n", f"changed.db: {WRONG_PAGE}"),
 ]
 
-# Ports are 1 to 65535, seconds 1 to 86400, and the numbers that `--amend` takes 1 to 9223372036854775807; limits, other numbers and ids
+# Ports are 1 to 65535, seconds of patience 1 to 86400, seconds to wait 0 to 86400, and the numbers that `--amend` takes 1 to 9223372036854775807; limits, other numbers and ids
 # begin with 0.
 OUT_OF_RANGE = [
     (INTAKE, "serve --db @r.db --port 0 --connections 1"),
@@ -144,11 +146,14 @@ OUT_OF_RANGE = [
     (INTAKE, "serve --db @r.db --port 1 --connections 1 --patience 0"),
     (INTAKE, "serve --db @r.db --port 1 --connections 1 --patience 86401"),
     (INTAKE, "show --db @r.db --number -1"),
+    (INTAKE, "check --db @r.db --wait -1"),
+    (INTAKE, "check --db @r.db --wait 86401"),
     (OUTBOX, "send --db @box.db --port 0"),
     (OUTBOX, "send --db @box.db --port 65536"),
     (OUTBOX, "send --db @box.db --port 1 --entry -1"),
     (OUTBOX, "send --db @box.db --port 1 --patience 0"),
     (OUTBOX, "send --db @box.db --port 1 --patience 86401"),
+    (OUTBOX, "status --db @box.db --wait 86401"),
     (OUTBOX, "put --db @box.db --body @small --amend 0"),
     (OUTBOX, "put --db @box.db --body @small --amend -1"),
     (OUTBOX, "put --db @box.db --body @small --amend 9223372036854775808"),
@@ -255,6 +260,47 @@ def check_files_of_others(folder):
         hold(f"init in {name}", said(run(OUTBOX, "init", "--db", folder / name, "--filer", "ACME"), folder), (0, "", ""))
 
 
+def check_waiting_for_a_register(folder):
+    """A command waits for a register that is served: for its time, or until the register is free."""
+    database = folder / "r.db"
+    serving = Serving(database, 1, "--new")
+    busy = (3, "", "intake: r.db: another program has it open\n")
+    hold("intake check of a register that is served", perform(INTAKE, "check --db @r.db", folder), busy)
+    start = time.monotonic()
+    hold("intake check --wait 1, while it is served", perform(INTAKE, "check --db @r.db --wait 1", folder), busy)
+    hold("it waits for a second", 1 <= time.monotonic() - start < 5, True)
+    words = [INTAKE, "check", "--db", database, "--wait", "60"]
+    waiting = subprocess.Popen(words, stdout=subprocess.PIPE, stderr=subprocess.PIPE, text=True)
+    time.sleep(0.5)
+    hold("intake check --wait 60, while it is served", waiting.poll(), None)
+    exchange(serving.port, b"GET / HTTP/1.1\r\nHost: h\r\n\r\n")
+    serving.end()
+    found = (*waiting.communicate(timeout=60), waiting.returncode)
+    hold("intake check --wait 60, once it is free", found, ("sound: 0 kept, 0 filings\n", "", 0))
+
+
+def check_waiting_for_an_outbox(folder):
+    """A put waits for a round that a silent peer keeps from ending."""
+    (folder / "small").write_bytes(b"{}")
+    run(OUTBOX, "init", "--db", folder / "box.db", "--filer", "ACME")
+    run(OUTBOX, "put", "--db", folder / "box.db", "--body", folder / "small", "--key", "k-1")
+    asked = threading.Event()
+
+    def is_asked(connection):
+        asked.set()
+        is_silent(connection)
+
+    words = ["send", "--db", folder / "box.db", "--port", Peer(is_asked).port, "--patience", 3]
+    sending = threading.Thread(target=run, args=(OUTBOX, *words))
+    sending.start()
+    asked.wait(60)
+    put = "put --db @box.db --body @small --key k-2"
+    busy = (3, "", "outbox: box.db: another program has it open\n")
+    hold("outbox put beside a round", perform(OUTBOX, put, folder), busy)
+    hold("outbox put --wait 60 beside a round", perform(OUTBOX, f"{put} --wait 60", folder), (0, "entry 2\n", ""))
+    sending.join()
+
+
 def check_ranges(folder):
     for program, line in OUT_OF_RANGE:
         status, output, errors = perform(program, line, folder)
@@ -278,7 +324,8 @@ def check_closed_output(folder):
 if __name__ == "__main__":
     try_all(
         (INTAKE, OUTBOX),
-        (check_intake, check_empty_file, check_others, check_migration, check_outbox, check_outbox_migration, check_files_of_others, check_ranges,
+        (check_intake, check_empty_file, check_others, check_migration, check_outbox, check_outbox_migration, check_files_of_others,
+         check_waiting_for_a_register, check_waiting_for_an_outbox, check_ranges,
          check_name_of_a_uri,
          check_closed_output),
     )

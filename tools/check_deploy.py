@@ -91,7 +91,7 @@ exit "$LEFT_STATUS"
         done = run(DEPLOY / "outbox-round", "outbox.db", "1", cwd=folder, env={**paths, "LEFT_STATUS": str(left_status)})
         found = (done.returncode, done.stdout, done.stderr)
         hold(f"outbox-round, if send says {said!r} and ends with {status}", found, (wanted, said.replace("\\n", "\n"), errors))
-        asked = "send --db outbox.db --port 1 --all --patience 120\n" + ("" if status == 1 else "status --db outbox.db\n")
+        asked = "send --db outbox.db --port 1 --all --patience 120 --wait 60\n" + ("" if status == 1 else "status --db outbox.db --wait 60\n")
         hold("and what it asks", (folder / "asked").read_text(), asked)
 
 

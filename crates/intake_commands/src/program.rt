@@ -7,9 +7,10 @@ use crate::tasks::perform_task;
 use command_line::{CommandFault, show_refusal, words};
 use database_places::SystemPlace;
 use http_wire::Device;
-use intake_options::{Serving, Task};
+use intake_options::{Asked, Serving, Task};
 use intake_process::IntakeProcess;
 use std::io::{IsTerminal, Write};
+use waiting_places::WaitingPlace;
 
 /// The name of the file of the register that a task is for, or none.
 fn database_of<'a>(task: &Task<'a>) -> &'a str {
@@ -25,12 +26,21 @@ fn port_of<'r>(rt: &'r HostRuntime, serving: &Serving<'_>) -> TimedPort<'r> {
     TimedPort::new(rt, serving.port, serving.patience)
 }
 
+/// The file of the register that a task is for, and the time for which it is waited for.
+fn place_of<'a, 'r>(
+    rt: &'r HostRuntime,
+    asked: &Asked<'a>,
+) -> WaitingPlace<'r, SystemPlace<'a, 'r>, HostRuntime> {
+    let place = SystemPlace::new(rt, database_of(&asked.task));
+    WaitingPlace::new(rt, place, asked.wait)
+}
+
 /// Performs a task over this port, the file of its register and the standard streams, and answers the status.
-fn perform_over<L: StreamPort>(rt: &HostRuntime, task: &Task<'_>, port: &mut L) -> u8 {
+fn perform_over<L: StreamPort>(rt: &HostRuntime, asked: &Asked<'_>, port: &mut L) -> u8 {
     perform_task(
         rt,
-        task,
-        &mut IntakeProcess::new(SystemPlace::new(rt, database_of(task))),
+        &asked.task,
+        &mut IntakeProcess::new(place_of(rt, asked)),
         port,
         &mut Device::new(rt.reader()),
         &mut Device::new(rt.stdout()),
@@ -40,18 +50,18 @@ fn perform_over<L: StreamPort>(rt: &HostRuntime, task: &Task<'_>, port: &mut L) 
 }
 
 /// Performs a task, and answers the status.
-fn perform(rt: &HostRuntime, task: &Task<'_>) -> u8 {
-    match task {
+fn perform(rt: &HostRuntime, asked: &Asked<'_>) -> u8 {
+    match &asked.task {
         Task::Serve(serving) if serving.log => {
             let mut logged = Logged::new(rt.alloc(), port_of(rt, serving), rt.stdout());
-            perform_over(rt, task, &mut logged)
+            perform_over(rt, asked, &mut logged)
         }
-        Task::Serve(serving) => perform_over(rt, task, &mut port_of(rt, serving)),
-        _ => perform_over(rt, task, &mut TimedPort::new(rt, 0, None)),
+        Task::Serve(serving) => perform_over(rt, asked, &mut port_of(rt, serving)),
+        _ => perform_over(rt, asked, &mut TimedPort::new(rt, 0, None)),
     }
 }
 
-/// Whether these words ask for what makes an outbox. A register is made where it is served.
+/// Whether these words ask for `init`, which only an outbox has: a register is made by serving it.
 fn asks_for_init(words: &[String]) -> bool {
     words.get(1).is_some_and(|word| word.as_str() == "init")
 }
@@ -62,13 +72,13 @@ fn perform_words<'a>(rt: &HostRuntime, words: &'a [String]) -> Result<u8, Fault<
         return Err(Fault::NoInit);
     }
     match intake_options::read(rt.alloc(), words) {
-        Ok(Some(task)) => Ok(perform(rt, &task)),
+        Ok(Some(asked)) => Ok(perform(rt, &asked)),
         Ok(None) => Err(CommandFault::NoTask.into()),
         Err(error) => Ok(show_refusal(&error, &mut rt.stdout(), &mut rt.stderr())?),
     }
 }
 
-/// Says what is waited for, if no word was given and the input is a terminal.
+/// Says what the program reads, if no word was given and the input is a terminal.
 fn tell_terminal(rt: &HostRuntime, words: &[String]) {
     if words.len() <= 1 && rt.stdin().is_terminal() {
         // Nothing is left to be done if this text can't be written.

@@ -4,4 +4,4 @@
 
 mod options;
 
-pub use options::{DEFAULT_LIMIT, Serving, Task, read};
+pub use options::{Asked, DEFAULT_LIMIT, Serving, Task, read};

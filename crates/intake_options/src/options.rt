@@ -9,13 +9,13 @@ use intake_tasks::Errand;
 use report_tasks::Form;
 use std::alloc::{AllocError, Global};
 
-/// How many keys are kept at most, if the command line does not say.
+/// How many keys are kept at most, if the command line does not say so.
 pub const DEFAULT_LIMIT: u64 = 1_000_000;
 
 const MOST_CONNECTIONS: i64 = (1 << 32) - 1;
 
 /// The seconds of a day.
-const MOST_PATIENCE: i64 = 86_400;
+const MOST_SECONDS: i64 = 86_400;
 
 /// What is served, and how.
 #[derive(Clone, Copy)]
@@ -34,7 +34,15 @@ pub struct Serving<'a> {
     pub log: bool,
 }
 
-/// What the command line asks for.
+/// What the command line asks for: a task, and how long it waits for its database.
+#[derive(Drop)]
+pub struct Asked<'a> {
+    pub task: Task<'a>,
+    /// For how many seconds the task waits while another program has its database open.
+    pub wait: u32,
+}
+
+/// A task of the program.
 #[derive(Drop)]
 pub enum Task<'a> {
     /// Serve standard input on a register in memory.
@@ -102,7 +110,18 @@ fn patience<'a>(alloc: Global) -> Arg<'a> {
         "patience",
         "SECONDS",
         "The most seconds that a connection may take, 1 to 86400 [default: no limit]",
-        value_parser!(u32).range(1..=MOST_PATIENCE),
+        value_parser!(u32).range(1..=MOST_SECONDS),
+    )
+    .required(false)
+}
+
+fn wait<'a>(alloc: Global) -> Arg<'a> {
+    number_option(
+        alloc,
+        "wait",
+        "SECONDS",
+        "The most seconds to wait while another program has the file open, 0 to 86400 [default: 0]",
+        value_parser!(u32).range(0..=MOST_SECONDS),
     )
     .required(false)
 }
@@ -139,6 +158,7 @@ enum Argument {
     Connections,
     Limit,
     Patience,
+    Wait,
     New,
     Log,
     Filer,
@@ -155,6 +175,7 @@ impl ToArg for Argument {
             Argument::Connections => connections(alloc),
             Argument::Limit => limit(alloc),
             Argument::Patience => patience(alloc),
+            Argument::Wait => wait(alloc),
             Argument::New => flag(
                 alloc,
                 "new",
@@ -195,6 +216,7 @@ static WORDS: [Word<Argument>; 7] = [
             Argument::Connections,
             Argument::Limit,
             Argument::Patience,
+            Argument::Wait,
             Argument::New,
             Argument::Log,
         ],
@@ -203,25 +225,25 @@ static WORDS: [Word<Argument>; 7] = [
         name: "list",
         about: "Prints the filings of a filer, as the reply to GET /filings/CODE has them",
         example: "Example: intake list --db register.db --filer ACME",
-        arguments: &[Argument::Database, Argument::Filer],
+        arguments: &[Argument::Database, Argument::Filer, Argument::Wait],
     },
     Word {
         name: "show",
         about: "Prints the facts of a filing, each as a line of JSON",
         example: "Example: intake show --db register.db --number 1",
-        arguments: &[Argument::Database, Argument::Number],
+        arguments: &[Argument::Database, Argument::Number, Argument::Wait],
     },
     Word {
         name: "check",
         about: "Checks every row against the stored reports, and prints what it found",
-        example: "Example: intake check --db register.db",
-        arguments: &[Argument::Database],
+        example: "Example: intake check --db register.db --wait 60",
+        arguments: &[Argument::Database, Argument::Wait],
     },
     Word {
         name: "migrate",
         about: "Upgrades a register of an earlier version; what was answered stays as it was",
         example: "Example: intake migrate --db register.db",
-        arguments: &[Argument::Database],
+        arguments: &[Argument::Database, Argument::Wait],
     },
     Word {
         name: "lint",
@@ -316,18 +338,34 @@ fn task_of<'a>(
     }
 }
 
-fn asked<'a>(alloc: Global, matches: &ArgMatches<'a>) -> Result<Option<Task<'a>>, AllocError> {
-    match matches.subcommand() {
-        Some((name, values)) => task_of(alloc, name, values),
-        None => Ok(Some(Task::Run {
+/// For how many seconds a database is waited for, which is 0 if nothing says so.
+fn wait_of(values: &ArgMatches<'_>) -> u32 {
+    values.get_one("wait").unwrap_or(0)
+}
+
+/// What is asked for if no word says so.
+fn default_asked<'a>() -> Asked<'a> {
+    Asked {
+        task: Task::Run {
             limit: DEFAULT_LIMIT,
-        })),
+        },
+        wait: 0,
     }
 }
 
-/// The task that these words ask for. The first word is the program's name; if it is the only one, the task is `run`.
-/// `None` if the words ask for nothing.
-pub fn read<'a>(alloc: Global, words: &'a [String]) -> Result<Option<Task<'a>>, Error> {
+fn asked_by<'a>(alloc: Global, matches: &ArgMatches<'a>) -> Result<Option<Asked<'a>>, AllocError> {
+    match matches.subcommand() {
+        Some((name, values)) => Ok(task_of(alloc, name, values)?.map(|task| Asked {
+            task,
+            wait: wait_of(values),
+        })),
+        None => Ok(Some(default_asked())),
+    }
+}
+
+/// What these words ask for. The first word is the program's name; if it is the only one, the task is `run`. `None` if
+/// the words ask for nothing.
+pub fn read<'a>(alloc: Global, words: &'a [String]) -> Result<Option<Asked<'a>>, Error> {
     let matches = command(alloc)?.try_get_matches_from(words)?;
-    Ok(asked(alloc, &matches)?)
+    Ok(asked_by(alloc, &matches)?)
 }

@@ -15,8 +15,11 @@ const MAX_TARGET: u64 = i64::MAX as u64;
 /// What the command line asks for.
 #[derive(Drop)]
 pub enum Asked<'a> {
-    /// A task on the outbox of a file.
-    Outbox(Task<'a>),
+    /// A task on the outbox of a file, which waits for so many seconds while another program has the file open.
+    Outbox {
+        task: Task<'a>,
+        wait: u32,
+    },
     /// Print what is wrong with the reports of a filer in these files.
     Lint {
         filer: &'a str,
@@ -154,6 +157,16 @@ fn patience<'a>(alloc: Global) -> Arg<'a> {
     )
 }
 
+fn wait<'a>(alloc: Global) -> Arg<'a> {
+    number_option(
+        alloc,
+        "wait",
+        "SECONDS",
+        "The most seconds to wait while another program has the file open, 0 to 86400 [default: 0]",
+        value_parser!(u32).range(0..=86_400),
+    )
+}
+
 fn entry<'a>(alloc: Global, help: &'a str) -> Arg<'a> {
     let numbers = value_parser!(u64).range(0..=i64::MAX);
     number_option(alloc, "entry", "ID", help, numbers)
@@ -197,6 +210,7 @@ enum Argument {
     /// The id of an entry, with this help.
     Entry(&'static str),
     All,
+    Wait,
     Json,
     Files,
 }
@@ -213,6 +227,7 @@ impl ToArg for Argument {
             Argument::Patience => patience(alloc),
             Argument::Entry(help) => entry(alloc, help),
             Argument::All => all(alloc)?,
+            Argument::Wait => wait(alloc),
             Argument::Json => json(alloc),
             Argument::Files => files(alloc),
         })
@@ -225,7 +240,7 @@ static WORDS: [Word<Argument>; 7] = [
         name: "init",
         about: "Makes an outbox without entries; creates the file if there is none",
         example: "Example: outbox init --db outbox.db --filer ACME",
-        arguments: &[Argument::Database, Argument::Filer],
+        arguments: &[Argument::Database, Argument::Filer, Argument::Wait],
     },
     Word {
         name: "put",
@@ -236,6 +251,7 @@ static WORDS: [Word<Argument>; 7] = [
             Argument::Body,
             Argument::Key,
             Argument::Amend,
+            Argument::Wait,
         ],
     },
     Word {
@@ -253,13 +269,14 @@ static WORDS: [Word<Argument>; 7] = [
             Argument::Entry("The entry's id [default: the open entry with the least id]"),
             Argument::All,
             Argument::Patience,
+            Argument::Wait,
         ],
     },
     Word {
         name: "status",
         about: "Prints a line for each entry: open, confirmed with its number, refused or clashed",
-        example: "Example: outbox status --db outbox.db",
-        arguments: &[Argument::Database],
+        example: "Example: outbox status --db outbox.db --wait 60",
+        arguments: &[Argument::Database, Argument::Wait],
     },
     Word {
         name: "show",
@@ -268,13 +285,14 @@ static WORDS: [Word<Argument>; 7] = [
         arguments: &[
             Argument::Database,
             Argument::Entry("The entry's id [default: each entry]"),
+            Argument::Wait,
         ],
     },
     Word {
         name: "migrate",
         about: "Upgrades an outbox of an earlier version; its entries stay as they are",
         example: "Example: outbox migrate --db outbox.db",
-        arguments: &[Argument::Database],
+        arguments: &[Argument::Database, Argument::Wait],
     },
     Word {
         name: "lint",
@@ -367,10 +385,18 @@ fn lint_of<'a>(alloc: Global, values: &ArgMatches<'a>) -> Result<Option<Asked<'a
     Ok(Some(Asked::Lint { filer, form, files }))
 }
 
+/// A task on an outbox, and for how many seconds it waits for the file, which is 0 if nothing says so.
+fn outbox_of<'a>(name: &str, values: &ArgMatches<'a>) -> Option<Asked<'a>> {
+    Some(Asked::Outbox {
+        task: task_of(name, values)?,
+        wait: values.get_one("wait").unwrap_or(0),
+    })
+}
+
 fn asked_by<'a>(alloc: Global, matches: &ArgMatches<'a>) -> Result<Option<Asked<'a>>, AllocError> {
     match matches.subcommand() {
         Some(("lint", values)) => lint_of(alloc, values),
-        Some((name, values)) => Ok(task_of(name, values).map(Asked::Outbox)),
+        Some((name, values)) => Ok(outbox_of(name, values)),
         None => Ok(None),
     }
 }

@@ -24,6 +24,7 @@ use sqlite_disk::Disk;
 use std::alloc::Global;
 use std::io::Write;
 use uuid::Uuid;
+use waiting_places::WaitingPlace;
 
 /// A version 4 UUID from the system's random bytes.
 fn random_key<'a>(rt: &HostRuntime) -> Result<KeyText, Fault<'a>>
@@ -217,8 +218,9 @@ fn perform_words<'a, O: Write, E: Write>(
         Ok(Some(Asked::Lint { filer, form, files })) => {
             lint(rt, form, filer, files.as_slice(), output)
         }
-        Ok(Some(Asked::Outbox(task))) => {
-            let mut process = OutboxProcess::new(SystemPlace::new(rt, task.database()));
+        Ok(Some(Asked::Outbox { task, wait })) => {
+            let place = WaitingPlace::new(rt, SystemPlace::new(rt, task.database()), wait);
+            let mut process = OutboxProcess::new(place);
             let mut network = PeerDial::new(rt, task.peer(), rt.stderr());
             perform_task(rt, &mut process, &mut network, task, output, errors)?;
             Ok(DONE)
