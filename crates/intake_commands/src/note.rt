@@ -3,6 +3,15 @@
 use std::fmt;
 use std::io::Write;
 
+/// What is said of a register whose database refused a call.
+const DOWN: &str = concat!(
+    "the database failed, as on a full disk: what was answered is kept; ",
+    "it is opened again before the next connection, and until it is open a request gets 503",
+);
+
+/// What becomes of requests until then.
+const PAUSED: &str = "and until then a request gets 503 at once";
+
 /// What is reported of a register that is served, each as a line.
 #[derive(Clone, Copy)]
 pub enum Note {
@@ -44,12 +53,10 @@ impl fmt::Display for Note {
                 f,
                 "serving 127.0.0.1:{port}: {kept} kept, {filings} filings, opened in {milliseconds} ms"
             ),
-            Note::Down => f.write_str(
-                "the database failed, as on a full disk: what was answered is kept; it is opened again before the next connection, and until it is open a request gets 503",
-            ),
+            Note::Down => f.write_str(DOWN),
             Note::Paused { seconds } => write!(
                 f,
-                "the database failed again: it is opened in {seconds} s at the earliest, and until then a request gets 503 at once"
+                "the database failed again: it is opened in {seconds} s at the earliest, {PAUSED}"
             ),
             Note::Full { limit } => write!(
                 f,

@@ -1,4 +1,4 @@
-//! The program: what a task works with is made, and the task is performed.
+//! The program: it makes what a task works with, and performs the task.
 
 use crate::fault::Fault;
 use crate::log::Logged;
@@ -11,6 +11,12 @@ use intake_options::{Asked, Serving, Task};
 use intake_process::IntakeProcess;
 use std::io::{IsTerminal, Write};
 use waiting_places::WaitingPlace;
+
+/// What is said if requests are read from a terminal.
+const READING: &str = concat!(
+    "reading HTTP requests from this terminal, for a register in memory; ",
+    "Ctrl-D ends it, and intake --help lists the other commands",
+);
 
 /// The name of the file of the register that a task is for, or none.
 fn database_of<'a>(task: &Task<'a>) -> &'a str {
@@ -82,10 +88,7 @@ fn perform_words<'a>(rt: &HostRuntime, words: &'a [String]) -> Result<u8, Fault<
 fn tell_terminal(rt: &HostRuntime, words: &[String]) {
     if words.len() <= 1 && rt.stdin().is_terminal() {
         // Nothing is left to be done if this text can't be written.
-        let _ = writeln!(
-            rt.stderr(),
-            "intake: reading HTTP requests from this terminal, for a register in memory; Ctrl-D ends it, and intake --help lists the other commands"
-        );
+        let _ = writeln!(rt.stderr(), "intake: {READING}");
     }
 }
 
