@@ -304,6 +304,7 @@ EXAMPLES = [
     Example("docs/OPERATIONS.md", "sqlite3 later.db", prints_nothing, scene=make_copies),
     Example("README.md", "export PATH=", port=8080),
     Example("docs/PROTOCOL.md", "example=$(mktemp -d)", port=8080),
+    Example("docs/OPERATIONS.md", "outbox ask --db outbox.db", port=8081, scene=make_refused_entry),
     Example("docs/OPERATIONS.md", 'sqlite3 outbox.db "SELECT writefile', shows_findings, port=8081, scene=make_refused_entry),
 ]
 

@@ -513,9 +513,54 @@ def check_answers(folder):
     hold("and in a round", said(every, folder), (0, "entry 1 open\nentry 2 open\n", errors))
     peer = Peer(answers(REFUSED), answers(CLASHED))
     every = run(OUTBOX, "send", "--db", outbox, "--port", peer.port, "--all")
-    errors = "outbox: entry 1: refused; the report has findings: outbox lint --filer ACME FILE lists them\n"
+    errors = "outbox: entry 1: refused; the report has findings: outbox ask --entry 1 lists them\n"
     errors += "outbox: entry 2: clashed; the register has another report under its key: put it in under a new one\n"
     hold("what to do with what is refused", said(every, folder), (0, "entry 1 refused\nentry 2 clashed\n", errors))
+
+
+# What the register answers for a report `{}`, and the line for its one finding.
+NO_INFO = (
+    '{"findings":[{"code":"document-info","place":"/documentInfo"}],"reason":"refused","status":422,"title":"Unprocessable Content",'
+    '"type":"about:blank"}'
+)
+NO_INFO_LINE = "entry-2:1:1: document-info: the member is missing (/documentInfo)\n"
+NO_INFO_OBJECT = '{"code":"document-info","column":1,"file":"entry-2","line":1,"message":"the member is missing","place":"/documentInfo","value":null}\n'
+# The register has no filing 7, which entry 3 is to replace.
+NOT_REPLACEABLE = NO_INFO.replace('{"code":"document-info","place":"/documentInfo"}', '{"code":"not-replaceable","place":""}')
+NOT_REPLACEABLE_LINE = "entry-3:1:1: not-replaceable: the object may not replace that filing ()\n"
+
+
+def ask(outbox, entry, port, *words):
+    return run(OUTBOX, "ask", "--db", outbox, "--entry", entry, "--port", port, *words)
+
+
+def check_questions(folder):
+    """Settled entries are asked about: a register answers as it did at first, and another peer's answer is shown all the same."""
+    outbox, poor = make_outbox(folder, 1), folder / "poor.json"
+    poor.write_bytes(b"{}")
+    run(OUTBOX, "put", "--db", outbox, "--body", poor, "--key", "k-2")
+    run(OUTBOX, "put", "--db", outbox, "--body", folder / "report.json", "--key", "k-3", "--amend", 7)
+    serving = Serving(folder / "register.db", 7, "--new")
+    run(OUTBOX, "send", "--db", outbox, "--port", serving.port, "--all")
+    before = said(run(OUTBOX, "show", "--db", outbox), folder)
+    created = 'entry 1: 201 Created\n{"number":1,"status":"registered"}\n'
+    refused = f"entry 2: 422 Unprocessable Content\n{NO_INFO}\n{NO_INFO_LINE}"
+    unfit = f"entry 3: 422 Unprocessable Content\n{NOT_REPLACEABLE}\n{NOT_REPLACEABLE_LINE}"
+    hold("a question about a confirmed entry", said(ask(outbox, 1, serving.port), folder), (0, created, ""))
+    hold("a question about a refused entry", said(ask(outbox, 2, serving.port), folder), (0, refused, ""))
+    hold("a question about an entry that may not replace", said(ask(outbox, 3, serving.port), folder), (0, unfit, ""))
+    content = json.dumps(NO_INFO)
+    objects = f'{{"content":{content},"entry":2,"status":422}}\n{NO_INFO_OBJECT}'
+    hold("a question as objects", said(ask(outbox, 2, serving.port, "--json"), folder), (0, objects, ""))
+    serving.end()
+    other = Peer(answers(CLASHED), answers(reply(b"200 OK", b"a\nb\xff", "text/plain")), answers(reply(b"418 No", b"")))
+    clashed = 'entry 2: 422 Unprocessable Content\n{"reason":"key-reused","status":422,"title":"Unprocessable Content","type":"about:blank"}\n'
+    hold("an answer that differs from the state", said(ask(outbox, 2, other.port), folder), (0, clashed, ""))
+    hold("a content that is no line of text", said(ask(outbox, 2, other.port), folder), (0, "entry 2: 200 OK\na\\u000ab\ufffd\n", ""))
+    hold("an answer without content", said(ask(outbox, 1, other.port), folder), (0, "entry 1: 418\n\n", ""))
+    cut = Peer(answers(registered(1)[:-1]))
+    hold("a cut answer", said(ask(outbox, 1, cut.port), folder), (3, "", f"outbox: 127.0.0.1:{cut.port}: the reply is cut\n"))
+    hold("the outbox is as it was", said(run(OUTBOX, "show", "--db", outbox), folder), before)
 
 
 def drips(connection):
@@ -572,6 +617,6 @@ if __name__ == "__main__":
     try_all(
         (INTAKE, OUTBOX),
         (check_serving, check_patience, check_limit, check_amendments, check_sent_amendments, check_full_register, check_full_outbox, check_files,
-         check_descriptors, check_rights, check_damage, check_copies, check_lint, check_entries, check_round, check_answers,
+         check_descriptors, check_rights, check_damage, check_copies, check_lint, check_entries, check_round, check_answers, check_questions,
          check_patience_of_a_round, check_same_report, check_closed_output),
     )

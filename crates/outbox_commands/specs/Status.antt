@@ -66,6 +66,7 @@ send_status (send.Exchange why) = exchange_status why
 abbrev pub task_status : TaskFault → ℕ
 task_status (task.Read why) = 3
 task_status (task.NoEntry id) = 4
+task_status (task.IsOpen id) = 2
 task_status (task.Put why) = put_status why
 task_status (task.NotTold id why) = 3
 task_status (task.Send id why) = send_status why
@@ -81,6 +82,7 @@ abbrev pub done_status : Result Done TaskFault → ℕ
 done_status (Ok (done.Put id)) = 0
 done_status (Ok done.Sent) = 0
 done_status (Ok (done.Round round)) = failed_status round.failed
+done_status (Ok done.Asked) = 0
 done_status (Ok done.Shown) = 0
 done_status (Err why) = task_status why
 
@@ -96,6 +98,7 @@ visit_status visit.BadFiler = 2
 visit_status visit.TooLarge = 2
 visit_status (visit.KeyUsed id) = 2
 visit_status (visit.NoEntry id) = 4
+visit_status (visit.IsOpen id) = 2
 visit_status (visit.NotTold id) = 3
 visit_status visit.NotClosed = 3
 visit_status visit.Memory = 3

@@ -20,7 +20,7 @@ use Rattle.outbox_process.specs.Process.{Parts, OpensProcess, ClosesProcess}
 use Rattle.outbox_commands.specs.declared.fault.Fault.{Fault}
 use Rattle.outbox_commands.specs.declared.fault.Fault.TheVariants as fault
 use Rattle.outbox_commands.specs.declared.options.Task.{Task}
-use Rattle.outbox_commands.specs.declared.options.Task.TheVariants.{Init, Put, Migrate, Send, Status, Show}
+use Rattle.outbox_commands.specs.declared.options.Task.TheVariants.{Init, Put, Migrate, Send, Ask, Status, Show}
 use Rattle.outbox_commands.specs.Status.{opening_status, status_by}
 use Rattle.outbox_commands.specs.Visits.{IsToldAs, IsRefused, VisitsOutbox, opening_verdict}
 
@@ -91,6 +91,7 @@ Does g (Init database filer) net net' out out' old new result = MakesOutbox g fi
 Does g (Put database body key target) net net' out out' old new result = PutsReport g key target net net' out out' old new result
 Does g (Migrate database) net net' out out' old new result = MigratesOutbox g out out' old new (status_by result) × (net' ≡ net)
 Does g (Send database peer which) net net' out out' old new result = VisitsOutbox g (errand.Send which) net net' out out' old new (status_by result)
+Does g (Ask database peer id form) net net' out out' old new result = VisitsOutbox g (errand.Ask id form) net net' out out' old new (status_by result)
 Does g (Status database) net net' out out' old new result = VisitsOutbox g errand.ShowStates net net' out out' old new (status_by result)
 Does g (Show database None) net net' out out' old new result = VisitsOutbox g errand.ShowEach net net' out out' old new (status_by result)
 Does g (Show database (Some id)) net net' out out' old new result = VisitsOutbox g (errand.ShowEntry id) net net' out out' old new (status_by result)

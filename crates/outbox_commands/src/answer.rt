@@ -184,11 +184,10 @@ pub fn tell_open<E: Write>(alloc: Global, id: u64, noted: &[u8], errors: &mut E)
     }
 }
 
-/// Says on the standard error what to do with an entry of this filer that was refused.
+/// Says on the standard error what to do with an entry that was refused.
 pub fn tell_refused<E: Write>(
     alloc: Global,
     id: u64,
-    filer: &str,
     noted: &[u8],
     errors: &mut E,
 ) -> io::Result<()> {
@@ -204,7 +203,7 @@ pub fn tell_refused<E: Write>(
     } else {
         writeln!(
             errors,
-            "outbox: entry {id}: refused; the report has findings: outbox lint --filer {filer} FILE lists them"
+            "outbox: entry {id}: refused; the report has findings: outbox ask --entry {id} lists them"
         )
     }
 }

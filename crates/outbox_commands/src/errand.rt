@@ -72,7 +72,6 @@ pub fn run_errand<'a, D: Disk + Drop, P: Place<D> + Drop, N: Network, O: Write, 
     if let Err(fault) = open(alloc, process, Beginning::Found) {
         return Err(Fault::of_opening(fault, name));
     }
-    name_filer(process, network);
     let came = process.perform(alloc, network, errand, output);
     if is_random {
         tell_same(process, &came, errors);
@@ -80,18 +79,6 @@ pub fn run_errand<'a, D: Disk + Drop, P: Place<D> + Drop, N: Network, O: Write, 
     let done = answer(network, came, name);
     close(process, name, errors);
     done
-}
-
-/// Tells the network for whom it makes connections.
-fn name_filer<D: Disk + Drop, P: Place<D> + Drop, N: Network>(
-    process: &OutboxProcess<D, P>,
-    network: &mut N,
-)
-    ensures { N.traffic network.new ≡ N.traffic network.old }
-{
-    if let Some(outbox) = process.outbox() {
-        network.name_filer(outbox.filer());
-    }
 }
 
 /// What came of an errand on the outbox of the file with this name. What the network has to report of it is reported,
@@ -106,10 +93,20 @@ fn answer<'a, N: Network>(
 {
     match came {
         Ok(done) => {
-            network.tell();
+            tell_outcome(network, done);
             fault_of_round(network.port(), done)
         }
         Err(fault) => Err(Fault::of_task(fault, name, network.port(), network.lost_patience())),
+    }
+}
+
+/// Lets the network report what is left to be said. Of a question the reply itself is printed, and says it.
+fn tell_outcome<N: Network>(network: &mut N, done: Done)
+    ensures { N.traffic network.new ≡ N.traffic network.old }
+{
+    match done {
+        Done::Asked => {}
+        _ => network.tell(),
     }
 }
 

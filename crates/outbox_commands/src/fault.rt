@@ -43,6 +43,8 @@ pub enum VisitFault {
     KeyUsed { id: u64 },
     #[error("there is no entry {id}")]
     NoEntry { id: u64 },
+    #[error("entry {id} is open: outbox send sends it")]
+    IsOpen { id: u64 },
     #[error("entry {id} was put in, but the output cannot be written")]
     NotTold { id: u64 },
     #[error("it could not be closed; what was reported is kept, in the log beside it")]
@@ -130,8 +132,8 @@ impl VisitFault {
     }
 
     /// The status that the program ends with: 1 for a database that is no outbox or cannot become
-    /// one, 2 for a filer, a key or a body that it does not take, 3 for a fault of memory or the
-    /// disk, 4 if an entry is missing.
+    /// one, 2 for a filer, a key or a body that it does not take and for an entry that is open, 3
+    /// for a fault of memory or the disk, 4 if an entry is missing.
     pub fn status(self) -> u8
         ensures { result ≡ visit_status self }
     {
@@ -141,7 +143,7 @@ impl VisitFault {
             VisitFault::IsCurrent | VisitFault::NotEarlier => 1,
             VisitFault::Damaged { .. } => 1,
             VisitFault::BadFiler | VisitFault::TooLarge => 2,
-            VisitFault::KeyUsed { .. } => 2,
+            VisitFault::KeyUsed { .. } | VisitFault::IsOpen { .. } => 2,
             VisitFault::NotTold { .. } => 3,
             VisitFault::NotClosed | VisitFault::Memory | VisitFault::Database => 3,
             VisitFault::NoEntry { .. } => 4,
@@ -267,6 +269,7 @@ impl<'a> Fault<'a> {
         match fault {
             TaskFault::Read(fault) => VisitFault::from(fault).at(name),
             TaskFault::NoEntry { id } => VisitFault::NoEntry { id }.at(name),
+            TaskFault::IsOpen { id } => VisitFault::IsOpen { id }.at(name),
             TaskFault::Put(fault) => VisitFault::from(fault).at(name),
             TaskFault::NotTold {
                 id,

@@ -15,9 +15,6 @@ use std::io::{self, Write};
 use std::net::TcpStream;
 use std::time::Duration;
 
-/// What stands for the code of a filer that is not known.
-const ANY_FILER: &str = "CODE";
-
 /// What came of an exchange: the state of its entry or a fault, and the first bytes of the reply.
 #[derive(Drop)]
 struct Exchanged {
@@ -28,10 +25,6 @@ struct Exchanged {
 
 /// A network on which one peer is called, and which reports why an entry is not confirmed.
 pub trait Network: Dial {
-    /// Takes note of the code of the filer for whom exchanges are made from here on.
-    fn name_filer(&mut self, filer: &str)
-        ensures { Self.Dial.traffic self.new ≡ Self.Dial.traffic self.old };
-
     /// Reports why the last entry is not confirmed, if it isn't, and what to do. Its line is printed.
     fn tell(&mut self)
         ensures { Self.Dial.traffic self.new ≡ Self.Dial.traffic self.old };
@@ -50,8 +43,6 @@ pub struct PeerDial<'r, E> {
     rt: &'r HostRuntime,
     port: u16,
     patience: Option<u64>,
-    /// None if it is not known, or memory was short for it.
-    filer: Option<String>,
     deadline: Option<Deadline<'r, HostRuntime>>,
     /// Whether the time of the last exchange was over, and so it failed.
     is_late: bool,
@@ -67,7 +58,6 @@ impl<'r, E: Write + Drop> PeerDial<'r, E> {
             rt,
             port: peer.port,
             patience: peer.patience,
-            filer: None,
             deadline: None,
             is_late: false,
             untold: None,
@@ -87,18 +77,13 @@ impl<'r, E: Write + Drop> PeerDial<'r, E> {
     }
 }
 
-/// Reports what came of an exchange for an entry of this filer, if that leaves the entry unconfirmed.
-fn explain<E: Write>(
-    alloc: Global,
-    filer: &str,
-    exchanged: &Exchanged,
-    errors: &mut E,
-) -> io::Result<()> {
+/// Reports what came of an exchange, if that leaves its entry unconfirmed.
+fn explain<E: Write>(alloc: Global, exchanged: &Exchanged, errors: &mut E) -> io::Result<()> {
     let id = exchanged.id;
     let noted = exchanged.noted.as_slice();
     match exchanged.came {
         Ok(State::Open) => tell_open(alloc, id, noted, errors),
-        Ok(State::Refused) => tell_refused(alloc, id, filer, noted, errors),
+        Ok(State::Refused) => tell_refused(alloc, id, noted, errors),
         Ok(State::Clashed) => writeln!(
             errors,
             "outbox: entry {id}: clashed; the register has another report under its key: put it in under a new one"
@@ -148,18 +133,10 @@ impl<'r, E: Write + Drop> Dial for PeerDial<'r, E> {
 }
 
 impl<E: Write + Drop> Network for PeerDial<'_, E> {
-    fn name_filer(&mut self, filer: &str) {
-        self.filer = String::from_str(self.rt.alloc(), filer).ok();
-    }
-
     fn tell(&mut self) {
         if let Some(exchanged) = self.untold.take() {
-            let filer = match &self.filer {
-                Some(filer) => filer.as_str(),
-                None => ANY_FILER,
-            };
             // Nothing is left to be done if these texts can't be written either.
-            let _ = explain(self.rt.alloc(), filer, &exchanged, &mut self.errors);
+            let _ = explain(self.rt.alloc(), &exchanged, &mut self.errors);
         }
     }
 

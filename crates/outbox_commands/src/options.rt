@@ -53,6 +53,13 @@ pub enum Task<'a> {
         peer: Peer,
         which: Which,
     },
+    /// Ask about this settled entry, and write the findings so.
+    Ask {
+        database: &'a str,
+        peer: Peer,
+        id: u64,
+        form: Form,
+    },
     /// Show the state of each entry.
     Status {
         database: &'a str,
@@ -72,6 +79,7 @@ impl<'a> Task<'a> {
             | Task::Put { database, .. }
             | Task::Migrate { database }
             | Task::Send { database, .. }
+            | Task::Ask { database, .. }
             | Task::Status { database }
             | Task::Show { database, .. } => database,
         }
@@ -80,7 +88,7 @@ impl<'a> Task<'a> {
     /// The intake to which it sends; one that is never called, if it sends nothing.
     pub fn peer(&self) -> Peer {
         match *self {
-            Task::Send { peer, .. } => peer,
+            Task::Send { peer, .. } | Task::Ask { peer, .. } => peer,
             _ => Peer {
                 port: 0,
                 patience: None,
@@ -183,10 +191,10 @@ fn all<'a>(alloc: Global) -> Result<Arg<'a>, AllocError> {
         .conflicts_with("entry")
 }
 
-fn json<'a>(alloc: Global) -> Arg<'a> {
+fn json<'a>(alloc: Global, help: &'a str) -> Arg<'a> {
     Arg::new(alloc, "json")
         .long("json")
-        .help("Prints each finding as a JSON object on a line of its own [default: as a sentence]")
+        .help(help)
         .action(ArgAction::SetTrue)
 }
 
@@ -209,9 +217,12 @@ enum Argument {
     Patience,
     /// The id of an entry, with this help.
     Entry(&'static str),
+    /// The same, which has to be given.
+    ThisEntry(&'static str),
     All,
     Wait,
-    Json,
+    /// Whether lines are JSON objects, with this help.
+    Json(&'static str),
     Files,
 }
 
@@ -226,16 +237,17 @@ impl ToArg for Argument {
             Argument::Port => port(alloc),
             Argument::Patience => patience(alloc),
             Argument::Entry(help) => entry(alloc, help),
+            Argument::ThisEntry(help) => entry(alloc, help).required(true),
             Argument::All => all(alloc)?,
             Argument::Wait => wait(alloc),
-            Argument::Json => json(alloc),
+            Argument::Json(help) => json(alloc, help),
             Argument::Files => files(alloc),
         })
     }
 }
 
 /// The words that ask for tasks, as the help has them.
-static WORDS: [Word<Argument>; 7] = [
+static WORDS: [Word<Argument>; 8] = [
     Word {
         name: "init",
         about: "Makes an outbox without entries; creates the file if there is none",
@@ -273,6 +285,26 @@ static WORDS: [Word<Argument>; 7] = [
         ],
     },
     Word {
+        name: "ask",
+        about: "Sends a settled entry's request again, and prints the reply, with a line for each finding; changes nothing",
+        example: concat!(
+            "Example: outbox ask --db outbox.db --entry 1 --port 8080\n\n",
+            "The register answers the same request as it did at first. An open entry is refused: outbox send sends it.\n",
+            "Exit status: 0 the reply was read; 1 not an outbox, or a damaged one; 2 the entry is open; ",
+            "3 the exchange failed, nobody listens, or memory or the disk failed; 4 no such entry",
+        ),
+        arguments: &[
+            Argument::Database,
+            Argument::Port,
+            Argument::ThisEntry("The entry's id"),
+            Argument::Json(
+                "Prints the reply and each finding as a JSON object on a line of its own [default: as sentences]",
+            ),
+            Argument::Patience,
+            Argument::Wait,
+        ],
+    },
+    Word {
         name: "status",
         about: "Prints a line for each entry: open, confirmed with its number, refused or clashed",
         example: "Example: outbox status --db outbox.db --wait 60",
@@ -298,7 +330,13 @@ static WORDS: [Word<Argument>; 7] = [
         name: "lint",
         about: "Checks reports as a register would, and prints a line for each finding; status 1 if there is one",
         example: "Example: outbox lint --filer ACME report.json",
-        arguments: &[Argument::Filer, Argument::Json, Argument::Files],
+        arguments: &[
+            Argument::Filer,
+            Argument::Json(
+                "Prints each finding as a JSON object on a line of its own [default: as a sentence]",
+            ),
+            Argument::Files,
+        ],
     },
 ];
 
@@ -310,7 +348,7 @@ fn command<'a>(alloc: Global) -> Result<Command<'a>, AllocError> {
         .after_help(concat!(
             "Exit status: 0 done;\n",
             "1 not an outbox, a damaged one, one that is there already, or a report with findings;\n",
-            "2 a wrong command line, a key that is in use or a report that is too large;\n",
+            "2 a wrong command line, a key that is in use, a report that is too large or a question about an open entry;\n",
             "3 memory, a file, the disk or the network failed; 4 no such entry",
         ))
         .subcommand_required(true)
@@ -323,6 +361,14 @@ fn which_of(values: &ArgMatches<'_>) -> Which {
         None if values.get_flag("all") => Which::All,
         None => Which::Next,
     }
+}
+
+/// The intake that is called.
+fn peer_of(values: &ArgMatches<'_>) -> Option<Peer> {
+    Some(Peer {
+        port: values.get_one("port")?,
+        patience: values.get_one("patience"),
+    })
 }
 
 /// What `--amend` says. Other numbers are refused as the words are read.
@@ -351,11 +397,14 @@ fn task_of<'a>(name: &str, values: &ArgMatches<'a>) -> Option<Task<'a>> {
         "migrate" => Some(Task::Migrate { database }),
         "send" => Some(Task::Send {
             database,
-            peer: Peer {
-                port: values.get_one("port")?,
-                patience: values.get_one("patience"),
-            },
+            peer: peer_of(values)?,
             which: which_of(values),
+        }),
+        "ask" => Some(Task::Ask {
+            database,
+            peer: peer_of(values)?,
+            id: values.get_one("entry")?,
+            form: form_of(values),
         }),
         "status" => Some(Task::Status { database }),
         "show" => Some(Task::Show {

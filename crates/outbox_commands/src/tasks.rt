@@ -189,6 +189,10 @@ pub fn perform_task<'a, D: Disk + Drop, P: Place<D> + Drop, N: Network, O: Write
             let errand = Errand::Send(which);
             run_errand(alloc, process, network, name, errand, false, output, errors)
         }
+        Task::Ask { id, form, .. } => {
+            let errand = Errand::Ask { id, form };
+            run_errand(alloc, process, network, name, errand, false, output, errors)
+        }
         Task::Status { .. } => {
             let errand = Errand::ShowStates;
             run_errand(alloc, process, network, name, errand, false, output, errors)

@@ -4,6 +4,7 @@ use Rattle.std.specs.Result.{result_map_both}
 use Rattle.sqlite.specs.Store.{Ghosts}
 use Rattle.outbox_core.specs.OutboxParts.{OutboxParts}
 use Rattle.outbox_tasks.specs.declared.fault.TaskFault.{TaskFault}
+use Rattle.outbox_tasks.specs.Asking.{AsksEntry}
 use Rattle.outbox_tasks.specs.Dials.{Traffic}
 use Rattle.outbox_tasks.specs.Looking.{AreAny}
 use Rattle.outbox_tasks.specs.Putting.{PutsAndTells}
@@ -13,7 +14,7 @@ use Rattle.outbox_tasks.specs.Showing.{ShowsStates, ShowsEntry, ShowsEach}
 use Rattle.outbox_process.specs.declared.errand.Done.{Done}
 use Rattle.outbox_process.specs.declared.errand.Done.TheVariants as done
 use Rattle.outbox_process.specs.declared.errand.Errand.{Errand}
-use Rattle.outbox_process.specs.declared.errand.Errand.TheVariants.{Put, Send, ShowStates, ShowEntry, ShowEach}
+use Rattle.outbox_process.specs.declared.errand.Errand.TheVariants.{Put, Send, Ask, ShowStates, ShowEntry, ShowEach}
 use Rattle.outbox_process.specs.declared.errand.Which.{Which}
 use Rattle.outbox_process.specs.declared.errand.Which.TheVariants.{Next, Entry, All}
 
@@ -31,11 +32,12 @@ Sends g Next net net' box box' out out' result = Answers (λ _. done.Sent) resul
 Sends g (Entry id) net net' box box' out out' result = Answers (λ _. done.Sent) result (SendsEntry g id net net' box box' out out')
 Sends g All net net' box box' out out' result = Answers done.Round result (SendsAll g net net' box box' out out')
 
--- no connection is made but to send
+-- no connection is made but to send and to ask
 abbrev pub DoesErrand : {S : Type 0} → Ghosts S → Errand → Traffic → Traffic → OutboxParts S → OutboxParts S → Option (List ℕ) → Option (List ℕ) → Result Done TaskFault → Type 0
 DoesErrand g (Put key target body) net net' box box' out out' result =
     Answers done.Put result (PutsAndTells g box box' key target.number body.items out out') × (net' ≡ net)
 DoesErrand g (Send which) net net' box box' out out' result = Sends g which net net' box box' out out' result
+DoesErrand g (Ask id form) net net' box box' out out' result = Answers {A = Unit {0}} (λ _. done.Asked) result (AsksEntry g form id net net' box box' out out')
 DoesErrand g ShowStates net net' box box' out out' result = Answers {A = Unit {0}} (λ _. done.Shown) result (ShowsStates g box box' out out') × (net' ≡ net)
 DoesErrand g (ShowEntry id) net net' box box' out out' result = Answers {A = Unit {0}} (λ _. done.Shown) result (ShowsEntry g id box box' out out') × (net' ≡ net)
 DoesErrand g ShowEach net net' box box' out out' result = Answers {A = Unit {0}} (λ _. done.Shown) result (ShowsEach g AreAny box box' out out') × (net' ≡ net)

@@ -7,7 +7,7 @@ use crate::target::Target;
 use key_string::KeyText;
 use outbox_core::Outbox;
 use outbox_tasks::{
-    Dial, Round, TaskFault, put, send_all, send_entry, send_next, show_each, show_entry,
+    Dial, Form, Round, TaskFault, ask, put, send_all, send_entry, send_next, show_each, show_entry,
     show_states,
 };
 use sqlite::Alter;
@@ -36,6 +36,11 @@ pub enum Errand {
     },
     /// Send entries.
     Send(Which),
+    /// Ask about this settled entry, and write the findings so.
+    Ask {
+        id: u64,
+        form: Form,
+    },
     /// Show the state of each entry.
     ShowStates,
     /// Show the state, the length and the key of this entry.
@@ -53,6 +58,8 @@ pub enum Done {
     Sent,
     /// Each open entry was sent.
     Round(Round),
+    /// The reply to the question is printed.
+    Asked,
     /// The entries are shown.
     Shown,
 }
@@ -76,6 +83,7 @@ pub(crate) fn do_errand<S: Alter, N: Dial, O: Write>(
             }
         }
         Errand::Send(which) => send(alloc, network, outbox, which, output),
+        Errand::Ask { id, form } => asked(ask(alloc, network, outbox, form, id, output)),
         Errand::ShowStates => shown(show_states(alloc, outbox, output)),
         Errand::ShowEntry(id) => shown(show_entry(alloc, outbox, id, output)),
         Errand::ShowEach => shown(show_each(alloc, outbox, output)),
@@ -106,6 +114,16 @@ fn send<S: Alter, N: Dial, O: Write>(
             Ok(round) => Ok(Done::Round(round)),
             Err(fault) => Err(fault),
         },
+    }
+}
+
+/// The reply is printed, unless there is a fault.
+fn asked(came: Result<(), TaskFault>) -> Result<Done, TaskFault>
+    ensures { result ≡ answer (λ _. Done.Asked) came }
+{
+    match came {
+        Ok(()) => Ok(Done::Asked),
+        Err(fault) => Err(fault),
     }
 }
 

@@ -12,5 +12,6 @@ mod target;
 pub use begun::Beginning;
 pub use errand::{Done, Errand, Which};
 pub use fault::OpeningFault;
+pub use outbox_tasks::Form;
 pub use process::OutboxProcess;
 pub use target::Target;

@@ -1,3 +1,4 @@
+mod Asked
 mod Looks
 mod Opens
 mod Sendings

@@ -13,7 +13,7 @@ use Rattle.outbox_tasks.specs.Rounds.{is_open_pair, open_ids, AreToSend}
 use Rattle.outbox_tasks.specs.Sending.{IsOpenAt}
 use Rattle.outbox_tasks.specs.Showing.{AreTold}
 
-open_state : (state : State) → is_open_state state ≡ true → state ≡ Open
+pub open_state : (state : State) → is_open_state state ≡ true → state ≡ Open
 open_state Open is = refl
 open_state (Confirmed n) is = cc
 open_state Refused is = cc

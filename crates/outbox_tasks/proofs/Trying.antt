@@ -32,7 +32,7 @@ grown before mid (Some outputs) id came written (Some bytes) text same unwritten
     (earlier, was, subst (λ t. outputs ≡ earlier ++ record { id = id; came = came; bytes = t } ∷ []) is adds.2)
 
 -- one connection was made
-connection : (old mid new : Traffic) (left written written' : Option (List ℕ)) (id : ℕ) (came : Result State ExchangeFault) (text : List ℕ)
+pub connection : (old mid new : Traffic) (left written written' : Option (List ℕ)) (id : ℕ) (came : Result State ExchangeFault) (text : List ℕ)
     → (mid.over ≡ old.over) × Takes old.coming mid.coming left × IsUnwritten old.over written → new.coming ≡ mid.coming → Appends written written' text → Adds mid.over new.over id came written'
     → IsOneConnection old new left (record { id = id; came = came; bytes = text })
 connection old mid new left written written' id came text fresh coming wrote adds =

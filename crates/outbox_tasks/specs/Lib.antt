@@ -1,3 +1,5 @@
+pub mod Answering
+pub mod Asking
 pub mod Dials
 pub mod Faults
 pub mod Lines

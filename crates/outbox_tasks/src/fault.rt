@@ -40,6 +40,8 @@ pub enum TaskFault {
     Read(StoreFault),
     /// No entry has the id.
     NoEntry { id: u64 },
+    /// The entry of this id is open, and only a settled one is asked about.
+    IsOpen { id: u64 },
     /// No report was put in.
     Put(PutFault),
     /// The report was put in as the entry of this id, and that could not be printed.

@@ -1,9 +1,11 @@
-//! What `outbox` does with an open outbox: it puts a report in, sends entries, each on a connection of its own, and shows
-//! them. What may live here: the calls of an outbox that a task makes, the connections that are made for them, and the
-//! lines that are printed. No file and no word of the command line is known here, and of the system's ports `TcpDial`
-//! alone.
+//! What `outbox` does with an open outbox: it puts a report in, sends entries, asks about them, and shows them; each entry
+//! is sent or asked about on a connection of its own. What may live here: the calls of an outbox that a task makes, the
+//! connections that are made for them, and the lines that are printed. No file and no word of the command line is known
+//! here, and of the system's ports `TcpDial` alone.
 #![tactic(auto)]
 
+mod answering;
+mod asking;
 mod dial;
 mod fault;
 mod lines;
@@ -15,8 +17,10 @@ mod sending;
 mod showing;
 mod tcp;
 
+pub use asking::ask;
 pub use dial::Dial;
 pub use fault::{LineFault, SendFault, TaskFault};
+pub use finding_lines::Form;
 pub use memory::{Finished, Kept, Replies};
 pub use putting::put;
 pub use rounds::{Round, send_all};

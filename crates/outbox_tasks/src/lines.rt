@@ -16,7 +16,14 @@ use std::io::Write;
 fn print<O: Write>(text: &str, output: &mut O) -> Result<(), LineFault>
     ensures { OnOk result (Appends (O.contents output.old) (O.contents output.new) text.now) }
 {
-    match show(output, text.as_bytes()) {
+    print_bytes(text.as_bytes(), output)
+}
+
+/// Prints bytes whole.
+pub(crate) fn print_bytes<O: Write>(text: &[u8], output: &mut O) -> Result<(), LineFault>
+    ensures { OnOk result (Appends (O.contents output.old) (O.contents output.new) text.now) }
+{
+    match show(output, text) {
         Ok(()) => Ok(()),
         Err(_) => Err(LineFault::Output),
     }

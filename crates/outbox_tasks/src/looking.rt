@@ -2,6 +2,7 @@
 
 ghost use Rattle.std.specs.Prelude.{◌≡◌, Some, IfOk, IfErr, map};
 ghost use Rattle.sqlite.specs.State.{HasCleanDisk};
+ghost use Rattle.table_rows.specs.Standing.{CommitsNothing};
 ghost use Rattle.filing_model.specs.Views.{view_state};
 ghost use Rattle.outbox_opening.specs.Entries.{numbered};
 ghost use Rattle.outbox_core.specs.Entries.{found_at, is_open_state};
@@ -21,6 +22,7 @@ pub(crate) fn entry_of<S: Alter>(outbox: &mut Outbox<S>, id: u64) -> Result<Entr
     ensures refused { IfErr result (λ fault. IsNotFound S.Store outbox.old outbox.new id fault) }
     ensures kept { ForEntries S.Store outbox.old outbox.new (HasEntries S.Store outbox.new) }
     ensures filer { outbox.new.filer ≡ outbox.old.filer }
+    ensures nothing { CommitsNothing (shows S.Store outbox.old) (shows S.Store outbox.new) }
     ensures clean { HasCleanDisk (shows S.Store outbox.new) → HasCleanDisk (shows S.Store outbox.old) }
 {
     match outbox.entry(id)? {

@@ -14,7 +14,7 @@ pub returns : goal.returns
 returns g c =
     let before = parts g.P.Place.lying c.open.new.process in
     let after = parts g.P.Place.lying c.perform-came.new.self in
-    let net = g.N.Dial.traffic c.name_filer.new.network in
+    let net = g.N.Dial.traffic c.args.network.now in
     let net' = g.N.Dial.traffic c.answer-done.new.network in
     let out = g.O.Write.contents c.args.output.now in
     let out' = g.O.Write.contents c.perform-came.new.output in
@@ -24,8 +24,7 @@ returns g c =
       done = after;
       came = c.perform-came.result;
       performs =
-          subst (λ n. PerformsErrand c.args.errand n net' out out' before after c.perform-came.result) c.name_filer.ensures
-          (subst (λ n. PerformsErrand c.args.errand net n out out' before after c.perform-came.result) (sym c.answer-done.ensures.traffic) c.perform-came.ensures);
+          subst (λ n. PerformsErrand c.args.errand net n out out' before after c.perform-came.result) (sym c.answer-done.ensures.traffic) c.perform-came.ensures;
       looked = parts g.P.Place.lying c.if-is_random.process;
       looks = elim c.if-is_random.branch [
         | then-is_random w ↦ subst (λ p. IsHonest g.D.Disk → Leaves after (parts g.P.Place.lying p)) (sym w.process-is) w.tell_same.ensures

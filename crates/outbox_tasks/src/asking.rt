@@ -1,0 +1,120 @@
+//! A settled entry is asked about: its request is sent again, and the reply is printed.
+
+ghost use Rattle.std.specs.Prelude.{◌≡◌, IfOk, IfErr};
+ghost use Rattle.http_messages.specs.Replies.{reply_parts};
+ghost use Rattle.filer_client.specs.Exchange.{HearsFrom, IsFaultOf};
+ghost use Rattle.outbox_tasks.specs.Asking.{FindsQuestion, WritesQuestion, IsReplied, AsksEntry};
+
+use crate::answering::print_answer;
+use crate::dial::Dial;
+use crate::fault::{SendFault, TaskFault};
+use crate::looking::{entry_of, is_open};
+use filer_client::{ExchangeFault, request_bytes};
+use finding_lines::Form;
+use http_wire::{Reply, Sink, Source, read_reply, write_all};
+use outbox_core::{Entry, Outbox};
+use sqlite::Alter;
+use std::alloc::Global;
+use std::io::Write;
+
+/// A settled entry, and the bytes of its request.
+#[derive(Drop)]
+struct Question {
+    entry: Entry,
+    request: Vec<u8>,
+}
+
+/// What is asked about the entry of this id. An open entry is refused.
+fn question_of<S: Alter>(
+    alloc: Global,
+    outbox: &mut Outbox<S>,
+    id: u64,
+) -> Result<Question, TaskFault>
+    ensures { FindsQuestion S.Store outbox.old outbox.new id result }
+{
+    let entry = entry_of(outbox, id)?;
+    if is_open(entry.state) {
+        return Err(TaskFault::IsOpen { id });
+    }
+    match request_bytes(alloc, outbox, id) {
+        Ok(request) => Ok(Question { entry, request }),
+        Err(fault) => Err(TaskFault::Send {
+            id,
+            fault: SendFault::Exchange(ExchangeFault::Take(fault)),
+        }),
+    }
+}
+
+/// Writes a request, and reads the reply to it.
+fn ask_on<R: Source, W: Sink>(
+    alloc: Global,
+    reader: &mut R,
+    writer: &mut W,
+    request: &[u8],
+) -> Result<Reply, ExchangeFault>
+    ensures written { WritesQuestion request.now (W.written writer.old) (W.written writer.new) result }
+    ensures heard { IfOk result (λ reply.
+        HearsFrom R.Source reader.old reader.new (λ heard. heard ≡ reply_parts reply)) }
+    ensures fault { IfErr result (IsFaultOf R.Source reader.old reader.new (W.write_failures writer.old)
+        (W.write_failures writer.new)) }
+{
+    match write_all(writer, request) {
+        Ok(()) => match read_reply(alloc, reader) {
+            Ok(reply) => Ok(reply),
+            Err(fault) => Err(ExchangeFault::Reply(fault)),
+        },
+        Err(sent) => Err(ExchangeFault::Write { sent }),
+    }
+}
+
+/// Sends this question about the entry of this id on a connection of its own, and answers the reply.
+fn ask_once<N: Dial>(
+    alloc: Global,
+    network: &mut N,
+    id: u64,
+    question: &Question,
+) -> Result<Reply, SendFault>
+    ensures { IsReplied id question.now.entry.state question.now.request.items (N.traffic network.old)
+        (N.traffic network.new) result }
+{
+    match network.connect() {
+        Ok((mut reader, mut writer)) => {
+            let request = question.request.as_slice();
+            match ask_on(alloc, &mut reader, &mut writer, request) {
+                Ok(reply) => {
+                    network.end(reader, writer, id, Ok(question.entry.state));
+                    Ok(reply)
+                }
+                Err(fault) => {
+                    network.end(reader, writer, id, Err(fault));
+                    Err(SendFault::Exchange(fault))
+                }
+            }
+        }
+        Err(error) => Err(SendFault::Connect(error)),
+    }
+}
+
+/// Sends the request of a settled entry again, on a connection of its own, and prints the reply: its status, its content,
+/// and a line for each finding for which it refuses the report. The outbox stays as it is, whatever the reply says. An
+/// open entry is refused, since asking about it would be sending it.
+pub fn ask<S: Alter, N: Dial, O: Write>(
+    alloc: Global,
+    network: &mut N,
+    outbox: &mut Outbox<S>,
+    form: Form,
+    id: u64,
+    output: &mut O,
+) -> Result<(), TaskFault>
+    ensures { AsksEntry S.Store form id (N.traffic network.old) (N.traffic network.new) outbox.old outbox.new
+        (O.contents output.old) (O.contents output.new) result }
+{
+    let question = question_of(alloc, outbox, id)?;
+    match ask_once(alloc, network, id, &question) {
+        Ok(reply) => {
+            print_answer(alloc, form, outbox.filer(), &question.entry, &reply, output)?;
+            Ok(())
+        }
+        Err(fault) => Err(TaskFault::Send { id, fault }),
+    }
+}
