@@ -17,6 +17,12 @@ FACT = (
     '{"concept":"eg:Assets","decimals":0,"dimensions":{"concept":"eg:Assets","entity":"lei:ACME",'
     '"period":"2024-12-31T00:00:00","unit":"iso4217:EUR"},"id":"f1","value":"100"}\n'
 )
+NAMES = "number,filer,key,concept,period,unit,entity,value,decimals,replaced_by\r\n"
+CSV = '1,"ACME","k-1","eg:Assets","2024-12-31T00:00:00","iso4217:EUR","lei:ACME","100",0,\r\n'
+LINE = (
+    '{"number":1,"filer":"ACME","key":"k-1","concept":"eg:Assets","period":"2024-12-31T00:00:00","unit":"iso4217:EUR",'
+    '"entity":"lei:ACME","value":"100","decimals":0,"replaced_by":null}\n'
+)
 FILER_CODE = "not a filer code, which is 1 to 64 ASCII letters, digits, '.', '_' and '-'"
 
 # Each is a command line, with `@` for the folder, and its status, output and errors.
@@ -26,6 +32,8 @@ BEFORE = [
     ("check --db @r.db", 1, "not a register\n", "r.db: there is no such file"),
     ("migrate --db @r.db", 1, "not a register\n", "r.db: there is no such file"),
     ("show --db @r.db --number 1", 1, "", "r.db: there is no such file"),
+    ("export --db @r.db --format csv", 1, "", "r.db: there is no such file"),
+    ("export --db @r.db --format csv --filer a/b", 2, "", f"--filer: {FILER_CODE}"),
     ("serve --db @r.db --port 1 --connections 1", 1, "", "r.db: there is no such file"),
     ("serve --db @none/r.db --port 1 --connections 1 --new", 3, "", "none/r.db: there is no such folder"),
     ("serve --db  --port 1 --connections 1 --new", 3, "", ": the name of the file is empty"),
@@ -37,6 +45,7 @@ EMPTY = [
     ("migrate --db @empty.db", 1, "not a register\n", "empty.db: the file is empty"),
     ("list --db @empty.db --filer ACME", 1, "", "empty.db: the file is empty"),
     ("show --db @empty.db --number 1", 1, "", "empty.db: the file is empty"),
+    ("export --db @empty.db --format csv", 1, "", "empty.db: the file is empty"),
     ("serve --db @empty.db --port 1 --connections 1", 1, "", "empty.db: the file is empty"),
 ]
 OUTBOX_TABLES = "not a register: this is an outbox"
@@ -47,6 +56,7 @@ AUTO_VACUUM = "it has auto_vacuum, and cannot be read with that: deploy/register
 OTHERS = [
     ("check --db @box.db", 1, "not a register\n", f"box.db: {OUTBOX_TABLES}"),
     ("migrate --db @box.db", 1, "not a register\n", f"box.db: {OUTBOX_TABLES}"),
+    ("export --db @box.db --format jsonl", 1, "", f"box.db: {OUTBOX_TABLES}"),
     ("serve --db @box.db --port 1 --connections 1", 1, "", f"box.db: {OUTBOX_TABLES}"),
     ("serve --db @box.db --port 1 --connections 1 --new", 1, "", "box.db: this is an outbox"),
     ("check --db @other.db", 1, "not a register\n", f"other.db: {OTHER_TABLES}"),
@@ -63,6 +73,10 @@ AFTER = [
     ("list --db @r.db --filer BETA", 0, '{"filings":[]}\n', ""),
     ("show --db @r.db --number 1", 0, FACT, ""),
     ("show --db @r.db --number 2", 4, "", "r.db: there is no filing 2"),
+    ("export --db @r.db --format csv", 0, NAMES + CSV, ""),
+    ("export --db @r.db --format csv --filer BETA", 0, NAMES, ""),
+    ("export --db @r.db --format jsonl --filer ACME", 0, LINE, ""),
+    ("export --db @r.db --format jsonl --filer BETA", 0, "", ""),
     ("serve --db @r.db --port 1 --connections 1 --new", 1, "", "r.db: it is a register already: leave out --new"),
     ("lint --filer ACME @words", 1, "words:2:3: not-json: the body is no JSON text ()\n", ""),
     ("lint --filer ACME --json @words", 1, NOT_JSON, ""),
@@ -70,6 +84,7 @@ AFTER = [
 DAMAGED = [
     ("check --db @r.db", 1, "damaged at row 1\n", "r.db: damaged at row 1"),
     ("list --db @r.db --filer ACME", 1, "", "r.db: damaged at row 1"),
+    ("export --db @r.db --format csv", 1, "", "r.db: damaged at row 1"),
 ]
 MIGRATED = [
     ("migrate --db @text", 1, "not a register\n", "text: not a database"),

@@ -74,11 +74,12 @@ Serves task port port' old new result =
     ⊎ ((task.limit ≤ 2 ^ 62) × (served : Result (Unit {0}) ServingFault)
     × ServesRegister (not task.new) task.limit task.connections port port' old new served × IsServingTold task served result)
 
--- ---- list, show, check and migrate: the register of a file is visited
+-- ---- list, show, check, migrate and export: the register of a file is visited
 
 -- a filer's code is one
 abbrev pub is_wanted : Errand → Bool
 is_wanted (asked.List filer) = is_filer filer.now
+is_wanted (asked.Export form (Some filer)) = is_filer filer.now
 is_wanted other = true
 
 -- what is printed of a fault beside the text on standard error: of a check and a migration the verdict on the register

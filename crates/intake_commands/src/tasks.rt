@@ -106,5 +106,13 @@ fn is_wanted(errand: Errand<'_>) -> bool
         Errand::Show { number: _ } => true,
         Errand::Check => true,
         Errand::Migrate => true,
+        Errand::Export {
+            form: _,
+            filer: Some(filer),
+        } => is_filer(filer),
+        Errand::Export {
+            form: _,
+            filer: None,
+        } => true,
     }
 }

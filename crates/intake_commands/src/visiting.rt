@@ -61,6 +61,7 @@ fn shown_verdict(errand: Errand<'_>, fault: &Fault<'_>) -> Option<Verdict>
         Errand::Show { number: _ } => None,
         Errand::Check => fault.verdict(),
         Errand::Migrate => fault.verdict(),
+        Errand::Export { form: _, filer: _ } => None,
     }
 }
 

@@ -5,6 +5,7 @@ use clap::{Arg, ArgAction, ArgMatches, Command, Error, value_parser};
 use command_line::{
     ToArg, VERSION, Word, database_option, filer_option, option, port_option, tasks,
 };
+use fact_records::Form as Format;
 use intake_tasks::Errand;
 use report_tasks::Form;
 use std::alloc::{AllocError, Global};
@@ -136,6 +137,29 @@ fn number<'a>(alloc: Global) -> Arg<'a> {
     )
 }
 
+/// The formats of an export, as the command line names them.
+static FORMATS: [&str; 2] = ["csv", "jsonl"];
+
+fn format<'a>(alloc: Global) -> Arg<'a> {
+    option(
+        alloc,
+        "format",
+        "FORMAT",
+        "How the facts are written: csv, by RFC 4180 with a line of names, or jsonl, a JSON object on each line",
+    )
+    .value_parser(FORMATS.as_slice())
+}
+
+fn only_filer<'a>(alloc: Global) -> Arg<'a> {
+    option(
+        alloc,
+        "filer",
+        "CODE",
+        "The code of the filer whose facts are printed [default: those of all filers]",
+    )
+    .required(false)
+}
+
 fn json<'a>(alloc: Global) -> Arg<'a> {
     Arg::new(alloc, "json")
         .long("json")
@@ -165,6 +189,8 @@ enum Argument {
     Number,
     Json,
     Files,
+    Format,
+    OnlyFiler,
 }
 
 impl ToArg for Argument {
@@ -190,12 +216,14 @@ impl ToArg for Argument {
             Argument::Number => number(alloc),
             Argument::Json => json(alloc),
             Argument::Files => files(alloc),
+            Argument::Format => format(alloc),
+            Argument::OnlyFiler => only_filer(alloc),
         })
     }
 }
 
 /// The words that ask for tasks, as the help has them.
-static WORDS: [Word<Argument>; 7] = [
+static WORDS: [Word<Argument>; 8] = [
     Word {
         name: "run",
         about: "Serves standard input as one connection, on a register in memory [the default command]",
@@ -246,6 +274,12 @@ static WORDS: [Word<Argument>; 7] = [
         arguments: &[Argument::Database, Argument::Wait],
     },
     Word {
+        name: "export",
+        about: "Prints the facts of all filings, or of one filer's, as CSV or as lines of JSON",
+        example: "Example: intake export --db copy.db --format csv > facts.csv",
+        arguments: &[Argument::Database, Argument::Format, Argument::OnlyFiler],
+    },
+    Word {
         name: "lint",
         about: "Checks reports as the register would, and prints a line for each finding; status 1 if there is one",
         example: "Example: intake lint --filer ACME report.json",
@@ -290,6 +324,15 @@ fn lint_of<'a>(alloc: Global, values: &ArgMatches<'a>) -> Result<Option<Task<'a>
     Ok(Some(Task::Lint { filer, form, files }))
 }
 
+/// How facts are written, as the command line names it.
+fn format_of(values: &ArgMatches<'_>) -> Option<Format> {
+    match values.get_str("format")? {
+        "csv" => Some(Format::Csv),
+        "jsonl" => Some(Format::JsonLines),
+        _ => None,
+    }
+}
+
 fn errand_of<'a>(name: &str, values: &ArgMatches<'a>) -> Option<Errand<'a>> {
     match name {
         "list" => Some(Errand::List {
@@ -300,6 +343,10 @@ fn errand_of<'a>(name: &str, values: &ArgMatches<'a>) -> Option<Errand<'a>> {
         }),
         "check" => Some(Errand::Check),
         "migrate" => Some(Errand::Migrate),
+        "export" => Some(Errand::Export {
+            form: format_of(values)?,
+            filer: values.get_str("filer"),
+        }),
         _ => None,
     }
 }

@@ -23,6 +23,12 @@ use Rattle.register_opening.specs.Registers.{IsRegisterOf}
 use Rattle.register_store.specs.Calls.{OpensOrGivesBack}
 use Rattle.register_store.specs.Numbered.{facts_numbered}
 use Rattle.register_store.specs.Store.{StoreParts, HasRequests, shows}
+use Rattle.fact_records.specs.declared.record.Form.{Form}
+use Rattle.register_export.specs.Exports.{ExportsFacts}
+use Rattle.register_export.specs.Records.{export_text}
+use Rattle.register_export.specs.declared.fault.ExportFault.TheVariants as export
+use Rattle.register_export.specs.declared.fault.RecordsFault.{RecordsFault}
+use Rattle.register_export.specs.declared.fault.RecordsFault.TheVariants as records
 use Rattle.command_files.specs.declared.holding.Holding.{Holding}
 use Rattle.intake_core.specs.declared.intake.Intake.{Intake}
 use Rattle.intake_core.specs.Held.{HoldsRequests, store_of}
@@ -40,8 +46,8 @@ use Rattle.intake_tasks.specs.Lines.{list_line, fact_lines, sound_line, migrated
 use Rattle.intake_tasks.specs.Tasks.{PrintsNothing, ListsFilings, ShowsFiling, ChecksRegister, MigratesRegister}
 use Rattle.intake_process.specs.declared.errand.ErrandFault.{ErrandFault}
 use Rattle.intake_process.specs.declared.errand.ErrandFault.TheVariants as fault
-use Rattle.intake_process.specs.Errands.{text_of, IsRegisterFor, MayFail, Tells, Says, RunsErrand, is_refusal}
-use Rattle.intake_process.specs.Outcomes.{listed_as, shown_as, printed_as}
+use Rattle.intake_process.specs.Errands.{text_of, IsRegisterFor, MayFail, Tells, Says, RunsErrand, IsQuiet, is_refusal}
+use Rattle.intake_process.specs.Outcomes.{listed_as, records_fault, shown_as, printed_as}
 
 -- a disk that is clean after a call was clean before it
 clean_before : (old new : State) {Commits : Trees → Type 0} → Survives old new Commits → HasCleanDisk new → HasCleanDisk old
@@ -49,22 +55,30 @@ clean_before old new survives clean = omega (arith, survives.clean, clean)
 
 -- ---- the database gave no register
 
+-- nothing was printed, whatever the errand
+pub no_print : (errand : Errand) (out out' : Option (List ℕ)) (why : ErrandFault) → out' ≡ out → IsQuiet errand out out' why
+no_print (asked.List filer) out out' why same = inr same
+no_print (asked.Show number) out out' why same = inr same
+no_print asked.Check out out' why same = inr same
+no_print asked.Migrate out out' why same = inr same
+no_print (asked.Export form filer) out out' why same = λ _. same
+
 module _ {S X : Type 0} (g : Ghosts S) (errand : Errand) (out : Option (List ℕ)) (old new : Held S) (why : ErrandFault) where
   pub refuses : is_refusal why ≡ true → (HasCleanDisk (state g new) → (early : ℕ) (requests : List Request) → IsRegisterFor errand early requests (state g old).now → MayFail errand requests why) → Says g errand old new why
       → RunsErrand {S = S} {X = X} g errand out out old new (Err why)
   refuses is may says = record {
-    told = λ clean early requests firsts_are rows. (may clean early requests rows, inr refl);
+    told = λ clean early requests firsts_are rows. (may clean early requests rows, no_print errand out out why refl);
     kept = λ clean not early requests firsts_are rows. absurd (true≢false (sym is ∙ not));
     found = λ clean not tables. absurd (true≢false (sym is ∙ not));
     refused = says;
-    quiet = inr refl;
+    quiet = no_print errand out out why refl;
   }
 
 -- ---- an errand is done
 
 -- what comes of it, by what its task answered
 tells : {X : Type 0} (errand : Errand) (requests : List Request) (out out' : Option (List ℕ)) (r : Result X ErrandFault) → OnOk r ((text : List ℕ) × (text_of errand requests ≡ Some text) × Appends out out' text)
-    → IfErr r (MayFail errand requests) → IfErr r (PrintsNothing (fault.Text Output) out out') → Tells errand requests out out' r
+    → IfErr r (MayFail errand requests) → IfErr r (IsQuiet errand out out') → Tells errand requests out out' r
 tells errand requests out out' (Ok done) told may quiet = told
 tells errand requests out out' (Err why) told may quiet = (may, quiet)
 
@@ -240,3 +254,49 @@ module _ {S : Type 0} (g : Ghosts S) (out out' : Option (List ℕ)) (conn : Held
       let gives = does.migrates.back in
       subst (λ printed. RunsErrand {S = S} {X = X} g asked.Migrate out printed conn back (Err (fault.Migrate why holding))) (sym does.quiet)
       (refuses {S = S} {X = X} g asked.Migrate out conn back (fault.Migrate why holding) refl (λ clean early requests rows. gives.sound clean rows.0 early requests rows.2 (not_blocked rows.0 (state g conn).now.schema rows.1)) (gives.why, gives.crash))
+
+-- ---- export
+
+module _ (form : Form) (filer : Option (Bor (List ℕ))) where
+  records_may : (requests : List Request) (why : RecordsFault) → MayFail (asked.Export form filer) requests (records_fault why)
+  records_may requests (records.Store why) = tt
+  records_may requests records.Memory = refl
+  records_may requests records.Output = refl
+
+  records_quiet : (out out' : Option (List ℕ)) (why : RecordsFault) → IsQuiet (asked.Export form filer) out out' (records_fault why)
+  records_quiet out out' (records.Store why) = λ is. absurd (true≢false (sym is))
+  records_quiet out out' records.Memory = λ is. absurd (true≢false (sym is))
+  records_quiet out out' records.Output = λ is. absurd (true≢false (sym is))
+
+  records_says : {S : Type 0} (g : Ghosts S) (old new : Held S) (why : RecordsFault) → Says g (asked.Export form filer) old new (records_fault why)
+  records_says g old new (records.Store why) = tt
+  records_says g old new records.Memory = tt
+  records_says g old new records.Output = tt
+
+  module _ {S X : Type 0} (g : Ghosts S) (out out' : Option (List ℕ)) (old new : Held S) where
+    pub export_done : (x : X) → ExportsFacts {S = S} {X = X} g form (option_map (λ f. f.now) filer) out out' old new (Ok x) → RunsErrand {S = S} {X = X} g (asked.Export form filer) out out' old new (Ok x)
+    export_done x exports = record {
+      told = λ clean early requests firsts_are rows. (export_text form (option_map (λ f. f.now) filer) (register requests), refl, exports.exported clean early requests rows);
+      kept = λ clean not early requests firsts_are rows. exports.kept clean early requests rows;
+      found = λ clean not tables. exports.found clean tables;
+      refused = tt;
+      quiet = tt;
+    }
+
+    pub export_failed : (why : RecordsFault) → ExportsFacts {S = S} {X = X} g form (option_map (λ f. f.now) filer) out out' old new (Err (export.Records why)) → RunsErrand {S = S} {X = X} g (asked.Export form filer) out out' old new (Err (records_fault why))
+    export_failed why exports = record {
+      told = λ clean early requests firsts_are rows. (records_may requests why, records_quiet out out' why);
+      kept = λ clean not early requests firsts_are rows. exports.kept clean early requests rows;
+      found = λ clean not tables. exports.found clean tables;
+      refused = records_says g old new why;
+      quiet = records_quiet out out' why;
+    }
+
+    pub export_refused : (why : OpenFault) (holding : Holding) → ExportsFacts {S = S} {X = X} g form (option_map (λ f. f.now) filer) out out' old new (Err (export.Open why)) → RunsErrand {S = S} {X = X} g (asked.Export form filer) out out' old new (Err (fault.Open why holding))
+    export_refused why holding exports = record {
+      told = λ clean early requests firsts_are rows. (exports.failed clean early requests rows, λ _. exports.quiet);
+      kept = λ clean not early requests firsts_are rows. absurd (true≢false not);
+      found = λ clean not tables. absurd (true≢false not);
+      refused = (exports.refused, exports.survives);
+      quiet = λ _. exports.quiet;
+    }

@@ -24,6 +24,7 @@ use Rattle.intake_process.specs.declared.errand.ErrandFault.TheVariants as fault
 use Rattle.intake_process.specs.declared.visiting.Visited.{Visited}
 use Rattle.intake_process.specs.Errands.{IsRegisterFor, MayFail, Tells, is_refused}
 use Rattle.intake_process.specs.Process.{Parts, IsHonest, KeepsBy}
+use Rattle.intake_process.proofs.Errands.{no_print}
 use Rattle.intake_process.specs.Visits.{LiesFor, is_doubtful, IsLeftIn, GoesOn, VisitsPlace, VisitsRegister}
 
 or_first : (a b : Bool) → (a || b) ≡ false → a ≡ false
@@ -44,6 +45,7 @@ may_files (asked.List filer) requests why = tt
 may_files (asked.Show number) requests why = tt
 may_files asked.Check requests why = tt
 may_files asked.Migrate requests why = tt
+may_files (asked.Export form filer) requests why = tt
 
 module _ {D : Type 0} {g : Ghosts D} where
   -- ---- the files are left
@@ -84,7 +86,7 @@ module _ {D : Type 0} {g : Ghosts D} where
   module _ (errand : Errand) (out out' : Option (List ℕ)) (old new : Option (Option (Files D))) (visited : Visited) where
     told_by : (opened : Result (Held (FileStore D g)) DatabaseFault) (between : Option (Option (Files D))) → OpensPlace g true old between opened → GoesOn errand out out' between new opened visited
         → IsHonest g → (early : ℕ) (requests : List Request) → LiesFor g errand old early requests → Tells errand requests out out' visited.done
-    told_by (Err why) between opens goes honest early requests lies = subst (λ done. Tells errand requests out out' done) (sym goes.0) (may_files errand requests why, inr goes.3)
+    told_by (Err why) between opens goes honest early requests lies = subst (λ done. Tells errand requests out out' done) (sym goes.0) (may_files errand requests why, no_print errand out out' (fault.Files why) goes.3)
     told_by (Ok conn) between opens goes honest early requests lies = goes.1.told (always_clean honest goes.0) early requests lies.0 (found errand old between conn honest opens.comes early requests lies).0
 
     kept_by : (opened : Result (Held (FileStore D g)) DatabaseFault) (between : Option (Option (Files D))) → OpensPlace g true old between opened → GoesOn errand out out' between new opened visited

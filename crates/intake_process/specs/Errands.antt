@@ -17,6 +17,7 @@ use Rattle.register_opening.specs.Migrating.{IsNotMigrated, MigratesTo}
 use Rattle.register_opening.specs.Opening.{IsRefused}
 use Rattle.register_opening.specs.Registers.{IsRegisterOf}
 use Rattle.register_store.specs.Numbered.{facts_numbered}
+use Rattle.register_export.specs.Records.{export_text}
 use Rattle.intake_tasks.specs.declared.errand.Errand.{Errand}
 use Rattle.intake_tasks.specs.declared.errand.Errand.TheVariants as asked
 use Rattle.intake_tasks.specs.declared.text.TextFault.TheVariants.{Output}
@@ -33,12 +34,14 @@ text_of (asked.List filer) requests = Some (list_line filer.now (register reques
 text_of (asked.Show number) requests = option_map fact_lines (facts_numbered number (register requests))
 text_of asked.Check requests = Some (sound_line (length requests) (length (register requests)))
 text_of asked.Migrate requests = Some migrated_line
+text_of (asked.Export form filer) requests = Some (export_text form (option_map (λ f. f.now) filer) (register requests))
 
 -- the database is a register of these requests in the version that the errand is for: an earlier one to be migrated, and else this one
 abbrev pub IsRegisterFor : Errand → ℕ → List Request → Database → Type 0
 IsRegisterFor (asked.List filer) early requests db = IsRegisterOf early requests db
 IsRegisterFor (asked.Show number) early requests db = IsRegisterOf early requests db
 IsRegisterFor asked.Check early requests db = IsRegisterOf early requests db
+IsRegisterFor (asked.Export form filer) early requests db = IsRegisterOf early requests db
 IsRegisterFor asked.Migrate early requests db = (form : Earlier) × IsAlone form db.schema × IsEarlierOf form early requests db
 
 -- it has the tables of such a register
@@ -46,6 +49,7 @@ abbrev pub HasTablesFor : Errand → Schema → Type 0
 HasTablesFor (asked.List filer) schema = IsDeclared schema
 HasTablesFor (asked.Show number) schema = IsDeclared schema
 HasTablesFor asked.Check schema = IsDeclared schema
+HasTablesFor (asked.Export form filer) schema = IsDeclared schema
 HasTablesFor asked.Migrate schema = (form : Earlier) × IsAlone form schema
 
 -- Why an errand to such a register is not done: no filing has the number, or memory, the disk or the output failed. What the files say that
@@ -56,17 +60,11 @@ MayFail asked.Migrate requests (fault.Migrate why holding) = IsFailure why
 MayFail errand requests (fault.Open why holding) = IsFailure why
 MayFail (asked.List filer) requests (fault.List why) = Unit {0}
 MayFail (asked.Show number) requests (fault.Store why) = Unit {0}
+MayFail (asked.Export form filer) requests (fault.Store why) = Unit {0}
 MayFail (asked.Show number) requests (fault.NoFiling missing) = (missing ≡ number) × (text_of (asked.Show number) requests ≡ None)
 MayFail errand requests (fault.Text why) = IsSome (text_of errand requests)
 MayFail errand requests (fault.Files why) = Unit {0}
 MayFail errand requests other = ⊥
-
--- what comes of it: its text is printed, or nothing, unless the output failed
-abbrev pub Tells : {X : Type 0} → Errand → List Request → Option (List ℕ) → Option (List ℕ) → Result X ErrandFault → Type 0
-Tells errand requests out out' (Ok done) = (text : List ℕ) × (text_of errand requests ≡ Some text) × Appends out out' text
-Tells errand requests out out' (Err why) = MayFail errand requests why × PrintsNothing (fault.Text Output) out out' why
-
--- ---- an errand to any database
 
 -- the files gave no database, or the database no register
 abbrev pub is_refusal : ErrandFault → Bool
@@ -74,6 +72,18 @@ is_refusal (fault.Files why) = true
 is_refusal (fault.Open why holding) = true
 is_refusal (fault.Migrate why holding) = true
 is_refusal other = false
+
+-- Nothing was printed, unless the output failed. An export is printed filing by filing: nothing of it was, if it was refused.
+abbrev pub IsQuiet : Errand → Option (List ℕ) → Option (List ℕ) → ErrandFault → Type 0
+IsQuiet (asked.Export form filer) out out' why = is_refusal why ≡ true → out' ≡ out
+IsQuiet errand out out' why = PrintsNothing (fault.Text Output) out out' why
+
+-- what comes of it: its text is printed, or it failed, and nothing was
+abbrev pub Tells : {X : Type 0} → Errand → List Request → Option (List ℕ) → Option (List ℕ) → Result X ErrandFault → Type 0
+Tells errand requests out out' (Ok done) = (text : List ℕ) × (text_of errand requests ≡ Some text) × Appends out out' text
+Tells errand requests out out' (Err why) = MayFail errand requests why × IsQuiet errand out out' why
+
+-- ---- an errand to any database
 
 abbrev pub is_refused : {X : Type 0} → Result X ErrandFault → Bool
 is_refused (Ok done) = false
@@ -88,6 +98,7 @@ Says g asked.Migrate old new (fault.Migrate why holding) =
 Says g errand old new (fault.Open why holding) = (HasCleanDisk (state g new) → IsRefused g why old new) × CommitsNothing (state g old) (state g new)
 Says g (asked.List filer) old new (fault.List why) = Unit {0}
 Says g (asked.Show number) old new (fault.Store why) = Unit {0}
+Says g (asked.Export form filer) old new (fault.Store why) = Unit {0}
 Says g (asked.Show number) old new (fault.NoFiling missing) = missing ≡ number
 Says g errand old new (fault.Text why) = Unit {0}
 Says g errand old new other = ⊥
@@ -104,4 +115,4 @@ pub record RunsErrand {S X : Type 0} (g : Ghosts S) (errand : Errand) (out out' 
   pub found : HasCleanDisk (state g new) → is_refused result ≡ false → HasTablesFor errand (state g old).now.schema
       → (early : ℕ) × (requests : List Request) × IsRegisterFor errand early requests (state g old).now
   pub refused : IfErr result (Says g errand old new)
-  pub quiet : IfErr result (PrintsNothing (fault.Text Output) out out')
+  pub quiet : IfErr result (IsQuiet errand out out')

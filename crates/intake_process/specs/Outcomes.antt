@@ -5,6 +5,9 @@ use Rattle.intake_tasks.specs.declared.listing.ListFault.TheVariants as listing
 use Rattle.intake_tasks.specs.declared.showing.ShowFault.{ShowFault}
 use Rattle.intake_tasks.specs.declared.showing.ShowFault.TheVariants as showing
 use Rattle.intake_tasks.specs.declared.text.TextFault.{TextFault}
+use Rattle.intake_tasks.specs.declared.text.TextFault.TheVariants as text
+use Rattle.register_export.specs.declared.fault.RecordsFault.{RecordsFault}
+use Rattle.register_export.specs.declared.fault.RecordsFault.TheVariants as records
 use Rattle.intake_process.specs.declared.errand.ErrandFault.{ErrandFault}
 use Rattle.intake_process.specs.declared.errand.ErrandFault.TheVariants as fault
 
@@ -22,3 +25,8 @@ shown_as number (Err (showing.Text why)) = Err (fault.Text why)
 abbrev pub printed_as : {X : Type 0} → Result X TextFault → Result X ErrandFault
 printed_as (Ok done) = Ok done
 printed_as (Err why) = Err (fault.Text why)
+
+abbrev pub records_fault : RecordsFault → ErrandFault
+records_fault (records.Store why) = fault.Store why
+records_fault records.Memory = fault.Text text.Memory
+records_fault records.Output = fault.Text text.Output

@@ -4,15 +4,17 @@
 ghost use Rattle.std.specs.Prelude.{◌≡◌};
 ghost use Rattle.table_rows.specs.Standing.{IsAtRest};
 ghost use Rattle.intake_process.specs.Errands.{RunsErrand, is_refusal};
-ghost use Rattle.intake_process.specs.Outcomes.{listed_as, shown_as, printed_as};
+ghost use Rattle.intake_process.specs.Outcomes.{listed_as, records_fault, shown_as, printed_as};
 
 use command_files::{Holding, held_in};
 use command_line::DatabaseFault;
+use fact_records::Form;
 use intake_core::{Intake, Unavailable};
 use intake_tasks::{
     CheckFault, Errand, ListFault, Migrated, Progress, ShowFault, TextFault, check, list, migrate,
     show,
 };
+use register_export::{ExportFault, RecordsFault, export};
 use register_store::{OpenFault, Store, StoreFault};
 use sqlite::{Alter, Connection};
 use std::alloc::Global;
@@ -95,6 +97,17 @@ fn printed_as(printed: Result<(), TextFault>) -> Result<(), ErrandFault>
     }
 }
 
+/// Why an errand to write facts out is not done, if their records are not all written for this reason.
+fn records_fault(fault: RecordsFault) -> ErrandFault
+    ensures { result ≡ records_fault fault }
+{
+    match fault {
+        RecordsFault::Store(fault) => ErrandFault::Store(fault),
+        RecordsFault::Memory => ErrandFault::Text(TextFault::Memory),
+        RecordsFault::Output => ErrandFault::Text(TextFault::Output),
+    }
+}
+
 /// Does an errand to the register that this database is, and gives the connection back. Progress learns how far a
 /// check is.
 pub(crate) fn run_errand<S: Alter + Drop, P: Progress, O: Write>(
@@ -112,6 +125,7 @@ pub(crate) fn run_errand<S: Alter + Drop, P: Progress, O: Write>(
         Errand::Show { number } => show_filing(alloc, conn, number, output),
         Errand::Check => check_register(alloc, conn, progress, output),
         Errand::Migrate => migrate_register(alloc, conn, output),
+        Errand::Export { form, filer } => export_facts(alloc, conn, form, filer, output),
     }
 }
 
@@ -198,6 +212,28 @@ fn migrate_register<S: Alter + Drop, O: Write>(
         Err((fault, back)) => {
             let holding = held_in(&back);
             (back, Err(ErrandFault::Migrate(fault, holding)))
+        }
+    }
+}
+
+/// Writes out the facts of all filers, or of one.
+fn export_facts<S: Alter + Drop, O: Write>(
+    alloc: Global,
+    mut conn: Connection<S>,
+    form: Form,
+    filer: Option<&str>,
+    output: &mut O,
+) -> (Connection<S>, Result<(), ErrandFault>)
+    requires { IsAtRest conn }
+    ensures { RunsErrand S.Store (Errand.Export form filer.entry) (O.contents output.old) (O.contents output.new) conn
+        result.0 result.1 }
+{
+    match export(alloc, &mut conn, form, filer, output) {
+        Ok(()) => (conn, Ok(())),
+        Err(ExportFault::Records(fault)) => (conn, Err(records_fault(fault))),
+        Err(ExportFault::Open(fault)) => {
+            let holding = held_in(&conn);
+            (conn, Err(ErrandFault::Open(fault, holding)))
         }
     }
 }

@@ -1,5 +1,7 @@
 //! What is asked of a register that is there.
 
+use fact_records::Form;
+
 /// What is done with a register that is there.
 #[derive(Clone, Copy)]
 pub enum Errand<'a> {
@@ -11,4 +13,9 @@ pub enum Errand<'a> {
     Check,
     /// Make a register of an earlier version one of this version.
     Migrate,
+    /// Write out all facts, or those of one filer.
+    Export {
+        form: Form,
+        filer: Option<&'a str>,
+    },
 }

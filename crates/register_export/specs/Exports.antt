@@ -1,10 +1,10 @@
 -- What an export of a register does. `out` and `out'` are what the output has before and after it, where that is known.
-use Rattle.std.specs.Prelude.{◌≡◌, ℕ, false, List, Option, Result, IfErr, OnOk}
+use Rattle.std.specs.Prelude.{◌≡◌, ℕ, false, List, Option, Result, Ok, Err, IfErr, OnOk}
 use Rattle.std.specs.Io.KnownBytes.{Appends}
 use Rattle.sqlite.specs.Store.{Ghosts}
 use Rattle.sqlite.specs.Held.{Held, state}
 use Rattle.sqlite.specs.State.{HasCleanDisk}
-use Rattle.table_rows.specs.Standing.{CommitsNothing, StaysOnOk}
+use Rattle.table_rows.specs.Standing.{HasCommitted, CommitsNothing, StaysOnOk}
 use Rattle.fact_records.specs.declared.record.Form.{Form}
 use Rattle.filing_model.specs.Request.{Request}
 use Rattle.filing_model.specs.Register.{register}
@@ -22,11 +22,20 @@ abbrev pub IfOpen : (OpenFault → Type 0) → ExportFault → Type 0
 IfOpen Holds (fault.Open why) = Holds why
 IfOpen Holds (fault.Records why) = Unit {0}
 
+-- this holds, unless the register is refused: it is sound, and its records may not all be written
+abbrev pub UnlessRefused : {X : Type 0} → Result X ExportFault → Type 0 → Type 0
+UnlessRefused (Ok done) Holds = Holds
+UnlessRefused (Err (fault.Records why)) Holds = Holds
+UnlessRefused (Err (fault.Open why)) Holds = Unit {0}
+
 -- What `export` writes out of the register that a database is: all facts, or those of one filer, byte for byte.
 pub record ExportsFacts {S X : Type 0} (g : Ghosts S) (form : Form) (filer : Option (List ℕ)) (out out' : Option (List ℕ)) (old new : Held S) (result : Result X ExportFault) : Type 0 where
   -- The rows stand for requests, and there is one such list at most.
   pub exported : HasCleanDisk (state g new) → OnOk result (ForRows g old (λ _ requests. Appends out out' (export_text form filer (register requests))))
-  pub sound : HasCleanDisk (state g new) → IsDeclared (state g old).now.schema → OnOk result ((early : ℕ) × (requests : List Request) × IsRegisterOf early requests (state g old).now)
+  -- Unless it is refused, the tables of a register are a register, and what its rows stand for is committed still.
+  pub found : HasCleanDisk (state g new) → IsDeclared (state g old).now.schema
+      → UnlessRefused result ((early : ℕ) × (requests : List Request) × IsRegisterOf early requests (state g old).now)
+  pub kept : HasCleanDisk (state g new) → UnlessRefused result (ForRows g old (λ early requests. HasCommitted (IsRegisterOf early requests) (state g new)))
   -- A refusal of the opening says why, and nothing was written out. Where the rows stand for requests, it is by memory or disk.
   pub refused : HasCleanDisk (state g new) → IfErr result (IfOpen (λ why. IsRefused g why old new))
   pub failed : HasCleanDisk (state g new) → IfErr result (IfOpen (λ why. ForRows g old (λ _ _. IsFailure why)))

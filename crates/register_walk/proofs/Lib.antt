@@ -1,1 +1,3 @@
-pub mod SentTexts
+mod SentTexts
+pub mod Steps
+pub mod Walks

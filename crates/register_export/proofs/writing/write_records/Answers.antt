@@ -13,7 +13,7 @@ use Rattle.register_opening.proofs.Calls.{refuses}
 use Rattle.table_rows.proofs.LeavingLemmas.{clean_before, ended, none_yet, passed_then, stands}
 use Rattle.table_rows.specs.Leaving.Ending.{Passed}
 use Rattle.register_export.specs.Records.{filing_records}
-use Rattle.register_export.proofs.Steps.{next_filing}
+use Rattle.register_walk.proofs.Steps.{next_filing, next_written}
 use Rattle.register_export.proofs.writing.write_records.Goals as goal
 
 pub loop-at-init : goal.loop-at-init
@@ -37,7 +37,7 @@ loop-at-preserved g c =
           let front = first_line c.args.form in
           let so_far = flat_map text (take c.loop-at.at (register F)) in
           subst (Appends (g.O.Write.contents c.args.output.now) (g.O.Write.contents c.write_numbered.new.output))
-          (append_assoc front so_far (text next.0) ∙ ap (λ l. front ++ l) (sym (next.2 text)))
+          (append_assoc front so_far (text next.0) ∙ ap (λ l. front ++ l) (sym (next_written text c.loop-at.at (register F) next.0 next.2)))
           (Appends-trans _ _ _ (front ++ so_far) (text next.0) (had.written before early F was is count)
           (more.written clean early F (stands had.leaves before was) next.0 is (rw number at next.1)));
     }

@@ -1,0 +1,31 @@
+-- What is known of a register after it was read, whatever was then read of it.
+use Rattle.std.proofs.Common.{◌≡◌, ℕ, List, Ok}
+use Rattle.sqlite.specs.Store.{Ghosts}
+use Rattle.sqlite.specs.Held.{Held, state}
+use Rattle.sqlite.specs.State.{HasCleanDisk}
+use Rattle.table_rows.specs.Leaving.{Ending, Leaves}
+use Rattle.table_rows.specs.Leaving.Ending.{Asked}
+use Rattle.table_rows.specs.Standing.{HasCommitted, CommitsNothing}
+use Rattle.table_rows.proofs.LeavingLemmas.{clean_before, stands}
+use Rattle.table_rows.proofs.StepLemmas.{nothing_left}
+use Rattle.filing_model.specs.Request.{Request}
+use Rattle.register_rows.specs.Schema.{IsDeclared}
+use Rattle.register_opening.specs.declared.opening.Counts.{Counts}
+use Rattle.register_opening.specs.Opening.{ReadsRegister}
+use Rattle.register_opening.specs.Registers.{ForRows, IsRegisterOf}
+
+module _ {S : Type 0} (g : Ghosts S) (old mid : Held S) (counts : Counts) (read : ReadsRegister g old mid (Ok counts)) where
+  -- the connection is as it was
+  pub opened : Leaves Asked (state g old) (state g mid)
+  opened = record { left = read.same; mode = λ _. read.mode; survives = read.survives }
+
+  module _ {ending : Ending} (new : Held S) (leaves : Leaves ending (state g mid) (state g new)) where
+    -- what was counted is a register, and is committed still
+    pub found_then : HasCleanDisk (state g new) → IsDeclared (state g old).now.schema → (early : ℕ) × (requests : List Request) × IsRegisterOf early requests (state g old).now
+    found_then clean declared = let it = read.found (clean_before leaves clean) declared in (counts.early, it.0, it.1)
+
+    pub kept_then : HasCleanDisk (state g new) → ForRows g old (λ early requests. HasCommitted (IsRegisterOf early requests) (state g new))
+    kept_then clean early requests rows = stands leaves clean (read.only (clean_before leaves clean) early requests rows).1
+
+    pub nothing_then : CommitsNothing (state g old) (state g new)
+    nothing_then = nothing_left (state g old) (state g mid) (state g new) read.survives leaves.survives
