@@ -1,4 +1,4 @@
-//! Why a database was refused, as the head of its file tells (SQLite's file format, section 1.3).
+//! Why a database was refused, by the head of its file (SQLite's file format, section 1.3).
 
 ghost use Rattle.std.specs.Prelude.{◌≡◌, true};
 ghost use Rattle.command_files.specs.Verdicts.{IsRefusalOf, goes_by_pages};
@@ -15,8 +15,8 @@ const MAGIC: &[u8] = b"SQLite format 3\0";
 /// How many bytes at the end of each page are reserved if it has a sum there.
 const SUM_LEN: u8 = 8;
 
-/// Why the database of this place is refused. If the refusal goes by its pages, the first of them says more. To be called
-/// once the files are left there.
+/// Why the database of this place is refused. If the refusal goes by its pages, the first page says more. Call it once
+/// the files are left there.
 pub fn refusal<D: Disk + Drop, P: Place<D>>(
     alloc: Global,
     place: &P,
@@ -44,7 +44,7 @@ pub(crate) fn no_database(page: &[u8]) -> DatabaseFault
     }
 }
 
-/// Why a file with this first page was refused since its pages are wrong. If it has none, they are in the log.
+/// Why a file with this first page was refused because its pages are wrong. If it has no page, they are in the log.
 pub(crate) fn wrong_pages(page: &[u8]) -> DatabaseFault
     ensures { goes_by_pages result ≡ true }
 {

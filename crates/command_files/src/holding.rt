@@ -1,4 +1,4 @@
-//! What a database holds, as the names of its tables tell.
+//! What a database holds, by the names of its tables.
 
 use sqlite::{Alter, Connection};
 
@@ -14,8 +14,8 @@ const OF_NEW_REGISTERS: &[u8] = b"amends";
 /// The table that an outbox has only since its newest version.
 const OF_NEW_OUTBOXES: &[u8] = b"target";
 
-/// What a database holds. One that has the tables of a register may still be none, or be damaged, and the same is so for
-/// an outbox.
+/// What a database holds, by its tables. The tables of a register may still be damaged or be no register, and likewise
+/// those of an outbox.
 #[derive(Clone, Copy, Debug, PartialEq, Eq)]
 pub enum Holding {
     /// No table.

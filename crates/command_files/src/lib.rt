@@ -1,7 +1,7 @@
 //! What both programs do with files beside opening databases: the report that a command reads, what is printed of a
-//! database that is not its own, and how long a connection may take. What may live here: why a database is refused, as
-//! the first page of its file says, and the texts of that. Of the tables only the names are known by which a register and
-//! an outbox are told apart.
+//! database that is not its own, and how long a connection may take. What may live here: why a database is refused, by
+//! the first page of its file, and the texts of that. Of the tables it knows only the names by which a register and an
+//! outbox differ.
 #![tactic(auto)]
 
 mod head;

@@ -5,7 +5,7 @@ use std::io::{self, ErrorKind, Read, Write};
 use std::net::TcpStream;
 use std::time::{Clock, Duration, Instant};
 
-/// A stream whose reads and writes can be kept from waiting for ever.
+/// A stream whose reads and writes can be given a time limit.
 pub trait Waits {
     /// Lets each read and each write from here on wait for this long at most.
     fn limit_waits(&self, most: Duration) -> io::Result<()>;
@@ -34,7 +34,7 @@ struct Span {
 /// The time that a connection may take, by this clock.
 pub struct Deadline<'a, C> {
     clock: &'a C,
-    /// None if it may take any time. The clock is not looked at then.
+    /// None if there is no limit. The clock is not read then.
     span: Option<Span>,
 }
 
@@ -47,7 +47,7 @@ impl<C> Clone for Deadline<'_, C> {
 impl<C> Copy for Deadline<'_, C> {}
 
 impl<'a, C: Clock> Deadline<'a, C> {
-    /// So much time from now on, or any time if no patience is given.
+    /// This much time from now on, or no limit if no patience is given.
     pub fn after(clock: &'a C, patience: Option<Duration>) -> io::Result<Deadline<'a, C>> {
         let span = match patience {
             Some(len) => Some(Span {
@@ -64,7 +64,7 @@ impl<'a, C: Clock> Deadline<'a, C> {
         self.left().is_err()
     }
 
-    /// The time that is left; none if there is no limit. It fails once the time is over, and if the clock does.
+    /// The time that is left; `None` if there is no limit. It fails once the time is over, and if the clock fails.
     fn left(&self) -> io::Result<Option<Duration>> {
         let Some(span) = self.span else {
             return Ok(None);

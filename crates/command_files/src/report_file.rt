@@ -25,7 +25,7 @@ impl ReportFault<'_> {
     ghost use Rattle.std.specs.Prelude.{◌≡◌};
     ghost use Rattle.command_files.specs.Reports.{report_status};
 
-    /// The status that a program ends with: 2 for a report that is too large, and else 3.
+    /// The status that a program ends with: 2 for a report that is too large, otherwise 3.
     pub fn status(&self) -> u8
         ensures { result ≡ report_status self.now }
     {
@@ -43,7 +43,7 @@ fn open<'a>(rt: &HostRuntime, name: &'a str) -> Result<fs::File, ReportFault<'a>
     }
 }
 
-/// The bytes of the report that a reader gives, of which there may be 1,048,576. A fault has this name.
+/// The bytes of the report that a reader gives, at most 1,048,576. A fault has this name.
 pub fn report_from<'a, R: Source>(
     alloc: Global,
     reader: &mut R,
@@ -61,7 +61,7 @@ pub fn report_from<'a, R: Source>(
     }
 }
 
-/// The bytes of a report's file, of which there may be 1,048,576.
+/// The bytes of a report's file, at most 1,048,576.
 pub fn report<'a>(rt: &HostRuntime, name: &'a str) -> Result<Vec<u8>, ReportFault<'a>> {
     report_from(rt.alloc(), &mut Device::new(open(rt, name)?), name)
 }

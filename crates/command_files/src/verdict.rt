@@ -9,18 +9,18 @@ use command_line::{CommandFault, DatabaseFault, show};
 use std::alloc::{AllocError, Global};
 use std::io::Write;
 
-/// What is wrong with a database that is to be a register or an outbox.
+/// What is wrong with a database that a command takes for a register or an outbox.
 #[derive(Clone, Copy)]
 pub enum Verdict {
-    /// It is none.
+    /// It is not one.
     NotOurs,
     /// It is damaged at this row.
     Damaged(u64),
 }
 
 impl Verdict {
-    /// What a file is that was not opened for this cause, if the cause says that: a database whose pages are wrong is
-    /// damaged before its first row.
+    /// The verdict on a file that was not opened for this cause, if the cause gives one: a database whose pages are
+    /// wrong is damaged at row 0.
     pub fn of(fault: DatabaseFault) -> Option<Verdict>
         ensures { result ≡ verdict_of fault }
     {
@@ -46,7 +46,7 @@ impl Verdict {
     }
 }
 
-/// Prints the verdict on a database that is to be such a thing.
+/// Prints the verdict on a database that is expected to be this thing, such as `an outbox`.
 pub fn show_verdict<'a, O: Write>(
     alloc: Global,
     verdict: Verdict,
@@ -62,7 +62,7 @@ pub fn show_verdict<'a, O: Write>(
     show(output, text.as_bytes())
 }
 
-/// The line that is printed of a database that is to be such a thing.
+/// The line of a verdict on a database that is expected to be this thing.
 fn verdict_text(alloc: Global, verdict: Verdict, thing: &str) -> Result<String, AllocError>
     ensures { IfOk result (λ text. string_bytes text ≡ verdict_text verdict thing.now) }
 {

@@ -14,11 +14,11 @@ use std::alloc::Global;
 const BOTH: &str =
     "HTTP/1.1 200 OK\r\nContent-Type: application/json\r\nContent-Length: 88\r\n\r\n{\"filings\":[{\"facts\":1,\"number\":1,\"replaced_by\":2},{\"facts\":1,\"number\":2,\"replaces\":1}]}";
 
-/// The reply where the filing cannot be replaced: 137 bytes.
+/// The reply if the filing cannot be replaced: 137 bytes.
 const NOT_REPLACEABLE: &str =
     "HTTP/1.1 422 Unprocessable Content\r\nContent-Type: application/problem+json\r\nContent-Length: 137\r\n\r\n{\"findings\":[{\"code\":\"not-replaceable\",\"place\":\"\"}],\"reason\":\"refused\",\"status\":422,\"title\":\"Unprocessable Content\",\"type\":\"about:blank\"}";
 
-/// The reply where the path names no filings.
+/// The reply if the path names no filings.
 const NO_PATH: &str =
     "HTTP/1.1 404 Not Found\r\nContent-Type: application/problem+json\r\nContent-Length: 74\r\n\r\n{\"reason\":\"no-path\",\"status\":404,\"title\":\"Not Found\",\"type\":\"about:blank\"}";
 

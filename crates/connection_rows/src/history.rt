@@ -16,7 +16,7 @@ pub enum Part<'a> {
     Text(&'a str),
     /// A character so many times.
     Repeated(char, u32),
-    /// The request that files a body: its path behind `/filings/`, its key, and the body.
+    /// The request that files a body: its path after `/filings/`, its key, and the body.
     Filing(&'a str, &'a str, &'a str),
 }
 
@@ -44,10 +44,10 @@ pub(crate) struct History<'a> {
     pub(crate) filings: u64,
 }
 
-/// How many keys an intake may keep where a vector names no other limit.
+/// How many keys an intake may keep if a vector names no other limit.
 pub(crate) const LIMIT: u32 = 1_000_000;
 
-/// How many bytes a read gives at most where a vector names no other number.
+/// How many bytes a read gives at most if a vector names no other number.
 const PIECE: usize = 4096;
 
 impl<'a> History<'a> {
@@ -90,7 +90,7 @@ impl<'a> History<'a> {
         Ok(true)
     }
 
-    /// Whether the register holds as much as it is to hold.
+    /// Whether the register holds as much as expected.
     pub(crate) fn leaves<S: Alter>(&self, store: &Store<S>) -> Result<bool, Stop> {
         Ok(store.kept_count()? == self.kept && store.filing_count()? == self.filings)
     }
@@ -107,7 +107,7 @@ fn register_of<S: Alter>(intake: Intake<S>) -> Store<S> {
 }
 
 impl Connection<'_> {
-    /// Whether the intake answers as it is to answer, where a read gives at most so many bytes.
+    /// Whether the intake answers as expected if a read gives at most this many bytes.
     fn goes<S: Alter>(
         &self,
         alloc: Global,
@@ -133,7 +133,7 @@ impl Connection<'_> {
         Ok(text)
     }
 
-    /// Whether this came of it. A writer in memory fails where memory runs out, and for nothing else.
+    /// Whether this came of it. A writer in memory fails only if memory runs out.
     pub fn is_so(&self, served: &Served, output: &[u8]) -> Result<bool, Stop> {
         match served.ended {
             Ended::Fault(ConnFault::Memory | ConnFault::Write { .. }) => Err(Stop::Memory),

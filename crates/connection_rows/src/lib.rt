@@ -1,6 +1,6 @@
-//! The worked examples of what goes over one connection: keys, reports, replies, and the requests of filers to an intake
-//! whose register is in memory. What may live here: the examples as data, written out by hand, and what runs and compares
-//! them.
+//! The worked examples of what goes over one connection: keys, reports, replies, and the requests of filers to an
+//! intake whose register is in memory. What may live here: the examples as data, written out by hand, and what runs and
+//! compares them.
 #![tactic(auto)]
 
 mod amendments;

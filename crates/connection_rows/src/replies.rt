@@ -6,7 +6,7 @@ use example_texts::{REGISTERED, front};
 use http_wire::{Device, ReplyFault, read_reply};
 use std::alloc::Global;
 
-/// Vector 21: a reply after an interim one, cut replies, and one that tells no length.
+/// Vector 21: a reply after an interim one, cut replies, and one without a length.
 pub(crate) fn replies(alloc: Global) -> Result<bool, Stop> {
     Ok(whole_reply(alloc)? && faulty_replies(alloc)?)
 }

@@ -45,7 +45,7 @@ pub(crate) fn all_findings(alloc: Global) -> Result<bool, Stop> {
     )
 }
 
-/// Vector 19: a body that is no object, and as many findings as are told.
+/// Vector 19: a body that is no object, and as many findings as a reply has at most.
 pub(crate) fn many_findings(alloc: Global) -> Result<bool, Stop> {
     let too_many = with_facts(alloc, 1001)?;
     Ok(

@@ -11,12 +11,12 @@ use table_rows::Cause;
 pub enum Stop {
     /// Memory was refused.
     Memory,
-    /// A call was refused for another cause, or its answer is another than it is to be, so the vector has failed.
+    /// A call was refused for another cause, or its answer is not the expected one, so the vector has failed.
     Refused,
 }
 
 impl Stop {
-    /// Ends a vector in which something is not as it is to be.
+    /// Ends a vector in which something is not as expected.
     pub fn unless(is_so: bool) -> Result<(), Stop> {
         if is_so { Ok(()) } else { Err(Stop::Refused) }
     }
@@ -138,7 +138,7 @@ impl From<outbox_core::TakeFault> for Stop {
     }
 }
 
-/// How a call was refused, if it was; `Err` where memory ran out.
+/// How a call was refused, if it was; `Err` if memory ran out.
 pub fn refusal<T: Drop, F: Copy + Into<Stop>>(outcome: Result<T, F>) -> Result<Option<F>, Stop> {
     match outcome.err() {
         None => Ok(None),

@@ -1,6 +1,6 @@
 //! What is certain of a program that ends before it closes its files: it is killed, or the machine stops. What may live
 //! here: what files hold that were not closed, and laws on what the next opening finds in them. There is no code but
-//! one call, whose contract tells what each connection keeps.
+//! one call, whose contract says what each connection keeps.
 //!
 //! What is proved, of disks that give back what was written:
 //!
@@ -134,7 +134,7 @@ pub fn a_register_outlives_a_reading<D: Disk + Drop>()
         → HoldRegisterWithLog D.Disk files early requests }
 {}
 
-/// A register that was open as `Store::add` began leaves the requests of before, or those with the one that was added.
+/// A register that was open as `Store::add` began leaves its requests, or these and the one that was added.
 pub fn a_register_outlives_an_addition<D: Disk + Drop>()
     ensures { IsHonest D.Disk → (row : NewRow) (old new : StoreParts (Stored D D.Disk))
         (result : Result Outcome StoreFault) (requests : List Request) (files : Files D)
@@ -218,7 +218,7 @@ pub fn an_outbox_outlives_a_reading<D: Disk + Drop>()
         → CommitsNothing (file_state old) (file_state new) → EndsIn new files → HoldOutboxWithLog D.Disk files it }
 {}
 
-/// An outbox that was open as an entry was put in leaves the entries of before, or those with this one.
+/// An outbox that was open as an entry was put in leaves its entries, or these and this one.
 pub fn an_outbox_outlives_an_entry<D: Disk + Drop>()
     ensures { IsHonest D.Disk → (old new : OutboxParts (Stored D D.Disk)) (key : List ℕ) (target : Option ℕ)
         (body : List ℕ) (result : Result ℕ PutFault) (entries : List Entry) (files : Files D)
@@ -228,7 +228,7 @@ pub fn an_outbox_outlives_an_entry<D: Disk + Drop>()
         (contents old (entries ++ opened key target body ∷ [])) }
 {}
 
-/// An outbox that was open as an entry was moved by a reply leaves the entries of before, or those after the move.
+/// An outbox that was open as a reply moved an entry leaves its entries as they were before the move, or after it.
 pub fn an_outbox_outlives_a_move<D: Disk + Drop>()
     ensures { IsHonest D.Disk → (old new : OutboxParts (Stored D D.Disk)) (id : ℕ) (reply : ReplyParts)
         (result : Result State TakeFault) (entries : List Entry) (files : Files D)

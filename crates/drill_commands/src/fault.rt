@@ -88,7 +88,7 @@ impl From<KeyFault> for Fault {
 impl Fault {
     ghost use Rattle.drill_commands.specs.Status.{status_of};
 
-    /// The status that the program ends with: 1 where an event names nothing, 2 for the command line
+    /// The status that the program ends with: 1 if an event names nothing, 2 for the command line
     /// and for a line of the script, 3 for a fault of memory, the input, the output or a database.
     pub fn status(&self) -> u8
         ensures { result ≡ status_of self.now }
@@ -105,7 +105,7 @@ impl Fault {
     pub fn tell<E: Write>(&self, errors: &mut E) -> u8
         ensures { result ≡ status_of self.now }
     {
-        // Nothing is left to be done where this text can't be written either.
+        // Nothing is left to be done if this text can't be written either.
         let _ = writeln!(errors, "drill: {self}");
         self.status()
     }

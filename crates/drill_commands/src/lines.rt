@@ -1,4 +1,4 @@
-//! The lines that tell what came of a world.
+//! The lines that show what came of a world.
 
 ghost use Rattle.std.specs.Prelude.{◌≡◌, ◌++◌, map, false, Err, IfOk, IfErr, OnOk, OnErr, IsErr};
 ghost use Rattle.std.specs.List.{flat_map};
@@ -35,7 +35,8 @@ fn append_filings(filings: &[Registered], text: &mut Vec<u8>) -> Result<(), Faul
 
 /// Appends a line for each entry: the number of its outbox, its own, and its state.
 fn append_entries(entries: &[(u64, u64, State)], text: &mut Vec<u8>) -> Result<(), Fault>
-    ensures lines { OnOk result (text.new.items ≡ text.old.items ++ flat_map entry_shown (map view_listed entries.now)) }
+    ensures lines { OnOk result
+        (text.new.items ≡ text.old.items ++ flat_map entry_shown (map view_listed entries.now)) }
     ensures memory { OnErr result (result ≡ Err (Fault.Command Memory)) }
 {
     for &(outbox, entry, state) in entries {
@@ -44,8 +45,8 @@ fn append_entries(entries: &[(u64, u64, State)], text: &mut Vec<u8>) -> Result<(
     Ok(())
 }
 
-/// A line for each filing and for each entry, and one that counts the completed requests. `Register` comes where the
-/// intake is down, and nothing is shown where an outbox is.
+/// A line for each filing and for each entry, and one that counts the completed requests. `Register` comes if the
+/// intake is down, and nothing is shown if an outbox is.
 pub fn shown<D: Honest>(alloc: Global, world: &mut World<D>) -> Result<Vec<u8>, Fault>
     ensures lines { IfOk result (λ text. text.items ≡ world_shown world.old.world) }
     ensures refusal { IfErr result (IsNotShown world.old.world) }

@@ -13,7 +13,7 @@ use event_script::{Script, read_script};
 use schedule::{Honest, World, run};
 use std::alloc::Global;
 
-/// What the bytes say, with a restart of every end behind its events.
+/// What the bytes say, with a restart of every end after its events.
 fn read(alloc: Global, bytes: &[u8]) -> Result<Script, Fault>
     ensures said { IfOk result (λ script.
         (said : Said) × (script_of bytes.now ≡ Ok said) × (view_script script ≡ restarted said)) }
@@ -30,8 +30,8 @@ fn read(alloc: Global, bytes: &[u8]) -> Result<Script, Fault>
     Ok(script)
 }
 
-/// The world after the events of a script, and after a restart of every end behind them, so that none is down. The
-/// script is as `event_script::read_script` reads it. A refusal tells what is wrong with it, or which event ended the run.
+/// The world after the events of a script and a restart of every end, so that none is down. The script is as
+/// `event_script::read_script` reads it. A refusal says what is wrong with it, or which event ended the run.
 pub fn played<D: Honest>(alloc: Global, bytes: &[u8]) -> Result<World<D>, Fault>
     ensures run { IfOk result (λ w. (said : Said) × (script_of bytes.now ≡ Ok said)
         × Run (start said.filers said.limit) (restarted said).events w.world) }

@@ -1,6 +1,6 @@
-//! The texts that the worked examples and the tests share, byte for byte: reports, and the replies to them; and streams that
-//! give and take them in small steps. What may live here: what two crates name, each text written out by hand. What the
-//! texts mean is not known here.
+//! The texts that the worked examples and the tests share, byte for byte: reports, and the replies to them; and streams
+//! that give and take them in small steps. What may live here: what two crates name, each text written out by hand.
+//! What the texts mean is not known here.
 #![tactic(auto)]
 
 mod parts;
@@ -21,7 +21,7 @@ pub const REPORT: &str =
 pub const REGISTERED: &str =
     "HTTP/1.1 201 Created\r\nContent-Type: application/json\r\nContent-Length: 34\r\n\r\n{\"number\":1,\"status\":\"registered\"}";
 
-/// The same where the connection closes, 129 bytes.
+/// The reply to the first registered report if the connection closes, 129 bytes.
 pub const REGISTERED_CLOSED: &str =
     "HTTP/1.1 201 Created\r\nContent-Type: application/json\r\nContent-Length: 34\r\nConnection: close\r\n\r\n{\"number\":1,\"status\":\"registered\"}";
 
@@ -37,7 +37,7 @@ pub const NOT_JSON: &str =
 pub const MALFORMED: &str =
     "HTTP/1.1 400 Bad Request\r\nContent-Type: application/problem+json\r\nContent-Length: 78\r\nConnection: close\r\n\r\n{\"reason\":\"malformed\",\"status\":400,\"title\":\"Bad Request\",\"type\":\"about:blank\"}";
 
-/// The reply where a request cannot be decided now.
+/// The reply if a request cannot be decided now.
 pub const UNAVAILABLE: &str =
     "HTTP/1.1 503 Service Unavailable\r\nContent-Type: application/problem+json\r\nContent-Length: 88\r\n\r\n{\"reason\":\"unavailable\",\"status\":503,\"title\":\"Service Unavailable\",\"type\":\"about:blank\"}";
 

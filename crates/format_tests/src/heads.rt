@@ -166,7 +166,7 @@ fn heads_and_their_faults(rt: HostRuntime) {
     hold(&rt, rt.alloc(), HEADS, told);
 }
 
-/// What a head is told as whose one line is so long, behind what stands before it.
+/// What is read of a head whose one line has this length, after what comes before it.
 fn long_head(alloc: Global, (start, letters): (&str, usize)) -> Result<String, AllocError> {
     let value = "a".repeat(alloc, letters)?;
     let text = format!(in alloc; "{start}GET / HTTP/1.1\r\nHost: h\r\nX: {value}\r\n\r\n")?;

@@ -43,7 +43,7 @@ fn told<R: Source, W: Sink>(
     Ok(text)
 }
 
-/// What is told of a text that comes in such pieces, and what is written then.
+/// What is read of a text that comes in such pieces, and what is written then.
 fn connection(alloc: Global, (text, piece): (&str, usize)) -> Result<String, AllocError> {
     let mut written = Vec::new(alloc);
     let mut reader = in_pieces(text.as_bytes(), piece);
@@ -58,7 +58,7 @@ const REQUESTS: &str =
 const EXPECTING: &str =
     "POST / HTTP/1.1\r\nHost: h\r\nExpect: 100-continue\r\nContent-Length: 2\r\n\r\nabGET / HTTP/1.1\r\nHost: h\r\nExpect: 100-continue\r\n\r\nPOST / HTTP/1.1\r\nHost: h\r\nExpect: 100-continue\r\nContent-Length: 9\r\n\r\ncut";
 
-/// The texts of connections, how many bytes come at a time, and what is told and written.
+/// The texts of connections, how many bytes come at a time, and what is read and written.
 const CONNECTIONS: &[((&str, usize), &str)] = &[
     ((REQUESTS, 1), "POST /a hello|GET /b |end|end|"),
     ((REQUESTS, 5), "POST /a hello|GET /b |end|end|"),
@@ -84,7 +84,7 @@ fn connections(rt: HostRuntime) {
     hold(&rt, rt.alloc(), CONNECTIONS, connection);
 }
 
-/// What is told of a head without end.
+/// What is read of a head without end.
 fn endless_head(alloc: Global) -> Result<String, AllocError> {
     let mut reader = Device::new(io::repeat(b'a'));
     told(alloc, &mut reader, &mut Device::new(Narrow { room: 0 }))
@@ -99,7 +99,7 @@ fn a_head_without_end(rt: HostRuntime) {
 const CUT: &str =
     "POST / HTTP/1.1\r\nHost: h\r\nExpect: 100-continue\r\nContent-Length: 9\r\n\r\ncut";
 
-/// What is told of a request that is cut, by a reader that fails there or ends, and a writer of so much room.
+/// What is read of a request that is cut, by a reader that fails there or ends, and a writer with this much room.
 fn cut_request(alloc: Global, (fails, room): (bool, usize)) -> Result<String, AllocError> {
     let mut reader = Device::new(Pieces {
         rest: CUT.as_bytes(),

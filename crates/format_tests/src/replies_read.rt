@@ -22,7 +22,7 @@ fn told<R: Source>(alloc: Global, reader: &mut R) -> Result<String, AllocError> 
     }
 }
 
-/// What is told of a text that comes at once.
+/// What is read of a text that comes at once.
 fn at_once(alloc: Global, text: &str) -> Result<String, AllocError> {
     told(alloc, &mut in_pieces(text.as_bytes(), 4096))
 }
@@ -30,7 +30,7 @@ fn at_once(alloc: Global, text: &str) -> Result<String, AllocError> {
 const AFTER_INTERIM: &str =
     "HTTP/1.1 100 Continue\r\n\r\nHTTP/1.1 201 Created\r\nContent-Type: application/json\r\nContent-Length: 34\r\n\r\n{\"number\":1,\"status\":\"registered\"}";
 
-/// What is told of a reply after an interim response, in pieces.
+/// What is read of a reply after an interim response, in pieces.
 fn after_interim(alloc: Global, piece: usize) -> Result<String, AllocError> {
     told(alloc, &mut in_pieces(AFTER_INTERIM.as_bytes(), piece))
 }
@@ -91,7 +91,7 @@ fn faults_of_replies(rt: HostRuntime) {
     hold(&rt, rt.alloc(), FAULTS, at_once);
 }
 
-/// What is told of so many letters.
+/// What is read of this many letters.
 fn long_head(alloc: Global, letters: usize) -> Result<String, AllocError> {
     at_once(alloc, &"a".repeat(alloc, letters)?)
 }
@@ -106,7 +106,7 @@ fn long_heads(rt: HostRuntime) {
     );
 }
 
-/// What is told of a reader that fails behind this text.
+/// What is read from a reader that fails after this text.
 fn failing_behind(alloc: Global, text: &str) -> Result<String, AllocError> {
     let mut reader = Device::new(Pieces {
         rest: text.as_bytes(),
@@ -131,7 +131,7 @@ fn readers_that_fail(rt: HostRuntime) {
     hold(&rt, rt.alloc(), FAILING, failing_behind);
 }
 
-/// What is told of a reply with this content, as it is written.
+/// What is read of a reply with this content, as it is written.
 #[tactic(auto, unfolding(http_messages::specs::Reply::phrase))]
 fn read_again(alloc: Global, content: Vec<u8>) -> Result<String, AllocError> {
     let reply = Reply {

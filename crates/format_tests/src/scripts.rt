@@ -18,7 +18,7 @@ fn told_of_line(alloc: Global, line: &str) -> Result<String, AllocError> {
     told(alloc, &format!(in alloc; "outbox ACME\n{line}\n")?)
 }
 
-/// Asserts that this is told of each line.
+/// Asserts that each line gives this.
 fn all_are(rt: &impl Abort, alloc: Global, lines: &[&str], text: &str) {
     for line in lines {
         let said = told_of_line(alloc, line).expect(rt, "no memory");

@@ -5,8 +5,8 @@ use command_line::{ReadFault, read_whole};
 use http_wire::Device;
 use std::alloc::Global;
 
-/// How many bytes of a reader that has `len` are read, if it may have `most`. Each read gets `piece` of them at most, and
-/// behind them the reader ends or fails.
+/// How many bytes of a reader that has `len` are read, if it may have `most`. Each read gets `piece` of them at most,
+/// and behind them the reader ends or fails.
 fn read_len(
     alloc: Global,
     (len, piece, fails): (usize, usize, bool),

@@ -23,7 +23,7 @@ const REQUEST: Text = &[
 /// The first line of the request of an entry that is to replace filing 1, 31 bytes.
 const AMENDMENT: &str = "POST /filings/ACME/1 HTTP/1.1\r\n";
 
-/// The outbox of a filer with one entry, which is open; `None` where memory is refused.
+/// The outbox of a filer with one entry, which is open; `None` if memory is refused.
 fn with_entry<S: Fresh>(alloc: Global) -> Option<Outbox<S>> {
     let mut outbox = S::outbox(alloc)?;
     put(alloc, &mut outbox)?;
@@ -56,7 +56,7 @@ fn request_of<S: Alter>(alloc: Global, outbox: &mut Outbox<S>) -> Result<Vec<u8>
     request_bytes(alloc, outbox, 1)
 }
 
-/// The state of entry 1; `None` where it isn't there, or is not read.
+/// The state of entry 1; `None` if it isn't there, or is not read.
 fn state_of<S: Alter>(outbox: &mut Outbox<S>) -> Option<State> {
     match outbox.entry(1) {
         Ok(Some(entry)) => Some(entry.state),
@@ -64,8 +64,8 @@ fn state_of<S: Alter>(outbox: &mut Outbox<S>) -> Option<State> {
     }
 }
 
-/// Exchanges what an entry has to send, 100 bytes a write, for a reply of these bytes, 50 a read. One read or write may fail, before
-/// which so many don't.
+/// Exchanges what an entry has to send, 100 bytes a write, for a reply of these bytes, 50 a read. One read or write may
+/// fail, before which so many don't.
 fn exchanged<S: Alter>(
     alloc: Global,
     outbox: &mut Outbox<S>,
@@ -94,8 +94,8 @@ fn exchanged<S: Alter>(
     )
 }
 
-/// An exchange: the entry, the read and the write that fail, what it comes to, how many bytes of the request are written, and the state
-/// of entry 1 then.
+/// An exchange: the entry, the read and the write that fail, what it comes to, how many bytes of the request are
+/// written, and the state of entry 1 then.
 type Exchange = (
     u64,
     Option<usize>,
@@ -303,8 +303,8 @@ fn wants_memory(fault: ExchangeFault) -> bool {
     )
 }
 
-/// What an exchange comes to, which is made again where memory is refused; `None` where it was refused otherwise or has changed the
-/// entry.
+/// What an exchange comes to, which is made again if memory is refused; `None` if it was refused otherwise or has
+/// changed the entry.
 fn exchanged_at_last<S: Alter>(alloc: Global, outbox: &mut Outbox<S>) -> Option<State> {
     let reply = REGISTERED_CLOSED.as_bytes();
     let mut output = Vec::new(alloc);
@@ -319,7 +319,7 @@ fn exchanged_at_last<S: Alter>(alloc: Global, outbox: &mut Outbox<S>) -> Option<
     }
 }
 
-/// How long the request of the entry is, which is asked for again where memory is refused.
+/// How long the request of the entry is, which is asked for again if memory is refused.
 fn request_length<S: Alter>(alloc: Global, outbox: &mut Outbox<S>) -> Result<usize, TakeFault> {
     let request = match request_of(alloc, outbox) {
         Err(TakeFault::Memory) => request_of(alloc, outbox)?,
@@ -328,7 +328,7 @@ fn request_length<S: Alter>(alloc: Global, outbox: &mut Outbox<S>) -> Result<usi
     Ok(request.len())
 }
 
-/// The outbox, which is made again where memory is refused.
+/// The outbox, which is made again if memory is refused.
 fn made_at_last<S: Fresh>(alloc: Global) -> Option<Outbox<S>> {
     match with_entry(alloc) {
         None => with_entry(alloc),
@@ -347,7 +347,8 @@ fn is_confirmed<S: Fresh>(rt: &impl Abort, alloc: Global) -> Result<(), Fail> {
     Ok(())
 }
 
-/// Each call is made again that was refused because memory ran out. Run it with each allocation refused too, one in a run.
+/// Each call is made again that was refused because memory ran out. Run it with each allocation refused too, one in a
+/// run.
 #[test]
 fn refused_memory_changes_nothing(rt: HostRuntime) -> Result<(), Fail> {
     is_confirmed::<MemStore>(&rt, rt.alloc())

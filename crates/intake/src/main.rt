@@ -1,5 +1,5 @@
-//! The program `intake`: answers the HTTP requests of filers, from standard input or a port, and shows what its register
-//! holds. What may live here: the one call of `intake_commands`.
+//! The program `intake`: answers the HTTP requests of filers, from standard input or a port, and shows what its
+//! register holds. What may live here: the one call of `intake_commands`.
 #![tactic(auto)]
 
 use std::process::ExitCode;

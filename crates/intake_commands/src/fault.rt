@@ -23,7 +23,7 @@ pub struct Refusal {
 impl Refusal {
     ghost use Rattle.intake_commands.specs.Status.{opening_status, opening_verdict};
 
-    /// What this says of a register.
+    /// What this says of the database, if it says something.
     fn verdict(self) -> Option<Verdict>
         ensures { result ≡ opening_verdict self.fault }
     {
@@ -34,7 +34,7 @@ impl Refusal {
         }
     }
 
-    /// The status that the program ends with: 1 if the database is no sound register, and else 3.
+    /// The status that the program ends with: 1 if the database is no sound register, otherwise 3.
     fn status(self) -> u8
         ensures { result ≡ opening_status self.fault }
     {
@@ -56,7 +56,7 @@ impl fmt::Display for Refusal {
     }
 }
 
-/// What is said if the database refused a call. It does not say why.
+/// What is said if the database refused a call and gave no reason.
 const DISK: &str = "the disk failed, or is full";
 
 /// What is said of a database that is no register of this version.
@@ -81,7 +81,7 @@ fn not_migrated(holding: Holding) -> &'static str {
     }
 }
 
-/// What is said of a database in which a register is to be made, and which has tables.
+/// What is said of a database with tables if a register is to be made in it.
 fn has_tables(holding: Holding) -> &'static str {
     match holding {
         Holding::Register | Holding::EarlierRegister => "it is a register already: leave out --new",
@@ -129,7 +129,7 @@ pub enum VisitFault {
     /// A register was to be migrated.
     #[error("{0}")]
     Migrate(Refusal),
-    /// The same, and the database is no register of an earlier version.
+    /// A register was to be migrated, and the database is not one of an earlier version.
     #[error("{text}", text = not_migrated(*.0))]
     NotMigrated(Holding),
     #[error("{text}", text = not_read(*.0))]

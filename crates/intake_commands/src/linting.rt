@@ -1,4 +1,4 @@
-//! What is wrong with the reports of some files is printed.
+//! Prints what is wrong with the reports of some files.
 
 ghost use Rattle.intake_commands.specs.Lints.{Lints};
 

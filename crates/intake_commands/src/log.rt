@@ -13,8 +13,8 @@ use http_wire::{DeviceFailed, Sink, Source};
 use std::alloc::{AllocError, Global};
 use std::io::{self, Write};
 
-/// How many bytes of a connection are noted: those of the longest request. The filers of requests that come after them
-/// are not reported.
+/// How many bytes of a connection are noted: those of the longest request. The filers of requests that come after these
+/// bytes are left out.
 const MOST_NOTED: usize = 1_064_962;
 
 /// A reader whose first bytes are noted.
@@ -40,7 +40,7 @@ impl<R: Source> Noted<R> {
 fn note(bytes: &mut Vec<u8>, more: &[u8]) {
     let room = MOST_NOTED.saturating_sub(bytes.len());
     let taken = more.len().min(room);
-    // Where memory is short less is noted, and the connection goes on.
+    // If memory is short, less is noted, and the connection goes on.
     let _ = bytes.extend_from_slice(&more[..taken]);
 }
 
@@ -79,7 +79,7 @@ impl<W: Sink> Statuses<W> {
     }
 }
 
-/// The status of a reply that begins with these bytes, where it is final: the three digits after the version (RFC 9112,
+/// The status of a reply that begins with these bytes, if it is final: the three digits after the version (RFC 9112,
 /// section 4).
 fn status_of(text: &[u8]) -> Option<u16> {
     let digits = text.get(9..12)?;

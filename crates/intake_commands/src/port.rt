@@ -12,7 +12,7 @@ use std::io;
 use std::net::TcpStream;
 use std::time::Duration;
 
-/// A port of this machine, of whose connections is known what failed.
+/// A port of this machine that knows what failed of its connections.
 pub trait StreamPort: Port {
     /// How many connections were taken.
     fn taken(&self) -> u32;
@@ -33,7 +33,7 @@ pub struct TimedPort<'r> {
     rt: &'r HostRuntime,
     number: u16,
     port: TcpPort<'r>,
-    /// How many seconds each connection may take. Any time if none is given.
+    /// How many seconds each connection may take; no limit if none is given.
     patience: Option<u32>,
     taken: u32,
     /// The time of the connection that was taken last, once it has begun.

@@ -7,7 +7,7 @@ use std::io::{IsTerminal, Write};
 /// Fewer requests are checked at once.
 const MANY: u64 = 10_000;
 
-/// Tells on standard error how far the check of many requests is, a hundred times at most, where that is a terminal.
+/// Shows on standard error how far the check of many requests is, a hundred times at most, if that is a terminal.
 #[derive(Drop)]
 pub struct TerminalProgress<'a> {
     rt: &'a HostRuntime,
@@ -39,7 +39,7 @@ impl Progress for TerminalProgress<'_> {
     /// Ends the line, if there is one.
     fn end(&mut self) {
         if self.has_told {
-            // Nothing is left to be done where this can't be written.
+            // Nothing is left to be done if this can't be written.
             let _ = writeln!(self.rt.stderr());
         }
     }

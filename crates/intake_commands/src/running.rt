@@ -1,4 +1,4 @@
-//! Standard input is served as one connection.
+//! Serves standard input as one connection.
 
 ghost use Rattle.http_wire.specs.Wire.{wire};
 ghost use Rattle.intake_commands.specs.Tasks.{Runs};

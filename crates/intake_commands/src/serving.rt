@@ -1,4 +1,4 @@
-//! Connections of a port are served on the register of a file.
+//! Serves the connections of a port on the register of a file.
 
 ghost use Rattle.std.specs.Prelude.{◌≡◌, not, Err};
 ghost use Rattle.database_places.specs.Opening.{is_found};
@@ -19,7 +19,8 @@ use sqlite_disk::Disk;
 use std::alloc::Global;
 use std::io::Write;
 
-/// Serves connections of this port by the register of this process. It says when it is ready and when it ends.
+/// Serves connections of this port by the register of this process. Standard error says when it is ready and when it
+/// ends.
 pub fn serve<'a, D: Disk + Drop, P: Place<D> + Drop, L: StreamPort, E: Write>(
     rt: &HostRuntime,
     serving: Serving<'a>,
@@ -52,7 +53,7 @@ pub fn serve<'a, D: Disk + Drop, P: Place<D> + Drop, L: StreamPort, E: Write>(
     }
 }
 
-/// How the register comes to be open, which is new or not.
+/// How a register comes to be open that is new or not.
 fn opening(is_new: bool) -> Opening
     ensures { is_found result ≡ not is_new }
 {

@@ -1,4 +1,4 @@
-//! The register of a file is visited.
+//! Visits the register of a file.
 
 ghost use Rattle.std.specs.Prelude.{◌≡◌, None};
 ghost use Rattle.intake_process.specs.Process.{parts};
@@ -18,8 +18,8 @@ use std::alloc::Global;
 use std::io::Write;
 
 /// Does an errand to the register of this process, which lies in the file with this name. What came of it stays whether
-/// or not the files are then closed: if they are not, that is reported. If the errand is to judge the register, what is wrong
-/// with it goes to the output too.
+/// or not the files are then closed; if they are not, that is reported. If the errand judges the register, the output
+/// says what is wrong with it, too.
 pub fn visit<'a, D: Disk + Drop, P: Place<D> + Drop, O: Write, E: Write>(
     rt: &HostRuntime,
     name: &'a str,

@@ -1,5 +1,5 @@
-//! An intake begins over a database: its register is made there, or is there. This is written over any store, since
-//! each function that names a store in files, if it calls such code, costs much to prove.
+//! Begins an intake over a database: its register is made there, or is there. This is written over any store, since
+//! each function that names a store in files and calls such code costs much to prove.
 
 ghost use Rattle.std.specs.Prelude.{◌≡◌, ◌≤◌, ◌^◌, ◌↔◌, true, false, IsTrue, IfOk, IfErr};
 ghost use Rattle.table_rows.specs.Standing.{IsAtRest};

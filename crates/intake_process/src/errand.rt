@@ -1,5 +1,5 @@
 //! An errand to the register that a database is. This is written over any store, since each function that names a store
-//! in files, if it calls such code, costs much to prove.
+//! in files and calls such code costs much to prove.
 
 ghost use Rattle.std.specs.Prelude.{◌≡◌};
 ghost use Rattle.table_rows.specs.Standing.{IsAtRest};
@@ -32,13 +32,13 @@ pub enum ErrandFault {
     Open(OpenFault, Holding),
     /// The database gave no register of an earlier version, and this is what it holds.
     Migrate(OpenFault, Holding),
-    /// The filings are not listed.
+    /// The intake gave no list of the filings.
     List(Unavailable),
     /// The register was not read.
     Store(StoreFault),
     /// There is no filing of this number.
     NoFiling { number: u64 },
-    /// The text is not printed.
+    /// The text was not printed.
     Text(TextFault),
 }
 
@@ -55,7 +55,7 @@ impl ErrandFault {
         }
     }
 
-    /// Whether the database is none of ours.
+    /// Whether the database is not a register.
     pub(crate) fn is_of_others(self) -> bool {
         matches!(
             self,
@@ -64,7 +64,7 @@ impl ErrandFault {
     }
 }
 
-/// What comes of an errand whose list came out so.
+/// What comes of an errand whose list came out like this.
 fn listed_as(listed: Result<(), ListFault>) -> Result<(), ErrandFault>
     ensures { result ≡ listed_as listed }
 {
@@ -75,7 +75,7 @@ fn listed_as(listed: Result<(), ListFault>) -> Result<(), ErrandFault>
     }
 }
 
-/// What comes of an errand to show the filing of this number that came out so.
+/// What comes of an errand to show the filing of this number that came out like this.
 fn shown_as(number: u64, shown: Result<(), ShowFault>) -> Result<(), ErrandFault>
     ensures { result ≡ shown_as number shown }
 {
@@ -87,7 +87,7 @@ fn shown_as(number: u64, shown: Result<(), ShowFault>) -> Result<(), ErrandFault
     }
 }
 
-/// What comes of an errand whose text was printed so.
+/// What comes of an errand whose text was printed like this.
 fn printed_as(printed: Result<(), TextFault>) -> Result<(), ErrandFault>
     ensures { result ≡ printed_as printed }
 {
@@ -108,8 +108,8 @@ fn records_fault(fault: RecordsFault) -> ErrandFault
     }
 }
 
-/// Does an errand to the register that this database is, and gives the connection back. Progress learns how far a
-/// check is.
+/// Does an errand to the register that this database is, and gives the connection back. `progress` learns how
+/// far a check is.
 pub(crate) fn run_errand<S: Alter + Drop, P: Progress, O: Write>(
     alloc: Global,
     conn: Connection<S>,
@@ -197,7 +197,7 @@ fn check_register<S: Alter + Drop, P: Progress, O: Write>(
     }
 }
 
-/// Makes a register of an earlier version one of this version, and prints that it is.
+/// Upgrades a register of an earlier version, and prints that.
 fn migrate_register<S: Alter + Drop, O: Write>(
     alloc: Global,
     conn: Connection<S>,

@@ -17,7 +17,7 @@ pub enum OpeningFault {
 }
 
 impl OpeningFault {
-    /// Whether the database is none of ours.
+    /// Whether the database is not a register.
     pub(crate) fn is_of_others(self) -> bool {
         matches!(
             self,

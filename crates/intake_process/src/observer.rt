@@ -10,34 +10,35 @@ use gateway_server::Served;
 pub enum Went {
     /// It was served.
     Served,
-    /// It was served, and the database refused a call, after which the register was closed so.
+    /// It was served, but the database refused a call, and the register was closed like this.
     Failed(Closed),
     /// It was turned away, since the register is closed.
     TurnedAway,
-    /// It was turned away, and for it the register was to be opened again.
+    /// It was turned away, since opening the register for it failed.
     NotOpened(OpeningFault),
 }
 
-/// Who sees what happens while a port of this kind is served, and says when a register that is closed may be opened again.
+/// Who sees what happens while a port of this kind is served, and says when a register that is closed may be opened
+/// again.
 pub trait Observer<L> {
-    /// The port is listened on, and the register that serves it holds so much.
+    /// The port is open, and the register that serves it holds this much.
     fn ready(&mut self, totals: Totals);
 
     /// A connection came on the port: one to be answered, or one that its peer gave up or the system refused.
     fn accepted(&mut self, port: &L);
 
-    /// Whether the register, which is closed, is to be opened for a connection that came.
+    /// Whether the register, which is closed, may be opened for a connection that came.
     fn may_open(&mut self) -> bool;
 
-    /// The register is open again, and holds so much.
+    /// The register is open again, and holds this much.
     fn opened(&mut self, totals: Totals);
 
-    /// What a connection came to. The port learns it after this.
+    /// A connection was served like this. The port learns it next.
     fn served(&mut self, served: &Served);
 
-    /// A connection of the port is over, and so many more may come.
+    /// A connection of the port is over, and this many more may come.
     fn ended(&mut self, port: &L, went: Went, left: u32);
 
-    /// No connection is answered any more, and the register was closed so.
+    /// No more connections are answered, and the register was closed like this.
     fn closed(&mut self, closed: Closed);
 }

@@ -18,7 +18,7 @@ use sqlite::{Alter, Error, FileStore};
 use sqlite_disk::Disk;
 use std::alloc::Global;
 
-/// What a close came to.
+/// What came of a close.
 #[derive(Drop)]
 pub struct Closed {
     /// How many requests are kept.
@@ -38,7 +38,7 @@ pub enum Outcome {
     TurnedAway,
 }
 
-/// What answering a connection came to.
+/// What came of answering a connection.
 #[derive(Drop)]
 pub struct Answered {
     pub served: Served,
@@ -91,9 +91,10 @@ impl<D: Disk + Drop, P: Place<D> + Drop> IntakeProcess<D, P> {
     ghost use Rattle.intake_process.specs.Process.{parts, OpensProcess, AnswersWire, ClosesProcess};
     ghost use Rattle.intake_process.specs.Lending.{LendsIntake};
 
-    /// The intake of the register that lies in this place, or is to be made there. It is closed.
+    /// The intake of the register that lies in this place, or will be made there. It is closed.
     pub fn new(place: P) -> IntakeProcess<D, P>
-        ensures { parts P.lying result ≡ record { intake = None; lying = P.lying place; is_certain = true; refused_calls = 0 } }
+        ensures { parts P.lying result
+            ≡ record { intake = None; lying = P.lying place; is_certain = true; refused_calls = 0 } }
     {
         IntakeProcess {
             place,
@@ -142,7 +143,7 @@ impl<D: Disk + Drop, P: Place<D> + Drop> IntakeProcess<D, P> {
     }
 
     /// Opens it, if it is closed, and says how much the register holds then. It keeps at most `limit` keys. A refusal
-    /// leaves the files in the place, and leaves a database that is damaged or none of ours as it was.
+    /// leaves the files in the place, and leaves a database that is damaged or no register as it was.
     pub fn open(
         &mut self,
         alloc: Global,

@@ -1,4 +1,4 @@
-//! The connections of a port are answered, one after another, by an intake that is opened again after a refusal.
+//! Answers the connections of a port, one after another, by an intake that is opened again after a refusal.
 
 ghost use Rattle.std.specs.Prelude.{◌≡◌, ◌≢◌, ◌≤◌, ◌^◌, ℕ, None, OnOk, option_map};
 ghost use Rattle.std.specs.Result.{result_ok};
@@ -23,8 +23,8 @@ pub enum ServingFault {
     Port(PortFault),
 }
 
-/// Serves a port by the register that lies in the place of a process, as a whole: it is opened or made, the port is
-/// listened on and its next `most` connections are answered, and the register is closed.
+/// Serves a port by the register in the place of a process, from beginning to end: opens or makes the register, listens
+/// on the port, answers its next `most` connections, and closes the register.
 pub fn serve_register<D: Disk + Drop, P: Place<D> + Drop, L: Port, O: Observer<L>>(
     alloc: Global,
     port: &mut L,
@@ -50,7 +50,7 @@ pub fn serve_register<D: Disk + Drop, P: Place<D> + Drop, L: Port, O: Observer<L
     }
 }
 
-/// Listens on a port, and answers its connections by a register that holds so much.
+/// Listens on a port, and answers its connections by a register that holds this much.
 fn listen_and_serve<D: Disk + Drop, P: Place<D> + Drop, L: Port, O: Observer<L>>(
     alloc: Global,
     port: &mut L,
@@ -97,7 +97,7 @@ pub fn serve_port<D: Disk + Drop, P: Place<D> + Drop, L: Port, O: Observer<L>>(
     Ok(())
 }
 
-/// Answers the next connection, unless its peer gave it up. So many more may come.
+/// Answers the next connection, unless its peer gave it up. This many more may come.
 fn serve_next<D: Disk + Drop, P: Place<D> + Drop, L: Port, O: Observer<L>>(
     alloc: Global,
     port: &mut L,
@@ -149,7 +149,7 @@ fn open_again<D: Disk + Drop, P: Place<D> + Drop, L, O: Observer<L>>(
     }
 }
 
-/// What came of a connection that was answered so. If the database refused a call the register is closed.
+/// What came of a connection that was answered like this. If the database refused a call, the register is closed.
 fn went<D: Disk + Drop, P: Place<D> + Drop>(
     process: &mut IntakeProcess<D, P>,
     outcome: Outcome,

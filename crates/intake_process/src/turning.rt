@@ -1,4 +1,4 @@
-//! A connection is turned away, since there is no register.
+//! Turns a connection away, since the register is closed.
 
 ghost use Rattle.std.specs.Prelude.{◌≡◌, ◌≤◌, [], true, vec_capacity, IfOk, IfErr, OnOk, if◌then◌else◌};
 ghost use Rattle.http_messages.specs.Reply.{render};
@@ -41,7 +41,7 @@ fn write_unavailable<W: Sink>(alloc: Global, writer: &mut W, is_head: bool) -> R
     write_reply(alloc, writer, &reply, true)
 }
 
-/// How a connection ended of which the last reply was written so.
+/// How a connection ended whose last reply was written like this.
 fn end_by(written: Result<(), ConnFault>) -> Ended
     ensures { result ≡ end_by written }
 {
@@ -51,8 +51,8 @@ fn end_by(written: Result<(), ConnFault>) -> Ended
     }
 }
 
-/// Answers the first request of a connection that there is no register, and closes the connection. Without memory for
-/// that nothing is read.
+/// Answers the first request of a connection that there is no register, and closes the connection. If memory runs out,
+/// nothing is read.
 pub fn turn_away<R: Source, W: Sink>(alloc: Global, reader: &mut R, writer: &mut W) -> Served
     ensures { TurnsAway (wire R.Source W.Sink reader.old writer.old) (wire R.Source W.Sink reader.new writer.new)
         result }

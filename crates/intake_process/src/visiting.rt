@@ -16,7 +16,7 @@ use sqlite_disk::Disk;
 use std::alloc::Global;
 use std::io::Write;
 
-/// What a visit to a register came to.
+/// What came of a visit to a register.
 #[derive(Drop)]
 pub struct Visited {
     /// What came of the errand.
@@ -34,7 +34,7 @@ impl Visited {
     }
 }
 
-/// Whether an errand came out so for which no register was opened.
+/// Whether an errand came out like this because no register was opened.
 fn is_refused(done: &Result<(), ErrandFault>) -> bool
     ensures { result ≡ is_refused done.now }
 {
@@ -44,7 +44,7 @@ fn is_refused(done: &Result<(), ErrandFault>) -> bool
     }
 }
 
-/// Whether an errand came out so since the database is none of ours.
+/// Whether an errand came out like this because the database is not a register.
 fn is_of_others(done: &Result<(), ErrandFault>) -> bool {
     match done {
         Ok(()) => false,
@@ -52,8 +52,8 @@ fn is_of_others(done: &Result<(), ErrandFault>) -> bool {
     }
 }
 
-/// Leaves the files of a connection with which an errand came out so in a place: closed, or given up, if it was refused.
-/// Beside a file that is none of ours no log is left that was not there before.
+/// Leaves the files of a connection in a place after an errand that came out like this: closed, or given up if it was
+/// refused. No new log is left beside a file that is not a register.
 fn leave<D: Disk + Drop, P: Place<D>>(
     place: &mut P,
     conn: Connection<FileStore<D>>,
@@ -99,8 +99,8 @@ fn visit_place<D: Disk + Drop, P: Place<D>, G: Progress, O: Write>(
 }
 
 impl<D: Disk + Drop, P: Place<D> + Drop> IntakeProcess<D, P> {
-    /// Opens the register, which is closed, does an errand to it, and closes it. A refusal leaves the files in the place,
-    /// and leaves a database that is damaged or none of ours as it was. Progress learns how far a check is.
+    /// Opens the register, which is closed, does an errand to it, and closes it. A refusal leaves the files in the
+    /// place, and leaves a database that is damaged or no register as it was. `progress` learns how far a check is.
     pub fn visit<G: Progress, O: Write>(
         &mut self,
         alloc: Global,

@@ -1,4 +1,4 @@
-//! A register is checked.
+//! Checks a register.
 
 ghost use Rattle.std.specs.Prelude.{◌≡◌, string_bytes, IfOk};
 ghost use Rattle.intake_tasks.specs.Lines.{sound_line};
@@ -16,9 +16,9 @@ use std::io::Write;
 /// Why a register is not found sound.
 #[derive(Clone, Copy, Debug, PartialEq, Eq)]
 pub enum CheckFault {
-    /// What the reading of it found.
+    /// Reading it found this.
     Open(OpenFault),
-    /// It is sound, and that is not printed.
+    /// It is sound, but that could not be printed.
     Text(TextFault),
 }
 
@@ -46,9 +46,9 @@ impl From<TextFault> for CheckFault {
     }
 }
 
-/// Is told how far a check is, and when it is over. It decides nothing.
+/// Shows how far a check is, and learns when it is over. It decides nothing.
 pub trait Progress: Watch {
-    /// The rows are read, and what was found is printed next.
+    /// All rows are read; the result is printed next.
     fn end(&mut self);
 }
 

@@ -11,7 +11,7 @@ pub enum Errand<'a> {
     Show { number: u64 },
     /// Say whether the register is sound.
     Check,
-    /// Make a register of an earlier version one of this version.
+    /// Upgrade a register of an earlier version to this version.
     Migrate,
     /// Write out all facts, or those of one filer.
     Export {

@@ -1,5 +1,5 @@
-//! What `intake` does with a register and prints of it. What may live here: a task as one call of a library, and the text
-//! that is printed of it. No file, no port and no words of a command line are known here.
+//! What `intake` does with a register and prints of it. What may live here: a task as one call of a library, and the
+//! text that is printed of it. No file, no port and no words of a command line are known here.
 #![tactic(auto)]
 
 mod checking;

@@ -1,4 +1,4 @@
-//! The filings of a filer are printed.
+//! Prints the filings of a filer.
 
 ghost use Rattle.std.specs.Prelude.{◌≡◌, map, IfOk};
 ghost use Rattle.filing_model.specs.Reply.{list_reply};
@@ -17,9 +17,9 @@ use std::io::Write;
 /// Why the filings of a filer are not listed.
 #[derive(Clone, Copy, Debug, PartialEq, Eq)]
 pub enum ListFault {
-    /// The intake does not tell them.
+    /// The intake does not answer.
     Intake(Unavailable),
-    /// They are not printed.
+    /// They could not be printed.
     Text(TextFault),
 }
 

@@ -1,4 +1,4 @@
-//! A register of an earlier version is upgraded.
+//! Upgrades a register of an earlier version.
 
 ghost use Rattle.intake_tasks.specs.Tasks.{MigratesRegister};
 ghost use Rattle.table_rows.specs.Standing.{IsAtRest};
@@ -15,8 +15,8 @@ pub struct Migrated<S: Alter> {
     pub printed: Result<(), TextFault>,
 }
 
-/// Makes the register of an earlier version that the database is one of this version, and prints that it is. A refusal
-/// prints nothing, and gives the connection back.
+/// Upgrades the register of an earlier version in this database to this version, and prints that. A refusal prints
+/// nothing, and gives the connection back.
 pub fn migrate<S: Alter, O: Write>(
     alloc: Global,
     conn: Connection<S>,

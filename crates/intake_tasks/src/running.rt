@@ -1,4 +1,4 @@
-//! One connection is served on a register in memory.
+//! Serves one connection on a register in memory.
 
 ghost use Rattle.std.specs.Prelude.{◌≡◌, ◌≤◌, ◌^◌, IfOk, OnErr};
 ghost use Rattle.http_wire.specs.Wire.{wire};

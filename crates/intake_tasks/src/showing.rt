@@ -1,4 +1,4 @@
-//! The facts of a filing are printed.
+//! Prints the facts of a filing.
 
 ghost use Rattle.std.specs.Prelude.{◌≡◌, string_bytes, IfOk};
 ghost use Rattle.intake_tasks.specs.Lines.{fact_lines};
@@ -19,9 +19,9 @@ use xbrl_report::Fact;
 pub enum ShowFault {
     /// There is no filing of this number.
     NoFiling,
-    /// The register was not read.
+    /// The register could not be read.
     Store(StoreFault),
-    /// They are not printed.
+    /// They could not be printed.
     Text(TextFault),
 }
 

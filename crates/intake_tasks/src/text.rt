@@ -1,4 +1,4 @@
-//! A text that is printed.
+//! Prints a text.
 
 ghost use Rattle.std.specs.Prelude.{◌≡◌, IfErr, OnOk};
 ghost use Rattle.std.specs.Io.KnownBytes.{Appends};

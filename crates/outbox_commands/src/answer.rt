@@ -1,4 +1,4 @@
-//! What a peer answered if its reply settled nothing: as much as was noted of it while it came.
+//! What a peer answered, by the first bytes of its reply.
 
 ghost use Rattle.std.specs.Prelude.{◌≤◌};
 
@@ -137,7 +137,7 @@ impl<'a> Answer<'a> {
     }
 }
 
-/// Whether these findings are one, of the filing that is to be replaced.
+/// Whether these findings are one, about the filing to be replaced.
 fn are_of_target(findings: &Value) -> bool {
     match findings.as_array() {
         Some(list) => match list.as_slice() {

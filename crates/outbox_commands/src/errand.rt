@@ -1,4 +1,4 @@
-//! The outbox of a task is opened, an errand is done on it, and it is closed.
+//! Opens the outbox of a task, does an errand on it, and closes it.
 
 ghost use Rattle.std.specs.Prelude.{◌≡◌, None};
 ghost use Rattle.outbox_process.specs.Process.{parts, IsHonest, Leaves, ClosesProcess};
@@ -21,7 +21,7 @@ use std::io::Write;
 /// How many entries before a new one are compared with it.
 const MOST_COMPARED: u64 = 16;
 
-/// Opens an outbox so. If a refusal goes by the pages of the file, the first of them says more.
+/// Opens an outbox that begins like this. If a refusal goes by the pages of the file, the first page says more.
 pub fn open<D: Disk + Drop, P: Place<D> + Drop>(
     alloc: Global,
     process: &mut OutboxProcess<D, P>,
@@ -37,8 +37,8 @@ pub fn open<D: Disk + Drop, P: Place<D> + Drop>(
     }
 }
 
-/// Closes the outbox of the file with this name, and reports on the standard error if its files are not closed. What was
-/// reported is kept then, in the log beside the file.
+/// Closes the outbox of the file with this name, and reports on the standard error if its files are not closed. What
+/// was reported is kept then, in the log beside the file.
 pub fn close<D: Disk + Drop, P: Place<D> + Drop, E: Write>(
     process: &mut OutboxProcess<D, P>,
     name: &str,

@@ -1,7 +1,8 @@
 //! Why a task is not done, in words and as a status.
 
 ghost use Rattle.std.specs.Prelude.{◌≡◌};
-ghost use Rattle.outbox_commands.specs.Status.{outbox_status, opening_status, exchange_status, send_status, task_status, visit_status, status_of};
+ghost use Rattle.outbox_commands.specs.Status.{outbox_status, opening_status, exchange_status, send_status};
+ghost use Rattle.outbox_commands.specs.Status.{task_status, visit_status, status_of};
 ghost use Rattle.outbox_commands.specs.Visits.{outbox_verdict, opening_verdict};
 
 use crate::held::{taken, unfit};
@@ -27,10 +28,10 @@ pub enum VisitFault {
     /// The tables are not those of an outbox of this version.
     #[error("{why}", why = unfit(*.0))]
     NotOurs(Holding),
-    /// The outbox that is to be migrated has this version.
+    /// The outbox to be migrated has this version already.
     #[error("this outbox has this version already")]
     IsCurrent,
-    /// What is to be migrated has tables of an outbox, and not those of an earlier version.
+    /// The database to be migrated has tables of an outbox, but not those of an earlier version.
     #[error("its tables are not those of an earlier version")]
     NotEarlier,
     #[error("row {row} of the outbox is damaged")]
@@ -218,7 +219,7 @@ impl From<LineFault> for Fault<'_> {
     }
 }
 
-/// What a fault says of a database that is to be migrated, if it says something.
+/// What a fault says of a database to be migrated, if it says something.
 pub fn verdict_on(fault: OpeningFault) -> Option<Verdict>
     ensures { result ≡ opening_verdict fault }
 {
@@ -281,7 +282,7 @@ impl<'a> Fault<'a> {
         }
     }
 
-    /// The same of the entry of this id, which was not sent.
+    /// Why the entry of this id was not sent.
     fn of_sending(
         fault: SendFault,
         name: &'a str,
@@ -304,7 +305,7 @@ impl<'a> Fault<'a> {
 
 impl Fault<'_> {
     /// The status that the program ends with: 1 for a database that is no outbox or cannot become
-    /// one, 2 for the command line, 3 for a fault of memory, the disk or the network, 4 where an
+    /// one, 2 for the command line, 3 for a fault of memory, the disk or the network, 4 if an
     /// entry is missing.
     pub fn status(&self) -> u8
         ensures { result ≡ status_of self.now }
@@ -327,7 +328,7 @@ impl Fault<'_> {
     pub fn tell<E: Write>(&self, errors: &mut E) -> u8
         ensures { result ≡ status_of self.now }
     {
-        // Nothing is left to be done where this text can't be written either.
+        // Nothing is left to be done if this text can't be written either.
         let _ = writeln!(errors, "outbox: {self}");
         self.status()
     }

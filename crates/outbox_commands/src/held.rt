@@ -1,8 +1,8 @@
-//! How a file is named that is no outbox of this version, by what its database holds.
+//! What is said of a file that is no outbox of this version, by what its database holds.
 
 use command_files::Holding;
 
-/// Why it is no outbox of this version.
+/// Why a database that holds this is no outbox of this version.
 pub fn unfit(held: Holding) -> &'static str {
     match held {
         Holding::Nothing => "it has no tables (outbox init makes an outbox)",
@@ -14,7 +14,7 @@ pub fn unfit(held: Holding) -> &'static str {
     }
 }
 
-/// Why no outbox is made beside what it holds.
+/// Why no outbox is made in a database that holds this.
 pub fn taken(held: Holding) -> &'static str {
     match held {
         Holding::Outbox | Holding::EarlierOutbox => "it is an outbox already",

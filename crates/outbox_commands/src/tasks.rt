@@ -3,7 +3,8 @@
 ghost use Rattle.std.specs.Prelude.{◌≡◌, None, IfOk, IfErr};
 ghost use Rattle.outbox_process.specs.Process.{parts};
 ghost use Rattle.outbox_commands.specs.Status.{opening_status, status_of, status_by};
-ghost use Rattle.outbox_commands.specs.Tasks.{IsKeyFor, IsNoKeyFor, MakesOutbox, PutsReport, IsJudged, IsPrinted, MigratesOutbox, Does, migrated_line};
+ghost use Rattle.outbox_commands.specs.Tasks.{IsKeyFor, IsNoKeyFor, MakesOutbox, PutsReport, IsJudged, IsPrinted};
+ghost use Rattle.outbox_commands.specs.Tasks.{MigratesOutbox, Does, migrated_line};
 ghost use Rattle.outbox_commands.specs.Visits.{opening_verdict};
 
 use crate::errand::{close, open, run_errand};
@@ -63,7 +64,8 @@ fn init<'a, D: Disk + Drop, P: Place<D> + Drop, E: Write>(
     errors: &mut E,
 ) -> Result<(), Fault<'a>>
     requires { process.old.outbox ≡ None }
-    ensures { MakesOutbox D.Disk filer.entry (parts P.lying process.old) (parts P.lying process.new) (status_by result) }
+    ensures { MakesOutbox D.Disk filer.entry (parts P.lying process.old) (parts P.lying process.new)
+        (status_by result) }
 {
     if !is_filer(filer) {
         return Err(Fault::Command(CommandFault::Filer));
@@ -75,7 +77,7 @@ fn init<'a, D: Disk + Drop, P: Place<D> + Drop, E: Write>(
     Ok(())
 }
 
-/// Puts a report in. The key and the report are looked at before the outbox is.
+/// Puts a report in. The key and the report are read before the outbox is opened.
 fn put<'a, D: Disk + Drop, P: Place<D> + Drop, N: Network, O: Write, E: Write>(
     rt: &HostRuntime,
     process: &mut OutboxProcess<D, P>,
@@ -110,7 +112,7 @@ fn put<'a, D: Disk + Drop, P: Place<D> + Drop, N: Network, O: Write, E: Write>(
     )
 }
 
-/// Prints what a refusal says of the outbox, if it says something, and answers why the task is not done.
+/// Prints what a refusal says of the outbox, if it says something, and answers why the task was not done.
 fn show_refused<'a, O: Write>(
     alloc: Global,
     fault: OpeningFault,
@@ -129,7 +131,7 @@ fn show_refused<'a, O: Write>(
     }
 }
 
-/// Makes an outbox of an earlier version one of this version, and prints that it is; or why it is none.
+/// Upgrades an outbox of an earlier version, and prints that; or prints why it is none.
 fn migrate<'a, D: Disk + Drop, P: Place<D> + Drop, O: Write, E: Write>(
     alloc: Global,
     process: &mut OutboxProcess<D, P>,
@@ -234,7 +236,8 @@ fn perform_words<'a, O: Write, E: Write>(
     }
 }
 
-/// Performs what these words ask for, the program's name first, and answers the status. A fault's text goes to `errors`.
+/// Performs what these words ask for, the program's name first, and answers the status. A fault's text goes to
+/// `errors`.
 pub fn perform<O: Write, E: Write>(
     rt: &HostRuntime,
     words: &[String],

@@ -1,12 +1,13 @@
-//! An outbox begins over a database: it is made there, is there, or is brought into this version. This is written over
-//! any store, since each function that names a store in files, if it calls such code, costs much to prove.
+//! Begins an outbox over a database: it is made there, is there, or is upgraded. This is written over any store, since
+//! each function that names a store in files and calls such code costs much to prove.
 
 ghost use Rattle.std.specs.Prelude.{◌≡◌, ◌↔◌, false, IsTrue, IfOk, IfErr};
 ghost use Rattle.table_rows.specs.Standing.{IsAtRest};
 ghost use Rattle.table_rows.specs.Tables.{no_schema};
 ghost use Rattle.outbox_core.specs.Refusals.{GivesBackMigrating};
 ghost use Rattle.outbox_process.specs.Begun.{FindsOutbox, MakesOutbox, MigratesEarlier, MigratesOutbox, BeginsOutbox};
-ghost use Rattle.outbox_process.specs.Refusals.{RefusesFinding, RefusesMaking, IsNotEarlier, RefusesMigrating, RefusesOutbox};
+ghost use Rattle.outbox_process.specs.Refusals.{RefusesFinding, RefusesMaking, IsNotEarlier, RefusesMigrating};
+ghost use Rattle.outbox_process.specs.Refusals.{RefusesOutbox};
 
 use crate::fault::OpeningFault;
 use command_files::held_in;
@@ -22,7 +23,7 @@ pub enum Beginning<'a> {
     Found,
     /// It is made for this filer, in a database without tables. The files are made if they are missing.
     Made { filer: &'a str },
-    /// It is there in the version before, and is brought into this one.
+    /// It is there in an earlier version, and is upgraded.
     Migrated,
 }
 
@@ -73,7 +74,7 @@ fn make_outbox<S: Alter + Drop>(
     }
 }
 
-/// The outbox that lies in this database in the version before, brought into this one.
+/// The outbox of an earlier version in this database, upgraded.
 fn migrate_earlier<S: Alter + Drop>(
     alloc: Global,
     conn: Connection<S>,
@@ -93,7 +94,7 @@ fn migrate_earlier<S: Alter + Drop>(
     }
 }
 
-/// The same, unless it has this version.
+/// The outbox of an earlier version in this database, upgraded, unless it has this version already.
 fn migrate_outbox<S: Alter + Drop>(
     alloc: Global,
     conn: Connection<S>,
@@ -113,7 +114,7 @@ fn migrate_outbox<S: Alter + Drop>(
     }
 }
 
-/// The outbox that begins so over this database. A refusal gives the connection back.
+/// The outbox that begins like this over this database. A refusal gives the connection back.
 pub(crate) fn begin<S: Alter + Drop>(
     alloc: Global,
     conn: Connection<S>,

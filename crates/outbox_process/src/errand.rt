@@ -28,7 +28,7 @@ pub enum Which {
 /// What is done with an outbox.
 #[derive(Drop)]
 pub enum Errand {
-    /// Put a report in under this key, to replace the filing of this number, if there is one.
+    /// Put a report in under this key, to replace a filing or none.
     Put {
         key: KeyText,
         target: Target,
@@ -45,7 +45,7 @@ pub enum Errand {
     ShowStates,
     /// Show the state, the length and the key of this entry.
     ShowEntry(u64),
-    /// The same of each.
+    /// Show the state, the length and the key of each entry.
     ShowEach,
 }
 
@@ -127,7 +127,7 @@ fn asked(came: Result<(), TaskFault>) -> Result<Done, TaskFault>
     }
 }
 
-/// The entries are shown, unless there is a fault.
+/// The errand is done, unless showing the entries failed.
 fn shown(came: Result<(), TaskFault>) -> Result<Done, TaskFault>
     ensures { result ≡ answer (λ _. Done.Shown) came }
 {

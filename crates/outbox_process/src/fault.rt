@@ -15,15 +15,14 @@ pub enum OpeningFault {
     Create(OutboxFault),
     /// The database gave no outbox, and this is what it holds.
     Open(OutboxFault, Holding),
-    /// The outbox that was to be migrated has this version.
+    /// The outbox to be migrated has this version already.
     IsCurrent,
     /// No outbox was migrated, and this is what the database holds.
     Migrate(OutboxFault, Holding),
 }
 
 impl OpeningFault {
-    /// Whether the database is not one of an outbox that was asked for, so that nothing of this program is to lie beside
-    /// it.
+    /// Whether the database is not the outbox that was asked for, so that this program leaves nothing beside it.
     pub(crate) fn is_of_others(self) -> bool {
         matches!(
             self,

@@ -17,7 +17,7 @@ use sqlite_disk::Disk;
 use std::alloc::Global;
 use std::io::Write;
 
-/// How the database of an outbox is opened that begins so.
+/// How the database of an outbox is opened that begins like this.
 fn opening_of(beginning: Beginning<'_>) -> Opening
     ensures { is_found result ≡ has_to_be_there beginning.entry }
 {
@@ -41,7 +41,7 @@ impl<D: Disk + Drop, P: Place<D> + Drop> OutboxProcess<D, P> {
     ghost use Rattle.outbox_process.specs.Process.{parts, OpensProcess, PerformsErrand, ClosesProcess};
     ghost use Rattle.outbox_process.specs.Lending.{LendsOutbox};
 
-    /// The outbox that lies in this place, or is to be made there. It is closed.
+    /// The outbox that lies in this place, or will be made there. It is closed.
     pub fn new(place: P) -> OutboxProcess<D, P>
         ensures { parts P.lying result ≡ record { outbox = None; lying = P.lying place; is_certain = true } }
     {
@@ -87,8 +87,8 @@ impl<D: Disk + Drop, P: Place<D> + Drop> OutboxProcess<D, P> {
         self.outbox.as_mut()
     }
 
-    /// Opens it, if it is closed. A refusal leaves the files in the place, and leaves a database that is damaged or none
-    /// of ours as it was.
+    /// Opens it, if it is closed. A refusal leaves the files in the place, and leaves a database that is damaged or no
+    /// outbox as it was.
     pub fn open(&mut self, alloc: Global, beginning: Beginning<'_>) -> Result<(), OpeningFault>
         ensures { OpensProcess D.Disk beginning.entry (parts P.lying self.old) (parts P.lying self.new) result }
     {

@@ -17,7 +17,7 @@ pub trait Dial {
     /// What writes on it.
     type Writer: Sink + Drop;
 
-    // What the peer writes from here on, and what the connections came to that are over, where these are known; and
+    // What the peer writes from here on, and what came of the connections that are over, if these are known; and
     // whether it gives up.
     ghost traffic: { Self → Traffic };
 
@@ -25,7 +25,7 @@ pub trait Dial {
     fn connect(&mut self) -> io::Result<(Self::Reader, Self::Writer)>
         ensures { Connects (wire Self.Reader.Source Self.Writer.Sink) (traffic self.old) (traffic self.new) result };
 
-    /// Takes a connection back that is over, and what came of the exchange that was made on it for the entry of this id.
+    /// Takes back a connection that is over, and what came of the exchange on it for the entry of this id.
     fn end(
         &mut self,
         reader: Self::Reader,
@@ -36,7 +36,7 @@ pub trait Dial {
         ensures coming { (traffic self.new).coming ≡ (traffic self.old).coming }
         ensures over { Adds (traffic self.old).over (traffic self.new).over id came (Self.Writer.written writer) };
 
-    /// Whether no more exchanges of a round are to be made after one that failed.
+    /// Whether a round ends after an exchange that failed.
     fn gives_up(&self) -> bool
         ensures { result ≡ (traffic self.now).gives_up };
 }

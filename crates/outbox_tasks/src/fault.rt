@@ -24,7 +24,7 @@ impl From<AllocError> for LineFault {
     }
 }
 
-/// Why an open entry was not moved. It is open still.
+/// Why an open entry was not moved. It is still open.
 #[derive(Debug, Drop)]
 pub enum SendFault {
     /// No connection was made.
@@ -75,7 +75,7 @@ impl From<StoreFault> for TaskFault {
 }
 
 impl TaskFault {
-    /// Whether it is a fault of one exchange, and no reason against the next: the connection broke, or what came is no
+    /// Whether it is a fault of one exchange, so that the next may be made: the connection broke, or what came is not a
     /// whole reply.
     pub fn is_of_entry(&self) -> bool
         ensures { result ≡ belongs_to_entry self.now }

@@ -4,7 +4,8 @@ ghost use Rattle.std.specs.Prelude.{◌≡◌, Some, IfOk, OnOk, flat_map, strin
 ghost use Rattle.std.specs.Io.KnownBytes.{Appends};
 ghost use Rattle.filing_model.specs.Views.{view_state};
 ghost use Rattle.outbox_core.specs.Reading.{view_entry};
-ghost use Rattle.outbox_tasks.specs.Lines.{id_line, entry_line, front_part, size_part, target_part, long_line, nothing_open, told_line};
+ghost use Rattle.outbox_tasks.specs.Lines.{id_line, entry_line, front_part, size_part, target_part, long_line};
+ghost use Rattle.outbox_tasks.specs.Lines.{nothing_open, told_line};
 
 use crate::fault::LineFault;
 use command_line::show;
@@ -75,7 +76,7 @@ fn state_lines(alloc: Global, states: &[(u64, State)]) -> Result<String, AllocEr
     Ok(text)
 }
 
-/// Prints the state of an entry, its length, what it is to replace, and its key, which stands last since it may have
+/// Prints the state of an entry, its length, which filing it replaces, and its key, which is last because it may have
 /// spaces.
 pub(crate) fn print_long<O: Write>(
     alloc: Global,
@@ -121,7 +122,7 @@ fn size_text(alloc: Global, bytes: usize) -> Result<String, AllocError>
     Ok(text)
 }
 
-/// What it is to replace, or nothing.
+/// Which filing it replaces, or nothing.
 fn target_text(alloc: Global, target: Option<u64>) -> Result<String, AllocError>
     ensures { IfOk result (λ text. string_bytes text ≡ target_part target) }
 {

@@ -1,4 +1,4 @@
-//! Entries are looked up.
+//! Looks entries up.
 
 ghost use Rattle.std.specs.Prelude.{◌≡◌, Some, IfOk, IfErr, map};
 ghost use Rattle.sqlite.specs.State.{HasCleanDisk};

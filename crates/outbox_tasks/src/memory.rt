@@ -1,4 +1,4 @@
-//! A network in memory, on which what comes is given.
+//! A network in memory, on which given replies come.
 
 ghost use Rattle.std.specs.Prelude.{◌≡◌, ◌++◌, ◌∷◌, [], Some, IfSome, map, option_map, false};
 ghost use Rattle.outbox_tasks.specs.Memory.{bytes_kept, refusals, output_of, traffic_of};
@@ -10,7 +10,7 @@ use outbox_core::State;
 use std::alloc::Global;
 use std::io;
 
-/// What was written so far. A write fails where memory runs out.
+/// What was written so far. A write fails if memory runs out.
 #[derive(Drop)]
 pub struct Kept {
     text: Vec<u8>,
@@ -33,7 +33,7 @@ impl Sink for Kept {
     }
 }
 
-/// What a connection came to that is over.
+/// A connection that is over, and what came of it.
 #[derive(Drop)]
 pub struct Finished {
     /// The entry for which it was made.
@@ -49,12 +49,12 @@ pub struct Finished {
 pub struct Replies<'a> {
     alloc: Global,
     coming: &'a [Vec<u8>],
-    /// None once memory was refused for one.
+    /// None once memory ran out for one.
     over: Option<Vec<Finished>>,
 }
 
 impl<'a> Replies<'a> {
-    /// The network on which these come.
+    /// The network on which these replies come.
     pub fn new(alloc: Global, coming: &'a [Vec<u8>]) -> Replies<'a>
         ensures { traffic_of result ≡ record
             { coming = Some (map (λ bytes. bytes.items) coming.now); over = Some []; gives_up = false } }
@@ -66,8 +66,7 @@ impl<'a> Replies<'a> {
         }
     }
 
-    /// What the connections came to that are over, in the order in which they were made, unless memory was refused for
-    /// one.
+    /// The connections that are over, in the order in which they were made, unless memory ran out for one.
     pub fn finished(&self) -> Option<&[Finished]>
         ensures { option_map (λ all. map output_of all.now) result ≡ (traffic_of self.now).over }
     {
@@ -78,7 +77,7 @@ impl<'a> Replies<'a> {
     }
 }
 
-/// These and one more, unless memory is refused for it.
+/// These and one more, unless memory runs out.
 fn with_one(over: Vec<Finished>, finished: Finished) -> Option<Vec<Finished>>
     ensures { IfSome result (λ all. all.items ≡ over.items ++ finished ∷ []) }
 {

@@ -1,4 +1,4 @@
-//! A report is put in, and its id is printed.
+//! Puts a report in, and prints its id.
 
 ghost use Rattle.http_messages.specs.Posting.{IsTarget};
 ghost use Rattle.outbox_tasks.specs.Putting.{PutsAndTells};
@@ -11,8 +11,8 @@ use sqlite::Alter;
 use std::alloc::Global;
 use std::io::Write;
 
-/// Puts a report in as an open entry, which may be to replace the filing of a number, and prints its id. If that could
-/// not be printed, the fault names it, and the report is in; after any other fault it is not.
+/// Puts a report in as an open entry, to replace a filing or none, and prints its id. If the id could not be printed,
+/// the fault names it, and the report is in the outbox; after any other fault it is not.
 pub fn put<S: Alter, O: Write>(
     alloc: Global,
     outbox: &mut Outbox<S>,

@@ -1,4 +1,4 @@
-//! A round: each open entry is sent once, in the order of the ids.
+//! A round, which sends each open entry once, in the order of the ids.
 
 ghost use Rattle.std.specs.Prelude.{◌≡◌, IfOk, IfErr, map, filter};
 ghost use Rattle.sqlite.specs.State.{HasCleanDisk};
@@ -95,9 +95,9 @@ fn send_each<S: Alter, N: Dial, O: Write>(
     Ok(failed)
 }
 
-/// Sends each open entry once, in the order of the ids, and prints the states that they came to; of one whose exchange
-/// failed by a fault of its own, that it is open, and the round goes on, unless the network gives up. Any other fault
-/// ends the round. If no entry is open, that is printed.
+/// Sends each open entry once, in the order of the ids, and prints its state after the reply. An entry whose exchange
+/// failed by a fault of its own is printed as open, and the round goes on, unless the network gives up. Any other fault
+/// ends the round. If no entry is open, it prints that.
 pub fn send_all<S: Alter, N: Dial, O: Write>(
     alloc: Global,
     network: &mut N,

@@ -1,4 +1,4 @@
-//! An entry is sent on a connection of its own, and its state is printed.
+//! Sends an entry on a connection of its own, and prints its state.
 
 ghost use Rattle.outbox_tasks.specs.Sending.{IsOpenAt, Tries, Sends, SendsEntry, SendsNext};
 
@@ -35,7 +35,7 @@ fn exchange_once<S: Alter, N: Dial>(
     }
 }
 
-/// Sends an entry that is open, and prints the state that it came to; after a fault, that it is open.
+/// Sends an entry that is open, and prints its state after the reply; after a fault, that it is open.
 pub(crate) fn send_open<S: Alter, N: Dial, O: Write>(
     alloc: Global,
     network: &mut N,
@@ -58,9 +58,8 @@ pub(crate) fn send_open<S: Alter, N: Dial, O: Write>(
     }
 }
 
-/// Sends the entry of this id if it is open, and prints the state that it came to; after a fault, that it is open. Of an
-/// entry that is not open the state is printed, and no connection is made. `NoEntry` comes exactly if no entry has the
-/// id.
+/// Sends the entry of this id if it is open, and prints its state after the reply; after a fault, that it is open. If
+/// it is not open, it prints the state and makes no connection. `NoEntry` comes exactly if no entry has the id.
 pub fn send_entry<S: Alter, N: Dial, O: Write>(
     alloc: Global,
     network: &mut N,
@@ -80,8 +79,8 @@ pub fn send_entry<S: Alter, N: Dial, O: Write>(
     }
 }
 
-/// Sends the open entry with the least id, and prints the state that it came to; after a fault, that it is open. If no
-/// entry is open, that is printed, and the answer is `None`.
+/// Sends the open entry with the least id, and prints its state after the reply; after a fault, that it is open. If no
+/// entry is open, it prints that and answers `None`.
 pub fn send_next<S: Alter, N: Dial, O: Write>(
     alloc: Global,
     network: &mut N,

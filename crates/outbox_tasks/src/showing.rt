@@ -1,4 +1,4 @@
-//! Entries are shown.
+//! Shows entries.
 
 ghost use Rattle.outbox_tasks.specs.Looking.{AreAny};
 ghost use Rattle.outbox_tasks.specs.Showing.{AreTold, ShowsStates, ShowsEntry, ShowsEach};
@@ -24,8 +24,8 @@ pub fn show_states<S: Alter, O: Write>(
     Ok(())
 }
 
-/// Prints the entry of this id with its length, what it is to replace, and its key. `NoEntry` comes exactly if no entry
-/// has the id.
+/// Prints the entry of this id with its length, which filing it replaces, and its key. `NoEntry` comes exactly if no
+/// entry has the id.
 pub fn show_entry<S: Alter, O: Write>(
     alloc: Global,
     outbox: &mut Outbox<S>,
@@ -39,7 +39,7 @@ pub fn show_entry<S: Alter, O: Write>(
     Ok(())
 }
 
-/// Prints each entry so, in the order of the ids.
+/// Prints each entry as `show_entry` does, in the order of the ids.
 pub fn show_each<S: Alter, O: Write>(
     alloc: Global,
     outbox: &mut Outbox<S>,
@@ -51,7 +51,7 @@ pub fn show_each<S: Alter, O: Write>(
     show_those(alloc, outbox, states.as_slice(), output)
 }
 
-/// Prints these, which are all entries.
+/// Prints these entries, which are all.
 fn show_those<S: Alter, O: Write>(
     alloc: Global,
     outbox: &mut Outbox<S>,

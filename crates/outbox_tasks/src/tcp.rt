@@ -25,7 +25,7 @@ impl<'r> TcpDial<'r> {
     /// A connection to it.
     pub fn next_stream(&self) -> io::Result<TcpStream> {
         let stream = TcpStream::connect(self.rt, ("127.0.0.1", self.number))?;
-        // A request is written whole, and without this its end may wait for the peer to tell of what came before.
+        // A request is written whole, and without this its end may wait until the peer acknowledged what came before.
         stream.set_nodelay(true)?;
         Ok(stream)
     }

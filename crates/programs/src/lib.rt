@@ -13,17 +13,19 @@ ghost use Rattle.gateway_ports.specs.InTurn.{ServeInTurn};
 ghost use Rattle.intake_process.specs.Turns.{Turn, connections_of, served_in, AreTurnedAway};
 ghost use Rattle.world_ports.specs.Deliveries.{Delivery, AreOf};
 ghost use Rattle.programs.specs.Exchanged.{IsBox, IsSent, ComesOf, IsMoved};
-ghost use Rattle.programs.specs.Happenings.{Situation, Happening, at_first, Happen, IsReached, AreRegistered, TurnsHappen};
+ghost use Rattle.programs.specs.Happenings.{Situation, Happening, at_first, Happen, IsReached, AreRegistered};
+ghost use Rattle.programs.specs.Happenings.{TurnsHappen};
 
-/// What an exchange writes is sent, and what it hears is handed to its entry, whatever came in between at other ends: the
-/// entry is in the state that the exchange answers.
+/// What an exchange writes is sent, and what it hears is handed to its entry, whatever came in between at other ends:
+/// the entry is in the state that the exchange answers.
 pub fn an_exchange_is_sent_and_handed()
     ensures sent { (old : World) (outbox id : ℕ) (box : Outbox) (text : List ℕ) → IsBox old outbox box
         → IsOpenRequest box.filer box.entries id text → (new : World) × IsSent old outbox id text new }
     ensures handed { (old : World) (outbox id output given : ℕ) (box : Outbox) (text bytes : List ℕ)
         (left : Option (List ℕ)) (to : State) → IsBox old outbox box
         → IsOpenRequest box.filer box.entries id text → ComesOf old outbox id output given bytes
-        → Hears (Some bytes) left (λ reply. to ≡ moved Open reply) → (new : World) × IsMoved old outbox id output box to new }
+        → Hears (Some bytes) left (λ reply. to ≡ moved Open reply)
+        → (new : World) × IsMoved old outbox id output box to new }
 {}
 
 /// Connections that a run of `intake serve` answered happened one after another: those that were served in turn, and
@@ -37,8 +39,8 @@ pub fn turns_happen()
 {}
 
 /// Whatever the programs do, one thing after another and each as its contract says: events lead to a world that is kept
-/// so, the headline holds of it, and each entry that an outbox counts as confirmed is in the register exactly once, with
-/// its bytes, under its number.
+/// so, the headline holds of it, and each entry that an outbox counts as confirmed is in the register exactly once,
+/// with its bytes, under its number.
 pub fn any_programs()
     ensures reached { (filers : List (List ℕ)) (limit : ℕ) (happenings : List Happening) (situation : Situation)
         → AreFilers filers → limit ≤ 2 ^ 62 → Happen limit (at_first filers) happenings situation

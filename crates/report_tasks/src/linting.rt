@@ -1,4 +1,4 @@
-//! What is wrong with reports is printed.
+//! Prints what is wrong with reports.
 
 ghost use Rattle.std.specs.Prelude.{map};
 ghost use Rattle.report_tasks.specs.Linting.{FindsIn, LintsFile, LintsFiles, LintsReports};
@@ -12,10 +12,11 @@ use std::alloc::Global;
 use std::io::Write;
 use xbrl_report::{Judged, judge};
 
-/// The status if something is found in a report.
+/// The status if a report has a finding.
 const FOUND: u8 = 1;
 
-/// Prints a line for each finding of the report of this filer in the file of this name, and answers whether there is one.
+/// Prints a line for each finding of the report of this filer in the file of this name, and answers whether there is
+/// one.
 pub fn lint<'a, O: Write>(
     alloc: Global,
     form: Form,
@@ -36,7 +37,7 @@ pub fn lint<'a, O: Write>(
     }
 }
 
-/// Does so with the report in the file of this name.
+/// Prints a line for each finding of the report in the file of this name, and answers whether there is one.
 fn lint_file<'a, O: Write>(
     rt: &HostRuntime,
     form: Form,
@@ -51,8 +52,8 @@ fn lint_file<'a, O: Write>(
     Ok(is_found)
 }
 
-/// Does so with the reports in the files of these names, and answers whether one has a finding. It ends at the first file
-/// that cannot be read.
+/// Prints a line for each finding of the reports in the files of these names, and answers whether there is one. It ends
+/// at the first file that cannot be read.
 fn lint_files<'a, O: Write>(
     rt: &HostRuntime,
     form: Form,
@@ -71,8 +72,8 @@ fn lint_files<'a, O: Write>(
     Ok(is_found)
 }
 
-/// Prints a line for each finding of the reports of the filer with this code in the files of these names, and answers the
-/// status of the program: 1 if there is one, and else 0. It ends at the first file that cannot be read.
+/// Prints a line for each finding of the reports of the filer with this code in the files of these names, and answers
+/// the status of the program: 1 if there is one, otherwise 0. It ends at the first file that cannot be read.
 pub fn lint_reports<'a, O: Write>(
     rt: &HostRuntime,
     form: Form,

@@ -12,8 +12,8 @@ use outbox_core::StoreFault;
 use schedule::Fault as WorldFault;
 use std::alloc::{AllocError, Global};
 
-/// Runs the vector of this number, of 24 its end, of 27 its beginning, and tells whether it passed. A number that is
-/// none of schedules fails. Want of memory is answered where memory was refused.
+/// Runs the vector of this number, of 24 its end, of 27 its beginning, and says whether it passed. A number that is
+/// none of schedules fails. If memory was refused, it answers that.
 pub fn run(alloc: Global, number: u32) -> Result<bool, AllocError> {
     let passed = match number {
         15 => stopped_after_keeping(alloc),

@@ -50,7 +50,7 @@ fn are_registered<S: Alter>(
     Ok(())
 }
 
-/// Asserts that repeats are told of as such, and the same key of another filer is another one.
+/// Asserts that repeats are answered as such, and that the same key of another filer is another one.
 fn are_repeated<S: Fresh>(rt: &impl Abort, alloc: Global) -> Result<(), Fail> {
     let mut intake: Intake<S> = S::intake(alloc, 100)?;
     are_registered(rt, alloc, &mut intake, false)?;

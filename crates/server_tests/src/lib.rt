@@ -1,5 +1,5 @@
-//! Tests of an intake and of the connections to it, through the public calls of the crates below. What may live here: tests
-//! alone.
+//! Tests of an intake and of the connections to it, through the public calls of the crates below. What may live here:
+//! tests alone.
 #![tactic(auto)]
 
 #[cfg(test)]

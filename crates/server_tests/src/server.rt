@@ -49,7 +49,8 @@ fn served<S: Alter>(
     )
 }
 
-/// Whether a connection to a new intake writes these bytes and ends so, where a read gives so many of those that are given.
+/// Whether a connection to a new intake writes these bytes and ends so, if a read gives so many of those that are
+/// given.
 fn goes<S: Fresh>(
     alloc: Global,
     given: &[u8],
@@ -109,8 +110,8 @@ const CONTINUE: &str = "HTTP/1.1 100 Continue\r\n\r\n";
 const HEAD_TOO_LARGE: &str =
     "HTTP/1.1 431 Request Header Fields Too Large\r\nContent-Type: application/problem+json\r\nContent-Length: 103\r\nConnection: close\r\n\r\n{\"reason\":\"head-too-large\",\"status\":431,\"title\":\"Request Header Fields Too Large\",\"type\":\"about:blank\"}";
 
-/// A block of 16,384 bytes is the longest, after an empty line that does not count, and one of 64 fields has the most. A body has at
-/// most 1,048,576 bytes, 84 of which are the smallest report.
+/// A block of 16,384 bytes is the longest, after an empty line that does not count, and one of 64 fields has the most.
+/// A body has at most 1,048,576 bytes, 84 of which are the smallest report.
 static CONVERSATIONS: [Conversation; 12] = [
     (
         &[
@@ -188,7 +189,7 @@ fn however_the_bytes_come(rt: HostRuntime) -> Result<(), Fail> {
     hold::<MemStore>(&rt, rt.alloc(), &CONVERSATIONS, &PIECES)
 }
 
-/// The last of four requests lacks 388 bytes, where 4,194,304 reads gave one byte each.
+/// The last of four requests lacks 388 bytes when 4,194,304 reads gave one byte each.
 const MOST_READS: Conversation = (
     &[
         (LONGEST, 1),

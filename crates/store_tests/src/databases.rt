@@ -9,10 +9,10 @@ use std::alloc::Global;
 /// More calls than the runs below make of a disk.
 pub const ENOUGH: u64 = 1000;
 
-/// A store that a new database may have. What is done with databases is generic over it, and a test names the store once: to
-/// call at a concrete store what is generic costs more to prove than the call itself.
+/// A store that a new database may have. What is done with databases is generic over it, and a test names the store
+/// once: to call at a concrete store what is generic costs more to prove than the call itself.
 pub trait Fresh: Alter + Drop {
-    /// A new database, or `None` where memory is refused.
+    /// A new database, or `None` if memory is refused.
     fn fresh(alloc: Global) -> Option<Connection<Self>>;
 }
 
@@ -51,7 +51,7 @@ pub fn crashed<D: Crash>(files: Files<D>) -> Files<D> {
     files
 }
 
-/// A file of the same bytes; `None` where memory is refused.
+/// A file of the same bytes; `None` if memory is refused.
 fn copy(alloc: Global, file: &Memory) -> Option<Memory> {
     let mut copy = Memory::new(alloc);
     match copy.write_at(0, file.bytes()) {
@@ -60,7 +60,7 @@ fn copy(alloc: Global, file: &Memory) -> Option<Memory> {
     }
 }
 
-/// What is in these files, on disks that do not stop; `None` where memory is refused.
+/// What is in these files, on disks that do not stop; `None` if memory is refused.
 pub fn copies(alloc: Global, files: &Files<Fuse<Memory>>) -> Option<Files<Memory>> {
     Some(Files {
         log: copy(alloc, files.log.inner())?,
@@ -68,7 +68,7 @@ pub fn copies(alloc: Global, files: &Files<Fuse<Memory>>) -> Option<Files<Memory
     })
 }
 
-/// A connection to the database that is in these files, or `None` where it is not opened.
+/// A connection to the database that is in these files, or `None` if it is not opened.
 pub fn connect<D: Disk + Drop>(alloc: Global, files: Files<D>) -> Option<Connection<FileStore<D>>> {
     if !files.log.may_be_used() || !files.db.may_be_used() {
         return None;
@@ -79,7 +79,7 @@ pub fn connect<D: Disk + Drop>(alloc: Global, files: Files<D>) -> Option<Connect
     }
 }
 
-/// The connection, which is in no transaction and has no limit of steps; `None` where a transaction is under way.
+/// The connection, which is in no transaction and has no limit of steps; `None` if a transaction is under way.
 pub fn ready<S: Alter + Drop>(conn: Connection<S>) -> Option<Connection<S>>
     ensures { IfSome result (λ conn. (conn.in_transaction ≡ false) × (conn.step_limit ≡ None)) }
 {
@@ -92,7 +92,7 @@ pub fn ready<S: Alter + Drop>(conn: Connection<S>) -> Option<Connection<S>>
     }
 }
 
-/// The connection after statements; `None` where one is refused.
+/// The connection after statements; `None` if one is refused.
 pub fn ran<S: Alter + Drop>(conn: Connection<S>, sql: &str) -> Option<Connection<S>> {
     let mut conn = conn;
     match conn.execute_batch(sql) {

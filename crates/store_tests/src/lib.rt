@@ -1,5 +1,5 @@
-//! Tests of what is kept in tables: registers and outboxes, in memory and on disks that stop, through the public calls of
-//! the crates below. What may live here: tests alone.
+//! Tests of what is kept in tables: registers and outboxes, in memory and on disks that stop, through the public calls
+//! of the crates below. What may live here: tests alone.
 #![tactic(auto)]
 
 #[cfg(test)]

@@ -126,7 +126,7 @@ fn holds<S: Alter>(outbox: &mut Outbox<S>, expected: &[Expected]) -> Result<bool
     Ok(has_all)
 }
 
-/// The outbox, and whether it has these entries and no others; `None` where it is not opened.
+/// The outbox, and whether it has these entries and no others; `None` if it is not opened.
 fn found<S: Alter + Drop>(
     alloc: Global,
     conn: Connection<S>,
@@ -149,7 +149,7 @@ fn changed<S: Fresh>(alloc: Global, sql: &str) -> Option<Connection<S>> {
     ran(with_entry(alloc, S::fresh(alloc)?)?, sql)
 }
 
-/// How an opening is refused then, if it is; `None` where the statement is refused.
+/// How an opening is refused then, if it is; `None` if the statement is refused.
 fn fault_after<S: Fresh>(alloc: Global, sql: &str) -> Option<Option<OutboxFault>> {
     let conn: Connection<S> = changed(alloc, sql)?;
     Some(calls::open(alloc, conn).err())

@@ -16,13 +16,15 @@ mod memory;
 mod migration;
 mod stops;
 
-/// A request of ACME: its key, whether it is to replace filing 1, its body, and the number of its filing, 0 where it is refused.
+/// A request of ACME: its key, whether it is to replace filing 1, its body, and the number of its filing, 0 if it is
+/// refused.
 type Request = (&'static str, bool, &'static str, u64);
 
 /// A request that is registered.
 static ONE: [Request; 1] = [("k-1", false, REPORT, 1)];
 
-/// The number of the filing that is answered, 0 where the answer is that there is none, and whether the request came before.
+/// The number of the filing that is answered, 0 if the answer is that there is none, and whether the request came
+/// before.
 fn numbered(answer: Result<Answer, Unavailable>) -> Result<(u64, bool), Unavailable> {
     match answer {
         Ok(Answer::Registered { number, repeat }) => Ok((number, repeat)),
@@ -107,7 +109,7 @@ fn submit_all<S: Alter>(
     Ok(())
 }
 
-/// A new register with these requests; `None` where one gets no answer.
+/// A new register with these requests; `None` if one gets no answer.
 fn made<S: Alter + Drop>(
     alloc: Global,
     conn: Connection<S>,

@@ -1,5 +1,5 @@
-//! What is left of a database in files after a stop: it is changed on a disk of which one file stops at each call in turn, and is
-//! opened again from what the disk left.
+//! What is left of a database in files after a stop: it is changed on a disk of which one file stops at each call in
+//! turn, and is opened again from what the disk left.
 
 use crate::databases::{ENOUGH, connect, copies, crashed, fused, lasting, new_files};
 use sqlite::{Alter, Connection, FileStore};
@@ -8,23 +8,23 @@ use std::alloc::Global;
 use std::process::Abort;
 use table_rows::StoreFault;
 
-// What needs no disk by name is generic over the store. The rest is generic over the disk, and calls one function of the first, since
-// each such call costs much to prove.
+// What needs no disk by name is generic over the store. The rest is generic over the disk, and calls one function of
+// the first, since each such call costs much to prove.
 
 /// A change of a database that is tried on a disk that stops.
 pub trait Trial {
-    /// The database with what it has before the change; `None` where something is refused.
+    /// The database with what it has before the change; `None` if something is refused.
     fn make<S: Alter + Drop>(&self, alloc: Global, conn: Connection<S>) -> Option<Connection<S>>;
 
-    /// The database after the change, and whether that was answered; `None` where it is not opened.
+    /// The database after the change, and whether that was answered; `None` if it is not opened.
     fn change<S: Alter + Drop>(
         &self,
         alloc: Global,
         conn: Connection<S>,
     ) -> Option<(Connection<S>, bool)>;
 
-    /// The database, and whether it has the rows of before or of after the change, and those of after where that was answered; `None`
-    /// where it is not opened.
+    /// The database, and whether it has the rows from before or after the change, and those from after it if that was
+    /// answered; `None` if it is not opened.
     fn look<S: Alter + Drop>(
         &self,
         alloc: Global,
@@ -55,7 +55,7 @@ struct Stop {
 enum End {
     /// The change was answered, and the database has the rows of after it.
     Answered,
-    /// The change was not answered, and the database has the rows of before or of after it.
+    /// The change was not answered, and the database has the rows from before or after it.
     Stopped,
     /// The database was not opened for the change.
     NotOpened,
@@ -73,8 +73,8 @@ enum End {
     NeverAnswered,
 }
 
-/// The database after a step, and what that comes to: whether a change was answered, or what a look finds is right. `None` where the
-/// database is not opened.
+/// The database after a step, and what that comes to: whether a change was answered, or what a look finds is right.
+/// `None` if the database is not opened.
 fn done<T: Trial, S: Alter + Drop>(
     alloc: Global,
     conn: Connection<S>,
@@ -96,8 +96,8 @@ fn close<D: Disk + Drop>(conn: Connection<FileStore<D>>) -> (Files<D>, Option<St
     }
 }
 
-/// The files of the database after a step, what `done` comes to in them, and why the close was refused, if it was; `None` where the
-/// database is not opened.
+/// The files of the database after a step, what `done` comes to in them, and why the close was refused, if it was;
+/// `None` if the database is not opened.
 fn done_in<T: Trial, D: Disk + Drop>(
     alloc: Global,
     files: Files<D>,
@@ -109,7 +109,8 @@ fn done_in<T: Trial, D: Disk + Drop>(
     Some((files, is_so, fault))
 }
 
-/// The files with what is there before the change, on a disk of which one stops after so many calls; `None` where they are not made.
+/// The files with what is there before the change, on a disk of which one stops after so many calls; `None` if they
+/// are not made.
 fn stopping<T: Trial>(
     alloc: Global,
     trial: &T,
@@ -129,7 +130,7 @@ fn stopping<T: Trial>(
     }
 }
 
-/// The files as they are opened again, on a disk that does not stop; `None` where memory is refused.
+/// The files as they are opened again, on a disk that does not stop; `None` if memory is refused.
 fn left(alloc: Global, files: Files<Fuse<Memory>>, stop: &Stop) -> Option<Files<Fuse<Memory>>> {
     if stop.crashes {
         Some(crashed(files))
@@ -138,8 +139,8 @@ fn left(alloc: Global, files: Files<Fuse<Memory>>, stop: &Stop) -> Option<Files<
     }
 }
 
-/// Whether these files, which a change left that was answered or not, have the rows that they may have, and are closed; `None` where the
-/// database is not opened.
+/// Whether these files, which a change left that was answered or not, have the rows that they may have, and are closed;
+/// `None` if the database is not opened.
 fn is_left<T: Trial>(
     alloc: Global,
     files: Files<Fuse<Memory>>,
@@ -168,7 +169,7 @@ fn end_after<T: Trial>(
     }
 }
 
-/// What comes of the change where the file stops after so many calls.
+/// What comes of the change if the file stops after so many calls.
 fn end_at<T: Trial>(alloc: Global, trial: &T, stop: &Stop, calls: u64) -> End {
     let Some(files) = stopping(alloc, trial, stop, calls) else {
         return End::NotMade;
@@ -183,8 +184,8 @@ fn end_at<T: Trial>(alloc: Global, trial: &T, stop: &Stop, calls: u64) -> End {
     }
 }
 
-/// Stops the file after 0, 1, 2, .. calls, until the change is answered: a stop is to come before, in the change or, of the database file,
-/// in the opening.
+/// Stops the file after 0, 1, 2, .. calls, until the change is answered: a stop is to come before, in the change or, of
+/// the database file, in the opening.
 fn end_of<T: Trial>(alloc: Global, trial: &T, stop: &Stop) -> End {
     let mut is_stopped = false;
     for calls in 0..ENOUGH {
@@ -218,7 +219,7 @@ static STOPS: [Stop; 4] = [
     },
 ];
 
-/// Asserts that a change is answered, where each file stopped at each call before, and left what it may.
+/// Asserts that a change is answered, if each file stopped at each call before, and left what it may.
 pub fn hold<T: Trial>(rt: &impl Abort, alloc: Global, trial: &T) {
     for stop in &STOPS {
         assert_eq!(rt; end_of(alloc, trial, stop), End::Answered);

@@ -13,15 +13,15 @@ use register_store::{OpenFault, Store};
 use sqlite::{Alter, Connection, params};
 use std::alloc::Global;
 
-/// What an empty body was told before there were problem details.
+/// The reply to an empty body before there were problem details.
 const NOT_JSON_BEFORE: &str =
     "HTTP/1.1 400 Bad Request\r\nContent-Type: application/json\r\nContent-Length: 64\r\n\r\n{\"findings\":[{\"code\":\"not-json\",\"place\":\"\"}],\"status\":\"refused\"}";
 
-/// What another body under a used key was told then.
+/// The reply to another body under a used key, at that time.
 const KEY_REUSED_BEFORE: &str =
     "HTTP/1.1 422 Unprocessable Content\r\nContent-Type: application/json\r\nContent-Length: 23\r\n\r\n{\"status\":\"key-reused\"}";
 
-/// Vector 25: a register of before keeps what it told, and tells new keys problem details.
+/// Vector 25: a register of an earlier version keeps its replies, and answers new keys with problem details.
 pub(crate) fn migrated(alloc: Global) -> Result<bool, Stop> {
     visits(
         alloc,
@@ -65,7 +65,7 @@ fn keep_empty_body<S: Alter>(conn: &mut Connection<S>) -> Result<(), Stop> {
     Ok(())
 }
 
-/// Migrates the register, which tells the old key what it was told before, and a new one problem details.
+/// Migrates the register, which answers the old key as before, and a new one with problem details.
 pub(crate) fn migrate<S: Alter + Drop>(
     alloc: Global,
     conn: Connection<S>,
@@ -76,7 +76,7 @@ pub(crate) fn migrate<S: Alter + Drop>(
     asked(alloc, Store::migrate(alloc, conn)?)
 }
 
-/// Opens the register, which tells the same.
+/// Opens the register, which gives the same answers.
 pub(crate) fn open<S: Alter + Drop>(
     alloc: Global,
     conn: Connection<S>,
@@ -87,7 +87,7 @@ pub(crate) fn open<S: Alter + Drop>(
     asked(alloc, Store::open(alloc, conn)?)
 }
 
-/// The connection of a register that tells both as it is to.
+/// The connection of a register that answers both keys as expected.
 fn asked<S: Alter + Drop>(alloc: Global, store: Store<S>) -> Result<Option<Connection<S>>, Stop> {
     let mut intake = Intake::new(alloc, store, 1_000_000);
     Stop::unless(tells_both(alloc, &mut intake)?)?;
@@ -117,7 +117,7 @@ fn migrate_fault<S: Alter + Drop>(
     refusal(Store::migrate(alloc, conn))
 }
 
-/// Whether the old key is told what it was told before, and a new one problem details.
+/// Whether the old key is answered as before, and a new one with problem details.
 fn tells_both<S: Alter>(alloc: Global, intake: &mut Intake<S>) -> Result<bool, Stop> {
     let expected = connection_rows::Connection {
         given: &[

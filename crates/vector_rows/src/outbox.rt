@@ -161,7 +161,7 @@ fn is_confirmed<S: Alter>(outbox: &mut Outbox<S>) -> Result<bool, Stop> {
     Ok(next.is_none() && states.as_slice() == [(1, State::Confirmed(1))].as_slice())
 }
 
-/// The entries and how they stand.
+/// The entries and their states.
 fn states<S: Alter>(outbox: &mut Outbox<S>) -> Result<Vec<(u64, State)>, Stop> {
     Ok(outbox.states()?)
 }
@@ -217,7 +217,7 @@ fn requests(alloc: Global) -> Result<bool, Stop> {
     }
 }
 
-/// How long the request is that files a body for `ACME`; `None` where the body is too large.
+/// How long the request is that files a body for `ACME`; `None` if the body is too large.
 fn request_length(alloc: Global, key: &KeyText, body: &[u8]) -> Result<Option<usize>, Stop> {
     let filer = "ACME";
     if !is_filer(filer) || body.len() > MAX_BODY_LEN {
@@ -276,7 +276,7 @@ fn exchanged<S: Alter>(
     )
 }
 
-/// How an exchange was refused, if it was. A writer in memory fails where memory runs out, and for nothing else.
+/// How an exchange was refused, if it was. A writer in memory fails only if memory runs out.
 fn fault_of(outcome: Result<State, ExchangeFault>) -> Result<Option<ExchangeFault>, Stop> {
     match outcome {
         Ok(_) => Ok(None),

@@ -10,7 +10,8 @@ use outbox_core::{Entry, Outbox, OutboxFault, State};
 use sqlite::{Alter, Connection, params};
 use std::alloc::Global;
 
-/// The end of vector 27: an outbox of before keeps its entry, which replaces nothing, and is no outbox of before then.
+/// The end of vector 27: an outbox of an earlier version keeps its entry, which replaces nothing, and has this version
+/// then.
 pub(crate) fn migrated(alloc: Global) -> Result<bool, Stop> {
     visits(
         alloc,
@@ -89,7 +90,7 @@ fn is_kept<S: Alter>(outbox: &mut Outbox<S>) -> Result<bool, Stop> {
     Ok(states.as_slice() == [(1, State::Confirmed(1))].as_slice() && is_confirmed(&entry))
 }
 
-/// The entries and how they stand.
+/// The entries and their states.
 fn states<S: Alter>(outbox: &mut Outbox<S>) -> Result<Vec<(u64, State)>, Stop> {
     Ok(outbox.states()?)
 }
@@ -99,7 +100,7 @@ fn first_entry<S: Alter>(outbox: &mut Outbox<S>) -> Result<Option<Entry>, Stop> 
     Ok(outbox.entry(1)?)
 }
 
-/// Whether it is the entry of before, which replaces nothing.
+/// Whether it is the earlier entry, which replaces nothing.
 fn is_confirmed(entry: &Option<Entry>) -> bool {
     match entry {
         None => false,

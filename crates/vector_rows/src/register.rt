@@ -13,7 +13,7 @@ use register_store::{CreateFault, KeptRow, OpenFault, Outcome, Store};
 use sqlite::{Alter, Connection, params};
 use std::alloc::Global;
 
-/// Vector 23: a register is found as it was left, and damage to it is told.
+/// Vector 23: a register is found as it was left, and damage to it is reported.
 pub(crate) fn reopened(alloc: Global) -> Result<bool, Stop> {
     Ok(found(alloc)? && damaged(alloc)? && not_ours(alloc)? && taken(alloc)?)
 }
@@ -23,7 +23,7 @@ fn found(alloc: Global) -> Result<bool, Stop> {
     visits(alloc, &[Visit::FillRegister, Visit::FindRequest])
 }
 
-/// Whether another body in the kept row is told.
+/// Whether another body in the kept row is reported.
 fn damaged(alloc: Global) -> Result<bool, Stop> {
     visits(
         alloc,
@@ -31,7 +31,7 @@ fn damaged(alloc: Global) -> Result<bool, Stop> {
     )
 }
 
-/// Whether a database without tables is told.
+/// Whether a database without tables is reported.
 fn not_ours(alloc: Global) -> Result<bool, Stop> {
     visits(alloc, &[Visit::OpenNone])
 }
@@ -62,7 +62,7 @@ fn empty_intake<S: Alter + Drop>(alloc: Global, conn: Connection<S>) -> Result<I
     Ok(Intake::new(alloc, Store::create(alloc, conn)?, 1_000_000))
 }
 
-/// Whether three times the same request is told three times that it is registered.
+/// Whether a request that comes three times is answered three times that it is registered.
 fn takes_once<S: Alter>(alloc: Global, intake: &mut Intake<S>) -> Result<bool, Stop> {
     let expected = connection_rows::Connection {
         given: &[Part::Text(REQUEST); 3],
@@ -138,7 +138,7 @@ pub(crate) fn change_body<S: Alter + Drop>(
     Ok(Some(conn))
 }
 
-/// Whether the damage to the kept row is told; it gives the database up.
+/// Whether the damage to the kept row is reported; it gives the database up.
 pub(crate) fn open_damaged<S: Alter + Drop>(
     alloc: Global,
     conn: Connection<S>,
@@ -150,7 +150,7 @@ pub(crate) fn open_damaged<S: Alter + Drop>(
     Ok(None)
 }
 
-/// Whether a database that has no register is told as such; it gives the database up.
+/// Whether a database without a register is reported as such; it gives the database up.
 pub(crate) fn open_none<S: Alter + Drop>(
     alloc: Global,
     conn: Connection<S>,

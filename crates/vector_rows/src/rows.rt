@@ -4,8 +4,8 @@ use crate::{migration, outbox, outbox_migration, register};
 use connection_rows::Stop;
 use std::alloc::{AllocError, Global};
 
-/// Runs the vector of this number over databases of its own in memory, and tells whether it passed. A number that is
-/// none fails. Want of memory is answered where memory was refused.
+/// Runs the vector of this number over databases of its own in memory, and says whether it passed. An unknown
+/// number fails. If memory was refused, it answers that.
 pub fn run(alloc: Global, number: u32) -> Result<bool, AllocError> {
     Stop::settle(run_row(alloc, number))
 }

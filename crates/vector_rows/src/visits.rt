@@ -9,7 +9,8 @@ use sqlite::{Alter, Connection, Files};
 use sqlite_disk::Disk;
 use std::alloc::Global;
 
-/// What a vector does with a database while it is open. Where that is to be refused, the refusal is looked at, and the database is given up.
+/// What a vector does with a database while it is open. If that has to be refused, the refusal is compared, and the
+/// database is given up.
 #[derive(Clone, Copy)]
 pub(crate) enum Visit {
     /// Makes a register, and gives it three times the same request.
@@ -18,29 +19,29 @@ pub(crate) enum Visit {
     FindRequest,
     /// Puts another body into the kept row.
     ChangeBody,
-    /// Opens the register, and is told of the damage to that row.
+    /// Opens the register, and learns of the damage to that row.
     OpenDamaged,
-    /// Opens a register, and is told that there is none.
+    /// Opens a register, and learns that there is none.
     OpenNone,
-    /// Makes a register, and is told that there is one already.
+    /// Makes a register, and learns that there is one already.
     MakeSecondRegister,
     /// Makes a register of the second form.
     MakeEarlierRegister,
-    /// Migrates it, and asks for what was told before and what is told now.
+    /// Migrates it, and asks for the earlier answer and a new one.
     MigrateRegister,
     /// Opens it, and asks the same.
     OpenMigrated,
-    /// Migrates the register, and is told that it is none of an earlier form.
+    /// Migrates the register, and learns that it has no earlier form.
     MigrateAgain,
     /// Makes an outbox.
     MakeOutbox,
-    /// Makes an outbox, and is told that there is one already.
+    /// Makes an outbox, and learns that there is one already.
     MakeSecondOutbox,
     /// Makes an outbox of the first form.
     MakeEarlierOutbox,
     /// Migrates it, and finds its entry.
     MigrateOutbox,
-    /// Migrates the outbox, and is told that it is none of an earlier form.
+    /// Migrates the outbox, and learns that it has no earlier form.
     MigrateOutboxAgain,
 }
 

@@ -40,7 +40,7 @@ impl Outcome {
     }
 }
 
-/// Runs all vectors, each over databases of its own in memory. Want of memory is answered where memory was refused.
+/// Runs all vectors, each over databases of its own in memory. If memory was refused, it answers that.
 pub fn run_all(alloc: Global) -> Result<VectorReport, AllocError>
     ensures failed { IfOk result (λ report. AreSomeOf NUMBERS report.failed.items) }
     ensures passed { IfOk result (λ report. report.passed + vec_len report.failed ≡ length NUMBERS) }

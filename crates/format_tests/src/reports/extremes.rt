@@ -44,12 +44,12 @@ fn told_of_many(alloc: Global, count: u32) -> Result<String, AllocError> {
     told(alloc, &many_findings(alloc, count)?)
 }
 
-/// The same where a filing is not free to be replaced.
+/// The findings of a report if the filing cannot be replaced.
 fn told_of_many_and_one(alloc: Global, count: u32) -> Result<String, AllocError> {
     told_if(alloc, (&many_findings(alloc, count)?, false))
 }
 
-/// The length of a place of a namespace and its code, as they are told.
+/// The length of a place of a namespace and its code, as a reply has them.
 const LENGTH_OF_ONE: usize = "/documentInfo/namespaces/00000 namespace-uri;".len();
 
 #[test]

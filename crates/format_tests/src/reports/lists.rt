@@ -11,7 +11,7 @@ fn finding(alloc: Global, place: &str, code: Code) -> Result<Finding, AllocError
     Ok(Finding { place, code })
 }
 
-/// The list of the findings at these places, with these codes, and a copy of it; `-` where they are no such list.
+/// The list of the findings at these places, with these codes, and a copy of it; `-` if they are no such list.
 fn read_and_copied(alloc: Global, rows: &[(&str, Code)]) -> Result<String, AllocError> {
     let mut list = Vec::new(alloc);
     for (place, code) in rows {

@@ -13,7 +13,7 @@ use std::alloc::Global;
 use std::process::Abort;
 use std::test::Fail;
 
-/// One request each, with its body where its head is not refused, and the reply to it.
+/// One request each, with its body if its head is not refused, and the reply to it.
 static EXAMPLES: [Conversation; 21] = [
     (
         &[(HEAD, 1), (REPORT, 1)],
@@ -224,7 +224,8 @@ fn is_answered<S: Alter>(
     output.as_slice() == written
 }
 
-/// Whether a request that is cut off after so many bytes is nothing to a new intake, which answers the whole request then.
+/// Whether a request that is cut off after so many bytes is nothing to a new intake, which answers the whole request
+/// then.
 fn is_nothing<S: Fresh>(
     alloc: Global,
     given: &[u8],

@@ -54,7 +54,8 @@ fn served<S: Alter>(
     .ended
 }
 
-/// Whether a connection to a new intake writes these bytes and ends so, where the read or the write fails before which so many don't.
+/// Whether a connection to a new intake writes these bytes and ends so, if the read or the write fails before which
+/// so many don't.
 fn goes<S: Fresh>(
     alloc: Global,
     failing_read: Option<usize>,
@@ -76,8 +77,8 @@ fn goes<S: Fresh>(
     Ok(output.as_slice() == written && so == ended)
 }
 
-/// How many bytes are written before the read fails that comes after 0, 1, 2, .. others: requests end after 486, 972, 1,458 and 1,497
-/// bytes, each of which is answered before more is read.
+/// How many bytes are written before the read fails that comes after 0, 1, 2, .. others: requests end after 486, 972,
+/// 1,458 and 1,497 bytes, each of which is answered before more is read.
 const BEFORE_A_READ: [usize; 16] = [
     0, 0, 0, 0, 0, 110, 110, 110, 110, 110, 220, 220, 220, 220, 220, 437,
 ];

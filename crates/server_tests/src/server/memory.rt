@@ -1,4 +1,4 @@
-//! Requests that are sent again where memory is refused: what is kept is that of before, and the second reply is that of ample
+//! Requests that are sent again if memory is refused: what was kept stays, and the second reply is that of ample
 //! memory. Run it with each allocation refused too, one in a run.
 
 use super::{LIMIT, served};

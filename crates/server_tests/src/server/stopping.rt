@@ -12,11 +12,12 @@ use std::alloc::{AllocError, Global};
 use std::process::Abort;
 use std::test::Fail;
 
-/// What is given on a connection that is stopped, where, and what is written until then; and what is given on the next connection,
-/// and written.
+/// What is given on a connection that is stopped, where, and what is written until then; and what is given on the next
+/// connection, and written.
 type Stopped = (Text, Stop, Text, Text, Text);
 
-/// The key of a request before which a connection was stopped is free. What was registered before the reply was written stays.
+/// The key of a request before which a connection was stopped is free. What was registered before the reply was written
+/// stays.
 static STOPS: [Stopped; 2] = [
     (
         &[(HEAD, 1), (REPORT, 1), (SECOND_HEAD, 1), (REPORT, 1)],

@@ -1,5 +1,5 @@
-//! The life of an entry, where each call is made again that was refused because memory ran out: the entries are those of
-//! before, and the second answer is that of ample memory. Run it with each allocation refused too, one in a run.
+//! The life of an entry, with each call made again that was refused because memory ran out: the entries stay, and the
+//! second answer is that of ample memory. Run it with each allocation refused too, one in a run.
 
 use super::calls::{create, next_id};
 use super::{BODY, Call, Expected, holds, is_made};
@@ -10,7 +10,7 @@ use sqlite::{Alter, MemStore};
 use std::alloc::{AllocError, Global};
 use uuid::Uuid;
 
-/// What an outbox holds: its entries, and the id of the next open one, 0 where none is open.
+/// What an outbox holds: its entries, and the id of the next open one, 0 if none is open.
 pub type Held = (&'static [Expected], u64);
 
 const NONE: Held = (&[], 0);
@@ -102,7 +102,7 @@ pub fn has_again<S: Alter>(outbox: &mut Outbox<S>, held: Held) -> Result<bool, S
     }
 }
 
-/// Whether a call is made, at once or, where memory was refused, which changes nothing, at the same call again.
+/// Whether a call is made, at once or, if memory was refused, which changes nothing, at the same call again.
 fn is_made_again<S: Alter>(
     alloc: Global,
     outbox: &mut Outbox<S>,

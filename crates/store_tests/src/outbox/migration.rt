@@ -23,7 +23,7 @@ static THREE: [Expected; 3] = [
 /// A statement on the tables, why a migration is refused then, and a statement that undoes the first.
 type Case = (&'static str, OutboxFault, &'static str);
 
-/// Another form, kind or filer, a name in use, and damage, which is told before a name is.
+/// Another form, kind or filer, a name in use, and damage, which is reported before a name is.
 static CASES: [Case; 12] = [
     (
         "UPDATE outbox_meta SET form = 0",
@@ -87,12 +87,12 @@ static CASES: [Case; 12] = [
     ),
 ];
 
-/// An outbox of form 1 in a new database; `None` where something is refused.
+/// An outbox of form 1 in a new database; `None` if something is refused.
 fn earlier<S: Fresh>(alloc: Global) -> Option<Connection<S>> {
     ran(S::fresh(alloc)?, TABLES)
 }
 
-/// The outbox after its migration and a new entry, which is to replace a filing; `None` where either is refused.
+/// The outbox after its migration and a new entry, which is to replace a filing; `None` if either is refused.
 fn continued<S: Alter + Drop>(alloc: Global, conn: Connection<S>) -> Option<Connection<S>> {
     let mut outbox = migrate(alloc, conn).ok()?;
     put(alloc, &mut outbox, "k-3", true, BODY).ok()?;
@@ -110,8 +110,8 @@ fn refused<S: Fresh>(alloc: Global, case: &Case) -> Option<Connection<S>> {
     }
 }
 
-/// Whether a migration is refused as the case says, and is made once the statement is undone, so the rows were left. The outbox takes a
-/// new entry then, and is found so when it is opened.
+/// Whether a migration is refused as the case says, and is made once the statement is undone, so the rows were left.
+/// The outbox takes a new entry then, and is found so when it is opened.
 fn is_left<S: Fresh>(alloc: Global, case: &Case) -> Option<bool> {
     let conn: Connection<S> = continued(alloc, refused(alloc, case)?)?;
     let (_, has) = found(alloc, conn, &THREE)?;
@@ -146,7 +146,7 @@ fn migrated_again<S: Fresh>(alloc: Global) -> Result<Outbox<S>, OutboxFault> {
     }
 }
 
-/// Whether a migration that is made again where memory was refused gives the outbox.
+/// Whether a migration that is made again if memory was refused gives the outbox.
 fn survives_refusals<S: Fresh>(alloc: Global) -> Option<bool> {
     let mut outbox: Outbox<S> = migrated_again(alloc).ok()?;
     Some(matches!(has_again(&mut outbox, (&THREE[..2], 2)), Ok(true)))
@@ -176,7 +176,7 @@ impl Trial for FirstForm {
         Some((conn, fault.is_none()))
     }
 
-    /// An outbox of before is migrated then. One whose migration was answered has to be the new one.
+    /// An outbox of the earlier version is migrated then. One whose migration was answered has to be the new one.
     fn look<S: Alter + Drop>(
         &self,
         alloc: Global,

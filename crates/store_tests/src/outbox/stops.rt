@@ -43,7 +43,7 @@ static CHANGES: [Change; 4] = [
     },
 ];
 
-/// Whether the outbox has the entries of before or of after a change, and those of after where it was made.
+/// Whether the outbox has the entries from before or after a change, and those from after it if it was made.
 fn is_left<S: Alter>(
     outbox: &mut Outbox<S>,
     after: &[Expected],

@@ -1,5 +1,5 @@
-//! Calls of a register, each in a function of its own that has no clause, so that a test that makes several does not carry
-//! their clauses.
+//! Calls of a register, each in a function of its own that has no clause, so that a test that makes several does not
+//! carry their clauses.
 
 use crate::databases::ready;
 use crate::targets::first_if;
@@ -89,7 +89,7 @@ pub fn has_filings<S: Alter>(
     Ok(store.filings("ACME")?.as_slice() == filings)
 }
 
-/// How many facts a filing has, 0 where there is no filing.
+/// How many facts a filing has, 0 if there is no filing.
 pub fn fact_count<S: Alter>(store: &mut Store<S>, number: u64) -> Result<usize, StoreFault> {
     match store.facts(number)? {
         Some(facts) => Ok(facts.len()),

@@ -28,8 +28,8 @@ const AMENDED: &[Request] = &[
     ("k-3", false, SMALLEST, 3),
 ];
 
-/// Rows that judging does not give, rows of no request, more rows of a request than are its own, and other registers. The long body is
-/// the smallest report.
+/// Rows that judging does not give, rows of no request, more rows of a request than are its own, and other registers.
+/// The long body is the smallest report.
 const OF_TWO: &[Case] = &[
     (
         "UPDATE finding SET code = 2 WHERE seq = 2",
@@ -133,8 +133,8 @@ const OF_THREE: &[Case] = &[(
     Some(OpenFault::Damaged { row: 2 }),
 )];
 
-/// Targets that are none, other ones, one that was replaced already, and at last other targets with which each of these filings is one:
-/// none, one more, and that of another report.
+/// Targets that are none, other ones, one that was replaced already, and at last other targets with which each of these
+/// filings is one: none, one more, and that of another report.
 const OF_AMENDED: &[Case] = &[
     (
         "UPDATE amends SET target = 0",
@@ -202,7 +202,7 @@ fn changed<S: Fresh>(alloc: Global, requests: &[Request], sql: &str) -> Option<C
     ran(made(alloc, S::fresh(alloc)?, requests)?, sql)
 }
 
-/// How an opening is refused then, if it is; `None` where a statement is refused.
+/// How an opening is refused then, if it is; `None` if a statement is refused.
 fn fault_after<S: Fresh>(
     alloc: Global,
     requests: &[Request],

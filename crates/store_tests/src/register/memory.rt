@@ -1,5 +1,5 @@
-//! The life of a register, where each call is made again that was refused because memory ran out: what is kept is that of
-//! before, and the second answer is that of ample memory. Run it with each allocation refused too, one in a run.
+//! The life of a register, with each call made again that was refused because memory ran out: what was kept stays, and
+//! the second answer is that of ample memory. Run it with each allocation refused too, one in a run.
 
 use super::calls::{
     create, fact_count, filing_count, has_filings, intake_over, open, replaceable, request_count,
@@ -64,7 +64,7 @@ pub fn holds_again<S: Alter>(
     }
 }
 
-/// What an intake answers to a request, at once or, where memory was refused, to the same request again.
+/// What an intake answers to a request, at once or, if memory was refused, to the same request again.
 fn submit_again<S: Alter>(
     alloc: Global,
     intake: &mut Intake<S>,
@@ -76,8 +76,8 @@ fn submit_again<S: Alter>(
     }
 }
 
-/// A register that was asked for each request; `None` where one has another answer than its own, or is told to be a repeat, as one would be
-/// that was kept where memory was refused.
+/// A register that was asked for each request; `None` if one has another answer than its own, or is called a
+/// repeat, as one would be that was kept if memory was refused.
 fn kept<S: Fresh>(alloc: Global, requests: &[Request]) -> Option<Store<S>> {
     let mut intake = intake_over(alloc, created_again(alloc).ok()?);
     for &request in requests {

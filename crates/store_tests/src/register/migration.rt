@@ -14,7 +14,7 @@ use std::alloc::Global;
 struct Form {
     /// What the tables have beside those of every form.
     sql: &'static str,
-    /// How many of its two requests are of before.
+    /// How many of its two requests were kept before the migration.
     early: u64,
 }
 
@@ -35,7 +35,7 @@ const THIRD: &Form = &Form {
 /// A form, a statement on its tables, why a migration is refused then, and a statement that undoes the first.
 type Case = (&'static Form, &'static str, OpenFault, &'static str);
 
-/// Another form, a name in use, and damage, which is told before a name is.
+/// Another form, a name in use, and damage, which is reported before a name is.
 static CASES: [Case; 13] = [
     (
         SECOND,
@@ -124,7 +124,7 @@ static THREE: [Request; 3] = [
     ("k-3", false, "{}", 0),
 ];
 
-/// The statements of a form in a database; `None` where one is refused.
+/// The statements of a form in a database; `None` if one is refused.
 fn with_form<S: Alter + Drop>(conn: Connection<S>, form: &Form) -> Option<Connection<S>> {
     ran(ran(conn, TABLES)?, form.sql)
 }
@@ -134,7 +134,7 @@ fn earlier<S: Fresh>(alloc: Global, form: &Form) -> Option<Connection<S>> {
     with_form(S::fresh(alloc)?, form)
 }
 
-/// Whether the register has these requests, as many of them of before as the form says.
+/// Whether the register has these requests, as many of them from before the migration as the form says.
 fn has<S: Alter>(
     alloc: Global,
     store: &mut Store<S>,
@@ -144,7 +144,8 @@ fn has<S: Alter>(
     Ok(store.early_count()? == form.early && holds(alloc, store, requests)?)
 }
 
-/// The register, and whether it has these requests, as many of them of before as the form says; `None` where it is not opened.
+/// The register, and whether it has these requests, as many from before the migration as the form says; `None` if it is
+/// not opened.
 fn found<S: Alter + Drop>(
     alloc: Global,
     conn: Connection<S>,
@@ -156,7 +157,7 @@ fn found<S: Alter + Drop>(
     Some((store.into_conn(), has))
 }
 
-/// The register after its migration and a new request, which is refused; `None` where either has another answer.
+/// The register after its migration and a new request, which is refused; `None` if either has another answer.
 fn continued<S: Alter + Drop>(alloc: Global, conn: Connection<S>) -> Option<Connection<S>> {
     let mut intake = intake_over(alloc, migrate(alloc, conn).ok()?);
     match submit(alloc, &mut intake, THREE[2]) {
@@ -176,8 +177,8 @@ fn refused<S: Fresh>(alloc: Global, case: &Case) -> Option<Connection<S>> {
     }
 }
 
-/// Whether a migration is refused as the case says, and is made once the statement is undone, so the rows were left. The register keeps a
-/// new request as one of after.
+/// Whether a migration is refused as the case says, and is made once the statement is undone, so the rows were left.
+/// The register keeps a new request as one of after.
 fn is_left<S: Fresh>(alloc: Global, case: &Case) -> Option<bool> {
     let conn: Connection<S> = continued(alloc, refused(alloc, case)?)?;
     let (_, has) = found(alloc, conn, case.0, &THREE)?;
@@ -212,7 +213,7 @@ fn migrated_again<S: Fresh>(alloc: Global, form: &Form) -> Result<Store<S>, Open
     }
 }
 
-/// Whether a migration that is made again where memory was refused gives the register.
+/// Whether a migration that is made again if memory was refused gives the register.
 fn survives_refusals<S: Fresh>(alloc: Global, form: &Form) -> Option<bool> {
     let mut store: Store<S> = migrated_again(alloc, form).ok()?;
     let is_kept = matches!(holds_again(alloc, &mut store, &THREE[..2]), Ok(true));
@@ -241,7 +242,7 @@ impl Trial for Form {
         Some((conn, fault.is_none()))
     }
 
-    /// A register of before is migrated then. One whose migration was answered has to be the new one.
+    /// A register of the earlier version is migrated then. One whose migration was answered has to be the new one.
     fn look<S: Alter + Drop>(
         &self,
         alloc: Global,

@@ -11,7 +11,7 @@ use std::alloc::Global;
 /// A second request, for which a register of one report is asked.
 struct Second(Request);
 
-/// Whether the register has the first request and the second one, or the first alone where the second was not answered.
+/// Whether the register has the first request and the second one, or the first alone if the second was not answered.
 fn is_left<S: Alter>(
     alloc: Global,
     store: &mut Store<S>,
