@@ -1,6 +1,4 @@
-pub mod Asleep
 pub mod Causes
 pub mod Coming
-pub mod Early
 pub mod Entries
 pub mod Hearing

@@ -1,9 +1,7 @@
 pub mod Bytes
 pub mod Causes
 pub mod Durable
-pub mod IntakeProcess
 pub mod Listed
 pub mod OutboxProcess
 pub mod Outboxes
 pub mod Refusals
-pub mod Registers

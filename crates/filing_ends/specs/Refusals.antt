@@ -1,25 +1,20 @@
 -- Why an end is not started or not stopped. What is existential here was given up with the refusal.
-use Rattle.std.specs.Prelude.{◌≡◌, ◌≢◌, ◌⊎◌, ℕ, List}
+use Rattle.std.specs.Prelude.{◌≡◌, ◌⊎◌}
 use Rattle.sqlite_disk.specs.declared.Disk as disk
 use Rattle.sqlite_disk.specs.declared.Files.{Files}
 use Rattle.sqlite_store.specs.declared.store.FileStore.{FileStore}
 use Rattle.sqlite_store.specs.FileStore.{view}
 use Rattle.sqlite_trees.specs.View.{IsClean}
 use Rattle.sqlite.specs.Store.{Ghosts}
-use Rattle.sqlite.specs.Held.{Held, state}
+use Rattle.sqlite.specs.Held.{Held}
 use Rattle.sqlite.specs.Files.{Finds, FailsToOpenFiles, IsCleanLeft, IsClosed, FailsToClose}
 use Rattle.sqlite.specs.declared.error.Error.{Error}
 use Rattle.sqlite.specs.declared.file.Leftover.{Leftover}
-use Rattle.filing_model.specs.Request.{Request}
 use Rattle.table_rows.specs.Files.{AreUsable}
 use Rattle.table_rows.specs.Causes.{store_fault}
-use Rattle.register_rows.specs.Schema.{IsDeclared}
-use Rattle.register_opening.specs.declared.fault.OpenFault.{OpenFault}
-use Rattle.register_opening.specs.Refusals.{GivesUpOpening as RefusesRegister}
-use Rattle.register_opening.specs.Registers.{IsRegisterOf}
 use Rattle.outbox_opening.specs.declared.fault.OutboxFault.{OutboxFault}
 use Rattle.outbox_core.specs.Refusals.{GivesUpOpening as RefusesOutbox}
-use Rattle.filing_ends.specs.Causes.{reopen_cause, register_cause, outbox_cause, closing_cause}
+use Rattle.filing_ends.specs.Causes.{reopen_cause, outbox_cause, closing_cause}
 use Rattle.filing_ends.specs.declared.cause.Cause.{Cause}
 use Rattle.filing_ends.specs.declared.cause.Cause.TheVariants.{Reopen}
 
@@ -37,14 +32,6 @@ abbrev pub AreRefused : {D : Type 0} (g : disk.Ghosts D) → Files D → (Held (
 AreRefused {D} g files Refuses why =
     ((¬ AreUsable g files) × (why ≡ Reopen))
     ⊎ (FailToOpen g files why ⊎ ((conn : Held (FileStore D g)) × Finds files conn × Refuses conn why))
-
--- ---- a register
-
--- It was not opened, for this fault; or it has a request of before there were problem details, and is not played on.
-abbrev pub RefusesIntake : {S : Type 0} → Ghosts S → Held S → Cause → Type 0
-RefusesIntake g conn why =
-    ((fault : OpenFault) × RefusesRegister g conn fault × (why ≡ register_cause fault))
-    ⊎ ((IsDeclared (state g conn).now.schema → (early : ℕ) × (F : List Request) × IsRegisterOf early F (state g conn).now × (early ≢ 0)) × (why ≡ Reopen))
 
 -- ---- an outbox
 

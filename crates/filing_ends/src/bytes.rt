@@ -8,12 +8,12 @@ use std::alloc::Global;
 
 /// Bytes that are read from their front.
 #[derive(Drop)]
-pub(crate) struct Given<'a> {
+pub struct Given<'a> {
     rest: &'a [u8],
 }
 
 impl<'a> Given<'a> {
-    pub(crate) fn new(bytes: &'a [u8]) -> Given<'a>
+    pub fn new(bytes: &'a [u8]) -> Given<'a>
         ensures { bytes_left result ≡ bytes.now }
     {
         Given { rest: bytes }
@@ -36,13 +36,13 @@ impl<'a> Source for Given<'a> {
 
 /// What was written so far.
 #[derive(Drop)]
-pub(crate) struct Kept {
+pub struct Kept {
     text: Vec<u8>,
     refused: u64,
 }
 
 impl Kept {
-    pub(crate) fn new(alloc: Global) -> Kept
+    pub fn new(alloc: Global) -> Kept
         ensures text { bytes_kept result ≡ [] }
         ensures fine { refusals result ≡ 0 }
     {
@@ -52,7 +52,7 @@ impl Kept {
         }
     }
 
-    pub(crate) fn into_text(self) -> Vec<u8>
+    pub fn into_text(self) -> Vec<u8>
         ensures { result.items ≡ bytes_kept self }
     {
         self.text

@@ -1,7 +1,9 @@
 //! Why an end did not do what it was asked.
 
+use command_line::DatabaseFault;
+use intake_process::OpeningFault;
 use outbox_core::OutboxFault;
-use register_store::OpenFault;
+use register_store::{CreateFault, OpenFault};
 use sqlite::Error as DatabaseError;
 use std::alloc::AllocError;
 use table_rows::{Cause as Refusal, StoreFault};
@@ -42,9 +44,53 @@ impl From<StoreFault> for Cause {
     }
 }
 
+impl From<OpeningFault> for Cause {
+    ghost use Rattle.std.specs.Prelude.{◌≡◌};
+    ghost use Rattle.filing_ends.specs.Causes.{opening_cause};
+
+    ghost from_gives = { λ fault cause. cause ≡ opening_cause fault };
+
+    fn from(fault: OpeningFault) -> Cause {
+        match fault {
+            OpeningFault::Files(fault) => Cause::of_files(fault),
+            OpeningFault::Taken(_) => Cause::Reopen,
+            OpeningFault::Create(fault) => Cause::of_making(fault),
+            OpeningFault::Open(fault, _) => Cause::of_register(fault),
+        }
+    }
+}
+
 impl Cause {
     ghost use Rattle.std.specs.Prelude.{◌≡◌};
-    ghost use Rattle.filing_ends.specs.Causes.{reopen_cause, register_cause, outbox_cause, closing_cause};
+    ghost use Rattle.filing_ends.specs.Causes.{reopen_cause, files_cause, making_cause, register_cause, outbox_cause, closing_cause, close_cause};
+
+    /// The cause if a place gave no database.
+    fn of_files(fault: DatabaseFault) -> Cause
+        ensures { result ≡ files_cause fault }
+    {
+        match fault {
+            DatabaseFault::Memory => Cause::Memory,
+            _ => Cause::Reopen,
+        }
+    }
+
+    /// The cause if no register was made.
+    fn of_making(fault: CreateFault) -> Cause
+        ensures { result ≡ making_cause fault }
+    {
+        match fault {
+            CreateFault::Memory => Cause::Memory,
+            CreateFault::Taken => Cause::Store,
+            CreateFault::Disk => Cause::Store,
+        }
+    }
+
+    /// The cause if a database was not closed.
+    pub fn of_close(error: DatabaseError) -> Cause
+        ensures { result ≡ close_cause error }
+    {
+        Cause::of_closing(StoreFault::from(error))
+    }
 
     /// The cause where a database was not opened.
     pub(crate) fn of_opening(error: DatabaseError) -> Cause
@@ -57,7 +103,7 @@ impl Cause {
     }
 
     /// The cause if a register was not opened.
-    pub(crate) fn of_register(fault: OpenFault) -> Cause
+    fn of_register(fault: OpenFault) -> Cause
         ensures { result ≡ register_cause fault }
     {
         match fault {

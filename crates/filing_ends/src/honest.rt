@@ -1,33 +1,28 @@
 //! Disks that give back what was written.
 
-ghost use Rattle.std.specs.Prelude.{◌≡◌, true, refl, IsTrue};
+ghost use Rattle.std.specs.Prelude.{◌≡◌, true, refl};
 
 use crate::durable::Durable;
-use sqlite_disk::{Disk, Memory};
+use database_places::Blank;
+use sqlite_disk::Memory;
 use std::alloc::Global;
 
 /// A disk of which each read gives what was written.
-pub trait Honest: Disk + Drop {
-    /// A file of no bytes.
-    fn empty(alloc: Global) -> Self
-        ensures { IsTrue (Self.Disk.is_usable result) };
-
+pub trait Honest: Blank {
     // No read of it ever gave anything else.
     ghost honest: { (disk : Self) → Self.Disk.is_clean disk ≡ true };
 }
 
-impl Honest for Durable {
+impl Blank for Durable {
     fn empty(alloc: Global) -> Durable {
         Durable::new(alloc)
     }
+}
 
+impl Honest for Durable {
     ghost honest = { λ _. refl };
 }
 
 impl Honest for Memory {
-    fn empty(alloc: Global) -> Memory {
-        Memory::new(alloc)
-    }
-
     ghost honest = { λ _. refl };
 }

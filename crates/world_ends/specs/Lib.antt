@@ -1,3 +1,4 @@
 pub mod Filers
 pub mod Served
 pub mod Delivery
+pub mod Processes

@@ -3,7 +3,9 @@
 //! is for, is known by `world_events`.
 #![tactic(auto)]
 
+mod delivery;
 mod filer;
+mod opening;
 mod report;
 mod server;
 

@@ -1,6 +1,6 @@
 //! The intake's end: the process that it runs in, with the requests that it completed.
 
-ghost use Rattle.std.specs.Prelude.{◌≡◌, ◌≢◌, ◌≤◌, ◌^◌, ◌++◌, ◌↔◌, [], ℕ, List, true, false, Some, IsSome, IfOk, IfSome, OnOk, Err, length};
+ghost use Rattle.std.specs.Prelude.{◌≡◌, ◌≢◌, ◌≤◌, ◌^◌, ◌++◌, ◌↔◌, [], ℕ, List, true, false, Some, IsSome, is_some, IfOk, IfSome, OnOk, Err, length};
 ghost use Rattle.http_messages.specs.Message.{Arrival, Ending};
 ghost use Rattle.event_script.specs.Events.{view_crash};
 ghost use Rattle.filing_model.specs.Request.{Request, firsts};
@@ -11,32 +11,36 @@ ghost use Rattle.filing_world.specs.Step.{is_no};
 ghost use Rattle.sqlite.specs.Files.{over_files};
 ghost use Rattle.intake_core.specs.Held.{HoldsRequests};
 ghost use Rattle.gateway_server.specs.Stopping.{view_stop};
-ghost use Rattle.filing_ends.specs.IntakeProcess.{Keeps, is_up};
+ghost use Rattle.world_ends.specs.Processes.{KeepsSurely};
 
+use crate::delivery::{Exchange, serve_bytes};
+use crate::opening::{close, make, open, registered};
+use database_places::Drawer;
 use event_script::Crash;
-use filing_ends::{Answered, Cause, Honest, IntakeProcess};
+use filing_ends::{Cause, Honest};
 use filing_model::{Ended, Mark};
 use gateway_server::{Stop, completed};
 use intake_core::{Intake, Unavailable};
+use intake_process::IntakeProcess;
 use register_store::{Completed, Registered};
 use sqlite::FileStore;
 use std::alloc::{AllocError, Global};
 use std::marker::Model;
-use std::mem;
 
 /// The intake with the requests that it completed.
 pub struct Server<D: Honest> {
     alloc: Global,
     limit: u64,
     done: Vec<Completed>,
-    process: IntakeProcess<D>,
+    /// None after a fault, after which nothing is played.
+    process: Option<IntakeProcess<D, Drawer<D>>>,
 }
 
 impl<D: Honest> Model for Server<D> {
     ghost use Rattle.std.specs.Prelude.{◌≤◌, ◌^◌};
     ghost use Rattle.filing_model.specs.Request.{firsts};
     ghost use Rattle.world_ends.specs.Served.{Served};
-    ghost use Rattle.filing_ends.specs.IntakeProcess.{Keeps, is_up};
+    ghost use Rattle.world_ends.specs.Processes.{Keeps, is_up};
 
     ghost Value = { Served };
 
@@ -80,21 +84,19 @@ fn stop_of(crash: Crash) -> Stop
     }
 }
 
-/// The process after a delivery: with a crash the files, and else the process itself.
-fn after_delivery<D: Honest>(
-    process: IntakeProcess<D>,
-    crash: Crash,
-) -> Result<IntakeProcess<D>, Cause>
-    ensures kept { (limit : ℕ) (F : List Request) → Keeps process limit F
-        → IfOk result (λ it. Keeps it limit F) }
-    ensures up { is_up process ≡ true → IfOk result (λ it. is_up it ≡ is_no (view_crash crash)) }
+/// Closes the register of a process after a delivery with a crash.
+fn stop_by<D: Honest>(process: &mut IntakeProcess<D, Drawer<D>>, crash: Crash) -> Result<(), Cause>
+    ensures kept { (limit : ℕ) (requests : List Request) → KeepsSurely process.old limit requests
+        → OnOk result (KeepsSurely process.new limit requests) }
+    ensures up { is_some process.old.intake ≡ true
+        → OnOk result (is_some process.new.intake ≡ is_no (view_crash crash)) }
     ensures store { result ≢ Err Cause.Store }
     ensures reopen { result ≡ Err Cause.Reopen → is_no (view_crash crash) ≡ false }
 {
     match crash {
-        Crash::No => Ok(process),
-        Crash::Before(_) => process.stopped(),
-        Crash::After(_) => process.stopped(),
+        Crash::No => Ok(()),
+        Crash::Before(_) => close(process),
+        Crash::After(_) => close(process),
     }
 }
 
@@ -128,7 +130,7 @@ impl<D: Honest> Server<D> {
             alloc,
             limit,
             done: Vec::new(alloc),
-            process: IntakeProcess::new(alloc, limit)?,
+            process: Some(make(alloc, limit)?),
         })
     }
 
@@ -136,7 +138,10 @@ impl<D: Honest> Server<D> {
     pub fn is_up(&self) -> bool
         ensures { result ≡ self.now.up }
     {
-        matches!(self.process, IntakeProcess::Up(_))
+        match &self.process {
+            Some(process) => process.is_open(),
+            None => false,
+        }
     }
 
     /// The requests that were completed so far.
@@ -152,9 +157,8 @@ impl<D: Honest> Server<D> {
         ensures keeps { IfSome result (λ intake. HoldsRequests over_files intake.now (firsts self.now.done)) }
     {
         match &self.process {
-            IntakeProcess::Up(intake) => Some(intake),
-            IntakeProcess::Down(_files) => None,
-            IntakeProcess::Gone => None,
+            Some(process) => process.intake(),
+            None => None,
         }
     }
 
@@ -166,12 +170,14 @@ impl<D: Honest> Server<D> {
         ensures reopen { result ≡ Err Cause.Reopen → is_no (view_crash crash) ≡ false }
     {
         let before = self.done.len();
-        let mut process = mem::replace(&mut self.process, IntakeProcess::Gone);
-        let answered = process.serve(self.alloc, bytes, stop_of(crash))?;
-        append_completed(self.alloc, &mut self.done, bytes, answered.marks.as_slice())?;
-        let after = after_delivery(process, crash)?;
-        self.process = after;
-        let Answered { marks, ended, text } = answered;
+        let Some(mut process) = self.process.take() else {
+            unreachable!();
+        };
+        let exchange = serve_bytes(self.alloc, &mut process, bytes, stop_of(crash))?;
+        append_completed(self.alloc, &mut self.done, bytes, exchange.marks.as_slice())?;
+        stop_by(&mut process, crash)?;
+        self.process = Some(process);
+        let Exchange { marks, ended, text } = exchange;
         Ok(Delivered {
             before,
             marks,
@@ -180,15 +186,17 @@ impl<D: Honest> Server<D> {
         })
     }
 
-    /// Gives the files back, where it is up, and opens them.
+    /// Closes the register, if it is open, and opens it again.
     pub fn restart(&mut self) -> Result<(), Cause>
         ensures restarted { OnOk result (self.new ≡ record self.old { up = true }) }
         ensures store { result ≢ Err Cause.Store }
     {
-        let process = mem::replace(&mut self.process, IntakeProcess::Gone);
-        let files = process.stopped()?;
-        let opened = files.started(self.alloc, self.limit)?;
-        self.process = opened;
+        let Some(mut process) = self.process.take() else {
+            return Err(Cause::Reopen);
+        };
+        close(&mut process)?;
+        open(self.alloc, &mut process, self.limit)?;
+        self.process = Some(process);
         Ok(())
     }
 
@@ -200,6 +208,9 @@ impl<D: Honest> Server<D> {
         ensures room { (k : ℕ) → result ≢ Err (Unavailable.Full k) }
         ensures same { self.new ≡ self.old }
     {
-        self.process.register(self.alloc)
+        match &mut self.process {
+            Some(process) => registered(process),
+            None => Err(Unavailable::Down),
+        }
     }
 }
