@@ -33,6 +33,7 @@ BEFORE = [
     ("migrate --db @r.db", 1, "not a register\n", "r.db: there is no such file"),
     ("show --db @r.db --number 1", 1, "", "r.db: there is no such file"),
     ("export --db @r.db --format csv", 1, "", "r.db: there is no such file"),
+    ("pages --db @r.db --into @none", 1, "", "r.db: there is no such file"),
     ("export --db @r.db --format csv --filer a/b", 2, "", f"--filer: {FILER_CODE}"),
     ("serve --db @r.db --port 1 --connections 1", 1, "", "r.db: there is no such file"),
     ("serve --db @none/r.db --port 1 --connections 1 --new", 3, "", "none/r.db: there is no such folder"),
@@ -46,6 +47,7 @@ EMPTY = [
     ("list --db @empty.db --filer ACME", 1, "", "empty.db: the file is empty"),
     ("show --db @empty.db --number 1", 1, "", "empty.db: the file is empty"),
     ("export --db @empty.db --format csv", 1, "", "empty.db: the file is empty"),
+    ("pages --db @empty.db --into @none", 1, "", "empty.db: the file is empty"),
     ("serve --db @empty.db --port 1 --connections 1", 1, "", "empty.db: the file is empty"),
 ]
 OUTBOX_TABLES = "not a register: this is an outbox"
@@ -57,6 +59,7 @@ OTHERS = [
     ("check --db @box.db", 1, "not a register\n", f"box.db: {OUTBOX_TABLES}"),
     ("migrate --db @box.db", 1, "not a register\n", f"box.db: {OUTBOX_TABLES}"),
     ("export --db @box.db --format jsonl", 1, "", f"box.db: {OUTBOX_TABLES}"),
+    ("pages --db @box.db --into @none", 1, "", f"box.db: {OUTBOX_TABLES}"),
     ("serve --db @box.db --port 1 --connections 1", 1, "", f"box.db: {OUTBOX_TABLES}"),
     ("serve --db @box.db --port 1 --connections 1 --new", 1, "", "box.db: this is an outbox"),
     ("check --db @other.db", 1, "not a register\n", f"other.db: {OTHER_TABLES}"),
@@ -77,6 +80,7 @@ AFTER = [
     ("export --db @r.db --format csv --filer BETA", 0, NAMES, ""),
     ("export --db @r.db --format jsonl --filer ACME", 0, LINE, ""),
     ("export --db @r.db --format jsonl --filer BETA", 0, "", ""),
+    ("pages --db @r.db --into @none", 3, "", "none/filing-1.html: No such file or directory (os error 2)"),
     ("serve --db @r.db --port 1 --connections 1 --new", 1, "", "r.db: it is a register already: leave out --new"),
     ("lint --filer ACME @words", 1, "words:2:3: not-json: the body is no JSON text ()\n", ""),
     ("lint --filer ACME --json @words", 1, NOT_JSON, ""),

@@ -37,7 +37,7 @@ visit_status (visit.NotClosed error) = 3
 visit_status (visit.List why) = 3
 visit_status (visit.NoFiling number) = 4
 
--- 2 where the command line is at fault, and 3 for memory, the disk and the network
+-- 2 where the command line is at fault, and 3 for memory, the disk, a folder and the network
 abbrev pub fault_status : Fault → ℕ
 fault_status (fault.Command why) = command_line.status_of why
 fault_status fault.NoInit = 2
@@ -47,6 +47,7 @@ fault_status (fault.Register name why) = visit_status why
 fault_status (fault.Report why) = report_status why
 fault_status (fault.Connection why) = 3
 fault_status (fault.Network port error) = 3
+fault_status (fault.Page why) = 3
 
 -- the status of a task that came out so
 abbrev pub status_of : Result ℕ Fault → ℕ

@@ -20,7 +20,7 @@ use Rattle.intake_options.specs.declared.options.Task.{Task}
 use Rattle.intake_options.specs.declared.options.Task.TheVariants as task
 use Rattle.intake_process.specs.Process.{Parts}
 use Rattle.intake_process.specs.Turns.{ServesRegister}
-use Rattle.intake_process.specs.Visits.{VisitsRegister}
+use Rattle.intake_process.specs.Visits.{Outputs, VisitsRegister, outputs}
 use Rattle.intake_process.specs.declared.errand.ErrandFault.{ErrandFault}
 use Rattle.intake_process.specs.declared.serving.ServingFault.{ServingFault}
 use Rattle.intake_process.specs.declared.serving.ServingFault.TheVariants as refused
@@ -31,17 +31,18 @@ use Rattle.intake_commands.specs.Lints.{Lints}
 use Rattle.intake_commands.specs.Status.{status_of, fault_verdict}
 use Rattle.intake_commands.specs.Told.{IsErrandTold, IsOpeningTold}
 
--- What contracts see of what a task works with, where it is known: the connection on standard input and output, what else the output has, the
--- port, and the process of the register.
+-- What contracts see of what a task works with, where it is known: the connection on standard input and output, what else the output has,
+-- which pages the folder has, the port, and the process of the register.
 pub record Means {D : Type 0} (g : Ghosts D) : Type 0 where
   pub wire : Wire
   pub out : Option (List ℕ)
+  pub pages : Option (List (List ℕ))
   pub port : Traffic
   pub process : Parts g
 
 -- these
-abbrev pub means : {D : Type 0} {g : Ghosts D} → Wire → Option (List ℕ) → Traffic → Parts g → Means g
-means wire out port process = record { wire = wire; out = out; port = port; process = process }
+abbrev pub means : {D : Type 0} {g : Ghosts D} → Wire → Option (List ℕ) → Option (List (List ℕ)) → Traffic → Parts g → Means g
+means wire out pages port process = record { wire = wire; out = out; pages = pages; port = port; process = process }
 
 -- ---- run: one connection is served on a register in memory
 
@@ -74,7 +75,7 @@ Serves task port port' old new result =
     ⊎ ((task.limit ≤ 2 ^ 62) × (served : Result (Unit {0}) ServingFault)
     × ServesRegister (not task.new) task.limit task.connections port port' old new served × IsServingTold task served result)
 
--- ---- list, show, check, migrate and export: the register of a file is visited
+-- ---- list, show, check, migrate, export and pages: the register of a file is visited
 
 -- a filer's code is one
 abbrev pub is_wanted : Errand → Bool
@@ -100,9 +101,10 @@ abbrev pub IsVisitTold : Bor (List ℕ) → Errand → Result (Unit {0}) ErrandF
 IsVisitTold name errand (Ok done) out out' result = (result ≡ Ok 0) × (out' ≡ out)
 IsVisitTold name errand (Err why) out out' result = (told : Fault) × IsErrandTold name why told × EndsWith (shown_verdict errand told) told out out' result
 
-abbrev pub Visits : {D : Type 0} {g : Ghosts D} → Bor (List ℕ) → Errand → Option (List ℕ) → Option (List ℕ) → Parts g → Parts g → Result ℕ Fault → Type 0
+abbrev pub Visits : {D : Type 0} {g : Ghosts D} → Bor (List ℕ) → Errand → Outputs → Outputs → Parts g → Parts g → Result ℕ Fault → Type 0
 Visits name errand out out' old new result =
-    (between : Option (List ℕ)) × (visited : Visited) × VisitsRegister errand out between old new visited × IsVisitTold name errand visited.done between out' result
+    (between : Option (List ℕ)) × (visited : Visited) × VisitsRegister errand out (outputs between out'.pages) old new visited
+    × IsVisitTold name errand visited.done between out'.text result
 
 -- ---- a task
 
@@ -116,7 +118,8 @@ Does (task.Run limit) old new result = (new ≡ record old { wire = new.wire }) 
 Does (task.Serve serving) old new result =
     (new ≡ record old { port = new.port; process = new.process }) × Serves serving old.port new.port old.process new.process result
 Does (task.Visit name errand) old new result =
-    MatchBool (is_wanted errand) ((new ≡ record old { out = new.out; process = new.process }) × Visits name errand old.out new.out old.process new.process result) (IsNoFiler old new result)
+    MatchBool (is_wanted errand) ((new ≡ record old { out = new.out; pages = new.pages; process = new.process })
+    × Visits name errand (outputs old.out old.pages) (outputs new.out new.pages) old.process new.process result) (IsNoFiler old new result)
 Does (task.Lint filer form files) old new result = (new ≡ record old { out = new.out }) × Lints form filer.now files.items old.out new.out result
 
 -- What performing a task does, and the status.

@@ -15,6 +15,7 @@ use Rattle.intake_process.specs.declared.fault.OpeningFault.TheVariants as openi
 use Rattle.intake_commands.specs.declared.fault.Fault.{Fault}
 use Rattle.intake_commands.specs.declared.fault.Fault.TheVariants as fault
 use Rattle.intake_commands.specs.declared.fault.VisitFault.{VisitFault}
+use Rattle.intake_commands.specs.declared.folder.PageFault.{PageFault}
 use Rattle.intake_commands.specs.declared.fault.VisitFault.TheVariants as visit
 
 -- the files with this name gave no database, and why is told by their first page, where the refusal goes by that
@@ -36,6 +37,7 @@ IsErrandTold name (errand.Store why) told = told ≡ fault.Register name (visit.
 IsErrandTold name (errand.NoFiling number) told = told ≡ fault.Register name (visit.NoFiling number)
 IsErrandTold name (errand.Text text.Memory) told = told ≡ fault.Command command.Memory
 IsErrandTold name (errand.Text text.Output) told = told ≡ fault.Command command.Output
+IsErrandTold name errand.Folder told = (why : PageFault) × (told ≡ fault.Page why)
 
 -- of the register of that file that was to be opened and served
 abbrev pub IsOpeningTold : Bor (List ℕ) → OpeningFault → Fault → Type 0

@@ -2,6 +2,7 @@
 
 ghost use Rattle.std.specs.Prelude.{◌≡◌};
 
+use crate::folder::PageFault;
 use command_files::{Holding, ReportFault, Verdict};
 use command_line::CommandFault;
 use http_wire::ConnFault;
@@ -208,6 +209,8 @@ pub enum Fault<'a> {
     Connection(ConnFault),
     #[error("127.0.0.1:{port}: {error}")]
     Network { port: u16, error: io::Error },
+    #[error("{0}")]
+    Page(PageFault),
 }
 
 impl<'a> From<CommandFault<'a>> for Fault<'a> {
@@ -224,8 +227,8 @@ impl Fault<'_> {
     ghost use Rattle.intake_commands.specs.Status.{fault_status, fault_verdict};
 
     /// The status that the program ends with: 1 for a database that is no sound register or cannot
-    /// become one, 2 for the command line, 3 for a fault of memory, the disk or the network, 4 if
-    /// a filing is missing.
+    /// become one, 2 for the command line, 3 for a fault of memory, the disk, a folder or the network,
+    /// 4 if a filing is missing.
     fn status(&self) -> u8
         ensures { result ≡ fault_status self.now }
     {
@@ -237,6 +240,7 @@ impl Fault<'_> {
             Fault::InMemory(_) => 3,
             Fault::Connection(_) => 3,
             Fault::Network { port: _, error: _ } => 3,
+            Fault::Page(_) => 3,
         }
     }
 
@@ -255,6 +259,7 @@ impl Fault<'_> {
             Fault::InMemory(_) => None,
             Fault::Connection(_) => None,
             Fault::Network { port: _, error: _ } => None,
+            Fault::Page(_) => None,
         }
     }
 

@@ -5,6 +5,7 @@
 #![tactic(auto)]
 
 mod fault;
+mod folder;
 mod limit;
 mod line;
 mod linting;

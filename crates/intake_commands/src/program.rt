@@ -1,6 +1,7 @@
 //! The program: it makes what a task works with, and performs the task.
 
 use crate::fault::Fault;
+use crate::folder::SystemFolder;
 use crate::log::Logged;
 use crate::port::{StreamPort, TimedPort};
 use crate::tasks::perform_task;
@@ -9,6 +10,7 @@ use database_places::SystemPlace;
 use http_wire::Device;
 use intake_options::{Asked, Serving, Task};
 use intake_process::IntakeProcess;
+use intake_tasks::Errand;
 use std::io::{IsTerminal, Write};
 use waiting_places::WaitingPlace;
 
@@ -27,6 +29,17 @@ fn database_of<'a>(task: &Task<'a>) -> &'a str {
     }
 }
 
+/// The path of the folder that a task writes pages into, or none.
+fn folder_of<'a>(task: &Task<'a>) -> &'a str {
+    match task {
+        Task::Visit {
+            errand: Errand::Pages { folder },
+            ..
+        } => folder,
+        _ => "",
+    }
+}
+
 /// The port that is served.
 fn port_of<'r>(rt: &'r HostRuntime, serving: &Serving<'_>) -> TimedPort<'r> {
     TimedPort::new(rt, serving.port, serving.patience)
@@ -41,13 +54,15 @@ fn place_of<'a, 'r>(
     WaitingPlace::new(rt, place, asked.wait)
 }
 
-/// Performs a task over this port, the file of its register and the standard streams, and answers the status.
+/// Performs a task over this port, the file of its register, its folder and the standard streams, and answers the
+/// status.
 fn perform_over<L: StreamPort>(rt: &HostRuntime, asked: &Asked<'_>, port: &mut L) -> u8 {
     perform_task(
         rt,
         &asked.task,
         &mut IntakeProcess::new(place_of(rt, asked)),
         port,
+        &mut SystemFolder::new(rt, folder_of(&asked.task)),
         &mut Device::new(rt.reader()),
         &mut Device::new(rt.stdout()),
         &mut rt.stdout(),

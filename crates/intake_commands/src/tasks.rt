@@ -6,6 +6,7 @@ ghost use Rattle.intake_process.specs.Process.{parts};
 ghost use Rattle.intake_commands.specs.Tasks.{Does, Performs, is_wanted, means};
 
 use crate::fault::Fault;
+use crate::folder::SiteFolder;
 use crate::linting::lint;
 use crate::port::StreamPort;
 use crate::running::run_once;
@@ -22,12 +23,13 @@ use sqlite_disk::Disk;
 use std::io::Write;
 
 /// Performs a task, and answers the status. The process is that of the register that the task is for, and closed; the
-/// port is the one that it serves, and the reader and the writer are the connection that it runs. A fault's text goes
-/// to `errors`.
+/// port is the one that it serves, the folder the one that it writes pages into, and the reader and the writer are the
+/// connection that it runs. A fault's text goes to `errors`.
 pub fn perform_task<
     D: Disk + Drop,
     P: Place<D> + Drop,
     L: StreamPort,
+    F: SiteFolder,
     R: Source,
     W: Sink,
     O: Write,
@@ -37,6 +39,7 @@ pub fn perform_task<
     task: &Task<'_>,
     process: &mut IntakeProcess<D, P>,
     port: &mut L,
+    folder: &mut F,
     reader: &mut R,
     writer: &mut W,
     output: &mut O,
@@ -44,13 +47,13 @@ pub fn perform_task<
 ) -> u8
     requires { (parts P.lying process.old).intake ≡ None }
     ensures { Performs {g = D.Disk} task.now
-        (means (wire R.Source W.Sink reader.old writer.old) (O.contents output.old) (L.Port.traffic port.old)
-        (parts P.lying process.old))
-        (means (wire R.Source W.Sink reader.new writer.new) (O.contents output.new) (L.Port.traffic port.new)
-        (parts P.lying process.new))
+        (means (wire R.Source W.Sink reader.old writer.old) (O.contents output.old) (F.Folder.pages folder.old)
+        (L.Port.traffic port.old) (parts P.lying process.old))
+        (means (wire R.Source W.Sink reader.new writer.new) (O.contents output.new) (F.Folder.pages folder.new)
+        (L.Port.traffic port.new) (parts P.lying process.new))
         result }
 {
-    match do_task(rt, task, process, port, reader, writer, output, errors) {
+    match do_task(rt, task, process, port, folder, reader, writer, output, errors) {
         Ok(status) => status,
         Err(fault) => fault.tell(errors),
     }
@@ -62,6 +65,7 @@ fn do_task<
     D: Disk + Drop,
     P: Place<D> + Drop,
     L: StreamPort,
+    F: SiteFolder,
     R: Source,
     W: Sink,
     O: Write,
@@ -71,6 +75,7 @@ fn do_task<
     task: &Task<'a>,
     process: &mut IntakeProcess<D, P>,
     port: &mut L,
+    folder: &mut F,
     reader: &mut R,
     writer: &mut W,
     output: &mut O,
@@ -78,10 +83,10 @@ fn do_task<
 ) -> Result<u8, Fault<'a>>
     requires { (parts P.lying process.old).intake ≡ None }
     ensures { Does {g = D.Disk} task.now
-        (means (wire R.Source W.Sink reader.old writer.old) (O.contents output.old) (L.Port.traffic port.old)
-        (parts P.lying process.old))
-        (means (wire R.Source W.Sink reader.new writer.new) (O.contents output.new) (L.Port.traffic port.new)
-        (parts P.lying process.new))
+        (means (wire R.Source W.Sink reader.old writer.old) (O.contents output.old) (F.Folder.pages folder.old)
+        (L.Port.traffic port.old) (parts P.lying process.old))
+        (means (wire R.Source W.Sink reader.new writer.new) (O.contents output.new) (F.Folder.pages folder.new)
+        (L.Port.traffic port.new) (parts P.lying process.new))
         result }
 {
     match task {
@@ -91,7 +96,7 @@ fn do_task<
             if !is_wanted(*errand) {
                 return Err(Fault::Command(CommandFault::Filer));
             }
-            visit(rt, database, *errand, process, output, errors)
+            visit(rt, database, *errand, process, folder, output, errors)
         }
         Task::Lint { filer, form, files } => lint(rt, *form, filer, files, output),
     }
@@ -114,5 +119,6 @@ fn is_wanted(errand: Errand<'_>) -> bool
             form: _,
             filer: None,
         } => true,
+        Errand::Pages { folder: _ } => true,
     }
 }

@@ -4,6 +4,7 @@ ghost use Rattle.std.specs.Prelude.{◌≡◌};
 ghost use Rattle.intake_commands.specs.Told.{IsDatabaseTold, IsErrandTold, IsOpeningTold, not_migrated};
 
 use crate::fault::{Fault, Refusal, VisitFault};
+use crate::folder::SiteFolder;
 use command_files::{Holding, refusal};
 use command_line::{CommandFault, DatabaseFault};
 use database_places::Place;
@@ -38,13 +39,15 @@ fn not_migrated(fault: OpenFault, holding: Holding) -> VisitFault
 }
 
 /// Why an errand to the register that lies in this place, in the file with this name, is not done.
-pub fn errand_fault<'a, D: Disk + Drop, P: Place<D>>(
+pub fn errand_fault<'a, D: Disk + Drop, P: Place<D>, F: SiteFolder>(
     alloc: Global,
     place: &P,
+    folder: &mut F,
     name: &'a str,
     fault: ErrandFault,
 ) -> Fault<'a>
-    ensures { IsErrandTold name.entry fault result }
+    ensures told { IsErrandTold name.entry fault result }
+    ensures same { F.Folder.pages folder.new ≡ F.Folder.pages folder.old }
 {
     match fault {
         ErrandFault::Files(fault) => database_fault(alloc, place, name, fault),
@@ -55,6 +58,7 @@ pub fn errand_fault<'a, D: Disk + Drop, P: Place<D>>(
         ErrandFault::NoFiling { number } => VisitFault::NoFiling { number }.at(name),
         ErrandFault::Text(TextFault::Memory) => Fault::Command(CommandFault::Memory),
         ErrandFault::Text(TextFault::Output) => Fault::Command(CommandFault::Output),
+        ErrandFault::Folder => Fault::Page(folder.take_fault()),
     }
 }
 

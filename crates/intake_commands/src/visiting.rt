@@ -2,9 +2,11 @@
 
 ghost use Rattle.std.specs.Prelude.{◌≡◌, None};
 ghost use Rattle.intake_process.specs.Process.{parts};
+ghost use Rattle.intake_process.specs.Visits.{outputs};
 ghost use Rattle.intake_commands.specs.Tasks.{EndsWith, Visits, shown_verdict};
 
 use crate::fault::{Fault, VisitFault};
+use crate::folder::SiteFolder;
 use crate::progress::TerminalProgress;
 use crate::told::errand_fault;
 use command_files::{Verdict, show_verdict};
@@ -20,25 +22,27 @@ use std::io::Write;
 /// Does an errand to the register of this process, which lies in the file with this name. What came of it stays whether
 /// or not the files are then closed; if they are not, that is reported. If the errand judges the register, the output
 /// says what is wrong with it, too.
-pub fn visit<'a, D: Disk + Drop, P: Place<D> + Drop, O: Write, E: Write>(
+pub fn visit<'a, D: Disk + Drop, P: Place<D> + Drop, F: SiteFolder, O: Write, E: Write>(
     rt: &HostRuntime,
     name: &'a str,
     errand: Errand<'_>,
     process: &mut IntakeProcess<D, P>,
+    folder: &mut F,
     output: &mut O,
     errors: &mut E,
 ) -> Result<u8, Fault<'a>>
     requires { (parts P.lying process.old).intake ≡ None }
-    ensures { Visits name.entry errand.entry (O.contents output.old) (O.contents output.new)
-        (parts P.lying process.old) (parts P.lying process.new) result }
+    ensures { Visits name.entry errand.entry (outputs (O.contents output.old) (F.Folder.pages folder.old))
+        (outputs (O.contents output.new) (F.Folder.pages folder.new)) (parts P.lying process.old)
+        (parts P.lying process.new) result }
 {
     let mut progress = TerminalProgress::new(rt);
-    let Visited { done, closed } = process.visit(rt.alloc(), errand, &mut progress, output);
+    let Visited { done, closed } = process.visit(rt.alloc(), errand, &mut progress, folder, output);
     tell_close(closed, name, errors);
     match done {
         Ok(()) => Ok(DONE),
         Err(fault) => {
-            let told = errand_fault(rt.alloc(), process.place(), name, fault);
+            let told = errand_fault(rt.alloc(), process.place(), folder, name, fault);
             let verdict = shown_verdict(errand, &told);
             end_with(rt.alloc(), verdict, told, output)
         }
@@ -62,6 +66,7 @@ fn shown_verdict(errand: Errand<'_>, fault: &Fault<'_>) -> Option<Verdict>
         Errand::Check => fault.verdict(),
         Errand::Migrate => fault.verdict(),
         Errand::Export { form: _, filer: _ } => None,
+        Errand::Pages { folder: _ } => None,
     }
 }
 

@@ -160,6 +160,15 @@ fn only_filer<'a>(alloc: Global) -> Arg<'a> {
     .required(false)
 }
 
+fn folder<'a>(alloc: Global) -> Arg<'a> {
+    option(
+        alloc,
+        "into",
+        "FOLDER",
+        "The folder for the pages; a page of the same name is replaced",
+    )
+}
+
 fn json<'a>(alloc: Global) -> Arg<'a> {
     Arg::new(alloc, "json")
         .long("json")
@@ -191,6 +200,7 @@ enum Argument {
     Files,
     Format,
     OnlyFiler,
+    Folder,
 }
 
 impl ToArg for Argument {
@@ -218,12 +228,13 @@ impl ToArg for Argument {
             Argument::Files => files(alloc),
             Argument::Format => format(alloc),
             Argument::OnlyFiler => only_filer(alloc),
+            Argument::Folder => folder(alloc),
         })
     }
 }
 
 /// The words that ask for tasks, as the help has them.
-static WORDS: [Word<Argument>; 8] = [
+static WORDS: [Word<Argument>; 9] = [
     Word {
         name: "run",
         about: "Serves standard input as one connection, on a register in memory [the default command]",
@@ -277,7 +288,18 @@ static WORDS: [Word<Argument>; 8] = [
         name: "export",
         about: "Prints the facts of all filings, or of one filer's, as CSV or as lines of JSON",
         example: "Example: intake export --db copy.db --format csv > facts.csv",
-        arguments: &[Argument::Database, Argument::Format, Argument::OnlyFiler],
+        arguments: &[
+            Argument::Database,
+            Argument::Format,
+            Argument::OnlyFiler,
+            Argument::Wait,
+        ],
+    },
+    Word {
+        name: "pages",
+        about: "Writes the register as pages of HTML, with index.html as the first, into a folder that is there",
+        example: "Example: mkdir -p site && intake pages --db copy.db --into site",
+        arguments: &[Argument::Database, Argument::Folder, Argument::Wait],
     },
     Word {
         name: "lint",
@@ -346,6 +368,9 @@ fn errand_of<'a>(name: &str, values: &ArgMatches<'a>) -> Option<Errand<'a>> {
         "export" => Some(Errand::Export {
             form: format_of(values)?,
             filer: values.get_str("filer"),
+        }),
+        "pages" => Some(Errand::Pages {
+            folder: values.get_str("into")?,
         }),
         _ => None,
     }

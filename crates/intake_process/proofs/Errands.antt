@@ -1,5 +1,5 @@
 -- What an errand does follows from what its task did.
-use Rattle.std.proofs.Common.{◌≡◌, ◌⊎◌, ℕ, true, false, true≢false, List, length, Option, Some, None, Result, Ok, Err, IsSome, IfErr, OnOk, refl, sym, ◌∙◌, ap, subst, inl, inr, arith}
+use Rattle.std.proofs.Common.{[], append-nil, ◌≡◌, ◌⊎◌, ℕ, true, false, true≢false, List, length, Option, Some, None, Result, Ok, Err, IsSome, IfErr, OnOk, refl, sym, ◌∙◌, ap, subst, inl, inr, arith}
 use Rattle.std.specs.Prelude.{option_map}
 use Rattle.std.specs.Borrow.{Bor}
 use Rattle.std.specs.Io.KnownBytes.{Appends}
@@ -29,6 +29,11 @@ use Rattle.register_export.specs.Records.{export_text}
 use Rattle.register_export.specs.declared.fault.ExportFault.TheVariants as export
 use Rattle.register_export.specs.declared.fault.RecordsFault.{RecordsFault}
 use Rattle.register_export.specs.declared.fault.RecordsFault.TheVariants as records
+use Rattle.register_pages.specs.Pages.{WritesSite}
+use Rattle.register_pages.specs.Site.{WritesPages}
+use Rattle.register_pages.specs.declared.fault.PagesFault.TheVariants as site
+use Rattle.register_pages.specs.declared.fault.WritingFault.{WritingFault}
+use Rattle.register_pages.specs.declared.fault.WritingFault.TheVariants as writing
 use Rattle.command_files.specs.declared.holding.Holding.{Holding}
 use Rattle.intake_core.specs.declared.intake.Intake.{Intake}
 use Rattle.intake_core.specs.Held.{HoldsRequests, store_of}
@@ -46,8 +51,8 @@ use Rattle.intake_tasks.specs.Lines.{list_line, fact_lines, sound_line, migrated
 use Rattle.intake_tasks.specs.Tasks.{PrintsNothing, ListsFilings, ShowsFiling, ChecksRegister, MigratesRegister}
 use Rattle.intake_process.specs.declared.errand.ErrandFault.{ErrandFault}
 use Rattle.intake_process.specs.declared.errand.ErrandFault.TheVariants as fault
-use Rattle.intake_process.specs.Errands.{text_of, IsRegisterFor, MayFail, Tells, Says, RunsErrand, IsQuiet, is_refusal}
-use Rattle.intake_process.specs.Outcomes.{listed_as, records_fault, shown_as, printed_as}
+use Rattle.intake_process.specs.Errands.{text_of, IsRegisterFor, MayFail, Tells, Says, RunsErrand, FillsFolder, IsQuiet, is_for_pages, is_refusal}
+use Rattle.intake_process.specs.Outcomes.{listed_as, records_fault, shown_as, printed_as, writing_fault}
 
 -- a disk that is clean after a call was clean before it
 clean_before : (old new : State) {Commits : Trees → Type 0} → Survives old new Commits → HasCleanDisk new → HasCleanDisk old
@@ -62,6 +67,7 @@ no_print (asked.Show number) out out' why same = inr same
 no_print asked.Check out out' why same = inr same
 no_print asked.Migrate out out' why same = inr same
 no_print (asked.Export form filer) out out' why same = λ _. same
+no_print (asked.Pages folder) out out' why same = inr same
 
 module _ {S X : Type 0} (g : Ghosts S) (errand : Errand) (out : Option (List ℕ)) (old new : Held S) (why : ErrandFault) where
   pub refuses : is_refusal why ≡ true → (HasCleanDisk (state g new) → (early : ℕ) (requests : List Request) → IsRegisterFor errand early requests (state g old).now → MayFail errand requests why) → Says g errand old new why
@@ -299,4 +305,80 @@ module _ (form : Form) (filer : Option (Bor (List ℕ))) where
       found = λ clean not tables. absurd (true≢false not);
       refused = (exports.refused, exports.survives);
       quiet = λ _. exports.quiet;
+    }
+
+-- ---- pages
+
+-- an errand for no pages writes none
+pub no_pages : {S X : Type 0} (g : Ghosts S) (errand : Errand) (pages : Option (List (List ℕ))) (old new : Held S) (result : Result X ErrandFault) → is_for_pages errand ≡ false → FillsFolder {S = S} {X = X} g errand pages pages old new result
+no_pages g errand pages old new result not = record { filled = λ clean early requests firsts_are rows is. absurd (true≢false (sym is ∙ not)); refused = λ _. refl; others = λ _. refl }
+
+appends_none : (out : Option (List ℕ)) → Appends out out []
+appends_none None = tt
+appends_none (Some text) = sym (append-nil text)
+
+module _ (path : Bor (List ℕ)) where
+  writing_may : (requests : List Request) (why : WritingFault) → MayFail (asked.Pages path) requests (writing_fault why)
+  writing_may requests (writing.Store why) = tt
+  writing_may requests writing.Memory = refl
+  writing_may requests writing.Folder = tt
+
+  writing_says : {S : Type 0} (g : Ghosts S) (old new : Held S) (why : WritingFault) → Says g (asked.Pages path) old new (writing_fault why)
+  writing_says g old new (writing.Store why) = tt
+  writing_says g old new writing.Memory = tt
+  writing_says g old new writing.Folder = tt
+
+  is_no_refusal : (why : WritingFault) → is_refusal (writing_fault why) ≡ false
+  is_no_refusal (writing.Store why) = refl
+  is_no_refusal writing.Memory = refl
+  is_no_refusal writing.Folder = refl
+
+  module _ {S X : Type 0} (g : Ghosts S) (pages pages' : Option (List (List ℕ))) (old new : Held S) where
+    pub site_done : (x : X) → WritesPages {S = S} {X = X} g pages pages' old new (Ok x) → (out : Option (List ℕ)) → RunsErrand {S = S} {X = X} g (asked.Pages path) out out old new (Ok x)
+    site_done x writes out = record {
+      told = λ clean early requests firsts_are rows. ([], refl, appends_none out);
+      kept = λ clean not early requests firsts_are rows. writes.kept clean early requests rows;
+      found = λ clean not tables. writes.found clean tables;
+      refused = tt;
+      quiet = tt;
+    }
+
+    pub site_failed : (why : WritingFault) → WritesPages {S = S} {X = X} g pages pages' old new (Err (site.Pages why)) → (out : Option (List ℕ)) → RunsErrand {S = S} {X = X} g (asked.Pages path) out out old new (Err (writing_fault why))
+    site_failed why writes out = record {
+      told = λ clean early requests firsts_are rows. (writing_may requests why, inr refl);
+      kept = λ clean not early requests firsts_are rows. writes.kept clean early requests rows;
+      found = λ clean not tables. writes.found clean tables;
+      refused = writing_says g old new why;
+      quiet = inr refl;
+    }
+
+    pub site_refused : (why : OpenFault) (holding : Holding) → WritesPages {S = S} {X = X} g pages pages' old new (Err (site.Open why)) → (out : Option (List ℕ)) → RunsErrand {S = S} {X = X} g (asked.Pages path) out out old new (Err (fault.Open why holding))
+    site_refused why holding writes out = record {
+      told = λ clean early requests firsts_are rows. (writes.failed clean early requests rows, inr refl);
+      kept = λ clean not early requests firsts_are rows. absurd (true≢false not);
+      found = λ clean not tables. absurd (true≢false not);
+      refused = (writes.refused, writes.survives);
+      quiet = inr refl;
+    }
+
+    -- the pages are written, or not all, or none
+    pub filled : (x : X) → WritesPages {S = S} {X = X} g pages pages' old new (Ok x) → FillsFolder {S = S} {X = X} g (asked.Pages path) pages pages' old new (Ok x)
+    filled x writes = record {
+      filled = λ clean early requests firsts_are rows is. writes.written clean early requests rows;
+      refused = λ is. absurd (true≢false (sym is));
+      others = λ is. absurd (true≢false is);
+    }
+
+    pub partly_filled : (why : WritingFault) → FillsFolder {S = S} {X = X} g (asked.Pages path) pages pages' old new (Err (writing_fault why))
+    partly_filled why = record {
+      filled = λ clean early requests firsts_are rows is. tt;
+      refused = λ is. absurd (true≢false (sym is ∙ is_no_refusal why));
+      others = λ is. absurd (true≢false is);
+    }
+
+    pub unfilled : (why : OpenFault) (holding : Holding) → WritesPages {S = S} {X = X} g pages pages' old new (Err (site.Open why)) → FillsFolder {S = S} {X = X} g (asked.Pages path) pages pages' old new (Err (fault.Open why holding))
+    unfilled why holding writes = record {
+      filled = λ clean early requests firsts_are rows is. tt;
+      refused = λ _. writes.unwritten;
+      others = λ is. absurd (true≢false is);
     }

@@ -11,6 +11,8 @@ use Rattle.table_rows.proofs.CleanLemmas.{always_clean, are_clean}
 use Rattle.table_rows.proofs.FileLemmas.{finds}
 use Rattle.table_rows.specs.Standing.{HasCommitted}
 use Rattle.filing_model.specs.Request.{Request}
+use Rattle.filing_model.specs.Register.{register}
+use Rattle.register_pages.specs.Pages.{WritesSite}
 use Rattle.register_opening.specs.Registers.{IsRegisterOf}
 use Rattle.register_store.specs.Files.{HoldRegister}
 use Rattle.command_line.specs.declared.fault.DatabaseFault.{DatabaseFault}
@@ -22,10 +24,10 @@ use Rattle.intake_tasks.specs.declared.errand.Errand.{Errand}
 use Rattle.intake_tasks.specs.declared.errand.Errand.TheVariants as asked
 use Rattle.intake_process.specs.declared.errand.ErrandFault.TheVariants as fault
 use Rattle.intake_process.specs.declared.visiting.Visited.{Visited}
-use Rattle.intake_process.specs.Errands.{IsRegisterFor, MayFail, Tells, is_refused}
+use Rattle.intake_process.specs.Errands.{IsRegisterFor, MayFail, Tells, is_for_pages, is_refused}
 use Rattle.intake_process.specs.Process.{Parts, IsHonest, KeepsBy}
 use Rattle.intake_process.proofs.Errands.{no_print}
-use Rattle.intake_process.specs.Visits.{LiesFor, is_doubtful, IsLeftIn, GoesOn, VisitsPlace, VisitsRegister}
+use Rattle.intake_process.specs.Visits.{Outputs, LiesFor, is_doubtful, IsLeftIn, GoesOn, VisitsPlace, VisitsRegister}
 
 or_first : (a b : Bool) → (a || b) ≡ false → a ≡ false
 or_first true b not = not
@@ -46,6 +48,7 @@ may_files (asked.Show number) requests why = tt
 may_files asked.Check requests why = tt
 may_files asked.Migrate requests why = tt
 may_files (asked.Export form filer) requests why = tt
+may_files (asked.Pages folder) requests why = tt
 
 module _ {D : Type 0} {g : Ghosts D} where
   -- ---- the files are left
@@ -83,11 +86,20 @@ module _ {D : Type 0} {g : Ghosts D} where
   closed_ok conn files (Ok done) not left = left
   closed_ok conn files (Err error) not left = absurd (true≢false not)
 
-  module _ (errand : Errand) (out out' : Option (List ℕ)) (old new : Option (Option (Files D))) (visited : Visited) where
+  module _ (errand : Errand) (out out' : Outputs) (old new : Option (Option (Files D))) (visited : Visited) where
     told_by : (opened : Result (Held (FileStore D g)) DatabaseFault) (between : Option (Option (Files D))) → OpensPlace g true old between opened → GoesOn errand out out' between new opened visited
-        → IsHonest g → (early : ℕ) (requests : List Request) → LiesFor g errand old early requests → Tells errand requests out out' visited.done
-    told_by (Err why) between opens goes honest early requests lies = subst (λ done. Tells errand requests out out' done) (sym goes.0) (may_files errand requests why, no_print errand out out' (fault.Files why) goes.3)
+        → IsHonest g → (early : ℕ) (requests : List Request) → LiesFor g errand old early requests → Tells errand requests out.text out'.text visited.done
+    told_by (Err why) between opens goes honest early requests lies = subst (λ done. Tells errand requests out.text out'.text done) (sym goes.0) (may_files errand requests why, no_print errand out.text out'.text (fault.Files why) (ap (λ o. o.text) goes.3))
     told_by (Ok conn) between opens goes honest early requests lies = goes.1.told (always_clean honest goes.0) early requests lies.0 (found errand old between conn honest opens.comes early requests lies).0
+
+    filled_by : (opened : Result (Held (FileStore D g)) DatabaseFault) (between : Option (Option (Files D))) → OpensPlace g true old between opened → GoesOn errand out out' between new opened visited
+        → IsHonest g → (early : ℕ) (requests : List Request) → LiesFor g errand old early requests → is_for_pages errand ≡ true → OnOk visited.done (WritesSite (register requests) out.pages out'.pages)
+    filled_by (Err why) between opens goes honest early requests lies is = subst (λ done. OnOk done (WritesSite (register requests) out.pages out'.pages)) (sym goes.0) tt
+    filled_by (Ok conn) between opens goes honest early requests lies is = goes.2.filled (always_clean honest goes.0) early requests lies.0 (found errand old between conn honest opens.comes early requests lies).0 is
+
+    unfilled_by : (opened : Result (Held (FileStore D g)) DatabaseFault) (between : Option (Option (Files D))) → GoesOn errand out out' between new opened visited → is_for_pages errand ≡ false → out'.pages ≡ out.pages
+    unfilled_by (Err why) between goes is = ap (λ o. o.pages) goes.3
+    unfilled_by (Ok conn) between goes is = goes.2.others is
 
     kept_by : (opened : Result (Held (FileStore D g)) DatabaseFault) (between : Option (Option (Files D))) → OpensPlace g true old between opened → GoesOn errand out out' between new opened visited
         → IsHonest g → is_doubtful visited ≡ false → (early : ℕ) (requests : List Request) → LiesFor g errand old early requests → KeepsBy {g = g} None new 0 early requests
@@ -96,17 +108,19 @@ module _ {D : Type 0} {g : Ghosts D} where
     kept_by (Ok conn) between opens goes honest sure early requests lies =
         let is_there = found errand old between conn honest opens.comes early requests lies in
         let done = or_first (is_refused visited.done) (is_err visited.closed) sure in
-        let files = goes.2.0 in
-        let closed = closed_ok goes.0 files visited.closed (or_second (is_refused visited.done) (is_err visited.closed) sure) (subst (λ refused. IsLeftIn refused goes.0 files visited.closed) done goes.2.2) in
+        let files = goes.3.0 in
+        let closed = closed_ok goes.0 files visited.closed (or_second (is_refused visited.done) (is_err visited.closed) sure) (subst (λ refused. IsLeftIn refused goes.0 files visited.closed) done goes.3.2) in
         let stands = goes.1.kept (always_clean honest goes.0) done early requests lies.0 is_there.0 in
-        (lies.0, (files, subst (λ b. place.Leaves b new files) is_there.1 goes.2.1, copied goes.0 files honest closed early requests stands))
+        (lies.0, (files, subst (λ b. place.Leaves b new files) is_there.1 goes.3.1, copied goes.0 files honest closed early requests stands))
 
   -- ---- the process
 
-  pub visits_sure : (errand : Errand) (out out' : Option (List ℕ)) (old new : Parts g) (visited : Visited) → VisitsPlace g errand out out' old.lying new.lying visited → is_doubtful visited ≡ false → new.is_certain ≡ old.is_certain → new.refused_calls ≡ old.refused_calls → new.intake ≡ None
+  pub visits_sure : (errand : Errand) (out out' : Outputs) (old new : Parts g) (visited : Visited) → VisitsPlace g errand out out' old.lying new.lying visited → is_doubtful visited ≡ false → new.is_certain ≡ old.is_certain → new.refused_calls ≡ old.refused_calls → new.intake ≡ None
       → VisitsRegister errand out out' old new visited
   visits_sure errand out out' old new visited visits sure same calls closed = record {
     told = told_by errand out out' old.lying new.lying visited visits.opened visits.between visits.opens visits.goes;
+    filled = filled_by errand out out' old.lying new.lying visited visits.opened visits.between visits.opens visits.goes;
+    unfilled = unfilled_by errand out out' old.lying new.lying visited visits.opened visits.between visits.goes;
     kept = λ honest certain. kept_by errand out out' old.lying new.lying visited visits.opened visits.between visits.opens visits.goes honest sure;
     visits = visits;
     certain = λ certain. sym same ∙ certain;
@@ -115,10 +129,12 @@ module _ {D : Type 0} {g : Ghosts D} where
     is_closed = closed;
   }
 
-  pub visits_unsure : (errand : Errand) (out out' : Option (List ℕ)) (old new : Parts g) (visited : Visited) → VisitsPlace g errand out out' old.lying new.lying visited → is_doubtful visited ≡ true → new.is_certain ≡ false → new.refused_calls ≡ old.refused_calls → new.intake ≡ None
+  pub visits_unsure : (errand : Errand) (out out' : Outputs) (old new : Parts g) (visited : Visited) → VisitsPlace g errand out out' old.lying new.lying visited → is_doubtful visited ≡ true → new.is_certain ≡ false → new.refused_calls ≡ old.refused_calls → new.intake ≡ None
       → VisitsRegister errand out out' old new visited
   visits_unsure errand out out' old new visited visits doubtful unsure calls closed = record {
     told = told_by errand out out' old.lying new.lying visited visits.opened visits.between visits.opens visits.goes;
+    filled = filled_by errand out out' old.lying new.lying visited visits.opened visits.between visits.opens visits.goes;
+    unfilled = unfilled_by errand out out' old.lying new.lying visited visits.opened visits.between visits.goes;
     kept = λ honest certain. absurd (true≢false (sym certain ∙ unsure));
     visits = visits;
     certain = λ certain. absurd (true≢false (sym certain ∙ unsure));

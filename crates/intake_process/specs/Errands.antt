@@ -1,5 +1,5 @@
 -- Errands to a register: what they print of it, and what becomes of it. `out` and `out'` are what the output has before and after, where that is known.
-use Rattle.std.specs.Prelude.{◌≡◌, ℕ, Bool, true, false, List, length, Option, Some, None, option_map, Result, Ok, Err, IsSome, IfErr}
+use Rattle.std.specs.Prelude.{◌≡◌, ℕ, Bool, true, false, List, [], length, Option, Some, None, option_map, Result, Ok, Err, IsSome, IfErr, OnOk}
 use Rattle.std.specs.Io.KnownBytes.{Appends}
 use Rattle.sqlite.specs.Store.{Ghosts}
 use Rattle.sqlite.specs.Held.{Held, state}
@@ -18,6 +18,7 @@ use Rattle.register_opening.specs.Opening.{IsRefused}
 use Rattle.register_opening.specs.Registers.{IsRegisterOf}
 use Rattle.register_store.specs.Numbered.{facts_numbered}
 use Rattle.register_export.specs.Records.{export_text}
+use Rattle.register_pages.specs.Pages.{WritesSite}
 use Rattle.intake_tasks.specs.declared.errand.Errand.{Errand}
 use Rattle.intake_tasks.specs.declared.errand.Errand.TheVariants as asked
 use Rattle.intake_tasks.specs.declared.text.TextFault.TheVariants.{Output}
@@ -35,6 +36,7 @@ text_of (asked.Show number) requests = option_map fact_lines (facts_numbered num
 text_of asked.Check requests = Some (sound_line (length requests) (length (register requests)))
 text_of asked.Migrate requests = Some migrated_line
 text_of (asked.Export form filer) requests = Some (export_text form (option_map (λ f. f.now) filer) (register requests))
+text_of (asked.Pages folder) requests = Some []
 
 -- the database is a register of these requests in the version that the errand is for: an earlier one to be migrated, and else this one
 abbrev pub IsRegisterFor : Errand → ℕ → List Request → Database → Type 0
@@ -42,6 +44,7 @@ IsRegisterFor (asked.List filer) early requests db = IsRegisterOf early requests
 IsRegisterFor (asked.Show number) early requests db = IsRegisterOf early requests db
 IsRegisterFor asked.Check early requests db = IsRegisterOf early requests db
 IsRegisterFor (asked.Export form filer) early requests db = IsRegisterOf early requests db
+IsRegisterFor (asked.Pages folder) early requests db = IsRegisterOf early requests db
 IsRegisterFor asked.Migrate early requests db = (form : Earlier) × IsAlone form db.schema × IsEarlierOf form early requests db
 
 -- it has the tables of such a register
@@ -50,9 +53,10 @@ HasTablesFor (asked.List filer) schema = IsDeclared schema
 HasTablesFor (asked.Show number) schema = IsDeclared schema
 HasTablesFor asked.Check schema = IsDeclared schema
 HasTablesFor (asked.Export form filer) schema = IsDeclared schema
+HasTablesFor (asked.Pages folder) schema = IsDeclared schema
 HasTablesFor asked.Migrate schema = (form : Earlier) × IsAlone form schema
 
--- Why an errand to such a register is not done: no filing has the number, or memory, the disk or the output failed. What the files say that
+-- Why an errand to such a register is not done: no filing has the number, or memory, the disk, the output or the folder failed. What the files say that
 -- gave no database is said of their place.
 abbrev pub MayFail : Errand → List Request → ErrandFault → Type 0
 MayFail asked.Migrate requests (fault.Open why holding) = ⊥
@@ -61,6 +65,8 @@ MayFail errand requests (fault.Open why holding) = IsFailure why
 MayFail (asked.List filer) requests (fault.List why) = Unit {0}
 MayFail (asked.Show number) requests (fault.Store why) = Unit {0}
 MayFail (asked.Export form filer) requests (fault.Store why) = Unit {0}
+MayFail (asked.Pages folder) requests (fault.Store why) = Unit {0}
+MayFail (asked.Pages folder) requests fault.Folder = Unit {0}
 MayFail (asked.Show number) requests (fault.NoFiling missing) = (missing ≡ number) × (text_of (asked.Show number) requests ≡ None)
 MayFail errand requests (fault.Text why) = IsSome (text_of errand requests)
 MayFail errand requests (fault.Files why) = Unit {0}
@@ -99,6 +105,8 @@ Says g errand old new (fault.Open why holding) = (HasCleanDisk (state g new) →
 Says g (asked.List filer) old new (fault.List why) = Unit {0}
 Says g (asked.Show number) old new (fault.Store why) = Unit {0}
 Says g (asked.Export form filer) old new (fault.Store why) = Unit {0}
+Says g (asked.Pages folder) old new (fault.Store why) = Unit {0}
+Says g (asked.Pages folder) old new fault.Folder = Unit {0}
 Says g (asked.Show number) old new (fault.NoFiling missing) = missing ≡ number
 Says g errand old new (fault.Text why) = Unit {0}
 Says g errand old new other = ⊥
@@ -116,3 +124,16 @@ pub record RunsErrand {S X : Type 0} (g : Ghosts S) (errand : Errand) (out out' 
       → (early : ℕ) × (requests : List Request) × IsRegisterFor errand early requests (state g old).now
   pub refused : IfErr result (Says g errand old new)
   pub quiet : IfErr result (IsQuiet errand out out')
+
+-- ---- pages
+
+abbrev pub is_for_pages : Errand → Bool
+is_for_pages (asked.Pages folder) = true
+is_for_pages other = false
+
+-- Which pages an errand writes into a folder: those of the register, if it is for pages and is done; none, if it is refused or for others.
+pub record FillsFolder {S X : Type 0} (g : Ghosts S) (errand : Errand) (pages pages' : Option (List (List ℕ))) (old new : Held S) (result : Result X ErrandFault) : Type 0 where
+  pub filled : HasCleanDisk (state g new) → (early : ℕ) (requests : List Request) → firsts requests ≡ requests → IsRegisterFor errand early requests (state g old).now
+      → is_for_pages errand ≡ true → OnOk result (WritesSite (register requests) pages pages')
+  pub refused : is_refused result ≡ true → pages' ≡ pages
+  pub others : is_for_pages errand ≡ false → pages' ≡ pages

@@ -8,6 +8,8 @@ use Rattle.intake_tasks.specs.declared.text.TextFault.{TextFault}
 use Rattle.intake_tasks.specs.declared.text.TextFault.TheVariants as text
 use Rattle.register_export.specs.declared.fault.RecordsFault.{RecordsFault}
 use Rattle.register_export.specs.declared.fault.RecordsFault.TheVariants as records
+use Rattle.register_pages.specs.declared.fault.WritingFault.{WritingFault}
+use Rattle.register_pages.specs.declared.fault.WritingFault.TheVariants as writing
 use Rattle.intake_process.specs.declared.errand.ErrandFault.{ErrandFault}
 use Rattle.intake_process.specs.declared.errand.ErrandFault.TheVariants as fault
 
@@ -30,3 +32,8 @@ abbrev pub records_fault : RecordsFault → ErrandFault
 records_fault (records.Store why) = fault.Store why
 records_fault records.Memory = fault.Text text.Memory
 records_fault records.Output = fault.Text text.Output
+
+abbrev pub writing_fault : WritingFault → ErrandFault
+writing_fault (writing.Store why) = fault.Store why
+writing_fault writing.Memory = fault.Text text.Memory
+writing_fault writing.Folder = fault.Folder

@@ -1,6 +1,6 @@
 -- What a visit to the register that lies in a place does: it is opened, an errand to it is done, and it is closed. `out` and `out'` are what
--- the output has before and after, where that is known.
-use Rattle.std.specs.Prelude.{◌≡◌, ℕ, Bool, true, false, List, Option, None, Result, Ok, Err, is_err, ◌||◌}
+-- the output and the folder have before and after, where that is known.
+use Rattle.std.specs.Prelude.{◌≡◌, ℕ, Bool, true, false, List, Option, None, Result, Ok, Err, OnOk, is_err, ◌||◌}
 use Rattle.sqlite_disk.specs.declared.Disk.{Ghosts}
 use Rattle.sqlite_disk.specs.declared.Files.{Files}
 use Rattle.sqlite_store.specs.declared.store.FileStore.{FileStore}
@@ -10,6 +10,8 @@ use Rattle.sqlite.specs.Files.{over_files}
 use Rattle.sqlite.specs.Held.{Held}
 use Rattle.table_rows.specs.Files.{HoldsDatabase, AreUsable}
 use Rattle.filing_model.specs.Request.{Request, firsts}
+use Rattle.filing_model.specs.Register.{register}
+use Rattle.register_pages.specs.Pages.{WritesSite}
 use Rattle.command_line.specs.declared.fault.DatabaseFault.{DatabaseFault}
 use Rattle.database_places.specs.Closing.{IsClosedIn, IsGivenUp, IsNotClosed}
 use Rattle.database_places.specs.Opening.{OpensPlace}
@@ -18,8 +20,16 @@ use Rattle.database_places.specs.Places as place
 use Rattle.intake_tasks.specs.declared.errand.Errand.{Errand}
 use Rattle.intake_process.specs.declared.errand.ErrandFault.TheVariants as fault
 use Rattle.intake_process.specs.declared.visiting.Visited.{Visited}
-use Rattle.intake_process.specs.Errands.{IsRegisterFor, RunsErrand, Tells, is_refused}
+use Rattle.intake_process.specs.Errands.{FillsFolder, IsRegisterFor, RunsErrand, Tells, is_for_pages, is_refused}
 use Rattle.intake_process.specs.Process.{Parts, IsHonest, KeepsBy}
+
+-- what an output has, and which pages were written into a folder, where that is known
+pub record Outputs : Type 0 where
+  pub text : Option (List ℕ)
+  pub pages : Option (List (List ℕ))
+
+abbrev pub outputs : Option (List ℕ) → Option (List (List ℕ)) → Outputs
+outputs text pages = record { text = text; pages = pages }
 
 -- the files hold the register of these requests in the version that the errand is for, and can be opened
 pub record HoldFor {D : Type 0} (g : Ghosts D) (errand : Errand) (files : Files D) (early : ℕ) (requests : List Request) : Type 0 where
@@ -47,14 +57,14 @@ module _ {D : Type 0} {g : Ghosts D} where
   IsLeftIn false conn files (Err error) = IsNotClosed conn files error
 
   -- The database was not opened, and nothing is done; or the errand is done with the connection to it, and its files lie there again.
-  abbrev pub GoesOn : Errand → Option (List ℕ) → Option (List ℕ) → Option (Option (Files D)) → Option (Option (Files D)) → Result (Held (FileStore D g)) DatabaseFault → Visited → Type 0
+  abbrev pub GoesOn : Errand → Outputs → Outputs → Option (Option (Files D)) → Option (Option (Files D)) → Result (Held (FileStore D g)) DatabaseFault → Visited → Type 0
   GoesOn errand out out' between lying (Err why) visited = (visited.done ≡ Err (fault.Files why)) × (visited.closed ≡ Ok tt) × (lying ≡ between) × (out' ≡ out)
   GoesOn errand out out' between lying (Ok conn) visited =
-      (left : Held (FileStore D g)) × RunsErrand over_files errand out out' conn left visited.done
+      (left : Held (FileStore D g)) × RunsErrand over_files errand out.text out'.text conn left visited.done × FillsFolder over_files errand out.pages out'.pages conn left visited.done
       × ((files : Files D) × place.Leaves between lying files × IsLeftIn (is_refused visited.done) left files visited.closed)
 
 -- What a visit does with what lies in a place, whatever that is.
-pub record VisitsPlace {D : Type 0} (g : Ghosts D) (errand : Errand) (out out' : Option (List ℕ)) (old new : Option (Option (Files D))) (visited : Visited) : Type 0 where
+pub record VisitsPlace {D : Type 0} (g : Ghosts D) (errand : Errand) (out out' : Outputs) (old new : Option (Option (Files D))) (visited : Visited) : Type 0 where
   pub opened : Result (Held (FileStore D g)) DatabaseFault
   pub between : Option (Option (Files D))
   pub opens : OpensPlace g true old between opened
@@ -63,9 +73,12 @@ pub record VisitsPlace {D : Type 0} (g : Ghosts D) (errand : Errand) (out out' :
 -- ---- a register
 
 -- What a visit does with a process that is closed. A register of the version that the errand is for is told as it is, and, as long as no close
--- and no opening failed, its requests are kept as a register of this version.
-pub record VisitsRegister {D : Type 0} {g : Ghosts D} (errand : Errand) (out out' : Option (List ℕ)) (old new : Parts g) (visited : Visited) : Type 0 where
-  pub told : IsHonest g → (early : ℕ) (requests : List Request) → LiesFor g errand old.lying early requests → Tells errand requests out out' visited.done
+-- and no opening failed, its requests are kept as a register of this version. Its pages are written if the errand is for them, and else none.
+pub record VisitsRegister {D : Type 0} {g : Ghosts D} (errand : Errand) (out out' : Outputs) (old new : Parts g) (visited : Visited) : Type 0 where
+  pub told : IsHonest g → (early : ℕ) (requests : List Request) → LiesFor g errand old.lying early requests → Tells errand requests out.text out'.text visited.done
+  pub filled : IsHonest g → (early : ℕ) (requests : List Request) → LiesFor g errand old.lying early requests → is_for_pages errand ≡ true
+      → OnOk visited.done (WritesSite (register requests) out.pages out'.pages)
+  pub unfilled : is_for_pages errand ≡ false → out'.pages ≡ out.pages
   pub kept : IsHonest g → new.is_certain ≡ true → (early : ℕ) (requests : List Request) → LiesFor g errand old.lying early requests
       → KeepsBy {g = g} None new.lying 0 early requests
   pub visits : VisitsPlace g errand out out' old.lying new.lying visited

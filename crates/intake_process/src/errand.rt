@@ -1,10 +1,11 @@
 //! An errand to the register that a database is. This is written over any store, since each function that names a store
 //! in files and calls such code costs much to prove.
 
-ghost use Rattle.std.specs.Prelude.{◌≡◌};
+ghost use Rattle.std.specs.Prelude.{◌≡◌, ℕ, List, Option};
+ghost use Rattle.std.specs.Borrow.{Bor};
 ghost use Rattle.table_rows.specs.Standing.{IsAtRest};
-ghost use Rattle.intake_process.specs.Errands.{RunsErrand, is_refusal};
-ghost use Rattle.intake_process.specs.Outcomes.{listed_as, records_fault, shown_as, printed_as};
+ghost use Rattle.intake_process.specs.Errands.{FillsFolder, RunsErrand, is_refusal};
+ghost use Rattle.intake_process.specs.Outcomes.{listed_as, records_fault, shown_as, printed_as, writing_fault};
 
 use command_files::{Holding, held_in};
 use command_line::DatabaseFault;
@@ -15,6 +16,7 @@ use intake_tasks::{
     show,
 };
 use register_export::{ExportFault, RecordsFault, export};
+use register_pages::{Folder, PagesFault, WritingFault, write_pages};
 use register_store::{OpenFault, Store, StoreFault};
 use sqlite::{Alter, Connection};
 use std::alloc::Global;
@@ -40,6 +42,8 @@ pub enum ErrandFault {
     NoFiling { number: u64 },
     /// The text was not printed.
     Text(TextFault),
+    /// A page is not written.
+    Folder,
 }
 
 impl ErrandFault {
@@ -108,17 +112,31 @@ fn records_fault(fault: RecordsFault) -> ErrandFault
     }
 }
 
-/// Does an errand to the register that this database is, and gives the connection back. `progress` learns how
-/// far a check is.
-pub(crate) fn run_errand<S: Alter + Drop, P: Progress, O: Write>(
+/// Why an errand to write pages is not done, if they are not all written for this reason.
+fn writing_fault(fault: WritingFault) -> ErrandFault
+    ensures { result ≡ writing_fault fault }
+{
+    match fault {
+        WritingFault::Store(fault) => ErrandFault::Store(fault),
+        WritingFault::Memory => ErrandFault::Text(TextFault::Memory),
+        WritingFault::Folder => ErrandFault::Folder,
+    }
+}
+
+/// Does an errand to the register that this database is, and gives the connection back. `progress` learns how far a
+/// check is, and pages go into the folder.
+pub(crate) fn run_errand<S: Alter + Drop, P: Progress, F: Folder, O: Write>(
     alloc: Global,
     conn: Connection<S>,
     errand: Errand<'_>,
     progress: &mut P,
+    folder: &mut F,
     output: &mut O,
 ) -> (Connection<S>, Result<(), ErrandFault>)
     requires { IsAtRest conn }
-    ensures { RunsErrand S.Store errand.entry (O.contents output.old) (O.contents output.new) conn result.0 result.1 }
+    ensures runs { RunsErrand S.Store errand.entry (O.contents output.old) (O.contents output.new) conn
+        result.0 result.1 }
+    ensures fills { FillsFolder S.Store errand.entry (F.pages folder.old) (F.pages folder.new) conn result.0 result.1 }
 {
     match errand {
         Errand::List { filer } => list_filings(alloc, conn, filer, output),
@@ -126,6 +144,7 @@ pub(crate) fn run_errand<S: Alter + Drop, P: Progress, O: Write>(
         Errand::Check => check_register(alloc, conn, progress, output),
         Errand::Migrate => migrate_register(alloc, conn, output),
         Errand::Export { form, filer } => export_facts(alloc, conn, form, filer, output),
+        Errand::Pages { folder: _ } => write_site(alloc, conn, folder),
     }
 }
 
@@ -232,6 +251,28 @@ fn export_facts<S: Alter + Drop, O: Write>(
         Ok(()) => (conn, Ok(())),
         Err(ExportFault::Records(fault)) => (conn, Err(records_fault(fault))),
         Err(ExportFault::Open(fault)) => {
+            let holding = held_in(&conn);
+            (conn, Err(ErrandFault::Open(fault, holding)))
+        }
+    }
+}
+
+/// Writes the pages of the register into the folder.
+fn write_site<S: Alter + Drop, F: Folder>(
+    alloc: Global,
+    mut conn: Connection<S>,
+    folder: &mut F,
+) -> (Connection<S>, Result<(), ErrandFault>)
+    requires { IsAtRest conn }
+    ensures runs { (path : Bor (List ℕ)) (out : Option (List ℕ))
+        → RunsErrand S.Store (Errand.Pages path) out out conn result.0 result.1 }
+    ensures fills { (path : Bor (List ℕ))
+        → FillsFolder S.Store (Errand.Pages path) (F.pages folder.old) (F.pages folder.new) conn result.0 result.1 }
+{
+    match write_pages(alloc, &mut conn, folder) {
+        Ok(()) => (conn, Ok(())),
+        Err(PagesFault::Pages(fault)) => (conn, Err(writing_fault(fault))),
+        Err(PagesFault::Open(fault)) => {
             let holding = held_in(&conn);
             (conn, Err(ErrandFault::Open(fault, holding)))
         }

@@ -5,12 +5,13 @@ ghost use Rattle.sqlite_disk.specs.declared.Files.{Files as Pair};
 ghost use Rattle.database_places.specs.Places.{Leaves};
 ghost use Rattle.intake_process.specs.Errands.{is_refused};
 ghost use Rattle.intake_process.specs.Process.{parts};
-ghost use Rattle.intake_process.specs.Visits.{IsLeftIn, VisitsPlace, VisitsRegister, is_doubtful};
+ghost use Rattle.intake_process.specs.Visits.{IsLeftIn, VisitsPlace, VisitsRegister, is_doubtful, outputs};
 
 use crate::errand::{ErrandFault, run_errand};
 use crate::process::IntakeProcess;
 use database_places::{Cache, Opening, Place, close, give_up, open, remove_new_log};
 use intake_tasks::{Errand, Progress};
+use register_pages::Folder;
 use sqlite::{Connection, Error, FileStore};
 use sqlite_disk::Disk;
 use std::alloc::Global;
@@ -74,20 +75,21 @@ fn leave<D: Disk + Drop, P: Place<D>>(
 }
 
 /// Opens the database that lies in a place, does an errand to the register that it is, and closes it.
-fn visit_place<D: Disk + Drop, P: Place<D>, G: Progress, O: Write>(
+fn visit_place<D: Disk + Drop, P: Place<D>, G: Progress, F: Folder, O: Write>(
     alloc: Global,
     place: &mut P,
     errand: Errand<'_>,
     progress: &mut G,
+    folder: &mut F,
     output: &mut O,
 ) -> Visited
-    ensures { VisitsPlace D.Disk errand.entry (O.contents output.old) (O.contents output.new)
-        (P.lying place.old) (P.lying place.new) result }
+    ensures { VisitsPlace D.Disk errand.entry (outputs (O.contents output.old) (F.pages folder.old))
+        (outputs (O.contents output.new) (F.pages folder.new)) (P.lying place.old) (P.lying place.new) result }
 {
     let had_log = place.has_log();
     match open(alloc, place, Opening::Found(Cache::OfTheFile)) {
         Ok(conn) => {
-            let (left, done) = run_errand(alloc, conn, errand, progress, output);
+            let (left, done) = run_errand(alloc, conn, errand, progress, folder, output);
             let closed = leave(place, left, &done, had_log);
             Visited { done, closed }
         }
@@ -100,19 +102,22 @@ fn visit_place<D: Disk + Drop, P: Place<D>, G: Progress, O: Write>(
 
 impl<D: Disk + Drop, P: Place<D> + Drop> IntakeProcess<D, P> {
     /// Opens the register, which is closed, does an errand to it, and closes it. A refusal leaves the files in the
-    /// place, and leaves a database that is damaged or no register as it was. `progress` learns how far a check is.
-    pub fn visit<G: Progress, O: Write>(
+    /// place, and leaves a database that is damaged or no register as it was. `progress` learns how far a check is, and
+    /// pages go into the folder.
+    pub fn visit<G: Progress, F: Folder, O: Write>(
         &mut self,
         alloc: Global,
         errand: Errand<'_>,
         progress: &mut G,
+        folder: &mut F,
         output: &mut O,
     ) -> Visited
         requires { self.old.intake ≡ None }
-        ensures { VisitsRegister errand.entry (O.contents output.old) (O.contents output.new)
-            (parts P.lying self.old) (parts P.lying self.new) result }
+        ensures { VisitsRegister errand.entry (outputs (O.contents output.old) (F.pages folder.old))
+            (outputs (O.contents output.new) (F.pages folder.new)) (parts P.lying self.old) (parts P.lying self.new)
+            result }
     {
-        let visited = visit_place(alloc, &mut self.place, errand, progress, output);
+        let visited = visit_place(alloc, &mut self.place, errand, progress, folder, output);
         if visited.is_doubtful() {
             self.is_certain = false;
         }

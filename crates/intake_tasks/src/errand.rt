@@ -18,4 +18,6 @@ pub enum Errand<'a> {
         form: Form,
         filer: Option<&'a str>,
     },
+    /// Write the register as pages of HTML into a folder.
+    Pages { folder: &'a str },
 }

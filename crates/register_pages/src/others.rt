@@ -1,5 +1,8 @@
 //! The pages that are written once all requests were read.
 
+ghost use Rattle.std.specs.Prelude.{ℕ, List, map, OnOk};
+ghost use Rattle.register_pages.specs.Pages.{Adds, filer_page, other_pages};
+
 use crate::chart::findings_page;
 use crate::fault::WritingFault;
 use crate::filers::Filers;
@@ -40,7 +43,9 @@ fn write_filers<F: Folder>(
     alloc: Global,
     filers: &Filers,
     folder: &mut F,
-) -> Result<(), WritingFault> {
+) -> Result<(), WritingFault>
+    ensures { OnOk result ((codes : List (List ℕ)) × Adds (F.pages folder.old) (F.pages folder.new) (map filer_page codes)) }
+{
     for (code, filer) in filers.list.iter() {
         let name = format!(in alloc; "filer-{code}.html")?;
         let page = filer.page(alloc, code.as_str())?;
@@ -56,7 +61,9 @@ pub(crate) fn write_others<F: Folder>(
     filers: &Filers,
     refused: &Refused,
     folder: &mut F,
-) -> Result<(), WritingFault> {
+) -> Result<(), WritingFault>
+    ensures { OnOk result ((codes : List (List ℕ)) × Adds (F.pages folder.old) (F.pages folder.new) (other_pages codes)) }
+{
     write_filers(alloc, filers, folder)?;
     folder.write("refused.html", &refused.page(alloc)?)?;
     folder.write("findings.html", &findings_page(alloc, &refused.found)?)?;

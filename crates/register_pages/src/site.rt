@@ -1,7 +1,13 @@
 //! The pages of a register.
 
+ghost use Rattle.std.specs.Prelude.{◌≡◌, ◌∷◌, [], length, Some, OnOk};
+ghost use Rattle.filing_model.specs.Register.{Filing, register};
 ghost use Rattle.table_rows.specs.Leaving.{MayRead};
 ghost use Rattle.table_rows.specs.Standing.{IsAtRest};
+ghost use Rattle.register_rows.specs.Catalogue.{catalogue_of, view_lines};
+ghost use Rattle.register_store.specs.Numbered.{filing_numbered};
+ghost use Rattle.register_store.specs.Store.{ForRegister};
+ghost use Rattle.register_pages.specs.Pages.{Adds, WritesSite, filing_page, filing_pages};
 ghost use Rattle.register_pages.specs.Site.{WritesPages};
 
 use crate::fault::{PagesFault, WritingFault};
@@ -26,7 +32,7 @@ pub fn write_pages<S: Alter, F: Folder>(
     folder: &mut F,
 ) -> Result<(), PagesFault>
     requires { IsAtRest conn.old }
-    ensures { WritesPages S.Store conn.old conn.new result }
+    ensures { WritesPages S.Store (F.pages folder.old) (F.pages folder.new) conn.old conn.new result }
 {
     let counts = read_register(alloc, conn, &mut Unwatched)?;
     write_all(alloc, conn, &counts, folder)?;
@@ -40,7 +46,10 @@ fn write_all<S: Alter, F: Folder>(
     counts: &Counts,
     folder: &mut F,
 ) -> Result<(), WritingFault>
-    ensures { MayRead S.Store conn.old conn.new result }
+    ensures written { ForRegister S.Store conn.old conn.new (λ _ requests.
+        view_lines counts.now.catalogue ≡ catalogue_of requests → counts.now.filings ≡ length (register requests)
+        → OnOk result (WritesSite (register requests) (F.pages folder.old) (F.pages folder.new))) }
+    ensures leaves { MayRead S.Store conn.old conn.new result }
 {
     let mut filers = Filers::new(alloc);
     let mut refused = Refused::new(alloc)?;
@@ -57,14 +66,36 @@ fn write_filings<S: Alter, F: Folder>(
     folder: &mut F,
     filers: &mut Filers,
 ) -> Result<(), WritingFault>
-    ensures { MayRead S.Store conn.old conn.new result }
+    ensures written { ForRegister S.Store conn.old conn.new (λ _ requests.
+        view_lines counts.now.catalogue ≡ catalogue_of requests → counts.now.filings ≡ length (register requests)
+        → OnOk result (Adds (F.pages folder.old) (F.pages folder.new) (filing_pages (register requests)))) }
+    ensures leaves { MayRead S.Store conn.old conn.new result }
 {
     for at in 0..counts.filings {
-        if let Some(filing) = filing_at(alloc, conn, &counts.catalogue, at + 1)? {
-            write_filing(alloc, &filing, folder, filers)?;
-        }
+        write_numbered(alloc, conn, &counts.catalogue, at + 1, folder, filers)?;
     }
     Ok(())
+}
+
+/// Writes the page of the filing with this number.
+fn write_numbered<S: Alter, F: Folder>(
+    alloc: Global,
+    conn: &mut Connection<S>,
+    catalogue: &Catalogue,
+    number: u64,
+    folder: &mut F,
+    filers: &mut Filers,
+) -> Result<(), WritingFault>
+    ensures written { ForRegister S.Store conn.old conn.new (λ _ requests.
+        (f : Filing) → view_lines catalogue.now ≡ catalogue_of requests
+        → filing_numbered number (register requests) ≡ Some f
+        → OnOk result (Adds (F.pages folder.old) (F.pages folder.new) (filing_page f.number ∷ []))) }
+    ensures leaves { MayRead S.Store conn.old conn.new result }
+{
+    match filing_at(alloc, conn, catalogue, number)? {
+        Some(filing) => write_filing(alloc, &filing, folder, filers),
+        None => Ok(()),
+    }
 }
 
 /// Writes the page of a filing.
@@ -73,7 +104,9 @@ fn write_filing<F: Folder>(
     filing: &WholeFiling,
     folder: &mut F,
     filers: &mut Filers,
-) -> Result<(), WritingFault> {
+) -> Result<(), WritingFault>
+    ensures { OnOk result (Adds (F.pages folder.old) (F.pages folder.new) (filing_page filing.now.number ∷ [])) }
+{
     let number = filing.number;
     let name = format!(in alloc; "filing-{number}.html")?;
     folder.write(name.as_str(), &filing_page(alloc, filing)?)?;

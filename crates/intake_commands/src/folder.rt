@@ -1,0 +1,100 @@
+//! A folder of the file system.
+
+ghost use Rattle.std.specs.Prelude.{◌≡◌, None};
+
+use markup::Markup;
+use register_pages::{Folder, NotWritten};
+use std::alloc::AllocError;
+use std::{fs, io};
+use thiserror::Error;
+
+/// Why a page was not written.
+#[derive(Debug, Drop, Error)]
+pub enum PageFault {
+    #[error("{path}: {error}")]
+    File { path: String, error: io::Error },
+    #[error("out of memory")]
+    Memory,
+}
+
+impl From<AllocError> for PageFault {
+    fn from(_error: AllocError) -> PageFault {
+        PageFault::Memory
+    }
+}
+
+/// A folder that knows why a page was not written.
+pub trait SiteFolder: Folder {
+    /// Hands out why the last page was not written, if it was not.
+    fn take_fault(&mut self) -> PageFault
+        ensures { Self.Folder.pages self.new ≡ Self.Folder.pages self.old };
+}
+
+/// A folder of the file system. A page is written under another name first, so that no part of one is left under its own.
+#[derive(Drop)]
+pub struct SystemFolder<'r, 'a> {
+    rt: &'r HostRuntime,
+    path: &'a str,
+    fault: Option<PageFault>,
+}
+
+impl<'r, 'a> SystemFolder<'r, 'a> {
+    /// The folder with this path.
+    pub fn new(rt: &'r HostRuntime, path: &'a str) -> SystemFolder<'r, 'a> {
+        SystemFolder {
+            rt,
+            path,
+            fault: None,
+        }
+    }
+
+    /// Writes a page.
+    fn put(&self, name: &str, page: &[u8]) -> Result<(), PageFault> {
+        let folder = self.path;
+        let draft = format!(in self.rt.alloc(); "{folder}/.{name}.new")?;
+        let path = format!(in self.rt.alloc(); "{folder}/{name}")?;
+        match write_whole(self.rt, draft.as_str(), path.as_str(), page) {
+            Ok(()) => Ok(()),
+            Err(error) => Err(PageFault::File { path, error }),
+        }
+    }
+}
+
+impl Folder for SystemFolder<'_, '_> {
+    ghost pages = { λ _. None };
+
+    fn write(&mut self, name: &str, page: &Markup) -> Result<(), NotWritten> {
+        match self.put(name, page.as_bytes()) {
+            Ok(()) => Ok(()),
+            Err(fault) => {
+                self.fault = Some(fault);
+                Err(NotWritten)
+            }
+        }
+    }
+}
+
+impl SiteFolder for SystemFolder<'_, '_> {
+    fn take_fault(&mut self) -> PageFault {
+        match self.fault.take() {
+            Some(fault) => fault,
+            None => PageFault::Memory,
+        }
+    }
+}
+
+/// Writes a file whole, first under the name of its draft. If it fails, no draft is left.
+fn write_whole(rt: &HostRuntime, draft: &str, path: &str, bytes: &[u8]) -> io::Result<()> {
+    let written = write_by_draft(rt, draft, path, bytes);
+    if written.is_err() {
+        // Nothing is left to be done if it can't be removed either.
+        let _ = fs::remove_file(rt, draft);
+    }
+    written
+}
+
+/// Writes a file under the name of its draft, and then gives it its own.
+fn write_by_draft(rt: &HostRuntime, draft: &str, path: &str, bytes: &[u8]) -> io::Result<()> {
+    fs::write(rt, draft, bytes)?;
+    fs::rename(rt, draft, path)
+}
