@@ -53,7 +53,9 @@ pub fn perform_task<
         (L.Port.traffic port.new) (parts P.lying process.new))
         result }
 {
-    match do_task(rt, task, process, port, folder, reader, writer, output, errors) {
+    match do_task(
+        rt, task, process, port, folder, reader, writer, output, errors,
+    ) {
         Ok(status) => status,
         Err(fault) => fault.tell(errors),
     }

@@ -14,10 +14,7 @@ pub enum Errand<'a> {
     /// Upgrade a register of an earlier version to this version.
     Migrate,
     /// Write out all facts, or those of one filer.
-    Export {
-        form: Form,
-        filer: Option<&'a str>,
-    },
+    Export { form: Form, filer: Option<&'a str> },
     /// Write the register as pages of HTML into a folder.
     Pages { folder: &'a str },
 }
