@@ -255,7 +255,7 @@ def lists_cases(_, status, printed):
 
 
 def prints_nothing(_, status, printed):
-    return None if not status and printed == [""] else f"status {status}, {printed}"
+    return None if not status and not any(printed) else f"status {status}, {printed}"
 
 
 def shows_findings(_, status, printed):
@@ -272,6 +272,13 @@ def make_copies(scratch):
             database.execute(f"CREATE TABLE {declared} STRICT")
             database.executemany("INSERT INTO kept VALUES (?, 'ACME', ?, x'', NULL)", [(seq, f"k-{seq}") for seq in range(1, count + 1)])
         database.close()
+
+
+def make_copy(scratch):
+    """A register with one filing, which nothing has open."""
+    scratch.serve("--db", "copy.db", "--port", "8081", "--connections", "1", "--new")
+    trials.exchange(8081, trials.request("2024-annual-1", trials.REPORT))
+    scratch.server.wait(60)
 
 
 def make_refused_entry(scratch):
@@ -304,6 +311,8 @@ EXAMPLES = [
     Example("docs/OPERATIONS.md", "sqlite3 later.db", prints_nothing, scene=make_copies),
     Example("README.md", "export PATH=", port=8080),
     Example("docs/PROTOCOL.md", "example=$(mktemp -d)", port=8080),
+    Example("docs/OPERATIONS.md", "intake export --db copy.db", prints_nothing, port=8081, scene=make_copy),
+    Example("docs/OPERATIONS.md", "mkdir site", prints_nothing, port=8081, scene=make_copy),
     Example("docs/OPERATIONS.md", "outbox ask --db outbox.db", port=8081, scene=make_refused_entry),
     Example("docs/OPERATIONS.md", 'sqlite3 outbox.db "SELECT writefile', shows_findings, port=8081, scene=make_refused_entry),
 ]

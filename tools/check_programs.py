@@ -7,6 +7,8 @@ It takes the programs that `rt run` builds in their folders, as crates/intake/ou
 memory, which it mounts if it may; otherwise it says so, and a limit on the size of files stands in for it. Status 1 if a
 trial fails.
 """
+import datetime
+import hashlib
 import json
 import os
 import pathlib
@@ -563,6 +565,54 @@ def check_questions(folder):
     hold("the outbox is as it was", said(run(OUTBOX, "show", "--db", outbox), folder), before)
 
 
+def receipt_in(folder, entry):
+    """The receipt of an entry without its moment, and whether the moment is within the last minute."""
+    receipt = json.loads((folder / f"entry-{entry}.json").read_text())
+    moment = datetime.datetime.fromisoformat(receipt.pop("moment").replace("Z", "+00:00"))
+    return receipt, abs(datetime.datetime.now(datetime.timezone.utc) - moment) < datetime.timedelta(minutes=1)
+
+
+def check_receipts(folder):
+    """Each reply that settles an entry has its receipt, and no other."""
+    outbox, kept = make_outbox(folder, 2), folder / "receipts"
+    words = ("send", "--db", outbox, "--receipts", kept)
+    gone = said(run(OUTBOX, *words, "--port", 1), folder)
+    hold("no receipts without a folder", gone, (3, "", "outbox: receipts: no receipt can be written there: No such file or directory (os error 2)\n"))
+    kept.mkdir()
+    peer = Peer(answers(problem(b"403 Forbidden", "not-yours")), answers(registered(7)))
+    sent = run(OUTBOX, *words, "--port", peer.port, "--all")
+    errors = "outbox: entry 1: answered 403 Forbidden: not-yours\n"
+    hold("a round with receipts", said(sent, folder), (0, "entry 1 open\nentry 2 confirmed 7\n", errors))
+    hold("a receipt for what is settled", sorted(it.name for it in kept.iterdir()), ["entry-2.json"])
+    of_request = {"entry": 2, "filer": "ACME", "key": "k-2", "target": None, "length": len(SMALLEST), "sha256": hashlib.sha256(SMALLEST).hexdigest()}
+    of_reply = {"status": 201, "content": '{"number":7,"status":"registered"}', "port": peer.port}
+    hold("what it says", receipt_in(kept, 2), (of_request | of_reply, True))
+    members = list(json.loads((kept / "entry-2.json").read_text()))
+    hold("in the order of names", members, sorted(members))
+    (kept / "entry-2.json").unlink()
+    again = Peer(answers(problem(b"503 Service Unavailable", "unavailable")), answers(registered(7)))
+    asked = run(OUTBOX, "ask", "--db", outbox, "--entry", 2, "--port", again.port, "--receipts", kept)
+    lost = "outbox: receipts that were not written: 1; outbox ask --receipts writes one again\n"
+    content = '{"reason":"unavailable","status":503,"title":"Service Unavailable","type":"about:blank"}'
+    printed = f"entry 2: 503 Service Unavailable\n{content}\n"
+    hold("no receipt of 503", said(asked, folder), (3, printed, "outbox: entry 2: no receipt: the reply does not settle it\n" + lost))
+    asked = run(OUTBOX, "ask", "--db", outbox, "--entry", 2, "--port", again.port, "--receipts", kept)
+    hold("a question with a receipt", said(asked, folder), (0, f"entry 2: 201 Created\n{of_reply['content']}\n", ""))
+    hold("which says the same", receipt_in(kept, 2), (of_request | of_reply | {"port": again.port}, True))
+    shutil.rmtree(kept)
+    kept.mkdir()
+
+    def takes_the_folder_away(connection):
+        kept.rmdir()
+        connection.sendall(registered(8))
+
+    late = Peer(takes_the_folder_away)
+    sent = run(OUTBOX, *words, "--port", late.port)
+    errors = "outbox: entry 1: no receipt: No such file or directory (os error 2)\n" + lost
+    hold("a receipt that cannot be written", said(sent, folder), (3, "entry 1 confirmed 8\n", errors))
+    hold("its entry is settled", said(run(OUTBOX, "status", "--db", outbox), folder)[1], "entry 1 confirmed 8\nentry 2 confirmed 7\n")
+
+
 def drips(connection):
     """The act of a peer that answers a byte each 0.2 seconds."""
     try:
@@ -617,6 +667,6 @@ if __name__ == "__main__":
     try_all(
         (INTAKE, OUTBOX),
         (check_serving, check_patience, check_limit, check_amendments, check_sent_amendments, check_full_register, check_full_outbox, check_files,
-         check_descriptors, check_rights, check_damage, check_copies, check_lint, check_entries, check_round, check_answers, check_questions,
+         check_descriptors, check_rights, check_damage, check_copies, check_lint, check_entries, check_round, check_answers, check_questions, check_receipts,
          check_patience_of_a_round, check_same_report, check_closed_output),
     )

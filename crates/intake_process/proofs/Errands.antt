@@ -29,7 +29,6 @@ use Rattle.register_export.specs.Records.{export_text}
 use Rattle.register_export.specs.declared.fault.ExportFault.TheVariants as export
 use Rattle.register_export.specs.declared.fault.RecordsFault.{RecordsFault}
 use Rattle.register_export.specs.declared.fault.RecordsFault.TheVariants as records
-use Rattle.register_pages.specs.Pages.{WritesSite}
 use Rattle.register_pages.specs.Site.{WritesPages}
 use Rattle.register_pages.specs.declared.fault.PagesFault.TheVariants as site
 use Rattle.register_pages.specs.declared.fault.WritingFault.{WritingFault}

@@ -1,5 +1,5 @@
 -- What a visit tells and keeps of a register follows from what it does with the place.
-use Rattle.std.proofs.Common.{◌≡◌, ℕ, Bool, true, false, true≢false, List, Option, Some, None, Result, Ok, Err, refl, sym, ◌∙◌, ap, subst, IfErr, OnOk, inr}
+use Rattle.std.proofs.Common.{◌≡◌, ℕ, Bool, true, false, true≢false, List, Option, Some, None, Result, Ok, Err, refl, sym, ◌∙◌, ap, subst, IfErr, OnOk}
 use Rattle.std.specs.Prelude.{is_err, ◌||◌}
 use Rattle.sqlite_disk.specs.declared.Disk.{Ghosts}
 use Rattle.sqlite_disk.specs.declared.Files.{Files}

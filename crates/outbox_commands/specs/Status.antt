@@ -118,9 +118,16 @@ status_of (fault.Connect port error) = 3
 status_of (fault.Exchange port why) = 3
 status_of (fault.Patience port seconds) = 3
 status_of (fault.Round port sent failed) = 3
+status_of (fault.Folder name error) = 3
+status_of (fault.Receipts lost) = 3
 status_of (fault.Random error) = 3
 
 -- 0 if the task is done
 abbrev pub status_by : {X : Type 0} → Result X Fault → ℕ
 status_by (Ok done) = 0
 status_by (Err why) = status_of why
+
+-- 3 if a receipt was not written, and else 0
+abbrev pub receipt_status : ℕ → ℕ
+receipt_status zero = 0
+receipt_status (suc lost) = 3

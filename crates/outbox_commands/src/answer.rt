@@ -5,14 +5,14 @@ ghost use Rattle.std.specs.Prelude.{◌≤◌};
 use http_messages::{
     Block, Kind, ResponseHead, find_block, read_response, skipped_len, split_at_first,
 };
-use http_wire::{DeviceFailed, Source};
+use http_wire::{DeviceFailed, Sink, Source};
 use serde_json::Value;
 use std::alloc::Global;
 use std::fmt;
 use std::io::{self, Write};
 
-/// How many bytes of a reply are noted.
-const MOST_NOTED: usize = 8_192;
+/// How many bytes of a reply are noted to see why it settles nothing.
+pub const MOST_NOTED: usize = 8_192;
 
 /// How many interim responses are skipped.
 const MOST_INTERIM: usize = 8;
@@ -20,32 +20,39 @@ const MOST_INTERIM: usize = 8;
 /// How many bytes of a peer's text are shown.
 const MOST_SHOWN: usize = 200;
 
-/// A reader whose first bytes are noted.
+/// A reader or a writer whose first bytes are noted.
 #[derive(Drop)]
-pub struct Noted<R> {
-    inner: R,
+pub struct Noted<T> {
+    inner: T,
+    /// How many are noted.
+    most: usize,
     bytes: Vec<u8>,
 }
 
-impl<R: Source + Drop> Noted<R> {
-    /// The reader, of which nothing was read.
-    pub fn new(alloc: Global, inner: R) -> Noted<R> {
+impl<T: Drop> Noted<T> {
+    /// The reader or writer, of which nothing was read or written. So many bytes are noted.
+    pub fn new(alloc: Global, inner: T, most: usize) -> Noted<T> {
         Noted {
             inner,
+            most,
             bytes: Vec::new(alloc),
         }
     }
 
     /// The bytes that were noted.
     pub fn into_bytes(self) -> Vec<u8> {
-        let Noted { inner: _, bytes } = self;
+        let Noted {
+            inner: _,
+            most: _,
+            bytes,
+        } = self;
         bytes
     }
 }
 
 /// Notes these bytes, as many as there is room for.
-fn note(bytes: &mut Vec<u8>, more: &[u8]) {
-    let room = MOST_NOTED.saturating_sub(bytes.len());
+fn note(bytes: &mut Vec<u8>, most: usize, more: &[u8]) {
+    let room = most.saturating_sub(bytes.len());
     let taken = more.len().min(room);
     // If memory is short less is noted, and the exchange goes on.
     let _ = bytes.extend_from_slice(&more[..taken]);
@@ -58,7 +65,19 @@ impl<R: Source> Source for Noted<R> {
 
     fn read(&mut self, room: &mut [u8]) -> Result<usize, DeviceFailed> {
         let count = self.inner.read(room)?;
-        note(&mut self.bytes, &room[..count]);
+        note(&mut self.bytes, self.most, &room[..count]);
+        Ok(count)
+    }
+}
+
+impl<W: Sink> Sink for Noted<W> {
+    ghost written = { λ n. W.written n.inner };
+
+    ghost write_failures = { λ n. W.write_failures n.inner };
+
+    fn write(&mut self, text: &[u8]) -> Result<usize, DeviceFailed> {
+        let count = self.inner.write(text)?;
+        note(&mut self.bytes, self.most, &text[..count]);
         Ok(count)
     }
 }

@@ -14,6 +14,7 @@ use key_string::KeyFault;
 use outbox_core::{OutboxFault, PutFault, StoreFault, TakeFault};
 use outbox_process::OpeningFault;
 use outbox_tasks::{LineFault, SendFault, TaskFault};
+use receipts::ReceiptFault;
 use std::alloc::AllocError;
 use std::io::Write;
 use std::{fmt, io};
@@ -170,6 +171,20 @@ impl fmt::Display for Cause {
     }
 }
 
+/// Why the receipt of a reply was not written.
+#[derive(Debug, Drop, Error)]
+pub enum NoReceipt {
+    /// No receipt can be made of what was noted.
+    #[error("{0}")]
+    Unmade(#[from] ReceiptFault),
+    /// The clock gives no moment.
+    #[error("the clock failed")]
+    Clock(#[from] jiff::Error),
+    /// The file was not written.
+    #[error("{0}")]
+    Unwritten(#[from] io::Error),
+}
+
 /// Why a task was not done. Its text is one line.
 #[derive(Debug, Drop, Error)]
 pub enum Fault<'a> {
@@ -189,6 +204,10 @@ pub enum Fault<'a> {
     Patience { port: u16, seconds: u64 },
     #[error("127.0.0.1:{port}: {failed} of {sent} exchanges failed")]
     Round { port: u16, sent: u64, failed: u64 },
+    #[error("{name}: no receipt can be written there: {error}")]
+    Folder { name: &'a str, error: io::Error },
+    #[error("receipts that were not written: {lost}; outbox ask --receipts writes one again")]
+    Receipts { lost: u64 },
     #[error("no random key: {0}")]
     Random(io::Error),
 }
@@ -320,6 +339,8 @@ impl Fault<'_> {
             Fault::Exchange { .. } => 3,
             Fault::Patience { .. } => 3,
             Fault::Round { .. } => 3,
+            Fault::Folder { .. } => 3,
+            Fault::Receipts { .. } => 3,
             Fault::Random(_) => 3,
         }
     }

@@ -1,15 +1,17 @@
-//! The network of `outbox send`: a port of this machine, and what its peer answered.
+//! The network of `outbox send` and `outbox ask`: a port of this machine, what its peer answered, and the receipts of that.
 
 ghost use Rattle.std.specs.Prelude.{◌≡◌};
 
-use crate::answer::{Noted, tell_open, tell_refused};
-use crate::fault::Cause;
+use crate::answer::{MOST_NOTED, Noted, tell_open, tell_refused};
+use crate::fault::{Cause, NoReceipt};
 use crate::options::Peer;
 use command_files::{Deadline, Patient};
 use filer_client::ExchangeFault;
 use http_wire::{Device, ReplyFault};
+use jiff::Timestamp;
 use outbox_core::State;
 use outbox_tasks::{Dial, TcpDial};
+use receipts::{Exchange, Folder, receipt_of};
 use std::alloc::Global;
 use std::io::{self, Write};
 use std::net::TcpStream;
@@ -48,12 +50,34 @@ pub struct PeerDial<'r, E> {
     is_late: bool,
     /// What is to be reported of the last exchange, once the line of its entry is printed.
     untold: Option<Exchanged>,
+    /// Where receipts are kept, if they are.
+    receipts: Option<Folder<'r, HostRuntime>>,
+    /// How many receipts could not be written.
+    lost_receipts: u64,
     errors: E,
 }
 
+/// Writes the receipt of an exchange with this port, whose reply came now.
+fn keep_receipt(
+    rt: &HostRuntime,
+    folder: &Folder<'_, HostRuntime>,
+    exchange: &Exchange<'_>,
+    port: u16,
+) -> Result<(), NoReceipt> {
+    let moment = Timestamp::now(rt)?;
+    let text = receipt_of(rt.alloc(), exchange, moment, port)?;
+    folder.keep(exchange.id, text.as_str())?;
+    Ok(())
+}
+
 impl<'r, E: Write + Drop> PeerDial<'r, E> {
-    /// The port of this peer.
-    pub fn new(rt: &'r HostRuntime, peer: Peer, errors: E) -> PeerDial<'r, E> {
+    /// The port of this peer. Receipts of its replies are kept in this folder, if there is one.
+    pub fn new(
+        rt: &'r HostRuntime,
+        peer: Peer<'_>,
+        receipts: Option<Folder<'r, HostRuntime>>,
+        errors: E,
+    ) -> PeerDial<'r, E> {
         PeerDial {
             rt,
             port: peer.port,
@@ -61,7 +85,35 @@ impl<'r, E: Write + Drop> PeerDial<'r, E> {
             deadline: None,
             is_late: false,
             untold: None,
+            receipts,
+            lost_receipts: 0,
             errors,
+        }
+    }
+
+    /// How many receipts could not be written.
+    pub fn lost_receipts(&self) -> u64 {
+        self.lost_receipts
+    }
+
+    /// Keeps the receipt of an exchange that settled the entry of this id, if receipts are kept.
+    fn keep_receipt(&mut self, exchange: &Exchange<'_>) {
+        let Some(folder) = &self.receipts else {
+            return;
+        };
+        if let Err(error) = keep_receipt(self.rt, folder, exchange, self.port) {
+            self.lost_receipts = self.lost_receipts.saturating_add(1);
+            let id = exchange.id;
+            // Nothing is left to be done if this text can't be written either.
+            let _ = writeln!(self.errors, "outbox: entry {id}: no receipt: {error}");
+        }
+    }
+
+    /// How many bytes of a request and of a reply are noted.
+    fn most_noted(&self) -> (usize, usize) {
+        match &self.receipts {
+            Some(_) => (usize::MAX, usize::MAX),
+            None => (0, MOST_NOTED),
         }
     }
 
@@ -96,7 +148,7 @@ fn explain<E: Write>(alloc: Global, exchanged: &Exchanged, errors: &mut E) -> io
 impl<'r, E: Write + Drop> Dial for PeerDial<'r, E> {
     type Reader = Noted<Device<Patient<'r, TcpStream, HostRuntime>>>;
 
-    type Writer = Device<Patient<'r, TcpStream, HostRuntime>>;
+    type Writer = Noted<Device<Patient<'r, TcpStream, HostRuntime>>>;
 
     ghost use Rattle.outbox_commands.specs.Networks.{unknown};
 
@@ -109,22 +161,34 @@ impl<'r, E: Write + Drop> Dial for PeerDial<'r, E> {
         self.deadline = Some(deadline);
         let reader = Device::new(Patient::new(stream.try_clone()?, &deadline));
         let writer = Device::new(Patient::new(stream, &deadline));
-        Ok((Noted::new(self.rt.alloc(), reader), writer))
+        let (of_request, of_reply) = self.most_noted();
+        let alloc = self.rt.alloc();
+        Ok((
+            Noted::new(alloc, reader, of_reply),
+            Noted::new(alloc, writer, of_request),
+        ))
     }
 
     fn end(
         &mut self,
         reader: Self::Reader,
-        _writer: Self::Writer,
+        writer: Self::Writer,
         id: u64,
         came: Result<State, ExchangeFault>,
     ) {
         self.is_late = self.has_lost_patience(came);
-        self.untold = Some(Exchanged {
-            id,
-            came,
-            noted: reader.into_bytes(),
-        });
+        let noted = reader.into_bytes();
+        let sent = writer.into_bytes();
+        match came {
+            Ok(State::Open) | Err(_) => {}
+            Ok(state) => self.keep_receipt(&Exchange {
+                id,
+                state,
+                sent: sent.as_slice(),
+                came: noted.as_slice(),
+            }),
+        }
+        self.untold = Some(Exchanged { id, came, noted });
     }
 
     fn gives_up(&self) -> bool {

@@ -50,13 +50,13 @@ pub enum Task<'a> {
     /// Send an entry, or all that are open.
     Send {
         database: &'a str,
-        peer: Peer,
+        peer: Peer<'a>,
         which: Which,
     },
     /// Ask about this settled entry, and write the findings so.
     Ask {
         database: &'a str,
-        peer: Peer,
+        peer: Peer<'a>,
         id: u64,
         form: Form,
     },
@@ -86,12 +86,13 @@ impl<'a> Task<'a> {
     }
 
     /// The intake to which it sends; one that is never called, if it sends nothing.
-    pub fn peer(&self) -> Peer {
+    pub fn peer(&self) -> Peer<'a> {
         match *self {
             Task::Send { peer, .. } | Task::Ask { peer, .. } => peer,
             _ => Peer {
                 port: 0,
                 patience: None,
+                receipts: None,
             },
         }
     }
@@ -99,11 +100,13 @@ impl<'a> Task<'a> {
 
 /// The intake to which entries are sent.
 #[derive(Clone, Copy)]
-pub struct Peer {
+pub struct Peer<'a> {
     /// Its port of 127.0.0.1.
     pub port: u16,
     /// How many seconds an exchange with it may take, if there is a limit.
     pub patience: Option<u64>,
+    /// The folder in which receipts of its replies are kept, if they are.
+    pub receipts: Option<&'a str>,
 }
 
 /// An option that may be missing, whose value is one of these numbers.
@@ -175,6 +178,16 @@ fn wait<'a>(alloc: Global) -> Arg<'a> {
     )
 }
 
+fn receipts<'a>(alloc: Global) -> Arg<'a> {
+    option(
+        alloc,
+        "receipts",
+        "FOLDER",
+        "Writes FOLDER/entry-ID.json for each reply that settles an entry [default: none]",
+    )
+    .required(false)
+}
+
 fn entry<'a>(alloc: Global, help: &'a str) -> Arg<'a> {
     let numbers = value_parser!(u64).range(0..=i64::MAX);
     number_option(alloc, "entry", "ID", help, numbers)
@@ -215,6 +228,7 @@ enum Argument {
     Amend,
     Port,
     Patience,
+    Receipts,
     /// The id of an entry, with this help.
     Entry(&'static str),
     /// The same, which has to be given.
@@ -236,6 +250,7 @@ impl ToArg for Argument {
             Argument::Amend => amend(alloc),
             Argument::Port => port(alloc),
             Argument::Patience => patience(alloc),
+            Argument::Receipts => receipts(alloc),
             Argument::Entry(help) => entry(alloc, help),
             Argument::ThisEntry(help) => entry(alloc, help).required(true),
             Argument::All => all(alloc)?,
@@ -282,6 +297,7 @@ static WORDS: [Word<Argument>; 8] = [
             Argument::All,
             Argument::Patience,
             Argument::Wait,
+            Argument::Receipts,
         ],
     },
     Word {
@@ -302,6 +318,7 @@ static WORDS: [Word<Argument>; 8] = [
             ),
             Argument::Patience,
             Argument::Wait,
+            Argument::Receipts,
         ],
     },
     Word {
@@ -364,10 +381,11 @@ fn which_of(values: &ArgMatches<'_>) -> Which {
 }
 
 /// The intake that is called.
-fn peer_of(values: &ArgMatches<'_>) -> Option<Peer> {
+fn peer_of<'a>(values: &ArgMatches<'a>) -> Option<Peer<'a>> {
     Some(Peer {
         port: values.get_one("port")?,
         patience: values.get_one("patience"),
+        receipts: values.get_str("receipts"),
     })
 }
 

@@ -2,7 +2,7 @@
 
 ghost use Rattle.std.specs.Prelude.{◌≡◌, None, IfOk, IfErr};
 ghost use Rattle.outbox_process.specs.Process.{parts};
-ghost use Rattle.outbox_commands.specs.Status.{opening_status, status_of, status_by};
+ghost use Rattle.outbox_commands.specs.Status.{opening_status, status_of, status_by, receipt_status};
 ghost use Rattle.outbox_commands.specs.Tasks.{IsKeyFor, IsNoKeyFor, MakesOutbox, PutsReport, IsJudged, IsPrinted};
 ghost use Rattle.outbox_commands.specs.Tasks.{MigratesOutbox, Does, migrated_line};
 ghost use Rattle.outbox_commands.specs.Visits.{opening_verdict};
@@ -21,6 +21,7 @@ use outbox_core::key_of;
 use outbox_process::{Beginning, Errand, OpeningFault, OutboxProcess, Target};
 use rand::make_rng;
 use rand::rngs::StdRng;
+use receipts::Folder;
 use sqlite_disk::Disk;
 use std::alloc::Global;
 use std::io::Write;
@@ -213,6 +214,30 @@ pub fn perform_task<'a, D: Disk + Drop, P: Place<D> + Drop, N: Network, O: Write
     }
 }
 
+/// The folder of this path, if one is named. It is looked at before anything is sent.
+fn receipt_folder<'r, 'a: 'r>(
+    rt: &'r HostRuntime,
+    path: Option<&'a str>,
+) -> Result<Option<Folder<'r, HostRuntime>>, Fault<'a>> {
+    let Some(name) = path else {
+        return Ok(None);
+    };
+    match Folder::open(rt, rt.alloc(), name) {
+        Ok(folder) => Ok(Some(folder)),
+        Err(error) => Err(Fault::Folder { name, error }),
+    }
+}
+
+/// The task is done, unless so many receipts are missing.
+fn done_but_for<'a>(lost: u64) -> Result<u8, Fault<'a>>
+    ensures { status_by result ≡ receipt_status lost }
+{
+    if lost > 0 {
+        return Err(Fault::Receipts { lost });
+    }
+    Ok(DONE)
+}
+
 /// Performs what these words ask for, and answers the status.
 fn perform_words<'a, O: Write, E: Write>(
     rt: &HostRuntime,
@@ -227,9 +252,11 @@ fn perform_words<'a, O: Write, E: Write>(
         Ok(Some(Asked::Outbox { task, wait })) => {
             let place = WaitingPlace::new(rt, SystemPlace::new(rt, task.database()), wait);
             let mut process = OutboxProcess::new(place);
-            let mut network = PeerDial::new(rt, task.peer(), rt.stderr());
+            let peer = task.peer();
+            let folder = receipt_folder(rt, peer.receipts)?;
+            let mut network = PeerDial::new(rt, peer, folder, rt.stderr());
             perform_task(rt, &mut process, &mut network, task, output, errors)?;
-            Ok(DONE)
+            done_but_for(network.lost_receipts())
         }
         Ok(None) => Err(Fault::Command(CommandFault::NoTask)),
         Err(error) => Ok(show_refusal(&error, output, errors)?),

@@ -44,7 +44,8 @@ fn write_filers<F: Folder>(
     filers: &Filers,
     folder: &mut F,
 ) -> Result<(), WritingFault>
-    ensures { OnOk result ((codes : List (List ℕ)) × Adds (F.pages folder.old) (F.pages folder.new) (map filer_page codes)) }
+    ensures { OnOk result ((codes : List (List ℕ))
+        × Adds (F.pages folder.old) (F.pages folder.new) (map filer_page codes)) }
 {
     for (code, filer) in filers.list.iter() {
         let name = format!(in alloc; "filer-{code}.html")?;
@@ -62,7 +63,8 @@ pub(crate) fn write_others<F: Folder>(
     refused: &Refused,
     folder: &mut F,
 ) -> Result<(), WritingFault>
-    ensures { OnOk result ((codes : List (List ℕ)) × Adds (F.pages folder.old) (F.pages folder.new) (other_pages codes)) }
+    ensures { OnOk result ((codes : List (List ℕ))
+        × Adds (F.pages folder.old) (F.pages folder.new) (other_pages codes)) }
 {
     write_filers(alloc, filers, folder)?;
     folder.write("refused.html", &refused.page(alloc)?)?;
