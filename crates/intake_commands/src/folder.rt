@@ -30,7 +30,8 @@ pub trait SiteFolder: Folder {
         ensures { Self.Folder.pages self.new ≡ Self.Folder.pages self.old };
 }
 
-/// A folder of the file system. A page is written under another name first, so that no part of one is left under its own.
+/// A folder of the file system. A page is written under another name first, so that no part of one is left under its
+/// own.
 #[derive(Drop)]
 pub struct SystemFolder<'r, 'a> {
     rt: &'r HostRuntime,

@@ -56,8 +56,8 @@ HasTablesFor (asked.Export form filer) schema = IsDeclared schema
 HasTablesFor (asked.Pages folder) schema = IsDeclared schema
 HasTablesFor asked.Migrate schema = (form : Earlier) × IsAlone form schema
 
--- Why an errand to such a register is not done: no filing has the number, or memory, the disk, the output or the folder failed. What the files say that
--- gave no database is said of their place.
+-- Why an errand to such a register is not done: no filing has the number, or memory, the disk, the output or the folder failed. What the
+-- files say that gave no database is said of their place.
 abbrev pub MayFail : Errand → List Request → ErrandFault → Type 0
 MayFail asked.Migrate requests (fault.Open why holding) = ⊥
 MayFail asked.Migrate requests (fault.Migrate why holding) = IsFailure why

@@ -60,7 +60,8 @@ module _ {D : Type 0} {g : Ghosts D} where
   abbrev pub GoesOn : Errand → Outputs → Outputs → Option (Option (Files D)) → Option (Option (Files D)) → Result (Held (FileStore D g)) DatabaseFault → Visited → Type 0
   GoesOn errand out out' between lying (Err why) visited = (visited.done ≡ Err (fault.Files why)) × (visited.closed ≡ Ok tt) × (lying ≡ between) × (out' ≡ out)
   GoesOn errand out out' between lying (Ok conn) visited =
-      (left : Held (FileStore D g)) × RunsErrand over_files errand out.text out'.text conn left visited.done × FillsFolder over_files errand out.pages out'.pages conn left visited.done
+      (left : Held (FileStore D g)) × RunsErrand over_files errand out.text out'.text conn left visited.done
+      × FillsFolder over_files errand out.pages out'.pages conn left visited.done
       × ((files : Files D) × place.Leaves between lying files × IsLeftIn (is_refused visited.done) left files visited.closed)
 
 -- What a visit does with what lies in a place, whatever that is.
@@ -73,7 +74,8 @@ pub record VisitsPlace {D : Type 0} (g : Ghosts D) (errand : Errand) (out out' :
 -- ---- a register
 
 -- What a visit does with a process that is closed. A register of the version that the errand is for is told as it is, and, as long as no close
--- and no opening failed, its requests are kept as a register of this version. Its pages are written if the errand is for them, and else none.
+-- and no opening failed, its requests are kept as a register of this version. Its pages are written if the errand is for them, and else
+-- none.
 pub record VisitsRegister {D : Type 0} {g : Ghosts D} (errand : Errand) (out out' : Outputs) (old new : Parts g) (visited : Visited) : Type 0 where
   pub told : IsHonest g → (early : ℕ) (requests : List Request) → LiesFor g errand old.lying early requests → Tells errand requests out.text out'.text visited.done
   pub filled : IsHonest g → (early : ℕ) (requests : List Request) → LiesFor g errand old.lying early requests → is_for_pages errand ≡ true

@@ -124,7 +124,7 @@ fn writing_fault(fault: WritingFault) -> ErrandFault
 }
 
 /// Does an errand to the register that this database is, and gives the connection back. `progress` learns how far a
-/// check is, and pages go into the folder.
+/// check is, and pages go into `folder`.
 pub(crate) fn run_errand<S: Alter + Drop, P: Progress, F: Folder, O: Write>(
     alloc: Global,
     conn: Connection<S>,
